@@ -1,0 +1,2 @@
+-- The numbers that stand for the classes in the table.
+pub mod Code

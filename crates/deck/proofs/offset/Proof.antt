@@ -1,0 +1,24 @@
+-- Four bytes of the line.
+use borrow.Author.Needs.{needs}
+use Rattle.deck.proofs.offset.Statement.{statement}
+use Rattle.deck.proofs.offset.Tie as tie
+use Rattle.deck.proofs.offset.Reads as reads
+use Rattle.deck.proofs.offset.Lts as lts
+use Rattle.deck.proofs.line_place.Reads as line-place-reads
+use Rattle.rooms.proofs.get_u32.Reads as get-u32-reads
+use Rattle.deck.proofs.Laws.{offset-is}
+
+line-place-requires : tie.Need-line-place-requires
+line-place-requires c κs = search needs
+
+add-get-u32 : tie.Need-add-get-u32
+add-get-u32 c = search needs
+
+get-u32-requires : tie.Need-get-u32-requires
+get-u32-requires c κs = search needs
+
+returns : tie.Need-returns
+returns c = search offset-is
+
+pub offset-spec : {M : Type 1} → statement M
+offset-spec = tie.close (tie.spec line-place-requires add-get-u32 get-u32-requires returns)

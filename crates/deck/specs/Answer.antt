@@ -1,0 +1,23 @@
+-- What the answers about a deck stand for in the definition.
+use Prim.Native.Nat.{ℕ}
+use mathlib.Core.List.{List}
+use lib.ListN.{length}
+use Rattle.definition.specs.Deck as D
+use Rattle.deck.specs.declared.Contents.{Contents}
+use Rattle.deck.specs.declared.Contents.the-variants.{Malformed, Sound}
+use Rattle.deck.specs.declared.Found.{Found}
+use Rattle.deck.specs.declared.Found.the-variants.{Line, Nothing}
+
+-- the answer for the contents of a deck: its lines can be read off the deck, so their number is enough
+abbrev pub answerFor : D.Contents → Contents
+answerFor D.malformed = Malformed
+answerFor (D.holds ls) = Sound (record { lines = length ls })
+
+-- the number in 01's table; 0 where there is no refusal
+abbrev pub refusalOf : Contents → ℕ
+refusalOf Malformed = 1
+refusalOf (Sound d) = 0
+
+abbrev pub foundFor : D.Found → Found
+foundFor D.none = Nothing
+foundFor (D.line k) = Line k

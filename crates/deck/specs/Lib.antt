@@ -1,0 +1,3 @@
+-- What the answers of `deck` stand for.
+pub mod Answer
+pub mod Word

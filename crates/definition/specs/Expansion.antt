@@ -1,0 +1,68 @@
+-- 01, "Numbers given back": the six numbers, the text and the lines for a deck, the sizes of the two rooms and the steps; and
+-- the whole contents of the two rooms. "1, then 2, both with place 0; then" what reading and the run meet first.
+use Prim.Native.Nat.{ℕ, _/_}
+use mathlib.Core.Bool.{Bool, cond}
+use mathlib.Core.List.{List, []}
+use lib.Dec.{leb}
+use lib.ListN.{length}
+use Rattle.definition.specs.Choice.{when}
+use Rattle.definition.specs.Limits.{includeLevels, textBytes, originLineBytes}
+use Rattle.definition.specs.Refusal.{Why, malformedDeck, shortRoom, numberOf}
+use Rattle.definition.specs.Room.{over, zeros}
+use Rattle.definition.specs.Deck.{isSound}
+use Rattle.definition.specs.Reading.{readMember}
+use Rattle.definition.specs.Events.{Line, textOf, linesOf, listBytes}
+use Rattle.definition.specs.World.{World, newWorld, Res, good, bad}
+use Rattle.definition.specs.Names.{Entering, entered, unreadable, enter}
+use Rattle.definition.specs.Flow.{End, ran, returned, went}
+use Rattle.definition.specs.Run.{Stop, bodyOf, runMember}
+
+-- the numbers, the text, and the lines newest first
+pub record Expansion : Type 0 where
+  pub number : ℕ
+  pub member : ℕ
+  pub offset : ℕ
+  pub steps : ℕ
+  pub text : List ℕ
+  pub lines : List Line
+
+-- "A refusal reports text length and lines 0, rooms all zero, and the steps charged."
+abbrev pub refusal : Why → ℕ → ℕ → ℕ → Expansion
+refusal e m p used = record { number = numberOf e; member = m; offset = p; steps = used; text = []; lines = [] }
+
+abbrev pub finished : World → Expansion
+finished w = record { number = 0; member = 0; offset = 0; steps = w .used; text = textOf (w .events); lines = linesOf (w .events) }
+
+abbrev pub result : Res Stop End → Expansion
+result (good ran w) = finished w
+result (good (returned v) w) = finished w
+result (good (went t) w) = finished w
+result (bad s u) = refusal (s .why) (s .member) (s .place) u
+
+-- "The main program is read before anything runs"; line 0 is the main program
+abbrev pub runMain : Entering → List ℕ → Expansion
+runMain (unreadable e p) d = refusal e 0 p 0
+runMain (entered w) d = result (runMember includeLevels d 0 [] w)
+
+-- the text room counts "at 4,294,967,295 bytes at most"
+abbrev pub capped : ℕ → ℕ
+capped n = cond (leb n textBytes) n textBytes
+
+abbrev pub mainWorld : ℕ → ℕ → ℕ → World
+mainWorld textRoom listRoom steps = newWorld steps (capped textRoom) (listRoom / originLineBytes)
+
+-- THE EXPANSION of the deck d; `roomy` says whether the working rooms are long enough
+unfoldable pub expansion : Bool → List ℕ → ℕ → ℕ → ℕ → Expansion
+expansion roomy d textRoom listRoom steps =
+    when (isSound d)
+    (λ _. when roomy
+    (λ _. runMain (enter 0 (readMember (bodyOf d 0)) (mainWorld textRoom listRoom steps)) d)
+    (λ _. refusal shortRoom 0 0 0))
+    (λ _. refusal malformedDeck 0 0 0)
+
+-- "Past the reported ends both rooms are zero."
+unfoldable pub textRoomAfter : ℕ → Expansion → List ℕ
+textRoomAfter n x = over (zeros n) 0 (x .text)
+
+unfoldable pub listRoomAfter : ℕ → Expansion → List ℕ
+listRoomAfter n x = over (zeros n) 0 (listBytes (x .lines))

@@ -1,0 +1,26 @@
+-- The definition: what document 01 says, as total functions over lists of bytes and whole numbers.
+pub mod Choice
+pub mod Refusal
+pub mod Limits
+pub mod Text
+pub mod Bytes
+pub mod Lists
+pub mod Fixed
+pub mod Steps
+pub mod Room
+pub mod Deck
+pub mod Tokens
+pub mod Expressions
+pub mod Program
+pub mod Statements
+pub mod Reading
+pub mod Values
+pub mod Events
+pub mod World
+pub mod Names
+pub mod Evaluate
+pub mod Flow
+pub mod Calls
+pub mod Scan
+pub mod Run
+pub mod Expansion

@@ -1,0 +1,475 @@
+-- 01, "Reading": a member is read once, from left to right, with a list of what is open, innermost first.
+-- "A program is text, then sentences each followed by text." The first token that cannot follow stops the reading.
+use Prim.Native.Nat.{ℕ, zero, suc, _+_}
+use mathlib.Core.Bool.{Bool, true, false, not, cond, _&&_, _||_}
+use mathlib.Core.List.{List, [], _∷_, _++_}
+use lib.Dec.{leb, ltb}
+use lib.ListN.{length}
+use Rattle.definition.specs.Choice.{when}
+use Rattle.definition.specs.Limits.{memberSentences, openGroups}
+use Rattle.definition.specs.Lists.{isOneOf}
+use Rattle.definition.specs.Refusal.{Why, syntax, overLimit}
+use Rattle.definition.specs.Tokens.{Token, word, integer, string, bits, sign, nothing, wrong, Lexeme, isWord, isSign, isNothing, tokenAt, TextEnd, percentAt, atEnd, openAt, textEnd}
+use Rattle.definition.specs.Expressions.{Reading, read, refused, then, expectWord, Named, nameOf}
+use Rattle.definition.specs.Program.{Statement, null, Link, nowhere, row, Role, listed, thenPart, elsePart, Stretch, Row, Scope, global, inside, Meaning, label, endLabel, body, Declared, Fault, sound, faulty, Source}
+use Rattle.definition.specs.Statements.{Opens, closes, opensGroup, opensBody, opensThen, Clause, clause, assignment, ifClause, doClause, gotoClause, includeClause, activateClause, deactivateClause, returnClause, Declaring, declared, undeclared, declareFrom, procedureClause, means}
+
+-- ---- what is open: the program, a group, a procedure's body, an alternative; its row, the last row of its list so far, and
+-- the labels that END may name
+pub data Where : Type 0 where
+  inProgram : Where
+  inGroup : Where
+  inBody : Where
+  inThen : Where
+  inElse : Where
+
+pub record Open : Type 0 where
+  pub kind : Where
+  pub row : ℕ
+  pub last : Link
+  pub labels : List (List ℕ)
+
+abbrev pub opening : Where → ℕ → List (List ℕ) → Open
+opening k n ls = record { kind = k; row = n; last = nowhere; labels = ls }
+
+-- "a 17th group or alternative open in a member, procedures counted through"
+abbrev pub counts : Where → ℕ
+counts inProgram = 0
+counts inGroup = 1
+counts inBody = 0
+counts inThen = 1
+counts inElse = 1
+
+unfoldable pub depth : List Open → ℕ
+depth [] = 0
+depth (o ∷ os) = counts (o .kind) + depth os
+
+abbrev pub kindOf : List Open → Where
+kindOf [] = inProgram
+kindOf (o ∷ os) = o .kind
+
+abbrev pub isInGroup : Where → Bool
+isInGroup inProgram = false
+isInGroup inGroup = true
+isInGroup inBody = false
+isInGroup inThen = false
+isInGroup inElse = false
+
+abbrev pub isInBody : Where → Bool
+isInBody inProgram = false
+isInBody inGroup = false
+isInBody inBody = true
+isInBody inThen = false
+isInBody inElse = false
+
+-- whether sentences of a list stand there, and not an alternative
+abbrev pub isList : Where → Bool
+isList inProgram = true
+isList inGroup = true
+isList inBody = true
+isList inThen = false
+isList inElse = false
+
+-- ---- what has been read
+pub record State : Type 0 where
+  pub lead : Stretch
+  pub first : Link
+  pub rows : List Row
+  pub declared : List Declared
+  pub opened : List Open
+  pub scope : Scope
+
+abbrev pub isInside : Scope → Bool
+isInside global = false
+isInside (inside r) = true
+
+abbrev pub stretch : ℕ → ℕ → Stretch
+stretch a b = record { from = a; to = b }
+
+-- a row changed
+unfoldable pub change : ℕ → (Row → Row) → List Row → List Row
+change n f [] = []
+change zero f (r ∷ rs) = f r ∷ rs
+change (suc n) f (r ∷ rs) = r ∷ change n f rs
+
+abbrev pub setNext : ℕ → Row → Row
+setNext n r = record { statement = r .statement; place = r .place; parent = r .parent; role = r .role; next = row n; child = r .child; other = r .other; lead = r .lead; text = r .text }
+
+abbrev pub setChild : ℕ → Row → Row
+setChild n r = record { statement = r .statement; place = r .place; parent = r .parent; role = r .role; next = r .next; child = row n; other = r .other; lead = r .lead; text = r .text }
+
+abbrev pub setOther : ℕ → Row → Row
+setOther n r = record { statement = r .statement; place = r .place; parent = r .parent; role = r .role; next = r .next; child = r .child; other = row n; lead = r .lead; text = r .text }
+
+abbrev pub setLead : Stretch → Row → Row
+setLead x r = record { statement = r .statement; place = r .place; parent = r .parent; role = r .role; next = r .next; child = r .child; other = r .other; lead = x; text = r .text }
+
+abbrev pub setText : Stretch → Row → Row
+setText x r = record { statement = r .statement; place = r .place; parent = r .parent; role = r .role; next = r .next; child = r .child; other = r .other; lead = r .lead; text = x }
+
+abbrev pub newRow : Statement → ℕ → Link → Role → Row
+newRow x p up k = record { statement = x; place = p; parent = up; role = k; next = nowhere; child = nowhere; other = nowhere; lead = stretch 0 0; text = stretch 0 0 }
+
+-- the new row n of a list: the first inside its parent, or behind the last
+abbrev pub linked : ℕ → Link → (List Row → List Row) → List Row → List Row
+linked n nowhere asFirst rs = asFirst rs
+linked n (row l) asFirst rs = change l (setNext n) rs
+
+abbrev pub firstOf : Link → Link → ℕ → Link
+firstOf first nowhere n = row n
+firstOf first (row l) n = first
+
+abbrev pub atLast : Open → ℕ → Open
+atLast o n = record { kind = o .kind; row = o .row; last = row n; labels = o .labels }
+
+abbrev pub grown : State → Link → List Row → List Open → State
+grown st f rs os = record { lead = st .lead; first = f; rows = rs; declared = st .declared; opened = os; scope = st .scope }
+
+-- the statement x of the place p as a new row, in what is open
+abbrev pub addIn : Where → Open → List Open → Statement → ℕ → State → State
+addIn inProgram o os x p st =
+    let n = length (st .rows) in
+    grown st (firstOf (st .first) (o .last) n) (linked n (o .last) (λ rs. rs) (st .rows) ++ newRow x p nowhere listed ∷ []) (atLast o n ∷ os)
+addIn inGroup o os x p st =
+    let n = length (st .rows) in
+    grown st (st .first) (linked n (o .last) (change (o .row) (setChild n)) (st .rows) ++ newRow x p (row (o .row)) listed ∷ []) (atLast o n ∷ os)
+addIn inBody o os x p st =
+    let n = length (st .rows) in
+    grown st (st .first) (linked n (o .last) (change (o .row) (setChild n)) (st .rows) ++ newRow x p (row (o .row)) listed ∷ []) (atLast o n ∷ os)
+addIn inThen o os x p st =
+    let n = length (st .rows) in
+    grown st (st .first) (change (o .row) (setChild n) (st .rows) ++ newRow x p (row (o .row)) thenPart ∷ []) (o ∷ os)
+addIn inElse o os x p st =
+    let n = length (st .rows) in
+    grown st (st .first) (change (o .row) (setOther n) (st .rows) ++ newRow x p (row (o .row)) elsePart ∷ []) (o ∷ os)
+
+abbrev pub addTo : List Open → Statement → ℕ → State → State
+addTo [] x p st = st
+addTo (o ∷ os) x p st = addIn (o .kind) o os x p st
+
+unfoldable pub addRow : Statement → ℕ → State → State
+addRow x p st = addTo (st .opened) x p st
+
+abbrev pub withNames : List Declared → State → State
+withNames ds st = record { lead = st .lead; first = st .first; rows = st .rows; declared = st .declared ++ ds; opened = st .opened; scope = st .scope }
+
+abbrev pub withOpened : List Open → Scope → State → State
+withOpened os k st = record { lead = st .lead; first = st .first; rows = st .rows; declared = st .declared; opened = os; scope = k }
+
+abbrev pub withRows : List Row → State → State
+withRows rs st = record { lead = st .lead; first = st .first; rows = rs; declared = st .declared; opened = st .opened; scope = st .scope }
+
+abbrev pub withLead : Stretch → State → State
+withLead x st = record { lead = x; first = st .first; rows = st .rows; declared = st .declared; opened = st .opened; scope = st .scope }
+
+-- ---- one turn after the other
+-- what comes next: the text that the program or a group begins with, the text behind the sentence of a row, the statement of
+-- an alternative, or in a procedure a statement or END
+pub data Mode : Type 0 where
+  leadingText : Mode
+  textBehind : ℕ → Mode
+  alternative : Mode
+  inner : Mode
+
+pub data Turn : Type 0 where
+  go : Mode → ℕ → State → Turn
+  stop : Why → ℕ → List ℕ → State → Turn
+  finish : State → Turn
+
+-- ELSE and END are words that may turn out to be a label or a target, also where the body ends behind them
+unfoldable pub isDecided : Token → Bool
+isDecided t = not (isSign "=" t) && not (isSign ":" t) && not (isNothing t)
+
+-- ELSE: the place past it
+pub data Else : Type 0 where
+  elseTo : ℕ → Else
+  noElse : Else
+
+unfoldable pub elseWord : List ℕ → Lexeme → Else
+elseWord s t =
+    cond (isWord "ELSE" (t .token) && isDecided (tokenAt s (t .to) .token)) (elseTo (t .to)) noElse
+
+unfoldable pub elseAt : Bool → List ℕ → ℕ → Else
+elseAt true s e = elseWord s (tokenAt s e)
+elseAt false s e = when (isSign "%" (tokenAt s e .token)) (λ _. elseWord s (tokenAt s (tokenAt s e .to))) (λ _. noElse)
+
+-- the statement of row n ends at e. "ELSE goes with the nearest IF."
+abbrev pub elsed : Else → ℕ → List Open → State → (Unit {0} → Turn) → Turn
+elsed (elseTo q) i os st over = go alternative q (withOpened (opening inElse i [] ∷ os) (st .scope) st)
+elsed noElse i os st over = over tt
+
+abbrev pub behind : Scope → ℕ → Mode
+behind global n = textBehind n
+behind (inside r) n = inner
+
+abbrev pub completeIn : Where → List ℕ → ℕ → List Open → ℕ → ℕ → State → (ℕ → Turn) → Turn
+completeIn inProgram s i os n e st over = go (behind (st .scope) n) e st
+completeIn inGroup s i os n e st over = go (behind (st .scope) n) e st
+completeIn inBody s i os n e st over = go (behind (st .scope) n) e st
+completeIn inThen s i os n e st over = elsed (elseAt (isInside (st .scope)) s e) i os st (λ _. over i)
+completeIn inElse s i os n e st over = over i
+
+unfoldable pub complete : List ℕ → List Open → ℕ → ℕ → State → Turn
+complete s [] n e st = finish st
+complete s (o ∷ os) n e st = completeIn (o .kind) s (o .row) os n e (withOpened (o ∷ os) (st .scope) st) (λ i. complete s os i e st)
+
+-- ---- labels, and the token behind them; `long` are the places of those over 31 bytes
+pub record Labelled : Type 0 where
+  pub labels : List Named
+  pub long : List ℕ
+  pub behind : Lexeme
+
+abbrev pub isName : Token → Bool
+isName (word w) = true
+isName (integer w) = false
+isName (string w) = false
+isName (bits w) = false
+isName (sign w) = false
+isName nothing = false
+isName wrong = false
+
+abbrev pub addLabel : Reading Named → List Named → List ℕ → (List Named → List ℕ → Labelled) → Labelled
+addLabel (read n) ns long f = f (ns ++ n ∷ []) long
+addLabel (refused w p) ns long f = f ns (long ++ p ∷ [])
+
+-- "An identifier followed by `:` is a label"
+unfoldable pub labelsFrom : List ℕ → ℕ → List Named → List ℕ → ℕ → Labelled
+labelsFrom s zero ns long at = record { labels = ns; long = long; behind = tokenAt s at }
+labelsFrom s (suc f) ns long at =
+    when (isName (tokenAt s at .token) && isSign ":" (tokenAt s (tokenAt s at .to) .token))
+    (λ _. addLabel (nameOf (tokenAt s at .token) (tokenAt s at .from) (tokenAt s at .to)) ns long
+    (λ ms more. labelsFrom s f ms more (tokenAt s (tokenAt s at .to) .to)))
+    (λ _. record { labels = ns; long = long; behind = tokenAt s at })
+
+abbrev pub labels : List ℕ → ℕ → Labelled
+labels s at = labelsFrom s (length s) [] [] at
+
+abbrev pub spelled : List Named → List (List ℕ)
+spelled [] = []
+spelled (n ∷ ns) = n .spelling ∷ spelled ns
+
+-- ---- a statement that was read at p, with its labels
+abbrev pub opened : Opens → List ℕ → ℕ → List Named → ℕ → State → Turn
+opened closes s n ns e st = complete s (st .opened) n e st
+opened opensGroup s n ns e st = go (cond (isInside (st .scope)) inner leadingText) e (withOpened (opening inGroup n (spelled ns) ∷ st .opened) (st .scope) st)
+opened opensBody s n ns e st = go inner e (withOpened (opening inBody n (spelled ns) ∷ st .opened) (inside n) st)
+opened opensThen s n ns e st = go alternative e (withOpened (opening inThen n [] ∷ st .opened) (st .scope) st)
+
+-- labels before what opens a body are entry names
+abbrev pub labelMeaning : Opens → ℕ → Meaning
+labelMeaning closes n = label n
+labelMeaning opensGroup n = label n
+labelMeaning opensBody n = body n
+labelMeaning opensThen n = label n
+
+unfoldable pub taken : List ℕ → ℕ → List Named → State → Clause → List Declared → Turn
+taken s p ns st c ds =
+    let n = length (st .rows) in
+    opened (c .opens) s n ns (c .to) (withNames (means (st .scope) (labelMeaning (c .opens) n) ns ++ ds) (addRow (c .statement) p st))
+
+-- a statement that is wrong: it counts as one, and its names count
+abbrev pub untaken : ℕ → List Named → State → Why → ℕ → List Declared → Turn
+untaken p ns st w q ds = stop w q (p ∷ []) (withNames (means (st .scope) (label 0) ns ++ ds) st)
+
+abbrev pub takeRead : List ℕ → ℕ → List Named → State → Reading Clause → Turn
+takeRead s p ns st (read c) = taken s p ns st c []
+takeRead s p ns st (refused w q) = untaken p ns st w q []
+
+abbrev pub takeDeclared : List ℕ → ℕ → List Named → State → Declaring → Turn
+takeDeclared s p ns st (declared c ds) = taken s p ns st c ds
+takeDeclared s p ns st (undeclared w q ds) = untaken p ns st w q ds
+
+-- ---- which statement begins with the word t; u is the token behind it
+abbrev pub isNone : List Named → Bool
+isNone [] = true
+isNone (n ∷ ns) = false
+
+abbrev pub isDeclare : Token → Bool
+isDeclare t = isWord "DECLARE" t || isWord "DCL" t
+
+abbrev pub isProcedure : Token → Bool
+isProcedure t = isWord "PROCEDURE" t || isWord "PROC" t
+
+-- "a 17th group": at its DO
+unfoldable pub doAt : List ℕ → ℕ → ℕ → State → Reading Clause
+doAt s from to st = when (ltb (depth (st .opened)) openGroups) (λ _. doClause s to) (λ _. refused overLimit from)
+
+-- statements of either kind
+unfoldable pub common : List ℕ → Lexeme → State → (Reading Clause → Turn) → (Unit {0} → Turn) → Turn
+common s t st take other =
+    when (isWord "IF" (t .token)) (λ _. take (ifClause (isInside (st .scope)) s (t .to)))
+    (λ _. when (isWord "DO" (t .token)) (λ _. take (doAt s (t .from) (t .to) st))
+    (λ _. when (isWord "GOTO" (t .token)) (λ _. take (gotoClause s (t .to)))
+    (λ _. when (isWord "GO" (t .token)) (λ _. take (then (expectWord "TO" s (t .to)) (gotoClause s)))
+    other)))
+
+-- statements of a list alone
+unfoldable pub inList : List ℕ → ℕ → List Named → Lexeme → State → (Unit {0} → Turn) → Turn
+inList s p ns t st other =
+    when (isList (kindOf (st .opened)) && isDeclare (t .token)) (λ _. takeDeclared s p ns st (declareFrom (st .scope) s (length s) [] (t .to)))
+    (λ _. when (isList (kindOf (st .opened)) && not (isInside (st .scope)) && not (isNone ns) && isProcedure (t .token))
+    (λ _. takeDeclared s p ns st (procedureClause (inside (length (st .rows))) s (t .to)))
+    other)
+
+abbrev pub outer : Scope → List ℕ → Lexeme → (Reading Clause → Turn) → (Unit {0} → Turn) → Turn
+outer global s t take other =
+    when (isWord "INCLUDE" (t .token)) (λ _. take (includeClause s (t .to)))
+    (λ _. when (isWord "ACTIVATE" (t .token) || isWord "ACT" (t .token)) (λ _. take (activateClause s (t .to)))
+    (λ _. when (isWord "DEACTIVATE" (t .token) || isWord "DEACT" (t .token)) (λ _. take (deactivateClause s (t .to)))
+    other))
+outer (inside r) s t take other = when (isWord "RETURN" (t .token)) (λ _. take (returnClause s (t .to))) other
+
+-- "by `=` an assignment"; a word that begins no statement here is not wrong, but the token behind it is
+unfoldable pub byWord : List ℕ → ℕ → List Named → List ℕ → Lexeme → Lexeme → State → Turn
+byWord s p ns w t u st =
+    when (isSign "=" (u .token)) (λ _. takeRead s p ns st (assignment s w (u .to)))
+    (λ _. common s t st (takeRead s p ns st)
+    (λ _. outer (st .scope) s t (takeRead s p ns st)
+    (λ _. inList s p ns t st
+    (λ _. untaken p ns st syntax (u .from) []))))
+
+abbrev pub byName : Reading Named → List ℕ → ℕ → List Named → Lexeme → State → Turn
+byName (read n) s p ns t st = byWord s p ns (n .spelling) t (tokenAt s (t .to)) st
+byName (refused w q) s p ns t st = untaken p ns st w q []
+
+abbrev pub byToken : Token → List ℕ → ℕ → List Named → Lexeme → State → Turn
+byToken (word w) s p ns t st = byName (nameOf (word w) (t .from) (t .to)) s p ns t st
+byToken (integer w) s p ns t st = untaken p ns st syntax (t .from) []
+byToken (string w) s p ns t st = untaken p ns st syntax (t .from) []
+byToken (bits w) s p ns t st = untaken p ns st syntax (t .from) []
+byToken (sign w) s p ns t st =
+    when (isSign ";" (sign w)) (λ _. taken s p ns st (clause null closes (t .to)) []) (λ _. untaken p ns st syntax (t .from) [])
+byToken nothing s p ns t st = untaken p ns st syntax (t .from) []
+byToken wrong s p ns t st = untaken p ns st syntax (t .from) []
+
+-- ---- END, from behind it: "A name after END must be a label of what it ends, else 3."
+abbrev pub mayName : Token → List (List ℕ) → Bool
+mayName (word w) ls = isOneOf w ls
+mayName (integer w) ls = false
+mayName (string w) ls = false
+mayName (bits w) ls = false
+mayName (sign w) ls = false
+mayName nothing ls = false
+mayName wrong ls = false
+
+unfoldable pub endName : List ℕ → List (List ℕ) → ℕ → Reading ℕ
+endName s ls at =
+    when (isSign ";" (tokenAt s at .token)) (λ _. read (tokenAt s at .to))
+    (λ _. when (mayName (tokenAt s at .token) ls)
+    (λ _. when (isSign ";" (tokenAt s (tokenAt s at .to) .token)) (λ _. read (tokenAt s (tokenAt s at .to) .to))
+    (λ _. refused syntax (tokenAt s (tokenAt s at .to) .from)))
+    (λ _. refused syntax (tokenAt s at .from)))
+
+abbrev pub scopeOut : Where → Scope → Scope
+scopeOut inProgram k = k
+scopeOut inGroup k = k
+scopeOut inBody k = global
+scopeOut inThen k = k
+scopeOut inElse k = k
+
+abbrev pub endRead : List ℕ → List Named → Open → List Open → State → Reading ℕ → Turn
+endRead s ns o os st (read e) =
+    complete s os (o .row) e (withOpened os (scopeOut (o .kind) (st .scope)) (withNames (means (st .scope) (endLabel (o .row)) ns) st))
+endRead s ns o os st (refused w q) = stop w q [] (withNames (means (st .scope) (endLabel (o .row)) ns) st)
+
+abbrev pub endAt : List ℕ → List Named → ℕ → List Open → State → Turn
+endAt s ns at [] st = stop syntax at [] st
+endAt s ns at (o ∷ os) st = endRead s ns o os st (endName s (o .labels) at)
+
+-- ---- a clause at p, from behind its `%` or in a procedure from its first token
+unfoldable pub isFull : State → Bool
+isFull st = leb memberSentences (length (st .rows))
+
+-- "over 1,024 sentences": at its `%`, also where it turns out wrong; END is no sentence
+unfoldable pub isEnd : List ℕ → Lexeme → Bool
+isEnd s t = isWord "END" (t .token) && isDecided (tokenAt s (t .to) .token)
+
+abbrev pub tooLong : List ℕ → (ℕ → Turn) → (Unit {0} → Turn) → Turn
+tooLong [] f on = on tt
+tooLong (p ∷ ps) f on = f p
+
+unfoldable pub clauseFrom : List ℕ → ℕ → Labelled → State → Turn
+clauseFrom s p L st =
+    when (isInGroup (kindOf (st .opened)) && isEnd s (L .behind))
+    (λ _. tooLong (L .long) (λ q. stop overLimit q [] st) (λ _. endAt s (L .labels) (L .behind .to) (st .opened) st))
+    (λ _. when (isFull st) (λ _. stop overLimit p (p ∷ []) st)
+    (λ _. tooLong (L .long) (λ q. untaken p (L .labels) st overLimit q [])
+    (λ _. byToken (L .behind .token) s p (L .labels) (L .behind) st)))
+
+abbrev pub clauseAt : List ℕ → ℕ → ℕ → State → Turn
+clauseAt s p at st = clauseFrom s p (labels s at) st
+
+-- ---- texts
+abbrev pub texted : TextEnd → List ℕ → (ℕ → State) → Turn
+texted (percentAt p) s f = clauseAt s p (p + 1) (f p)
+texted atEnd s f = cond (leb (length (f 0 .opened)) 1) (finish (f (length s))) (stop syntax (length s) [] (f (length s)))
+texted (openAt p) s f = stop syntax p [] (f p)
+
+abbrev pub leadIn : List Open → ℕ → ℕ → State → State
+leadIn [] at p st = st
+leadIn (o ∷ os) at p st = leadOf (o .kind) (o .row)
+  where
+    leadOf : Where → ℕ → State
+    leadOf inProgram n = withLead (stretch at p) st
+    leadOf inGroup n = withRows (change n (setLead (stretch at p)) (st .rows)) st
+    leadOf inBody n = st
+    leadOf inThen n = st
+    leadOf inElse n = st
+
+-- ---- in a procedure: `%` begins only its END
+abbrev pub procedureEnd : List ℕ → Labelled → State → Turn
+procedureEnd s L st =
+    tooLong (L .long) (λ q. stop overLimit q [] st)
+    (λ _. when (isWord "END" (L .behind .token)) (λ _. endAt s (L .labels) (L .behind .to) (st .opened) st)
+    (λ _. stop syntax (cond (isName (L .behind .token)) (tokenAt s (L .behind .to) .from) (L .behind .from)) []
+    (withNames (means (st .scope) (label 0) (L .labels)) st)))
+
+-- whether a token can begin a statement
+abbrev pub begins : Token → Bool
+begins t = isName t || isSign ";" t
+
+unfoldable pub innerAt : List ℕ → ℕ → Lexeme → State → Turn
+innerAt s at t st =
+    when (isInBody (kindOf (st .opened)) && isSign "%" (t .token)) (λ _. procedureEnd s (labels s (t .to)) st)
+    (λ _. when (begins (t .token)) (λ _. clauseAt s (t .from) at st)
+    (λ _. stop syntax (t .from) [] st))
+
+-- ---- an alternative: "the 17th alternative at its `%`"
+unfoldable pub deepEnough : ℕ → State → (Unit {0} → Turn) → Turn
+deepEnough p st on = when (leb (depth (st .opened)) openGroups) on (λ _. stop overLimit p (p ∷ []) st)
+
+abbrev pub alternativeAt : Scope → List ℕ → ℕ → Lexeme → State → Turn
+alternativeAt global s at t st =
+    when (isSign "%" (t .token)) (λ _. deepEnough (t .from) st (λ _. clauseAt s (t .from) (t .to) st)) (λ _. stop syntax (t .from) [] st)
+alternativeAt (inside r) s at t st =
+    when (begins (t .token)) (λ _. deepEnough (t .from) st (λ _. clauseAt s (t .from) at st)) (λ _. stop syntax (t .from) [] st)
+
+unfoldable pub turn : List ℕ → Mode → ℕ → State → Turn
+turn s leadingText at st = texted (textEnd (suc (length s)) s at) s (λ p. leadIn (st .opened) at p st)
+turn s (textBehind n) at st = texted (textEnd (suc (length s)) s at) s (λ p. withRows (change n (setText (stretch at p)) (st .rows)) st)
+turn s alternative at st = alternativeAt (st .scope) s at (tokenAt s at) st
+turn s inner at st = innerAt s at (tokenAt s at) st
+
+-- ---- the member
+abbrev pub places : List Row → List ℕ
+places [] = []
+places (r ∷ rs) = r .place ∷ places rs
+
+abbrev pub source : State → List ℕ → Fault → Source
+source st begun f = record { lead = st .lead; first = st .first; rows = st .rows; declared = st .declared; begun = places (st .rows) ++ begun; fault = f }
+
+-- f is more than the turns
+unfoldable pub readOn : List ℕ → ℕ → Turn → Source
+readOn s zero (go m at st) = source st [] (faulty syntax at)
+readOn s zero (stop w p begun st) = source st begun (faulty w p)
+readOn s zero (finish st) = source st [] sound
+readOn s (suc f) (go m at st) = readOn s f (turn s m at st)
+readOn s (suc f) (stop w p begun st) = source st begun (faulty w p)
+readOn s (suc f) (finish st) = source st [] sound
+
+abbrev pub start : State
+start = record { lead = stretch 0 0; first = nowhere; rows = []; declared = []; opened = opening inProgram 0 [] ∷ []; scope = global }
+
+-- THE MEMBER whose body is s
+unfoldable pub readMember : List ℕ → Source
+readMember s = readOn s (suc (suc (length s))) (go leadingText 0 start)

@@ -1,0 +1,163 @@
+-- 000, section 2.2: identifiers, the addresses they stand for, and what is kept by address. 01, "Reading": "Names have
+-- global scope, or that of one procedure. An identifier and the address it stands for are kept apart. A name stands for a
+-- variable with its type, an entry with its body, or a label with its place."
+use Prim.Native.Nat.{ℕ, suc, _-_}
+use mathlib.Core.Bool.{Bool, true, false, _&&_}
+use mathlib.Core.List.{List, [], _∷_}
+use lib.Dec.{eqb}
+use lib.ListN.{length, getD, set}
+use Rattle.definition.specs.Choice.{when}
+use Rattle.definition.specs.Lists.{same}
+use Rattle.definition.specs.Refusal.{Why, noStep}
+use Rattle.definition.specs.Steps.{isLeft, usedAfter}
+use Rattle.definition.specs.Program.{Type′, null, nowhere, listed, Stretch, Row, Source}
+use Rattle.definition.specs.Values.{Value, Answer, gives, fails}
+use Rattle.definition.specs.Events.{Event, bytesIn}
+
+-- the scope of a name: all of the program, or the procedure at a row of a member
+pub data Owner : Type 0 where
+  everyone : Owner
+  procedureAt : ℕ → ℕ → Owner
+
+abbrev pub sameOwner : Owner → Owner → Bool
+sameOwner everyone everyone = true
+sameOwner everyone (procedureAt m r) = false
+sameOwner (procedureAt m r) everyone = false
+sameOwner (procedureAt m r) (procedureAt n q) = eqb m n && eqb r q
+
+-- the body of an entry: none, or the procedure at a row of a member
+pub data Body : Type 0 where
+  noBody : Body
+  bodyAt : ℕ → ℕ → Body
+
+-- what an address stands for; of an entry also whether ENTRY declares it, of a label whether it is that of an END
+pub data Denotation : Type 0 where
+  variableOf : Type′ → Denotation
+  entryOf : Bool → Body → Denotation
+  labelAt : ℕ → ℕ → Bool → Denotation
+  builtinName : Denotation
+
+-- an identifier in its scope; its address is its number in the list
+pub record Identifier : Type 0 where
+  pub spelling : List ℕ
+  pub owner : Owner
+
+pub data Cell : Type 0 where
+  noValue : Cell
+  holds : Value → Cell
+
+pub data Activity : Type 0 where
+  inactive : Activity
+  rescanned : Activity
+  copiedOnly : Activity
+
+-- a member that was entered
+pub record Entered : Type 0 where
+  pub member : ℕ
+  pub source : Source
+
+-- all that a run changes: identifiers; by address denotations, values and activities; the members entered, the sentences in
+-- them, each inclusion counted; the steps; the events so far, the bytes that the text room and the lines that the list room
+-- may still take
+pub record World : Type 0 where
+  pub identifiers : List Identifier
+  pub denotations : List Denotation
+  pub values : List Cell
+  pub activities : List Activity
+  pub members : List Entered
+  pub sentences : ℕ
+  pub limit : ℕ
+  pub used : ℕ
+  pub events : List Event
+  pub textLeft : ℕ
+  pub linesLeft : ℕ
+
+abbrev pub newWorld : ℕ → ℕ → ℕ → World
+newWorld limit text lines = record { identifiers = []; denotations = []; values = []; activities = []; members = []; sentences = 0; limit = limit; used = 0; events = []; textLeft = text; linesLeft = lines }
+
+-- ---- what a part of the run gives: something and the world after it, or a refusal with the steps charged. A refusal is a
+-- `Why` where its place is still to be said
+pub data Res (E A : Type 0) : Type 0 where
+  good : A → World → Res E A
+  bad : E → ℕ → Res E A
+
+abbrev pub bind : {E A B : Type 0} → Res E A → (A → World → Res E B) → Res E B
+bind (good a w) f = f a w
+bind (bad e u) f = bad e u
+
+abbrev pub placed : {E F A : Type 0} → (E → F) → Res E A → Res F A
+placed f (good a w) = good a w
+placed f (bad e u) = bad (f e) u
+
+-- an answer in a world
+abbrev pub ask : {A : Type 0} → Answer A → World → Res Why A
+ask (gives a) w = good a w
+ask (fails e) w = bad e (w .used)
+
+-- ---- the meter: "it is not counted"
+abbrev pub withUsed : ℕ → World → World
+withUsed u w = record { identifiers = w .identifiers; denotations = w .denotations; values = w .values; activities = w .activities; members = w .members; sentences = w .sentences; limit = w .limit; used = u; events = w .events; textLeft = w .textLeft; linesLeft = w .linesLeft }
+
+unfoldable pub charge : World → Res Why (Unit {0})
+charge w =
+    when (isLeft (w .limit) (w .used)) (λ _. good tt (withUsed (usedAfter (w .limit) (w .used)) w))
+    (λ _. bad noStep (w .used))
+
+-- ---- identifiers and addresses
+pub data Address : Type 0 where
+  address : ℕ → Address
+  unknown : Address
+
+abbrev pub isIdentifier : List ℕ → Owner → Identifier → Bool
+isIdentifier n k i = same (i .spelling) n && sameOwner (i .owner) k
+
+unfoldable pub addressIn : List ℕ → Owner → ℕ → List Identifier → Address
+addressIn n k a [] = unknown
+addressIn n k a (i ∷ is) = when (isIdentifier n k i) (λ _. address a) (λ _. addressIn n k (suc a) is)
+
+abbrev pub addressOf : List ℕ → Owner → World → Address
+addressOf n k w = addressIn n k 0 (w .identifiers)
+
+-- a name seen from a scope: its own names first, then the global ones
+abbrev pub orGlobal : Address → List ℕ → World → Address
+orGlobal (address a) n w = address a
+orGlobal unknown n w = addressOf n everyone w
+
+unfoldable pub seenFrom : Owner → List ℕ → World → Address
+seenFrom k n w = orGlobal (addressOf n k w) n w
+
+abbrev pub denotation : ℕ → World → Denotation
+denotation a w = getD (w .denotations) a builtinName
+
+abbrev pub valueAt : ℕ → World → Cell
+valueAt a w = getD (w .values) a noValue
+
+abbrev pub activityAt : ℕ → World → Activity
+activityAt a w = getD (w .activities) a inactive
+
+abbrev pub store : ℕ → Value → World → World
+store a v w = record { identifiers = w .identifiers; denotations = w .denotations; values = set (w .values) a (holds v); activities = w .activities; members = w .members; sentences = w .sentences; limit = w .limit; used = w .used; events = w .events; textLeft = w .textLeft; linesLeft = w .linesLeft }
+
+abbrev pub setActivity : Activity → ℕ → World → World
+setActivity x a w = record { identifiers = w .identifiers; denotations = w .denotations; values = w .values; activities = set (w .activities) a x; members = w .members; sentences = w .sentences; limit = w .limit; used = w .used; events = w .events; textLeft = w .textLeft; linesLeft = w .linesLeft }
+
+-- one more event, which takes some lines; its bytes take their room
+abbrev pub withEvent : Event → ℕ → World → World
+withEvent e taken w = record { identifiers = w .identifiers; denotations = w .denotations; values = w .values; activities = w .activities; members = w .members; sentences = w .sentences; limit = w .limit; used = w .used; events = e ∷ w .events; textLeft = w .textLeft - length (bytesIn e); linesLeft = w .linesLeft - taken }
+
+-- ---- the rows of a member that was entered
+abbrev pub noStretch : Stretch
+noStretch = record { from = 0; to = 0 }
+
+abbrev pub noRow : Row
+noRow = record { statement = null; place = 0; parent = nowhere; role = listed; next = nowhere; child = nowhere; other = nowhere; lead = noStretch; text = noStretch }
+
+abbrev pub rowOf : List Row → ℕ → Row
+rowOf rs n = getD rs n noRow
+
+unfoldable pub rowsIn : ℕ → List Entered → List Row
+rowsIn m [] = []
+rowsIn m (e ∷ es) = when (eqb (e .member) m) (λ _. e .source .rows) (λ _. rowsIn m es)
+
+abbrev pub rowsOf : ℕ → World → List Row
+rowsOf m w = rowsIn m (w .members)

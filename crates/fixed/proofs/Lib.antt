@@ -1,0 +1,4 @@
+-- Laws that belong to no one function.
+pub mod Magnitude
+pub mod Laws
+pub mod Examples

@@ -1,0 +1,2 @@
+-- What the contracts of `limits` cite.
+pub mod Checked

@@ -1,0 +1,2 @@
+-- The marked examples of document 01.
+pub mod Marked

@@ -1,0 +1,2 @@
+-- What the contracts of `member` cite.
+pub mod Body

@@ -1,0 +1,2 @@
+-- What the contracts of `meter` cite.
+pub mod Charges

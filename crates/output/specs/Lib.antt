@@ -1,0 +1,3 @@
+-- What the contracts of `output` cite.
+pub mod Shows
+pub mod Line

@@ -1,0 +1,2 @@
+-- What the answers of `tokens` stand for.
+pub mod Answer

@@ -1,0 +1,167 @@
+//! Random and damaged decks, the same for the same seed and number.
+
+mod author;
+mod contents;
+mod damage;
+mod edges;
+mod expressions;
+mod pairs;
+mod programs;
+mod random;
+mod statements;
+mod texts;
+mod world;
+
+use crate::output::Line;
+use crate::record::Record;
+use crate::{used, Rooms};
+use programs::{programs, Bodies};
+use random::Random;
+
+/// The rooms and steps of the program.
+const AMPLE: Rooms = Rooms {
+    text: 65_536,
+    list: 49_152,
+};
+const MOST_STEPS: u32 = 1_000_000;
+
+/// The deck with this number of this seed.
+pub fn record(seed: u64, number: u64) -> Record {
+    let random = &mut Random::for_deck(seed, number);
+    match random.weighted(&[42, 10, 5, 4, 3, 12, 12, 5, 3, 6]) {
+        0 => with_rooms(random, programs),
+        1 => with_rooms(random, damaged_by_tokens),
+        2 => with_rooms(random, damaged_by_bytes),
+        3 => {
+            let mut record = with_rooms(random, programs);
+            contents::damage(random, &mut record.deck);
+            record
+        }
+        4 => with_rooms(random, soup),
+        5 => ample(&edges::edge(random)),
+        6 => tight(random),
+        7 => ample(&pairs::misplaced(random)),
+        8 => ample(&pairs::declared_twice(random)),
+        _ => ample_or_cramped(random),
+    }
+}
+
+/// Bodies put together, with rooms that hold what they make.
+fn ample(bodies: &Bodies) -> Record {
+    Record {
+        rooms: AMPLE,
+        steps: 150_000,
+        deck: contents::assemble(bodies),
+    }
+}
+
+/// Several errors, to which steps or a room that ends may come.
+fn ample_or_cramped(random: &mut Random) -> Record {
+    let mut record = ample(&pairs::several_errors(random));
+    match random.below(8) {
+        0 => record.steps = 14 + small(random, 12),
+        1 => record.rooms.list = 12 * (8 + small(random, 8)),
+        2 => record.rooms.text = 8 + small(random, 8),
+        _ => {}
+    }
+    record
+}
+
+/// Some bodies, put together, with rooms of some size.
+fn with_rooms(random: &mut Random, write: fn(&mut Random) -> Bodies) -> Record {
+    let bodies = write(random);
+    let deck = contents::assemble(&bodies);
+    let mut rooms = AMPLE;
+    let mut steps = 3_000;
+    match random.weighted(&[80, 5, 5, 5, 5]) {
+        0 => {}
+        1 => rooms.text = small(random, 150),
+        2 => rooms.list = small(random, 500),
+        3 => steps = small(random, 100),
+        _ => steps = MOST_STEPS,
+    }
+    Record { rooms, steps, deck }
+}
+
+fn small(random: &mut Random, bound: usize) -> u32 {
+    u32::try_from(random.below(bound)).unwrap_or(0)
+}
+
+/// Bodies whose steps or rooms are just enough for what they do, up to their
+/// end or up to their refusal, or one short of it.
+fn tight(random: &mut Random) -> Record {
+    let bodies = match random.weighted(&[75, 15, 10]) {
+        0 => programs(random),
+        1 => pairs::several_errors(random),
+        _ => damaged_by_tokens(random),
+    };
+    let mut record = Record {
+        rooms: AMPLE,
+        steps: 3_000,
+        deck: contents::assemble(&bodies),
+    };
+    let used = used(&record.deck, record.rooms, record.steps);
+    match random.below(4) {
+        0 => record.steps = one_off(random, usize::try_from(used.steps).unwrap_or(0)),
+        1 => record.rooms.text = one_off(random, used.text),
+        2 => record.rooms.list = one_off(random, used.lines * Line::BYTES),
+        _ => {
+            record.steps = small(random, usize::try_from(used.steps).unwrap_or(0) + 2);
+            record.rooms.text = small(random, used.text + 2);
+        }
+    }
+    record
+}
+
+/// A number, one less or one more.
+fn one_off(random: &mut Random, number: usize) -> u32 {
+    let number = (number + random.below(3)).saturating_sub(1);
+    u32::try_from(number).unwrap_or(0)
+}
+
+/// One of the bodies, changed.
+fn change(random: &mut Random, bodies: &mut Bodies, how: impl Fn(&mut Random, &mut Vec<u8>)) {
+    let index = if random.percent(75) {
+        0
+    } else {
+        random.below(bodies.bodies.len())
+    };
+    if let Some(body) = bodies.bodies.get_mut(index) {
+        how(random, body);
+    }
+}
+
+fn damaged_by_tokens(random: &mut Random) -> Bodies {
+    let mut bodies = programs(random);
+    if random.one_in(6) {
+        let others = programs(random);
+        change(random, &mut bodies, |random, body| {
+            let other = random.pick(&others.bodies).cloned().unwrap_or_default();
+            *body = damage::splice(random, body, &other);
+        });
+    } else {
+        change(random, &mut bodies, |random, body| {
+            *body = damage::damage_tokens(random, body);
+        });
+    }
+    bodies
+}
+
+fn damaged_by_bytes(random: &mut Random) -> Bodies {
+    let mut bodies = programs(random);
+    change(random, &mut bodies, damage::damage_bytes);
+    bodies
+}
+
+fn soup(random: &mut Random) -> Bodies {
+    let mut bodies = programs(random);
+    let tokens = random.percent(70);
+    change(random, &mut bodies, |random, body| {
+        *body = if tokens {
+            damage::token_soup(random)
+        } else {
+            damage::byte_soup(random)
+        };
+    });
+    bodies
+}

@@ -1,0 +1,126 @@
+//! What holds of every answer, whatever the deck, on decks from a fixed seed.
+
+use referee::deck::{self, Member};
+use referee::generate::record;
+use referee::record::Record;
+use referee::stack::with_large_stack;
+use referee::{Answer, Line, LineKind};
+
+const SEED: u64 = 1969;
+const DECKS: u64 = 100_000;
+const NUMBERS: usize = 20;
+
+/// What is wrong with an answer.
+type Fault = Option<&'static str>;
+
+fn fault_unless(holds: bool, fault: &'static str) -> Fault {
+    (!holds).then_some(fault)
+}
+
+fn fault(record: &Record, answer: &Answer) -> Fault {
+    fault_unless(answer.number < 20 && answer.number != 2, "number")
+        .or_else(|| fault_unless(answer.steps <= record.steps, "steps"))
+        .or_else(|| match answer.number {
+            0 => finished_fault(record, answer),
+            _ => refused_fault(record, answer),
+        })
+}
+
+fn refused_fault(record: &Record, answer: &Answer) -> Fault {
+    let empty = answer.text.is_empty() && answer.lines.is_empty();
+    let members = deck::open(&record.deck).unwrap_or_default();
+    let inside = match members.get(answer.member) {
+        Some(member) => answer.offset <= member.body.len(),
+        None => answer.member == 0 && answer.offset == 0,
+    };
+    fault_unless(empty, "a refusal with text or lines")
+        .or_else(|| fault_unless(inside, "a place outside the deck"))
+        .or_else(|| fault_unless((answer.number == 1) == members.is_empty(), "malformed"))
+}
+
+fn finished_fault(record: &Record, answer: &Answer) -> Fault {
+    let room = |bytes: u32| usize::try_from(bytes).unwrap_or(usize::MAX);
+    let list = answer.lines.len() * Line::BYTES;
+    let members = deck::open(&record.deck).unwrap_or_default();
+    fault_unless(answer.text.len() <= room(record.rooms.text), "text room")
+        .or_else(|| fault_unless(list <= room(record.rooms.list), "list room"))
+        .or_else(|| fault_unless(answer.member == 0 && answer.offset == 0, "place"))
+        .or_else(|| lines_fault(&members, answer))
+        .or_else(|| stretch_fault(&answer.lines))
+}
+
+/// The lines cover the text, and blanks and stretches say what stands there.
+fn lines_fault(members: &[Member], answer: &Answer) -> Fault {
+    let mut text = answer.text.as_slice();
+    for line in &answer.lines {
+        let Some((covered, rest)) = text.split_at_checked(line.length) else {
+            return Some("lines longer than the text");
+        };
+        text = rest;
+        let body = members.get(line.place.member).map(|member| member.body);
+        let source = body.and_then(|body| body.get(line.place.offset..));
+        let Some(source) = source else {
+            return Some("a line outside the deck");
+        };
+        let fits = match line.kind {
+            LineKind::Blank => covered == b" ",
+            LineKind::Copied => !covered.is_empty() && source.starts_with(covered),
+            LineKind::Replaced => !source.is_empty(),
+        };
+        if !fits {
+            return Some("a line that doesn't fit the text");
+        }
+    }
+    fault_unless(text.is_empty(), "text behind the last line")
+}
+
+/// Adjacent stretches that could be one are one.
+fn stretch_fault(lines: &[Line]) -> Fault {
+    let joins = |pair: &[Line]| match pair {
+        [one, two] => {
+            let copied = one.kind == LineKind::Copied && two.kind == LineKind::Copied;
+            let end = one.place.offset + one.length;
+            copied && one.place.member == two.place.member && end == two.place.offset
+        }
+        _ => false,
+    };
+    fault_unless(!lines.windows(2).any(joins), "two stretches that are one")
+}
+
+/// Answers all decks; gives how often each number came.
+fn answer_all() -> [usize; NUMBERS] {
+    let mut counts = [0; NUMBERS];
+    for number in 0..DECKS {
+        let record = record(SEED, number);
+        let answer = record.expand();
+        let fault = fault(&record, &answer);
+        assert_eq!(fault, None, "deck {number} of seed {SEED}");
+        let index = usize::try_from(answer.number).unwrap_or(0);
+        if let Some(count) = counts.get_mut(index) {
+            *count += 1;
+        }
+    }
+    counts
+}
+
+#[test]
+fn every_deck_is_answered_and_every_answer_holds() {
+    let counts = with_large_stack(answer_all).expect("every deck is answered");
+    println!("answers by number: {counts:?}");
+    for (number, count) in counts.iter().enumerate() {
+        let comes = *count > 0;
+        assert_eq!(comes, number != 2, "number {number} came {count} times");
+    }
+    assert!(counts[0] >= 30_000, "only {} decks finish", counts[0]);
+}
+
+#[test]
+fn decks_keep_within_their_bounds() {
+    for number in 0..5_000 {
+        let record = record(SEED + 1, number);
+        assert!(record.deck.len() <= 131_072);
+        assert!(record.rooms.text <= 65_536 && record.rooms.list <= 49_152);
+        assert!(record.steps <= 1_000_000);
+        assert_eq!(record, referee::generate::record(SEED + 1, number));
+    }
+}
