@@ -17,5 +17,7 @@ while i < len(out):
         lines.append(out[i][4:])
         i += 1
     fn = m.group(1).split('/proofs/')[-1].replace('/Proof.antt', '').replace('/', '__')
-    open(state(crate, 'skel', fn + '.skel'), 'w').write('\n'.join(lines).rstrip('\n') + '\n')
+    # a long line is broken before its hole
+    text = re.sub(r' =\n +\?$', ' = ?', '\n'.join(lines), flags=re.M)
+    open(state(crate, 'skel', fn + '.skel'), 'w').write(text.rstrip('\n') + '\n')
     print('skeleton', fn, len(lines))

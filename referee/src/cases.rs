@@ -48,7 +48,7 @@ fn missing(what: &str, name: &str) -> io::Error {
 }
 
 /// Splits off the first answer: its numbers tell how far it goes.
-fn split_answer(answers: &[u8]) -> Option<(&[u8], &[u8])> {
+pub fn split_answer(answers: &[u8]) -> Option<(&[u8], &[u8])> {
     let mut end = find(answers, 0, b"\n")? + 1;
     let numbers = std::str::from_utf8(answers.get(..end)?).ok()?;
     let mut numbers = numbers.split_whitespace().skip(4).map(str::parse::<usize>);

@@ -219,6 +219,20 @@ impl Deck {
     }
 }
 
+// The body of line k; nothing where the deck does not have it.
+pub fn body(d: &[u8], k: u16) -> &[u8] {
+    let from = offset(d, k) as usize;
+    let n = size(d, k) as usize;
+    if d.len() < from {
+        return &d[..0];
+    }
+    if d.len() - from < n {
+        return &d[..0];
+    }
+    let to = from + n;
+    &d[from..to]
+}
+
 // 01's number for the contents: 0, or 1 where the deck is malformed.
 pub fn refusal(c: Contents) -> u8
     ensures { λ r. ⌜ r ≡ refusalOf c ⌝ }

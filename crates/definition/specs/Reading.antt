@@ -417,12 +417,16 @@ leadIn (o ∷ os) at p st = leadOf (o .kind) (o .row)
     leadOf inElse n = st
 
 -- ---- in a procedure: `%` begins only its END
+-- another word could still be a label, and the token behind it is wrong
+abbrev pub notEnd : Reading Named → List ℕ → State → Turn
+notEnd (read n) s st = stop syntax (tokenAt s (n .to) .from) [] st
+notEnd (refused w p) s st = stop w p [] st
+
 abbrev pub procedureEnd : List ℕ → Labelled → State → Turn
 procedureEnd s L st =
     tooLong (L .long) (λ q. stop overLimit q [] st)
     (λ _. when (isWord "END" (L .behind .token)) (λ _. endAt s (L .labels) (L .behind .to) (st .opened) st)
-    (λ _. stop syntax (cond (isName (L .behind .token)) (tokenAt s (L .behind .to) .from) (L .behind .from)) []
-    (withNames (means (st .scope) (label 0) (L .labels)) st)))
+    (λ _. notEnd (nameOf (L .behind .token) (L .behind .from) (L .behind .to)) s (withNames (means (st .scope) (label 0) (L .labels)) st)))
 
 -- whether a token can begin a statement
 abbrev pub begins : Token → Bool

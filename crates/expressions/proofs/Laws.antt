@@ -18,13 +18,13 @@ use Rattle.definition.proofs.Parts.{length-part}
 use Rattle.tokens.specs.declared.Kind.{Kind}
 use Rattle.tokens.specs.declared.Kind.the-variants.{Word, Integer, String, Bits, Sign, Nothing, Wrong}
 use Rattle.tokens.specs.declared.Lexeme.{Lexeme}
-use Rattle.tokens.specs.Answer.{Lexed, spelling, isSignIn, isSignKind, isWordKind, content, tokenFor}
+use Rattle.tokens.specs.Answer.{Lexed, spelling, isSignIn, isWordIn, isSignKind, isWordKind, content, tokenFor}
 use Rattle.tokens.proofs.Lexemes as L
 use Rattle.expressions.specs.declared.Expected.{Expected}
 use Rattle.expressions.specs.declared.Expected.the-variants.{Past, Refused}
 use Rattle.expressions.specs.declared.NamedAt.the-variants as N
 use Rattle.expressions.specs.declared.InfixAt.{InfixAt}
-use Rattle.expressions.specs.Check.{infixAt, isSpelled, expected, namedFor}
+use Rattle.expressions.specs.Check.{infixAt, isSpelled, expected, isWorded, expectedWord, namedFor}
 
 module _ (s : List ℕ) (at : ℕ) (l : Lexeme) (lex : Lexed s at l) where
   -- a test on a sign, as the definition has it
@@ -51,6 +51,27 @@ module _ (s : List ℕ) (at : ℕ) (l : Lexeme) (lex : Lexed s at l) where
   pub not-there : (w : List ℕ) (r : Bool) → r ≡ isSignIn s l w → r ≡ false → Refused Syntax (l .from) ≡ expected w s at
   unfolding expected
   not-there w r f g = rw (← spelled w, ← f, g, lex .from)
+
+  worded : (w : List ℕ) → isWordIn s l w ≡ isWorded w (T.tokenAt s at .token)
+  unfolding isWordIn
+  worded w = rw (L.token-is s at l lex) (by-kind (l .kind) (spelling s l) (content s (l .from)))
+    where
+      by-kind : (k : Kind) (x y : List ℕ) → (isWordKind k && same x w) ≡ isWorded w (tokenFor k x y)
+      by-kind Word x y = refl
+      by-kind Integer x y = refl
+      by-kind String x y = refl
+      by-kind Bits x y = refl
+      by-kind Sign x y = refl
+      by-kind Nothing x y = refl
+      by-kind Wrong x y = refl
+
+  pub word-there : (w : List ℕ) (r : Bool) → r ≡ isWordIn s l w → r ≡ true → Past (l .to) ≡ expectedWord w s at
+  unfolding expectedWord
+  word-there w r f g = rw (← worded w, ← f, g, lex .to)
+
+  pub word-not-there : (w : List ℕ) (r : Bool) → r ≡ isWordIn s l w → r ≡ false → Refused Syntax (l .from) ≡ expectedWord w s at
+  unfolding expectedWord
+  word-not-there w r f g = rw (← worded w, ← f, g, lex .from)
 
   -- a word is a name, if it is short enough
   word-is : (k : Kind) (x y : List ℕ) → isWordKind k ≡ true → tokenFor k x y ≡ T.word x

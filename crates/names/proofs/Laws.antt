@@ -7,7 +7,7 @@ use Prim.Native.Nat.{ℕ, zero, suc, _+_, _*_, _-_, _<_, _≤_}
 use native.Mathlib.Nat.{add-zero}
 use native.Mathlib.Numerals.{add-one}
 use native.Mathlib.Omega.{arith}
-use borrow.Author.Tests.{ltb-true, ltb-false}
+use borrow.Author.Tests.{ltb-true, ltb-false, eq-eqb, ne-eqb, eqb-false}
 use lib.Dec.{eqb, ltb, lit<}
 use lib.ListN.{length, getD, length-append}
 use Rattle.definition.specs.Lists.{part, same}
@@ -50,19 +50,38 @@ pub same-procedures : (a b : Owner) (p q : Place) (r : Bool) → a ≡ Procedure
 same-procedures a b p q r e f g = g ∙ rw (e, f)
 
 -- ---- whether a record is that of an identifier
-module _ (d : List ℕ) (x : Name) (i : Identifier) (o : Owner) where
-  pub other-length : (x .identifier .1 ≡ i .1 → ⊥) → false ≡ isIdentifier (spelled d i) (ownerOf o) (identifierOf d x)
+module _ (d : List ℕ) (x : Name) (s : List ℕ) (from n : ℕ) (o : Owner) where
+  pub other-length : (x .identifier .1 ≡ n → ⊥) → false ≡ isIdentifier (part n from s) (ownerOf o) (identifierOf d x)
   other-length h =
-      let z : false ≡ same (spelled d (x .identifier)) (spelled d i) =
-      same-length (spelled d (x .identifier)) (spelled d i) (λ e. h (sym (length-part (x .identifier .1) (x .identifier .0) d) ∙ e ∙ length-part (i .1) (i .0) d)) in
+      let z : false ≡ same (spelled d (x .identifier)) (part n from s) =
+      same-length (spelled d (x .identifier)) (part n from s) (λ e. h (sym (length-part (x .identifier .1) (x .identifier .0) d) ∙ e ∙ length-part n from s)) in
       rw (← z)
 
-  module _ (g : Bool) (e : x .identifier .1 ≡ i .1) (f : g ≡ same (part (i .1) (x .identifier .0) d) (part (i .1) (i .0) d)) where
-    pub same-spelling : g ≡ true → (r : Bool) → r ≡ sameOwner (ownerOf (x .owner)) (ownerOf o) → r ≡ isIdentifier (spelled d i) (ownerOf o) (identifierOf d x)
+  module _ (g : Bool) (e : x .identifier .1 ≡ n) (f : g ≡ same (part n (x .identifier .0) d) (part n from s)) where
+    pub same-spelling : g ≡ true → (r : Bool) → r ≡ sameOwner (ownerOf (x .owner)) (ownerOf o) → r ≡ isIdentifier (part n from s) (ownerOf o) (identifierOf d x)
     same-spelling y r q = q ∙ rw (e, ← f, y)
 
-    pub other-spelling : g ≡ false → false ≡ isIdentifier (spelled d i) (ownerOf o) (identifierOf d x)
+    pub other-spelling : g ≡ false → false ≡ isIdentifier (part n from s) (ownerOf o) (identifierOf d x)
     other-spelling y = rw (e, ← f, y)
+
+-- ---- the length that stands in a record
+module _ (t : List ℕ) (a at m n : ℕ) (p : at ≡ 16 * a) (q : m ≡ getD t (at + 1) 0) where
+  pub same-length-there : m ≡ n → true ≡ eqb (nameIn t a .identifier .1) n
+  unfolding nameIn
+  same-length-there e = rw (← p, ← q, eq-eqb m n e)
+
+  pub other-length-there : (m ≡ n → ⊥) → false ≡ eqb (nameIn t a .identifier .1) n
+  unfolding nameIn
+  other-length-there e = rw (← p, ← q, ne-eqb m n e)
+
+-- ---- whether the record of an address is that of an identifier
+module _ (d t s : List ℕ) (a from n : ℕ) (o : Owner) where
+  pub is-there : (x : Name) (g : Bool) → x ≡ nameIn t a → g ≡ isIdentifier (part n from s) (ownerOf o) (identifierOf d x)
+      → g ≡ isIdentifier (part n from s) (ownerOf o) (identifierOf d (nameIn t a))
+  is-there x g e f = rw (← e) f
+
+  pub not-there : (b : Bool) → b ≡ eqb (nameIn t a .identifier .1) n → b ≡ false → false ≡ isIdentifier (part n from s) (ownerOf o) (identifierOf d (nameIn t a))
+  not-there b e f = other-length d (nameIn t a) s from n o (eqb-false (nameIn t a .identifier .1) n (sym e ∙ f))
 
 -- ---- the search: what is left to look at decides
 ids-next : (d t : List ℕ) (n a : ℕ) → a < n → identifiersFrom d t a (n - a) ≡ identifierOf d (nameIn t a) ∷ identifiersFrom d t (a + 1) (n - (a + 1))
@@ -103,18 +122,18 @@ unknown-first : (f g : W.Address) → foundFor f ≡ Unknown → orElse f g ≡ 
 unknown-first (W.address b) g e = let z : _≡_ {A = ℕ} 0 1 = cc in absurd (omega arith)
 unknown-first W.unknown g e = refl
 
-module _ (d t : List ℕ) (n : ℕ) (i : Identifier) (k : W.Owner) (r : Found) (e : r ≡ foundFor (addressIn (spelled d i) k 0 (identifiersFrom d t 0 n))) where
+module _ (d t : List ℕ) (n : ℕ) (l : List ℕ) (k : W.Owner) (r : Found) (e : r ≡ foundFor (addressIn l k 0 (identifiersFrom d t 0 n))) where
   own : W.Address
-  own = addressIn (spelled d i) k 0 (identifiersFrom d t 0 n)
+  own = addressIn l k 0 (identifiersFrom d t 0 n)
 
   global : W.Address
-  global = addressIn (spelled d i) W.everyone 0 (identifiersFrom d t 0 n)
+  global = addressIn l W.everyone 0 (identifiersFrom d t 0 n)
 
-  pub seen-own : (a : Address) → r ≡ Known a → Known a ≡ foundFor (seenIn d t n i k)
+  pub seen-own : (a : Address) → r ≡ Known a → Known a ≡ foundFor (seenIn d t n l k)
   unfolding own global
   seen-own a f = known-first own global a (sym e ∙ f)
 
-  pub seen-global : (q : Found) → r ≡ Unknown → q ≡ foundFor (addressIn (spelled d i) W.everyone 0 (identifiersFrom d t 0 n)) → q ≡ foundFor (seenIn d t n i k)
+  pub seen-global : (q : Found) → r ≡ Unknown → q ≡ foundFor (addressIn l W.everyone 0 (identifiersFrom d t 0 n)) → q ≡ foundFor (seenIn d t n l k)
   unfolding own global
   seen-global q f g = g ∙ ap foundFor (sym (unknown-first own global (sym e ∙ f)))
 

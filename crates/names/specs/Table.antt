@@ -168,5 +168,5 @@ orElse (W.address a) other = W.address a
 orElse W.unknown other = other
 
 -- a name seen from a scope: the definition's `seenFrom`, over a table of n records
-abbrev pub seenIn : List ℕ → List ℕ → ℕ → Identifier → W.Owner → W.Address
-seenIn d t n i k = orElse (W.addressIn (spelled d i) k 0 (identifiersFrom d t 0 n)) (W.addressIn (spelled d i) W.everyone 0 (identifiersFrom d t 0 n))
+abbrev pub seenIn : List ℕ → List ℕ → ℕ → List ℕ → W.Owner → W.Address
+seenIn d t n l k = orElse (W.addressIn l k 0 (identifiersFrom d t 0 n)) (W.addressIn l W.everyone 0 (identifiersFrom d t 0 n))

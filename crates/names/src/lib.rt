@@ -3,10 +3,12 @@
 ghost use mathlib.Core.Path.{_≡_};
 ghost use mathlib.Core.List.{_∷_, []};
 ghost use Prim.Native.Nat.{_+_, _*_, _-_, _≤_};
+ghost use lib.Dec.{eqb};
+ghost use Rattle.definition.specs.Lists.{part};
 ghost use Rattle.definition.specs.Room.{over};
 ghost use Rattle.definition.specs.World.{sameOwner, isIdentifier, addressIn, orGlobal, everyone};
 ghost use Rattle.names.specs.Table as T;
-ghost use Rattle.names.specs.Table.{ownerOf, foundFor, spelled, identifierOf, identifiersFrom, nameIn};
+ghost use Rattle.names.specs.Table.{ownerOf, foundFor, identifierOf, identifiersFrom, nameIn};
 use definition::ValueType;
 use rooms::is_same;
 use rooms::number16;
@@ -193,28 +195,65 @@ pub fn name_at(names: &[u16], a: Address) -> Name
     }
 }
 
-// Whether a record is that of an identifier in a scope.
-fn is_named(deck: &[u8], x: Name, i: Identifier, owner: Owner) -> bool
-    ensures { λ r. ⌜ r ≡ isIdentifier (spelled (now (deck .entry)) i) (ownerOf owner) (identifierOf (now (deck .entry)) x) ⌝ }
+// Whether a record is that of the identifier that n bytes of s spell, in a scope.
+fn is_named(deck: &[u8], x: Name, s: &[u8], from: usize, n: usize, owner: Owner) -> bool
+    ensures { λ r. ⌜ r ≡ isIdentifier (part n from (now (s .entry))) (ownerOf owner) (identifierOf (now (deck .entry)) x) ⌝ }
 {
     let own = x.identifier;
-    if own.1 != i.1 {
+    if own.1 as usize != n {
         return false;
     }
-    if is_same(deck, own.0 as usize, deck, i.0 as usize, i.1 as usize) {
+    if is_same(deck, own.0 as usize, s, from, n) {
         let o = x.owner;
         return same_owner(o, owner);
     }
     false
 }
 
-// THE ENVIRONMENT: the address of an identifier in a scope, among n records.
-pub fn find(deck: &[u8], names: &[u16], n: u16, i: Identifier, owner: Owner) -> Found
-    ensures { λ r. ⌜ r ≡ foundFor (addressIn (spelled (now (deck .entry)) i) (ownerOf owner) 0 (identifiersFrom (now (deck .entry)) (now (names .entry)) 0 n)) ⌝ }
+// Whether the identifier of a record has n bytes; the quick test, since most have not.
+fn has_length(names: &[u16], a: Address, n: usize) -> bool
+    ensures { λ r. ⌜ r ≡ eqb (nameIn (now (names .entry)) (a .0) .identifier .1) n ⌝ }
+{
+    let own = number16(names, record_place(a), 1);
+    if own as usize == n {
+        return true;
+    }
+    false
+}
+
+// Whether the record of an address is that of the identifier, in a scope.
+fn is_at(
+    deck: &[u8],
+    names: &[u16],
+    a: Address,
+    s: &[u8],
+    from: usize,
+    n: usize,
+    owner: Owner,
+) -> bool
+    ensures { λ r. ⌜ r ≡ isIdentifier (part n from (now (s .entry))) (ownerOf owner) (identifierOf (now (deck .entry)) (nameIn (now (names .entry)) (a .0))) ⌝ }
+{
+    if has_length(names, a, n) {
+        return is_named(deck, name_at(names, a), s, from, n, owner);
+    }
+    false
+}
+
+// THE ENVIRONMENT: the address of the identifier that `len` bytes of s spell, in a scope, among n records.
+pub fn find(
+    deck: &[u8],
+    names: &[u16],
+    n: u16,
+    s: &[u8],
+    from: usize,
+    len: usize,
+    owner: Owner,
+) -> Found
+    ensures { λ r. ⌜ r ≡ foundFor (addressIn (part len from (now (s .entry))) (ownerOf owner) 0 (identifiersFrom (now (deck .entry)) (now (names .entry)) 0 n)) ⌝ }
 {
     let mut a = 0;
     while a < n {
-        if is_named(deck, name_at(names, Address(a)), i, owner) {
+        if is_at(deck, names, Address(a), s, from, len, owner) {
             return Found::Known(Address(a));
         }
         a += 1;
@@ -223,13 +262,21 @@ pub fn find(deck: &[u8], names: &[u16], n: u16, i: Identifier, owner: Owner) -> 
 }
 
 // The same seen from a scope: its own names first, then the global ones.
-pub fn seen_from(deck: &[u8], names: &[u16], n: u16, i: Identifier, owner: Owner) -> Found
-    ensures { λ r. ⌜ r ≡ foundFor (T.seenIn (now (deck .entry)) (now (names .entry)) n i (ownerOf owner)) ⌝ }
+pub fn seen_from(
+    deck: &[u8],
+    names: &[u16],
+    n: u16,
+    s: &[u8],
+    from: usize,
+    len: usize,
+    owner: Owner,
+) -> Found
+    ensures { λ r. ⌜ r ≡ foundFor (T.seenIn (now (deck .entry)) (now (names .entry)) n (part len from (now (s .entry))) (ownerOf owner)) ⌝ }
 {
-    let own = find(deck, names, n, i, owner);
+    let own = find(deck, names, n, s, from, len, owner);
     match own {
         Found::Known(a) => Found::Known(a),
-        Found::Unknown => find(deck, names, n, i, Owner::Everyone),
+        Found::Unknown => find(deck, names, n, s, from, len, Owner::Everyone),
     }
 }
 

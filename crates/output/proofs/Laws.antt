@@ -3,7 +3,7 @@
 use mathlib.Core.Path.{_≡_, refl, sym, ap, _∙_}
 use mathlib.Core.Bool.{Bool, true, false, cond, _&&_, false≢true}
 use mathlib.Core.List.{List, [], _∷_, _++_}
-use Prim.Native.Nat.{ℕ, zero, suc, _+_, _*_, _-_, _<_, _≤_}
+use Prim.Native.Nat.{ℕ, zero, suc, _+_, _*_, _-_, _/_, _<_, _≤_}
 use native.Mathlib.Nat.{add-zero, le-refl}
 use native.Mathlib.Omega.{arith}
 use borrow.Author.Tests.{eq-eqb, ne-eqb, eqb-true, eqb-false, le-leb, lt-leb, leb-true, leb-false}
@@ -251,3 +251,11 @@ begin-fine T L o b =
       line = omega (arith, z);
       some = λ e. absurd (omega (arith, k, e));
     }
+
+-- ---- the test of a cursor against the rooms
+pub never : {A : Type 0} → false ≡ true → A
+never e = absurd (false≢true e)
+
+pub fine-all : (o : Out) (t l : ℕ) → o .text ≤ t → o .room ≤ t - o .text → o .text + o .room ≤ 4294967295 → o .lines ≤ l / 12 → o .free ≤ l / 12 - o .lines
+    → o .newest .size ≤ o .text → (o .newest .kind ≡ 2 → 1 ≤ o .lines) → Fine o t l
+fine-all o t l a b c d e f g = record { text = omega arith; most = c; list = omega arith; line = f; some = g }

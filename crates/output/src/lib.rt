@@ -4,7 +4,7 @@ ghost use mathlib.Core.List.{_∷_, []};
 ghost use Prim.Native.Nat.{_+_, _*_, _≤_};
 ghost use lib.ListN.{length};
 ghost use lib.Dec.{leb};
-ghost use mathlib.Core.Bool.{cond};
+ghost use mathlib.Core.Bool.{cond, true};
 ghost use Rattle.definition.specs.Limits.{textBytes};
 ghost use Rattle.definition.specs.Lists.{part};
 ghost use Rattle.definition.specs.Room.{over};
@@ -66,6 +66,38 @@ impl Out {
             },
         }
     }
+}
+
+// Whether the numbers fit rooms of so many bytes of text and of lines.
+pub fn is_fine(o: Out, text: usize, list: usize) -> bool
+    ensures { λ r. ⌜ (r ≡ true → Fine o text list) ⌝ }
+{
+    if text < o.text {
+        return false;
+    }
+    if text - o.text < o.room {
+        return false;
+    }
+    if Out::MOST < o.text + o.room {
+        return false;
+    }
+    let lines = list / Out::LINE;
+    if lines < o.lines {
+        return false;
+    }
+    if lines - o.lines < o.free {
+        return false;
+    }
+    if o.text < o.newest.size as usize {
+        return false;
+    }
+    if o.newest.kind != 2 {
+        return true;
+    }
+    if o.lines < 1 {
+        return false;
+    }
+    true
 }
 
 // Writes the twelve bytes of a line from a place on.

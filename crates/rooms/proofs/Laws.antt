@@ -4,15 +4,16 @@ use mathlib.Core.Path.{_≡_, refl, sym, ap, _∙_}
 use mathlib.Core.Bool.{Bool, true, false, _&&_}
 use mathlib.Core.List.{List, [], _∷_, _++_}
 use Prim.Native.Nat.{ℕ, zero, suc, _+_, _*_, _-_, _/_, _%_, _<_, _≤_}
-use native.Mathlib.Nat.{add-zero}
+use native.Mathlib.Nat.{add-zero, sub-zero}
 use native.Mathlib.Omega.{arith}
 use borrow.Author.Needs.{needs}
 use borrow.Author.Tests.{eq-eqb, ne-eqb}
 use lib.Dec.{eqb}
-use lib.ListN.{length, getD, set, List·getD-eq-default}
+use lib.ListN.{length, getD, set, drop, length-replicate, replicate-append-replicate, List·getD-eq-default}
+use lib.Seq.{drop-nil}
 use Rattle.definition.specs.Lists.{part, number, bytes, same}
 use Rattle.definition.specs.Room.{over, zeros}
-use Rattle.definition.proofs.Rooms.{length-over, over-nil, over-next-at, over-past, set-is-over, zero-more, zero-all}
+use Rattle.definition.proofs.Rooms.{length-over, over-nil, over-next-at, over-past, set-is-over, set-next, over-all, zero-more, zero-all}
 use Rattle.definition.proofs.Parts.{length-part, part-more, part-first, part2, part4}
 
 pub byte-past : (s : List ℕ) (at k : ℕ) → length s ≤ at + k → 0 ≡ getD s (at + k) 0
@@ -39,6 +40,42 @@ pub zeroed-all : (r₀ r : List ℕ) (i : ℕ) → Zeroed r₀ r i → length r 
 zeroed-all r₀ r i z h = z .is ∙ zero-all r₀ i (omega arith)
 
 pub ruleset zeroing = (needs, zeroed-start, zeroed-more, zeroed-all)
+
+-- ---- zeroing from a place on: the numbers from there to i are zero
+pub record Cleared (r₀ : List ℕ) (from : ℕ) (r : List ℕ) (i : ℕ) : Type 0 where
+  pub low : from ≤ i
+  pub high : i - from ≤ length r₀ - from
+  pub is : r ≡ over r₀ from (zeros (i - from))
+  pub size : length r ≡ length r₀
+
+-- a turn of the loop
+zero-next : (r : List ℕ) (at n k : ℕ) → n ≡ at + k → set (over r at (zeros k)) n 0 ≡ over r at (zeros (k + 1))
+zero-next r at n k e =
+    set-next r at n (zeros k) 0 (rw (length-replicate {A = ℕ} k 0) e)
+    ∙ ap (λ (t : List ℕ). over r at t) (replicate-append-replicate k 1 0)
+
+pub cleared-start : (r : List ℕ) (from : ℕ) → Cleared r from r from
+cleared-start r from =
+    let e : from - from ≡ 0 = omega arith in
+    record { low = omega arith; high = omega arith; is = rw e (sym (over-nil r from)); size = refl }
+
+pub cleared-more : (r₀ : List ℕ) (from : ℕ) (r : List ℕ) (i : ℕ) → Cleared r₀ from r i → i < length r → Cleared r₀ from (set r i 0) (i + 1)
+cleared-more r₀ from r i z h =
+    let k = i - from in
+    let n : i + 1 - from ≡ k + 1 = omega (arith, z .low) in
+    let e : set r i 0 ≡ over r₀ from (zeros (i + 1 - from)) = rw (z .is, n) (zero-next r₀ from i k (omega (arith, z .low))) in
+    record { low = omega arith; high = omega (arith, z .low, z .size); is = e; size = ap length e ∙ length-over r₀ from (zeros (i + 1 - from)) }
+
+pub cleared-all : (r₀ : List ℕ) (from : ℕ) (r : List ℕ) (i : ℕ) → Cleared r₀ from r i → length r ≤ i → r ≡ over r₀ from (zeros (length r₀ - from))
+cleared-all r₀ from r i z h =
+    let e : i - from ≡ length r₀ - from = omega (arith, z .high, z .size) in
+    z .is ∙ rw e
+
+-- from the place on the room is zero
+pub drop-cleared : (r : List ℕ) (n : ℕ) → drop n (over r n (zeros (length r - n))) ≡ zeros (length r - n)
+drop-cleared [] n = let e : 0 - n ≡ 0 = omega arith in rw e (drop-nil n)
+drop-cleared (r ∷ rs) zero = over-all (r ∷ rs) (zeros (suc (length rs) - 0)) (simp (length-replicate, sub-zero))
+drop-cleared (r ∷ rs) (suc n) = let e : suc (length rs) - suc n ≡ length rs - n = omega arith in rw e (drop-cleared rs n)
 
 -- ---- copying: the first j bytes are there
 pub record Copied (s : List ℕ) (from n : ℕ) (r₀ : List ℕ) (at : ℕ) (r : List ℕ) (j : ℕ) : Type 0 where

@@ -1,7 +1,7 @@
 // Lent rooms: zeroed, copied, compared, and numbers read and written in them; each function answers for every length and place.
 ghost use mathlib.Core.Path.{_≡_};
 ghost use mathlib.Core.List.{_∷_, []};
-ghost use Prim.Native.Nat.{_+_};
+ghost use Prim.Native.Nat.{_+_, _-_};
 ghost use lib.ListN.{length, getD};
 ghost use Rattle.definition.specs.Lists.{part, number, bytes, same};
 ghost use Rattle.definition.specs.Room.{over, zeros};
@@ -97,6 +97,17 @@ pub fn zero_u32(room: &mut [u32])
     ensures { λ _. ⌜ now (room .exit) ≡ zeros (length (now (room .entry))) ⌝ }
 {
     let mut i = 0;
+    while i < room.len() {
+        room[i] = 0;
+        i += 1;
+    }
+}
+
+// Zeroes a room from a place on.
+pub fn zero_from(room: &mut [u8], from: usize)
+    ensures { λ _. ⌜ now (room .exit) ≡ over (now (room .entry)) from (zeros (length (now (room .entry)) - from)) ⌝ }
+{
+    let mut i = from;
     while i < room.len() {
         room[i] = 0;
         i += 1;

@@ -51,6 +51,17 @@ pub struct Style {
     pub wild_gotos: usize,
     /// The weight of GOTO among the statements.
     pub gotos: usize,
+    /// Groups and alternatives are opened only so deep.
+    pub deepest: usize,
+    /// How much more often a statement that nests is chosen.
+    pub nests: usize,
+}
+
+impl Style {
+    /// A deep nest takes more sentences.
+    pub fn size(self) -> usize {
+        self.deepest.div_ceil(PLAIN.deepest)
+    }
 }
 
 const PLAIN: Style = Style {
@@ -58,6 +69,8 @@ const PLAIN: Style = Style {
     spaces: 12,
     wild_gotos: 20,
     gotos: 8,
+    deepest: 5,
+    nests: 1,
 };
 
 const LOOSE: Style = Style {
@@ -65,6 +78,8 @@ const LOOSE: Style = Style {
     spaces: 3,
     wild_gotos: 20,
     gotos: 8,
+    deepest: 5,
+    nests: 1,
 };
 
 const MAZE: Style = Style {
@@ -72,13 +87,25 @@ const MAZE: Style = Style {
     spaces: 30,
     wild_gotos: 6,
     gotos: 45,
+    deepest: 5,
+    nests: 1,
+};
+
+/// Nests that come near the limit of 16, and now and then past it.
+const DEEP: Style = Style {
+    labels: 4,
+    spaces: 30,
+    wild_gotos: 20,
+    gotos: 2,
+    deepest: 16,
+    nests: 12,
 };
 
 impl<'r> Author<'r> {
     pub fn new(random: &'r mut Random) -> Author<'r> {
         let world = World::new(random);
         let mishaps = [60, 150, 400, 2_000][random.below(4)];
-        let style = [PLAIN, LOOSE, MAZE][random.weighted(&[65, 15, 20])];
+        let style = [PLAIN, LOOSE, MAZE, DEEP][random.weighted(&[60, 15, 18, 7])];
         let last = world.members.len() - 1;
         let prelude = (last > 0 && random.percent(35)).then_some(last);
         Author {

@@ -11,7 +11,7 @@ const MARKS: &[&[u8]] = &[
 ];
 
 /// The tokens of a body, as a scan sees them.
-fn split(body: &[u8]) -> Vec<Vec<u8>> {
+pub fn split(body: &[u8]) -> Vec<Vec<u8>> {
     let mut tokens = Vec::new();
     let mut at = 0;
     while at < body.len() {

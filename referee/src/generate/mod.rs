@@ -5,6 +5,9 @@ mod contents;
 mod damage;
 mod edges;
 mod expressions;
+mod jumps;
+mod mutated;
+mod operations;
 mod pairs;
 mod programs;
 mod random;
@@ -19,16 +22,16 @@ use programs::{programs, Bodies};
 use random::Random;
 
 /// The rooms and steps of the program.
-const AMPLE: Rooms = Rooms {
+pub const AMPLE: Rooms = Rooms {
     text: 65_536,
     list: 49_152,
 };
-const MOST_STEPS: u32 = 1_000_000;
+pub const MOST_STEPS: u32 = 1_000_000;
 
 /// The deck with this number of this seed.
 pub fn record(seed: u64, number: u64) -> Record {
     let random = &mut Random::for_deck(seed, number);
-    match random.weighted(&[42, 10, 5, 4, 3, 12, 12, 5, 3, 6]) {
+    match random.weighted(&[36, 6, 3, 3, 2, 10, 11, 4, 3, 5, 10, 2, 1, 5, 4]) {
         0 => with_rooms(random, programs),
         1 => with_rooms(random, damaged_by_tokens),
         2 => with_rooms(random, damaged_by_bytes),
@@ -42,8 +45,52 @@ pub fn record(seed: u64, number: u64) -> Record {
         6 => tight(random),
         7 => ample(&pairs::misplaced(random)),
         8 => ample(&pairs::declared_twice(random)),
-        _ => ample_or_cramped(random),
+        9 => ample_or_cramped(random),
+        10 => mutated::mutated(random),
+        11 => with_rooms(random, damaged_edge),
+        12 => nonsense(random),
+        13 => with_rooms(random, jumps::maze),
+        _ => ample(&operations::operations(random)),
     }
+}
+
+/// A deck of bytes in no order, perhaps with a count that may be.
+fn nonsense(random: &mut Random) -> Record {
+    let mut deck: Vec<u8> = (0..random.below(200)).map(|_| random.byte()).collect();
+    if random.percent(50) {
+        deck.splice(..deck.len().min(2), [1, 0]);
+    }
+    Record {
+        rooms: AMPLE,
+        steps: MOST_STEPS,
+        deck,
+    }
+}
+
+/// A deck at some limit, with tokens or bytes of it damaged.
+fn damaged_edge(random: &mut Random) -> Bodies {
+    let mut bodies = edges::edge(random);
+    let tokens = random.percent(50);
+    change(random, &mut bodies, |random, body| match tokens {
+        true => *body = damage::damage_tokens(random, body),
+        false => damage::damage_bytes(random, body),
+    });
+    bodies
+}
+
+/// A deck of the main program MAIN and the members M1, M2 and so on.
+pub fn deck_of(bodies: &[String]) -> Vec<u8> {
+    let name = |number: usize| match number {
+        0 => b"MAIN".to_vec(),
+        _ => format!("M{number}").into_bytes(),
+    };
+    contents::assemble(&Bodies {
+        names: (0..bodies.len()).map(name).collect(),
+        bodies: bodies
+            .iter()
+            .map(|body| body.clone().into_bytes())
+            .collect(),
+    })
 }
 
 /// Bodies put together, with rooms that hold what they make.
@@ -90,10 +137,11 @@ fn small(random: &mut Random, bound: usize) -> u32 {
 /// Bodies whose steps or rooms are just enough for what they do, up to their
 /// end or up to their refusal, or one short of it.
 fn tight(random: &mut Random) -> Record {
-    let bodies = match random.weighted(&[75, 15, 10]) {
+    let bodies = match random.weighted(&[65, 15, 10, 10]) {
         0 => programs(random),
         1 => pairs::several_errors(random),
-        _ => damaged_by_tokens(random),
+        2 => damaged_by_tokens(random),
+        _ => edges::edge(random),
     };
     let mut record = Record {
         rooms: AMPLE,

@@ -17,7 +17,7 @@ pub fn programs(random: &mut Random) -> Bodies {
     let mut drafts: Vec<Draft> = Vec::new();
     for member in 0..count {
         author.member = member;
-        author.budget = author.random.weighted(&[1, 30, 30, 20, 10, 5]) * 4;
+        author.budget = author.random.weighted(&[1, 30, 30, 20, 10, 5]) * 4 * author.style.size();
         if member == 0 {
             author.main_program();
         } else if author.prelude == Some(member) {

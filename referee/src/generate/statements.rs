@@ -3,9 +3,6 @@
 use super::author::Author;
 use super::world::Variable;
 
-/// Groups and alternatives are opened only so deep.
-const DEEPEST: usize = 5;
-
 impl Author<'_> {
     /// So many sentences, outside procedures each with a text behind it.
     pub fn sentences(&mut self, count: usize) {
@@ -38,7 +35,10 @@ impl Author<'_> {
     /// A statement behind its labels.
     fn statement(&mut self, labels: &[Vec<u8>]) {
         let outside = usize::from(self.procedure.is_none());
-        let nests = usize::from(self.open < DEEPEST);
+        let nests = match self.open < self.style.deepest {
+            true => self.style.nests,
+            false => 0,
+        };
         let weights = [
             8,
             30,

@@ -9,17 +9,14 @@ use Rattle.rooms.proofs.is_same.Reads as is-same-reads
 use denote.Ref.{now}
 use Rattle.names.proofs.Laws.{other-length, same-spelling, other-spelling}
 
+cast-if1 : tie.Need-cast-if1
+cast-if1 c = search needs
+
 returns : tie.Need-returns
-returns c = other-length (now (c .before .before .before .before .before .args .deck)) (c .before .before .before .before .before .args .x) (c .before .before .before .before .before .args .i) (c .before .before .before .before .before .args .owner) (c .if1 .taken)
+returns c = other-length (now (c .before .before .before .before .before .args .deck)) (c .before .before .before .before .before .args .x) (now (c .before .before .before .before .before .args .s)) (c .before .before .before .before .before .args .from) (c .before .before .before .before .before .args .n) (c .before .before .before .before .before .args .owner) (c .if1 .taken)
 
 cast-is-same : tie.Need-cast-is-same
 cast-is-same c = search needs
-
-cast-is-same-2 : tie.Need-cast-is-same-2
-cast-is-same-2 c = search needs
-
-cast-is-same-3 : tie.Need-cast-is-same-3
-cast-is-same-3 c = search needs
 
 is-same-requires : tie.Need-is-same-requires
 is-same-requires c κs = search needs
@@ -28,19 +25,18 @@ same-owner-requires : tie.Need-same-owner-requires
 same-owner-requires c κs = search needs
 
 returns-2 : tie.Need-returns-2
-returns-2 c = same-spelling (now (c .before .before .before .before .before .before .before .before .before .before .before .args .deck)) (c .before .before .before .before .before .before .before .before .before .before .before .args .x) (c .before .before .before .before .before .before .before .before .before .before .before .args .i) (c .before .before .before .before .before .before .before .before .before .before .before .args .owner) (c .before .before .is-same .result) (c .before .before .before .before .before .before .if1 .left) (c .before .before .is-same .ensures) (c .before .if2 .taken) (c .same-owner .result) (c .same-owner .ensures)
+returns-2 c = same-spelling (now (c .before .before .before .before .before .before .before .before .before .args .deck)) (c .before .before .before .before .before .before .before .before .before .args .x) (now (c .before .before .before .before .before .before .before .before .before .args .s)) (c .before .before .before .before .before .before .before .before .before .args .from) (c .before .before .before .before .before .before .before .before .before .args .n) (c .before .before .before .before .before .before .before .before .before .args .owner) (c .before .before .is-same .result) (c .before .before .before .before .if1 .left) (c .before .before .is-same .ensures) (c .before .if2 .taken) (c .same-owner .result) (c .same-owner .ensures)
 
 returns-3 : tie.Need-returns-3
-returns-3 c = other-spelling (now (c .before .before .before .before .before .before .before .before .before .before .args .deck)) (c .before .before .before .before .before .before .before .before .before .before .args .x) (c .before .before .before .before .before .before .before .before .before .before .args .i) (c .before .before .before .before .before .before .before .before .before .before .args .owner) (c .before .is-same .result) (c .before .before .before .before .before .if1 .left) (c .before .is-same .ensures) (c .if2 .left)
+returns-3 c = other-spelling (now (c .before .before .before .before .before .before .before .before .args .deck)) (c .before .before .before .before .before .before .before .before .args .x) (now (c .before .before .before .before .before .before .before .before .args .s)) (c .before .before .before .before .before .before .before .before .args .from) (c .before .before .before .before .before .before .before .before .args .n) (c .before .before .before .before .before .before .before .before .args .owner) (c .before .is-same .result) (c .before .before .before .if1 .left) (c .before .is-same .ensures) (c .if2 .left)
 
 pub is-named-spec : {M : Type 1} → statement M
 is-named-spec =
     tie.close
     (tie.spec
+    cast-if1
     returns
     cast-is-same
-    cast-is-same-2
-    cast-is-same-3
     is-same-requires
     same-owner-requires
     returns-2

@@ -1,0 +1,393 @@
+// What a name means in an expression, and what a call needs to know of its procedure: its parameters, the arguments that wait for
+// it, and which procedures are running.
+ghost use mathlib.Core.Path.{_≡_};
+ghost use Prim.Native.Nat.{_-_};
+use deck::body;
+use definition::ValueType;
+use definition::Why;
+use fixed::Answer;
+use fixed::Fixed;
+use limits::Levels;
+use names::Body;
+use names::Denotation;
+use names::Found;
+use names::Owner;
+use names::Place;
+use names::find;
+use names::name_at;
+use names::seen_from;
+use operators::Given;
+use operators::Value;
+use operators::above;
+use operators::size_of;
+use rooms::is_same;
+use rows::row_at;
+use store::Length;
+use store::Number;
+use store::characters_at;
+use store::copy_characters;
+use store::number_at;
+use store::store_characters;
+use store::store_number;
+use tokens::is_sign;
+use tokens::token_at;
+
+// ---- what a name means
+
+pub enum Meant {
+    AVariable(u16, ValueType),
+    AnEntry(Body),
+    TheSubstr,
+    NoSuch,
+}
+
+fn is_substr(s: &[u8], from: usize, n: usize) -> bool {
+    if n == 6 {
+        return is_same(s, from, b"SUBSTR", 0, 6);
+    }
+    false
+}
+
+fn substr_or(is_builtin: bool) -> Meant {
+    if is_builtin {
+        return Meant::TheSubstr;
+    }
+    Meant::NoSuch
+}
+
+fn span(from: usize, to: usize) -> usize {
+    if to < from {
+        return 0;
+    }
+    to - from
+}
+
+// "An undeclared SUBSTR is the builtin; any other BUILTIN name is 6 when used."
+pub fn meant_by(
+    deck: &[u8],
+    s: &[u8],
+    names: &[u16],
+    count: u16,
+    owner: Owner,
+    from: usize,
+    to: usize,
+) -> Meant {
+    let n = span(from, to);
+    let found = seen_from(deck, names, count, s, from, n, owner);
+    match found {
+        Found::Unknown => substr_or(is_substr(s, from, n)),
+        Found::Known(a) => {
+            let x = name_at(names, a);
+            let d = x.denotation;
+            match d {
+                Denotation::Variable(t) => Meant::AVariable(a.0, t),
+                Denotation::EntryName(e) => {
+                    let b = e.body;
+                    Meant::AnEntry(b)
+                }
+                Denotation::LabelName(_) => Meant::NoSuch,
+                Denotation::Builtin => substr_or(is_substr(s, from, n)),
+            }
+        }
+    }
+}
+
+// ---- procedures that are running
+
+pub struct Running {
+    // how many may still be started
+    pub left: usize,
+    pub rows: [u16; 16],
+}
+
+pub fn none_running() -> Running {
+    Running {
+        left: Levels::PROCEDURES,
+        rows: [0; 16],
+    }
+}
+
+pub fn is_running(g: Running, row: u16) -> bool {
+    let mut i = g.left;
+    while i < 16 {
+        if g.rows[i] == row {
+            return true;
+        }
+        i += 1;
+    }
+    false
+}
+
+// The procedure of a row started.
+pub fn started(g: Running, row: u16) -> Running
+    ensures { λ r. ⌜ r .left ≡ g .left - 1 ⌝ }
+{
+    let n = g.left;
+    let mut all = g;
+    if 0 < n {
+        if n <= 16 {
+            all.rows[n - 1] = row;
+        }
+        all.left = n - 1;
+    }
+    all
+}
+
+// ---- parameters
+
+// A parameter: its address, its type, and the place behind it in the list.
+pub struct Parameter {
+    pub address: u16,
+    pub value_type: ValueType,
+    pub to: usize,
+}
+
+pub enum ParameterAt {
+    Is(Parameter),
+    Wrong,
+}
+
+// "A parameter its procedure doesn't declare FIXED or CHARACTER is 6 at the call."
+pub fn parameter_at(
+    deck: &[u8],
+    s: &[u8],
+    names: &[u16],
+    count: u16,
+    p: Place,
+    at: usize,
+) -> ParameterAt {
+    let t = token_at(s, at);
+    let found = find(
+        deck,
+        names,
+        count,
+        s,
+        t.from,
+        span(t.from, t.to),
+        Owner::Procedure(p),
+    );
+    match found {
+        Found::Unknown => ParameterAt::Wrong,
+        Found::Known(a) => {
+            let x = name_at(names, a);
+            let d = x.denotation;
+            match d {
+                Denotation::Variable(value_type) => {
+                    let comma = token_at(s, t.to);
+                    ParameterAt::Is(Parameter {
+                        address: a.0,
+                        value_type,
+                        to: comma.to,
+                    })
+                }
+                Denotation::EntryName(_) => ParameterAt::Wrong,
+                Denotation::LabelName(_) => ParameterAt::Wrong,
+                Denotation::Builtin => ParameterAt::Wrong,
+            }
+        }
+    }
+}
+
+// A body that can be called: where it is, where its parameters are listed, and how many they are.
+pub struct Callee {
+    pub place: Place,
+    pub list: usize,
+    pub count: usize,
+}
+
+pub enum Called {
+    Is(Callee),
+    Fails(Why),
+}
+
+// Counts the parameters of the list at a place of the body s.
+fn counted(deck: &[u8], s: &[u8], names: &[u16], count: u16, p: Place, list: usize) -> Called {
+    let mut at = list;
+    let mut n: usize = 0;
+    while n < s.len() {
+        let x = parameter_at(deck, s, names, count, p, at);
+        match x {
+            ParameterAt::Is(y) => {
+                n += 1;
+                if is_last(s, at) {
+                    return Called::Is(Callee {
+                        place: p,
+                        list,
+                        count: n,
+                    });
+                }
+                at = y.to;
+            }
+            ParameterAt::Wrong => {
+                return Called::Fails(Why::WrongName);
+            }
+        }
+    }
+    Called::Fails(Why::WrongName)
+}
+
+// Whether no comma follows the name at a place.
+fn is_last(s: &[u8], at: usize) -> bool {
+    let t = token_at(s, at);
+    let comma = token_at(s, t.to);
+    !is_sign(s, comma, b",")
+}
+
+// "as is an entry without a body"
+pub fn callee_of(deck: &[u8], rows: &[u16], names: &[u16], count: u16, b: Body) -> Called {
+    match b {
+        Body::Nothing => Called::Fails(Why::WrongName),
+        Body::At(p) => {
+            let s = body(deck, p.member);
+            let r = row_at(rows, p.row);
+            let t = token_at(s, r.content as usize);
+            if is_sign(s, t, b"(") {
+                return counted(deck, s, names, count, p, t.to);
+            }
+            Called::Is(Callee {
+                place: p,
+                list: t.from,
+                count: 0,
+            })
+        }
+    }
+}
+
+// ---- arguments that wait: of a FIXED the number as it is stored, of a CHARACTER the length of what lies in the work room
+
+pub struct Held {
+    pub numbers: [u32; 256],
+}
+
+pub fn nothing_held() -> Held {
+    Held { numbers: [0; 256] }
+}
+
+fn held_number(v: Value) -> u32 {
+    match v {
+        Value::Number(x) => x.stored(),
+        Value::Characters(n) => (n % 65_536) as u32,
+        Value::Bits(n) => (n % 65_536) as u32,
+    }
+}
+
+pub fn with_held(h: Held, i: usize, v: Value) -> Held {
+    let n = held_number(v);
+    let mut all = h;
+    if i < 256 {
+        all.numbers[i] = n;
+    }
+    all
+}
+
+pub fn held_at(h: Held, i: usize) -> u32 {
+    if i < 256 {
+        return h.numbers[i];
+    }
+    0
+}
+
+// A waiting number; it is always in range.
+pub fn fixed_held(h: Held, i: usize) -> Fixed {
+    let x = Fixed::from_stored(held_at(h, i));
+    match x {
+        Answer::Is(n) => n,
+        Answer::OutOfRange => Fixed { value: 0 },
+        Answer::ZeroDivisor => Fixed { value: 0 },
+    }
+}
+
+// ---- values of variables
+
+// Puts the value of a variable above u bytes.
+pub fn variable_value(
+    cells: &[u32],
+    low: &[u8],
+    high: &[u8],
+    work: &mut [u8],
+    a: u16,
+    t: ValueType,
+    u: usize,
+) -> Given {
+    match t {
+        ValueType::FixedType => {
+            let x = number_at(cells, a);
+            match x {
+                Number::Holds(n) => Given::Gives(Value::Number(n)),
+                Number::NoNumber => Given::Fails(Why::NoValue),
+            }
+        }
+        ValueType::CharacterType => {
+            let x = characters_at(cells, a);
+            match x {
+                Length::Bytes(n) => {
+                    let size = n as usize;
+                    copy_characters(low, high, a, size, work, u);
+                    operators::among(u, Value::Characters(size))
+                }
+                Length::NoCharacters => Given::Fails(Why::NoValue),
+            }
+        }
+    }
+}
+
+// Stores a value of the variable's own type, which lies at u.
+pub fn store_value(
+    cells: &mut [u32],
+    low: &mut [u8],
+    high: &mut [u8],
+    work: &[u8],
+    a: u16,
+    u: usize,
+    v: Value,
+) {
+    match v {
+        Value::Number(x) => store_number(cells, a, x),
+        Value::Characters(n) => store_characters(cells, low, high, a, work, u, (n % 65_536) as u16),
+        Value::Bits(n) => store_characters(cells, low, high, a, work, u, (n % 65_536) as u16),
+    }
+}
+
+// The waiting argument i, of a type.
+fn held_value(h: Held, i: usize, t: ValueType) -> Value {
+    match t {
+        ValueType::FixedType => Value::Number(fixed_held(h, i)),
+        ValueType::CharacterType => Value::Characters(held_at(h, i) as usize),
+    }
+}
+
+// Stores the arguments that wait above u bytes in the parameters of their procedure.
+pub fn store_all(
+    deck: &[u8],
+    names: &[u16],
+    cells: &mut [u32],
+    low: &mut [u8],
+    high: &mut [u8],
+    work: &[u8],
+    count: u16,
+    c: Callee,
+    h: Held,
+    u: usize,
+) {
+    let p = c.place;
+    let s = body(deck, p.member);
+    let mut at = c.list;
+    let mut top = u;
+    let mut i: usize = 0;
+    while i < c.count {
+        let x = parameter_at(deck, s, names, count, p, at);
+        match x {
+            ParameterAt::Is(y) => {
+                let t = y.value_type;
+                let v = held_value(h, i, t);
+                store_value(cells, low, high, work, y.address, top, v);
+                top = above(top, size_of(v));
+                at = y.to;
+            }
+            ParameterAt::Wrong => {
+                return;
+            }
+        }
+        i += 1;
+    }
+}

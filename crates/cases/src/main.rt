@@ -1,0 +1,131 @@
+// Answers for many decks: each record has the bytes of the text room, of the list room, the steps and the deck's length, four
+// bytes each, and then the deck. What is printed for each is what the program prints.
+ghost use Prim.Native.Nat.{_≤_};
+ghost use lib.ListN.{length};
+use expander::expand;
+use printing::put_answer;
+use printing::used;
+use rooms::get_u32;
+
+fn least(n: usize, most: usize) -> usize
+    ensures { λ r. ⌜ r ≤ most ⌝ }
+{
+    if most < n {
+        return most;
+    }
+    n
+}
+
+fn number(head: &[u8], at: usize) -> usize {
+    get_u32(head, at) as usize
+}
+
+// Reads n bytes of a deck: whether all were there.
+fn read_deck(deck: &mut [u8], n: usize) -> bool
+    requires { ⌜ n ≤ length (now deck) ⌝ }
+{
+    io::read_full(libc::STDIN_FILENO, &mut deck[0..n]) == n
+}
+
+// The answer for a deck with the rooms and steps of a record's head: whether it was written.
+fn answer_deck(
+    head: &[u8],
+    deck: &[u8],
+    text: &mut [u8],
+    list: &mut [u8],
+    rows: &mut [u16],
+    names: &mut [u16],
+    cells: &mut [u32],
+    low: &mut [u8],
+    high: &mut [u8],
+    work: &mut [u8],
+    page: &mut [u8],
+) -> bool {
+    let t = least(number(head, 0), text.len());
+    let l = least(number(head, 4), list.len());
+    let steps = get_u32(head, 8);
+    let x = expand(
+        deck,
+        &mut text[0..t],
+        &mut list[0..l],
+        rows,
+        names,
+        cells,
+        low,
+        high,
+        work,
+        steps,
+    );
+    let size = put_answer(page, x, text, list);
+    io::write_all(libc::STDOUT_FILENO, used(page, size))
+}
+
+// One record: whether there was one.
+fn answer_in(
+    deck: &mut [u8],
+    text: &mut [u8],
+    list: &mut [u8],
+    rows: &mut [u16],
+    names: &mut [u16],
+    cells: &mut [u32],
+    low: &mut [u8],
+    high: &mut [u8],
+    work: &mut [u8],
+    page: &mut [u8],
+) -> bool {
+    let mut head = [0u8; 16];
+    if io::read_full(libc::STDIN_FILENO, &mut head) < 16 {
+        return false;
+    }
+    let n = least(number(&head, 12), deck.len());
+    if read_deck(deck, n) {
+        return answer_deck(
+            &head,
+            &deck[0..n],
+            text,
+            list,
+            rows,
+            names,
+            cells,
+            low,
+            high,
+            work,
+            page,
+        );
+    }
+    false
+}
+
+// The same with rooms of its own.
+fn answer_one() -> bool {
+    let mut deck = [0u8; 131_072];
+    let mut text = [0u8; 65_536];
+    let mut list = [0u8; 49_152];
+    let mut rows = [0u16; 32_768];
+    let mut names = [0u16; 4_096];
+    let mut cells = [0u32; 256];
+    let mut low = [0u8; 65_536];
+    let mut high = [0u8; 65_536];
+    let mut work = [0u8; 65_536];
+    let mut page = [0u8; 196_608];
+    answer_in(
+        &mut deck,
+        &mut text,
+        &mut list,
+        &mut rows,
+        &mut names,
+        &mut cells,
+        &mut low,
+        &mut high,
+        &mut work,
+        &mut page,
+    )
+}
+
+// A proved loop has to end, and nothing says that the input does: the turns are counted down, from a number that no run uses up.
+fn main() {
+    let mut turns = u64::MAX;
+    while 0 < turns && answer_one() {
+        turns -= 1;
+    }
+}

@@ -1,0 +1,29 @@
+-- The number of what stopped the run, and its place.
+use borrow.Author.Needs.{needs}
+use Rattle.expander.proofs.refused.Statement.{statement}
+use Rattle.expander.proofs.refused.Tie as tie
+use Rattle.expander.proofs.refused.Reads as reads
+use Rattle.expander.proofs.refused.Lts as lts
+use Rattle.expander.proofs.refusal.Reads as refusal-reads
+use Rattle.expander.proofs.small.Reads as small-reads
+use Rattle.expander.proofs.stop_number.Reads as stop-number-reads
+use Rattle.expander.proofs.Laws.{refused-is}
+
+stop-number-requires : tie.Need-stop-number-requires
+stop-number-requires c κs = search needs
+
+cast-refusal : tie.Need-cast-refusal
+cast-refusal c = search needs
+
+small-requires : tie.Need-small-requires
+small-requires c κs = search needs
+
+refusal-requires : tie.Need-refusal-requires
+refusal-requires c κs = search needs
+
+returns : tie.Need-returns
+returns c = search refused-is
+
+pub refused-spec : {M : Type 1} → statement M
+refused-spec =
+    tie.close (tie.spec stop-number-requires cast-refusal small-requires refusal-requires returns)

@@ -1,0 +1,3 @@
+-- What the contracts of `expander` cite.
+pub mod Answer
+pub mod Promise

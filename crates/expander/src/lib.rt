@@ -1,0 +1,279 @@
+// THE EXPANDER: any bytes, any rooms. It refuses or runs, and leaves every working room zero.
+ghost use mathlib.Core.Path.{_≡_};
+ghost use Prim.Native.Nat.{_*_, _%_};
+ghost use Rattle.definition.specs.Refusal.{numberOf};
+ghost use Rattle.definition.specs.Deck.{isSound};
+ghost use Rattle.definition.specs.Room.{over};
+ghost use Rattle.expander.specs.Answer.{stopNumber, refusalAt, refusedFor, finishedFor, answerFor};
+ghost use Rattle.expander.specs.Promise.{areRoomy, isRoomy, Numbers, working, Cleared, Expanded, sixOf, Told};
+use deck::Contents;
+use deck::Deck;
+use definition::Why;
+use output::Out;
+use rooms::put_number32;
+use rooms::zero_from;
+use rooms::zero_u8;
+use rooms::zero_u16;
+use rooms::zero_u32;
+use running::Progress;
+use running::Ran;
+use running::Stop;
+use running::run;
+
+// The six numbers of an answer.
+pub struct Expansion {
+    pub number: u32,
+    pub member: u32,
+    pub offset: u32,
+    pub steps: u32,
+    pub text: u32,
+    pub lines: u32,
+}
+
+// The sizes of the working rooms, in numbers of their type.
+pub const ROWS: usize = 32_768;
+
+pub const NAMES: usize = 4_096;
+
+pub const CELLS: usize = 256;
+
+pub const LOW: usize = 65_536;
+
+pub const HIGH: usize = 65_536;
+
+pub const WORK: usize = 65_536;
+
+// 01's number for a refusal.
+pub fn number_of(w: Why) -> u32
+    ensures { λ r. ⌜ r ≡ numberOf w ⌝ }
+{
+    match w {
+        Why::MalformedDeck => 1,
+        Why::ShortRoom => 2,
+        Why::Syntax => 3,
+        Why::OverLimit => 4,
+        Why::DeclaredTwice => 5,
+        Why::WrongName => 6,
+        Why::NoValue => 7,
+        Why::NoConversion => 8,
+        Why::OutOfRange => 9,
+        Why::ZeroDivisor => 10,
+        Why::WrongArguments => 11,
+        Why::WronglyRun => 12,
+        Why::WrongGoto => 13,
+        Why::UnknownMember => 14,
+        Why::TooDeep => 15,
+        Why::TooLong => 16,
+        Why::RoomFull => 17,
+        Why::NoStep => 18,
+        Why::SubstrOutside => 19,
+    }
+}
+
+// 01's number for what stops a run: 3 to 19. A run does not stop for 1 or 2, which are answered before it; they would be 3.
+fn stop_number(w: Why) -> u32
+    ensures { λ r. ⌜ r ≡ stopNumber w ⌝ }
+{
+    let n = number_of(w);
+    if 3 <= n { n } else { 3 }
+}
+
+// A refusal: text length and lines are 0.
+fn refusal(number: u32, member: u32, offset: u32, steps: u32) -> Expansion
+    ensures { λ r. ⌜ r ≡ refusalAt number member offset steps ⌝ }
+{
+    Expansion {
+        number,
+        member,
+        offset,
+        steps,
+        text: 0,
+        lines: 0,
+    }
+}
+
+fn small(n: usize) -> u32
+    ensures { λ r. ⌜ r ≡ n % 4294967296 ⌝ }
+{
+    (n % 4_294_967_296) as u32
+}
+
+fn refused(x: Stop, g: Progress) -> Expansion
+    ensures { λ r. ⌜ r ≡ refusedFor x g ⌝ }
+{
+    let why = x.why;
+    refusal(
+        stop_number(why),
+        x.member as u32,
+        small(x.place),
+        g.meter.used,
+    )
+}
+
+fn finished(g: Progress) -> Expansion
+    ensures { λ r. ⌜ r ≡ finishedFor g ⌝ }
+{
+    Expansion {
+        number: 0,
+        member: 0,
+        offset: 0,
+        steps: g.meter.used,
+        text: small(g.out.text),
+        lines: small(g.out.lines),
+    }
+}
+
+fn answer(r: Ran) -> Expansion
+    ensures { λ x. ⌜ x ≡ answerFor r ⌝ }
+{
+    match r {
+        Ran::Good(g) => finished(g),
+        Ran::Bad(x, g) => refused(x, g),
+    }
+}
+
+fn is_sound(deck: &[u8]) -> bool
+    ensures { λ r. ⌜ r ≡ isSound (now (deck .entry)) ⌝ }
+{
+    let c = Deck::of(deck);
+    match c {
+        Contents::Malformed => false,
+        Contents::Sound(_) => true,
+    }
+}
+
+// Whether working rooms of so many numbers are as long as docs/ROOMS.md says.
+fn are_roomy(rows: usize, names: usize, cells: usize, low: usize, high: usize, work: usize) -> bool
+    ensures { λ r. ⌜ r ≡ areRoomy rows names cells low high work ⌝ }
+{
+    if rows < ROWS {
+        return false;
+    }
+    if names < NAMES {
+        return false;
+    }
+    if cells < CELLS {
+        return false;
+    }
+    if low < LOW {
+        return false;
+    }
+    if high < HIGH {
+        return false;
+    }
+    WORK <= work
+}
+
+// Where the list of so many lines ends.
+fn list_end(lines: u32) -> usize
+    ensures { λ r. ⌜ r ≡ 12 * lines ⌝ }
+{
+    Out::LINE * (lines as usize)
+}
+
+// The working rooms end zero.
+fn clear(
+    rows: &mut [u16],
+    names: &mut [u16],
+    cells: &mut [u32],
+    low: &mut [u8],
+    high: &mut [u8],
+    work: &mut [u8],
+)
+    ensures { λ _. ⌜ Cleared (working (now (rows .entry)) (now (names .entry)) (now (cells .entry)) (now (low .entry)) (now (high .entry)) (now (work .entry))) (working (now (rows .exit)) (now (names .exit)) (now (cells .exit)) (now (low .exit)) (now (high .exit)) (now (work .exit))) ⌝ }
+{
+    zero_u16(rows);
+    zero_u16(names);
+    zero_u32(cells);
+    zero_u8(low);
+    zero_u8(high);
+    zero_u8(work);
+}
+
+// The answer for a deck, before the rooms are made zero where they must be.
+fn decide(
+    deck: &[u8],
+    text: &mut [u8],
+    list: &mut [u8],
+    rows: &mut [u16],
+    names: &mut [u16],
+    cells: &mut [u32],
+    low: &mut [u8],
+    high: &mut [u8],
+    work: &mut [u8],
+    steps: u32,
+) -> Expansion
+    ensures { λ r. ⌜ Numbers (isSound (now (deck .entry))) (isRoomy (working (now (rows .entry)) (now (names .entry)) (now (cells .entry)) (now (low .entry)) (now (high .entry)) (now (work .entry)))) r ⌝ }
+{
+    if is_sound(deck) {
+        if are_roomy(
+            rows.len(),
+            names.len(),
+            cells.len(),
+            low.len(),
+            high.len(),
+            work.len(),
+        ) {
+            return answer(run(deck, rows, names, cells, low, high, work, text, list, steps));
+        }
+        return refusal(2, 0, 0, 0);
+    }
+    refusal(1, 0, 0, 0)
+}
+
+// THE EXPANSION of a deck.
+pub fn expand(
+    deck: &[u8],
+    text: &mut [u8],
+    list: &mut [u8],
+    rows: &mut [u16],
+    names: &mut [u16],
+    cells: &mut [u32],
+    low: &mut [u8],
+    high: &mut [u8],
+    work: &mut [u8],
+    steps: u32,
+) -> Expansion
+    ensures { λ r. ⌜ Expanded (now (deck .entry)) (now (text .entry)) (now (list .entry)) (working (now (rows .entry)) (now (names .entry)) (now (cells .entry)) (now (low .entry)) (now (high .entry)) (now (work .entry))) r (now (text .exit)) (now (list .exit)) (working (now (rows .exit)) (now (names .exit)) (now (cells .exit)) (now (low .exit)) (now (high .exit)) (now (work .exit))) ⌝ }
+{
+    // no variable has a value yet
+    zero_u32(cells);
+    let x = decide(deck, text, list, rows, names, cells, low, high, work, steps);
+    clear(rows, names, cells, low, high, work);
+    zero_from(text, x.text as usize);
+    zero_from(list, list_end(x.lines));
+    x
+}
+
+// The six numbers over the start of a room, as many as fit.
+fn put_numbers(numbers: &mut [u32], x: Expansion)
+    ensures { λ _. ⌜ now (numbers .exit) ≡ over (now (numbers .entry)) 0 (sixOf x) ⌝ }
+{
+    put_number32(numbers, 0, 0, x.number);
+    put_number32(numbers, 0, 1, x.member);
+    put_number32(numbers, 0, 2, x.offset);
+    put_number32(numbers, 0, 3, x.steps);
+    put_number32(numbers, 0, 4, x.text);
+    put_number32(numbers, 0, 5, x.lines);
+}
+
+// The expansion for C and Rust, with a room for the six numbers: docs/CALLING.md.
+#[no_mangle]
+pub extern "C" fn muharegoden_expand(
+    deck: &[u8],
+    text: &mut [u8],
+    list: &mut [u8],
+    rows: &mut [u16],
+    names: &mut [u16],
+    cells: &mut [u32],
+    low: &mut [u8],
+    high: &mut [u8],
+    work: &mut [u8],
+    steps: u32,
+    numbers: &mut [u32],
+)
+    ensures { λ _. ⌜ Told (now (deck .entry)) (now (text .entry)) (now (list .entry)) (working (now (rows .entry)) (now (names .entry)) (now (cells .entry)) (now (low .entry)) (now (high .entry)) (now (work .entry))) (now (numbers .entry)) (now (text .exit)) (now (list .exit)) (working (now (rows .exit)) (now (names .exit)) (now (cells .exit)) (now (low .exit)) (now (high .exit)) (now (work .exit))) (now (numbers .exit)) ⌝ }
+{
+    let x = expand(deck, text, list, rows, names, cells, low, high, work, steps);
+    put_numbers(numbers, x);
+}

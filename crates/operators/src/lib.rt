@@ -1,0 +1,498 @@
+// Values among those that are unfinished, and the operators on them. A CHARACTER or BIT value lies in the work room at a place u,
+// above the bytes of those that wait; the second side of an operator lies directly above the first. A result lies at u again.
+use definition::Operator;
+use definition::Prefix;
+use definition::ValueType;
+use definition::Why;
+use fixed::Answer;
+use fixed::Fixed;
+use limits::Filling;
+use rooms::byte;
+use rooms::put_byte;
+use values::Comparison;
+use values::Cut;
+use values::Logic;
+use values::NumberAnswer;
+use values::Order;
+use values::any_one;
+use values::are_bits;
+use values::bits_number;
+use values::bytes_order;
+use values::combine;
+use values::cut_part;
+use values::cut_rest;
+use values::fixed_length;
+use values::invert;
+use values::is_wanted;
+use values::number_in;
+use values::numbers_order;
+use values::put_bits;
+use values::put_fixed;
+
+// A number, or so many bytes of the work room.
+pub enum Value {
+    Number(Fixed),
+    Characters(usize),
+    Bits(usize),
+}
+
+pub enum Given {
+    Gives(Value),
+    Fails(Why),
+}
+
+pub enum NumberGiven {
+    Is(Fixed),
+    Fails(Why),
+}
+
+// How many bits a FIXED has as BIT.
+const BITS: usize = 17;
+
+// ---- the work room
+
+// The bytes that a value takes while it waits.
+pub fn size_of(v: Value) -> usize {
+    match v {
+        Value::Number(_) => 0,
+        Value::Characters(n) => n,
+        Value::Bits(n) => n,
+    }
+}
+
+// Whether n bytes go above u bytes that wait.
+pub fn fits(u: usize, n: usize) -> bool {
+    if Filling::UNFINISHED < u {
+        return false;
+    }
+    n <= Filling::UNFINISHED - u
+}
+
+// The place above n bytes at u, which fit.
+pub fn above(u: usize, n: usize) -> usize {
+    if u <= Filling::UNFINISHED {
+        if n <= Filling::UNFINISHED - u {
+            return u + n;
+        }
+    }
+    Filling::UNFINISHED
+}
+
+// A value put above u bytes.
+pub fn among(u: usize, v: Value) -> Given {
+    if fits(u, size_of(v)) {
+        return Given::Gives(v);
+    }
+    Given::Fails(Why::TooLong)
+}
+
+fn limited(u: usize, v: Value) -> Given {
+    if size_of(v) <= limits::Value::LONGEST {
+        return among(u, v);
+    }
+    Given::Fails(Why::TooLong)
+}
+
+// Moves the n bytes at `from` down to `to`.
+pub fn move_down(room: &mut [u8], from: usize, n: usize, to: usize) {
+    let mut j: usize = 0;
+    while j < n {
+        let b = byte(room, from, j);
+        put_byte(room, to, j, b);
+        j += 1;
+    }
+}
+
+// Moves the n bytes at `from` up to `to`, the last first.
+fn move_up(room: &mut [u8], from: usize, n: usize, to: usize) {
+    let mut j = n;
+    while 0 < j {
+        j -= 1;
+        let b = byte(room, from, j);
+        put_byte(room, to, j, b);
+    }
+}
+
+// ---- conversions
+
+fn number_given(x: NumberAnswer) -> NumberGiven {
+    match x {
+        NumberAnswer::Is(n) => NumberGiven::Is(n),
+        NumberAnswer::NoConversion => NumberGiven::Fails(Why::NoConversion),
+        NumberAnswer::OutOfRange => NumberGiven::Fails(Why::OutOfRange),
+    }
+}
+
+fn answer_given(x: Answer) -> NumberGiven {
+    match x {
+        Answer::Is(n) => NumberGiven::Is(n),
+        Answer::OutOfRange => NumberGiven::Fails(Why::OutOfRange),
+        Answer::ZeroDivisor => NumberGiven::Fails(Why::ZeroDivisor),
+    }
+}
+
+pub fn to_fixed(work: &[u8], u: usize, v: Value) -> NumberGiven {
+    match v {
+        Value::Number(x) => NumberGiven::Is(x),
+        Value::Characters(n) => number_given(number_in(work, u, n)),
+        Value::Bits(n) => number_given(bits_number(work, u, n)),
+    }
+}
+
+// The value as CHARACTER, where it stands.
+pub fn to_characters(work: &mut [u8], u: usize, v: Value) -> Given {
+    match v {
+        Value::Number(x) => {
+            if fits(u, fixed_length(x)) {
+                return Given::Gives(Value::Characters(put_fixed(x, work, u)));
+            }
+            Given::Fails(Why::TooLong)
+        }
+        Value::Characters(n) => among(u, Value::Characters(n)),
+        Value::Bits(n) => among(u, Value::Characters(n)),
+    }
+}
+
+// The value as BIT, where it stands.
+pub fn to_bits(work: &mut [u8], u: usize, v: Value) -> Given {
+    match v {
+        Value::Number(x) => {
+            if fits(u, BITS) {
+                put_bits(x, work, u);
+                return Given::Gives(Value::Bits(BITS));
+            }
+            Given::Fails(Why::TooLong)
+        }
+        Value::Characters(n) => {
+            if are_bits(work, u, n) {
+                return among(u, Value::Bits(n));
+            }
+            Given::Fails(Why::NoConversion)
+        }
+        Value::Bits(n) => among(u, Value::Bits(n)),
+    }
+}
+
+fn number_value(x: NumberGiven) -> Given {
+    match x {
+        NumberGiven::Is(n) => Given::Gives(Value::Number(n)),
+        NumberGiven::Fails(w) => Given::Fails(w),
+    }
+}
+
+// "Assignment, argument and RETURN convert to the declared type."
+pub fn convert(work: &mut [u8], u: usize, t: ValueType, v: Value) -> Given {
+    match t {
+        ValueType::FixedType => number_value(to_fixed(work, u, v)),
+        ValueType::CharacterType => to_characters(work, u, v),
+    }
+}
+
+// What SUBSTR is taken of: a FIXED is first made CHARACTER.
+pub fn subject(work: &mut [u8], u: usize, v: Value) -> Given {
+    match v {
+        Value::Number(x) => to_characters(work, u, Value::Number(x)),
+        Value::Characters(n) => among(u, Value::Characters(n)),
+        Value::Bits(n) => among(u, Value::Bits(n)),
+    }
+}
+
+pub enum Truth {
+    Is(bool),
+    Fails(Why),
+}
+
+// "IF holds when any bit is 1."
+pub fn holds(work: &mut [u8], u: usize, v: Value) -> Truth {
+    let b = to_bits(work, u, v);
+    match b {
+        Given::Gives(x) => Truth::Is(any_one(work, u, size_of(x))),
+        Given::Fails(w) => Truth::Fails(w),
+    }
+}
+
+// ---- prefix operators
+
+pub fn prefixed(work: &mut [u8], u: usize, o: Prefix, v: Value) -> Given {
+    match o {
+        Prefix::Positive => number_value(to_fixed(work, u, v)),
+        Prefix::Negative => negated(to_fixed(work, u, v)),
+        Prefix::Complement => {
+            let b = to_bits(work, u, v);
+            match b {
+                Given::Gives(x) => {
+                    invert(work, u, size_of(x));
+                    Given::Gives(x)
+                }
+                Given::Fails(w) => Given::Fails(w),
+            }
+        }
+    }
+}
+
+fn negated(x: NumberGiven) -> Given {
+    match x {
+        NumberGiven::Is(n) => number_value(answer_given(n.negate())),
+        NumberGiven::Fails(w) => Given::Fails(w),
+    }
+}
+
+// ---- infix operators: x at u, y directly above it
+
+fn arithmetic(o: Operator, a: Fixed, b: Fixed) -> Answer {
+    match o {
+        Operator::Plus => a.add(b),
+        Operator::Minus => a.subtract(b),
+        Operator::Times => a.multiply(b),
+        Operator::Divided => a.divide(b),
+        Operator::OrOp => Answer::OutOfRange,
+        Operator::AndOp => Answer::OutOfRange,
+        Operator::Greater => Answer::OutOfRange,
+        Operator::GreaterEqual => Answer::OutOfRange,
+        Operator::Equal => Answer::OutOfRange,
+        Operator::Less => Answer::OutOfRange,
+        Operator::LessEqual => Answer::OutOfRange,
+        Operator::NotGreater => Answer::OutOfRange,
+        Operator::NotEqual => Answer::OutOfRange,
+        Operator::NotLess => Answer::OutOfRange,
+        Operator::CatOp => Answer::OutOfRange,
+    }
+}
+
+// Two sides as numbers, the first converted first.
+enum Pair {
+    Are(Fixed, Fixed),
+    Fails(Why),
+}
+
+fn numbers_of(work: &[u8], u: usize, x: Value, y: Value) -> Pair {
+    let a = to_fixed(work, u, x);
+    match a {
+        NumberGiven::Is(n) => {
+            let b = to_fixed(work, above(u, size_of(x)), y);
+            match b {
+                NumberGiven::Is(m) => Pair::Are(n, m),
+                NumberGiven::Fails(w) => Pair::Fails(w),
+            }
+        }
+        NumberGiven::Fails(w) => Pair::Fails(w),
+    }
+}
+
+fn calculated(work: &[u8], u: usize, o: Operator, x: Value, y: Value) -> Given {
+    let p = numbers_of(work, u, x, y);
+    match p {
+        Pair::Are(a, b) => number_value(answer_given(arithmetic(o, a, b))),
+        Pair::Fails(w) => Given::Fails(w),
+    }
+}
+
+enum OrderGiven {
+    Is(Order),
+    Fails(Why),
+}
+
+fn numeric_order(work: &[u8], u: usize, x: Value, y: Value) -> OrderGiven {
+    let p = numbers_of(work, u, x, y);
+    match p {
+        Pair::Are(a, b) => OrderGiven::Is(numbers_order(a, b)),
+        Pair::Fails(w) => OrderGiven::Fails(w),
+    }
+}
+
+// Where they stand: n bytes at u, and m above them.
+fn order_at(work: &[u8], u: usize, n: usize, m: usize, pad: u8) -> OrderGiven {
+    OrderGiven::Is(bytes_order(work, u, n, work, above(u, n), m, pad))
+}
+
+// "numeric if one side is FIXED; else as characters if one is CHARACTER; else bits padded with zeros"
+fn compared(work: &[u8], u: usize, x: Value, y: Value) -> OrderGiven {
+    match x {
+        Value::Number(_) => numeric_order(work, u, x, y),
+        Value::Characters(n) => match y {
+            Value::Number(_) => numeric_order(work, u, x, y),
+            Value::Characters(m) => order_at(work, u, n, m, b' '),
+            Value::Bits(m) => order_at(work, u, n, m, b' '),
+        },
+        Value::Bits(n) => match y {
+            Value::Number(_) => numeric_order(work, u, x, y),
+            Value::Characters(m) => order_at(work, u, n, m, b' '),
+            Value::Bits(m) => order_at(work, u, n, m, b'0'),
+        },
+    }
+}
+
+fn bit(t: bool) -> u8 {
+    if t {
+        return b'1';
+    }
+    b'0'
+}
+
+// The outcome of a comparison is one bit.
+fn comparing(work: &mut [u8], u: usize, c: Comparison, x: Value, y: Value) -> Given {
+    let o = compared(work, u, x, y);
+    match o {
+        OrderGiven::Is(order) => {
+            if fits(u, 1) {
+                put_byte(work, u, 0, bit(is_wanted(c, order)));
+                return Given::Gives(Value::Bits(1));
+            }
+            Given::Fails(Why::TooLong)
+        }
+        OrderGiven::Fails(w) => Given::Fails(w),
+    }
+}
+
+// Makes room below a second side of m bytes, where the first side, a number, takes k.
+fn raise(work: &mut [u8], u: usize, m: usize, k: usize) {
+    move_up(work, u, m, above(u, k));
+}
+
+// The first side as BIT, below the second of m bytes.
+fn first_bits(work: &mut [u8], u: usize, x: Value, m: usize) -> Given {
+    match x {
+        Value::Number(_) => {
+            if fits(above(u, m), BITS) {
+                raise(work, u, m, BITS);
+                return to_bits(work, u, x);
+            }
+            Given::Fails(Why::TooLong)
+        }
+        Value::Characters(_) => to_bits(work, u, x),
+        Value::Bits(_) => to_bits(work, u, x),
+    }
+}
+
+fn logical(work: &mut [u8], u: usize, o: Logic, x: Value, y: Value) -> Given {
+    let a = first_bits(work, u, x, size_of(y));
+    match a {
+        Given::Gives(first) => {
+            let n = size_of(first);
+            let b = to_bits(work, above(u, n), y);
+            match b {
+                Given::Gives(second) => {
+                    Given::Gives(Value::Bits(combine(o, work, u, n, size_of(second))))
+                }
+                Given::Fails(w) => Given::Fails(w),
+            }
+        }
+        Given::Fails(w) => Given::Fails(w),
+    }
+}
+
+// The bytes that a value has as CHARACTER.
+fn text_size(v: Value) -> usize {
+    match v {
+        Value::Number(x) => fixed_length(x),
+        Value::Characters(n) => n,
+        Value::Bits(n) => n,
+    }
+}
+
+// Writes the digits of a number, for which there is room.
+fn write_number(work: &mut [u8], u: usize, v: Value) {
+    match v {
+        Value::Number(x) => {
+            put_fixed(x, work, u);
+        }
+        Value::Characters(_) => {}
+        Value::Bits(_) => {}
+    }
+}
+
+// The same of a first side, below the second of m bytes.
+fn write_first(work: &mut [u8], u: usize, v: Value, m: usize) {
+    match v {
+        Value::Number(x) => {
+            raise(work, u, m, fixed_length(x));
+            put_fixed(x, work, u);
+        }
+        Value::Characters(_) => {}
+        Value::Bits(_) => {}
+    }
+}
+
+fn are_both_bits(x: Value, y: Value) -> bool {
+    match x {
+        Value::Number(_) => false,
+        Value::Characters(_) => false,
+        Value::Bits(_) => match y {
+            Value::Number(_) => false,
+            Value::Characters(_) => false,
+            Value::Bits(_) => true,
+        },
+    }
+}
+
+// "`||` of two BIT is BIT, else CHARACTER."
+fn joined_value(x: Value, y: Value, n: usize) -> Value {
+    if are_both_bits(x, y) {
+        return Value::Bits(n);
+    }
+    Value::Characters(n)
+}
+
+fn joined(work: &mut [u8], u: usize, x: Value, y: Value) -> Given {
+    let n = text_size(x);
+    let m = text_size(y);
+    let g = limited(u, joined_value(x, y, above(n, m)));
+    match g {
+        Given::Gives(v) => {
+            write_first(work, u, x, size_of(y));
+            write_number(work, above(u, n), y);
+            Given::Gives(v)
+        }
+        Given::Fails(w) => Given::Fails(w),
+    }
+}
+
+// THE INFIX OPERATORS.
+pub fn infixed(work: &mut [u8], u: usize, o: Operator, x: Value, y: Value) -> Given {
+    match o {
+        Operator::OrOp => logical(work, u, Logic::Or, x, y),
+        Operator::AndOp => logical(work, u, Logic::And, x, y),
+        Operator::Greater => comparing(work, u, Comparison::Greater, x, y),
+        Operator::GreaterEqual => comparing(work, u, Comparison::GreaterEqual, x, y),
+        Operator::Equal => comparing(work, u, Comparison::Equal, x, y),
+        Operator::Less => comparing(work, u, Comparison::Less, x, y),
+        Operator::LessEqual => comparing(work, u, Comparison::LessEqual, x, y),
+        Operator::NotGreater => comparing(work, u, Comparison::NotGreater, x, y),
+        Operator::NotEqual => comparing(work, u, Comparison::NotEqual, x, y),
+        Operator::NotLess => comparing(work, u, Comparison::NotLess, x, y),
+        Operator::CatOp => joined(work, u, x, y),
+        Operator::Plus => calculated(work, u, o, x, y),
+        Operator::Minus => calculated(work, u, o, x, y),
+        Operator::Times => calculated(work, u, o, x, y),
+        Operator::Divided => calculated(work, u, o, x, y),
+    }
+}
+
+// ---- SUBSTR
+
+fn same_kind(v: Value, n: usize) -> Value {
+    match v {
+        Value::Number(_) => Value::Characters(n),
+        Value::Characters(_) => Value::Characters(n),
+        Value::Bits(_) => Value::Bits(n),
+    }
+}
+
+// What a cut takes of the value at u, moved down to u.
+fn taken(work: &mut [u8], u: usize, v: Value, c: Cut) -> Given {
+    match c {
+        Cut::Stretch(from, n) => {
+            move_down(work, above(u, from), n, u);
+            among(u, same_kind(v, n))
+        }
+        Cut::Outside => Given::Fails(Why::SubstrOutside),
+    }
+}
+
+pub fn substr_rest(work: &mut [u8], u: usize, v: Value, from: Fixed) -> Given {
+    taken(work, u, v, cut_rest(size_of(v), from))
+}
+
+pub fn substr_part(work: &mut [u8], u: usize, v: Value, from: Fixed, count: Fixed) -> Given {
+    taken(work, u, v, cut_part(size_of(v), from, count))
+}

@@ -1,0 +1,71 @@
+-- The turns left get fewer.
+use borrow.Author.Needs.{needs}
+use Rattle.reading.proofs.is_label.Statement.{statement}
+use Rattle.reading.proofs.is_label.Tie as tie
+use Rattle.reading.proofs.is_label.Reads as reads
+use Rattle.reading.proofs.is_label.Lts as lts
+use Rattle.reading.proofs.is_spelled_alike.Reads as is-spelled-alike-reads
+use Rattle.reading.proofs.label_at.Reads as label-at-reads
+use Rattle.tokens.proofs.token_at.Reads as token-at-reads
+use Prim.Native.Nat.{_≤_}
+
+abbrev Inv-loop : tie.InvT-loop
+Inv-loop s from t at₀ turns₀ at turns = (turns ≤ turns₀)
+
+abbrev μ-loop : tie.MeasureT-loop
+μ-loop s from t at₀ turns₀ at turns = turns
+
+loop-holds : tie.Need-loop-holds Inv-loop μ-loop
+loop-holds c = search needs
+
+sub-turns : tie.Need-sub-turns Inv-loop μ-loop
+sub-turns c = search needs
+
+label-at-requires : tie.Need-label-at-requires Inv-loop μ-loop
+label-at-requires c κs = search needs
+
+enum-known-found : tie.Need-enum-known-found Inv-loop μ-loop
+enum-known-found c = search needs
+
+token-at-requires : tie.Need-token-at-requires Inv-loop μ-loop
+token-at-requires c κs = search needs
+
+is-spelled-alike-requires : tie.Need-is-spelled-alike-requires Inv-loop μ-loop
+is-spelled-alike-requires c κs = search needs
+
+returns : tie.Need-returns Inv-loop μ-loop
+returns c = search needs
+
+loop-less : tie.Need-loop-less Inv-loop μ-loop
+loop-less c = search needs
+
+loop-again : tie.Need-loop-again Inv-loop μ-loop
+loop-again c = search needs
+
+enum-told : tie.Need-enum-told Inv-loop μ-loop
+enum-told c = search needs
+
+returns-2 : tie.Need-returns-2 Inv-loop μ-loop
+returns-2 c = search needs
+
+returns-3 : tie.Need-returns-3 Inv-loop μ-loop
+returns-3 c = search needs
+
+pub is-label-spec : {M : Type 1} → statement M
+is-label-spec =
+    tie.close
+    (tie.spec
+    Inv-loop
+    μ-loop
+    loop-holds
+    sub-turns
+    label-at-requires
+    enum-known-found
+    token-at-requires
+    is-spelled-alike-requires
+    returns
+    loop-less
+    loop-again
+    enum-told
+    returns-2
+    returns-3)

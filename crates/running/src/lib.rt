@@ -1,0 +1,1805 @@
+// Members run: program text is put out and scanned, statements do what they say, members are included. A refusal gets its place here.
+use callees::none_running;
+use deck::body;
+use definition::Why;
+use entering::Fault;
+use evaluating::Done;
+use evaluating::Scene;
+use evaluating::Started;
+use evaluating::Tested;
+use evaluating::assign;
+use evaluating::start;
+use evaluating::stepped;
+use evaluating::test;
+use evaluating::turns_left;
+use flow::Frames;
+use flow::Next;
+use flow::Walk;
+use limits::Levels;
+use meter::Meter;
+use names::Activity;
+use names::Address;
+use names::Denotation;
+use names::Found;
+use names::Label;
+use names::Name;
+use names::Owner;
+use names::Place;
+use names::find;
+use names::name_at;
+use names::put_name;
+use output::Out;
+use output::Put;
+use output::is_fine;
+use output::put_blank;
+use output::put_copied;
+use output::put_replaced;
+use reading::Source;
+use reading::read_member;
+use rows::Link;
+use rows::Role;
+use rows::Row;
+use rows::Statement;
+use rows::Stretch;
+use rows::row_at;
+use scanning::Active;
+use scanning::Dest;
+use scanning::Replaced;
+use scanning::Src;
+use scanning::active_in;
+use scanning::piece_of;
+use scanning::plus;
+use scanning::replace;
+use scanning::span;
+use tokens::Lexeme;
+use tokens::is_sign;
+use tokens::is_word;
+use tokens::token_at;
+
+// What a run changes beside the rooms: the steps, what was put out, the rows and names that there are.
+pub struct Progress {
+    pub meter: Meter,
+    pub out: Out,
+    pub rows: u16,
+    pub names: u16,
+}
+
+// A refusal with its place.
+pub struct Stop {
+    pub why: Why,
+    pub member: u16,
+    pub place: usize,
+}
+
+// What a part of the run gives.
+pub enum Ran {
+    Good(Progress),
+    Bad(Stop, Progress),
+}
+
+fn with_meter(g: Progress, m: Meter) -> Progress {
+    let out = g.out;
+    Progress {
+        meter: m,
+        out,
+        rows: g.rows,
+        names: g.names,
+    }
+}
+
+fn with_out(g: Progress, out: Out) -> Progress {
+    let meter = g.meter;
+    Progress {
+        meter,
+        out,
+        rows: g.rows,
+        names: g.names,
+    }
+}
+
+fn bad(g: Progress, why: Why, member: u16, place: usize) -> Ran {
+    Ran::Bad(Stop { why, member, place }, g)
+}
+
+// Outside procedures every name is seen that is global.
+fn scene(g: Progress) -> Scene {
+    Scene {
+        names: g.names,
+        owner: Owner::Everyone,
+        running: none_running(),
+    }
+}
+
+// ---- program text
+
+fn member8(m: u16) -> u8 {
+    (m % 256) as u8
+}
+
+fn place32(p: usize) -> u32 {
+    (p % 65_536) as u32
+}
+
+fn put_result(g: Progress, p: Put, member: u16, place: usize) -> Ran {
+    match p {
+        Put::Done(o) => Ran::Good(with_out(g, o)),
+        Put::Full => bad(g, Why::RoomFull, member, place),
+    }
+}
+
+// One blank before a text.
+fn blank_out(text: &mut [u8], list: &mut [u8], g: Progress, member: u16, place: usize) -> Ran {
+    let o = g.out;
+    if is_fine(o, text.len(), list.len()) {
+        let p = put_blank(text, list, o, member8(member), place32(place));
+        return put_result(g, p, member, place);
+    }
+    bad(g, Why::RoomFull, member, place)
+}
+
+// A token copied from its place.
+fn token_out(
+    s: &[u8],
+    text: &mut [u8],
+    list: &mut [u8],
+    g: Progress,
+    member: u16,
+    from: usize,
+    to: usize,
+) -> Ran {
+    let o = g.out;
+    if is_fine(o, text.len(), list.len()) {
+        let n = place32(span(from, to));
+        let p = put_copied(s, from, n, text, list, o, member8(member), place32(from));
+        return put_result(g, p, member, from);
+    }
+    bad(g, Why::RoomFull, member, from)
+}
+
+// The line of a replacement whose outcome of n bytes stands in the text room.
+fn replaced_out(
+    text: &[u8],
+    list: &mut [u8],
+    g: Progress,
+    member: u16,
+    place: usize,
+    n: usize,
+) -> Ran {
+    let o = g.out;
+    if is_fine(o, text.len(), list.len()) {
+        if 0 < o.free {
+            if n <= o.room {
+                if n <= Out::MOST {
+                    let after = put_replaced(
+                        text,
+                        list,
+                        o,
+                        member8(member),
+                        place32(place),
+                        n as u32,
+                    );
+                    return Ran::Good(with_out(g, after));
+                }
+            }
+        }
+    }
+    bad(g, Why::RoomFull, member, place)
+}
+
+// A token of program text that was put out: the place behind it.
+enum Passed {
+    Good(usize, Progress),
+    Bad(Stop, Progress),
+}
+
+fn pass_to(r: Ran, to: usize) -> Passed {
+    match r {
+        Ran::Good(g) => Passed::Good(to, g),
+        Ran::Bad(x, g) => Passed::Bad(x, g),
+    }
+}
+
+// The outcome of a replacement, with its line.
+fn replacement_out(
+    text: &[u8],
+    list: &mut [u8],
+    g: Progress,
+    member: u16,
+    place: usize,
+    base: usize,
+    r: Replaced,
+) -> Passed {
+    match r {
+        Replaced::Good(n, to, m) => {
+            let x = replaced_out(text, list, with_meter(g, m), member, place, n);
+            pass_to(x, plus(base, to))
+        }
+        Replaced::Bad(w, m) => Passed::Bad(
+            Stop {
+                why: w,
+                member,
+                place,
+            },
+            with_meter(g, m),
+        ),
+    }
+}
+
+// The active name of a text that ends at `to`, at the address a: a list line comes first.
+fn replace_here(
+    deck: &[u8],
+    s: &[u8],
+    rows: &[u16],
+    names: &[u16],
+    cells: &mut [u32],
+    low: &mut [u8],
+    high: &mut [u8],
+    work: &mut [u8],
+    text: &mut [u8],
+    list: &mut [u8],
+    x: Src,
+    p: usize,
+    to: usize,
+    a: Address,
+    act: Activity,
+    member: u16,
+    g: Progress,
+) -> Passed {
+    let o = g.out;
+    let place = plus(x.from, p);
+    if o.free < 1 {
+        return pass_to(bad(g, Why::RoomFull, member, place), to);
+    }
+    let d = Dest {
+        to_work: false,
+        at: o.text,
+        room: o.room,
+    };
+    let m = g.meter;
+    let r = replace(
+        deck,
+        s,
+        rows,
+        names,
+        cells,
+        low,
+        high,
+        work,
+        text,
+        x,
+        to,
+        a,
+        act,
+        d,
+        0,
+        Levels::REPLACEMENTS,
+        scene(g),
+        m,
+    );
+    replacement_out(text, list, g, member, place, 0, r)
+}
+
+// One token of a text, at p.
+fn token_here(
+    deck: &[u8],
+    s: &[u8],
+    rows: &[u16],
+    names: &[u16],
+    cells: &mut [u32],
+    low: &mut [u8],
+    high: &mut [u8],
+    work: &mut [u8],
+    text: &mut [u8],
+    list: &mut [u8],
+    x: Src,
+    p: usize,
+    member: u16,
+    g0: Progress,
+) -> Passed {
+    let place = plus(x.from, p);
+    let before = g0.meter;
+    let paid = before.charged();
+    let m = paid.meter;
+    let g = with_meter(g0, m);
+    if !paid.paid {
+        return pass_to(bad(g, Why::NoStep, member, place), p);
+    }
+    let y = piece_of(s, work, x, p);
+    let active = active_in(deck, s, work, names, g.names, x, p, y);
+    match active {
+        Active::NotActive => {
+            let r = token_out(s, text, list, g, member, place, plus(x.from, y.to));
+            pass_to(r, y.to)
+        }
+        Active::IsActive(a, act) => {
+            replace_here(
+                deck,
+                s,
+                rows,
+                names,
+                cells,
+                low,
+                high,
+                work,
+                text,
+                list,
+                x,
+                p,
+                y.to,
+                a,
+                act,
+                member,
+                g,
+            )
+        }
+    }
+}
+
+// The tokens of a text, one after the other.
+fn text_on(
+    deck: &[u8],
+    s: &[u8],
+    rows: &[u16],
+    names: &[u16],
+    cells: &mut [u32],
+    low: &mut [u8],
+    high: &mut [u8],
+    work: &mut [u8],
+    text: &mut [u8],
+    list: &mut [u8],
+    x: Src,
+    member: u16,
+    g0: Progress,
+) -> Ran {
+    let size = span(x.from, x.to);
+    let mut p: usize = 0;
+    let mut g = g0;
+    let mut turns = size;
+    while 0 < turns {
+        turns -= 1;
+        if size <= p {
+            return Ran::Good(g);
+        }
+        let t = token_here(
+            deck,
+            s,
+            rows,
+            names,
+            cells,
+            low,
+            high,
+            work,
+            text,
+            list,
+            x,
+            p,
+            member,
+            g,
+        );
+        match t {
+            Passed::Good(q, h) => {
+                p = q;
+                g = h;
+            }
+            Passed::Bad(stop, h) => {
+                return Ran::Bad(stop, h);
+            }
+        }
+    }
+    Ran::Good(g)
+}
+
+// One blank, then the text.
+fn text_out(
+    deck: &[u8],
+    s: &[u8],
+    rows: &[u16],
+    names: &[u16],
+    cells: &mut [u32],
+    low: &mut [u8],
+    high: &mut [u8],
+    work: &mut [u8],
+    text: &mut [u8],
+    list: &mut [u8],
+    x: Stretch,
+    member: u16,
+    g: Progress,
+) -> Ran {
+    let from = x.from as usize;
+    let src = Src {
+        in_work: false,
+        from,
+        to: x.to as usize,
+    };
+    let b = blank_out(text, list, g, member, from);
+    match b {
+        Ran::Good(h) => text_on(
+            deck,
+            s,
+            rows,
+            names,
+            cells,
+            low,
+            high,
+            work,
+            text,
+            list,
+            src,
+            member,
+            h,
+        ),
+        Ran::Bad(stop, h) => Ran::Bad(stop, h),
+    }
+}
+
+// "a non-empty leading text is a part alone, an empty one is none"
+fn lead_out(
+    deck: &[u8],
+    s: &[u8],
+    rows: &[u16],
+    names: &[u16],
+    cells: &mut [u32],
+    low: &mut [u8],
+    high: &mut [u8],
+    work: &mut [u8],
+    text: &mut [u8],
+    list: &mut [u8],
+    x: Stretch,
+    member: u16,
+    g: Progress,
+) -> Ran {
+    if x.from < x.to {
+        return text_out(
+            deck,
+            s,
+            rows,
+            names,
+            cells,
+            low,
+            high,
+            work,
+            text,
+            list,
+            x,
+            member,
+            g,
+        );
+    }
+    Ran::Good(g)
+}
+
+// ---- where control goes, and what is put out on the way
+
+// What comes next in a member, or a refusal.
+enum Onward {
+    Good(Next, Progress),
+    Bad(Stop, Progress),
+}
+
+fn is_listed(r: Row) -> bool {
+    let role = r.role;
+    match role {
+        Role::Listed => true,
+        Role::ThenPart => false,
+        Role::ElsePart => false,
+    }
+}
+
+// The text behind the row n, if it is one of a list.
+fn text_behind(
+    deck: &[u8],
+    s: &[u8],
+    rows: &[u16],
+    names: &[u16],
+    cells: &mut [u32],
+    low: &mut [u8],
+    high: &mut [u8],
+    work: &mut [u8],
+    text: &mut [u8],
+    list: &mut [u8],
+    n: u16,
+    member: u16,
+    g: Progress,
+) -> Ran {
+    let r = row_at(rows, n);
+    if is_listed(r) {
+        return text_out(
+            deck,
+            s,
+            rows,
+            names,
+            cells,
+            low,
+            high,
+            work,
+            text,
+            list,
+            r.text,
+            member,
+            g,
+        );
+    }
+    Ran::Good(g)
+}
+
+// Where a walk leads, with the texts behind the rows that it passes.
+fn follow(
+    deck: &[u8],
+    s: &[u8],
+    rows: &[u16],
+    names: &[u16],
+    cells: &mut [u32],
+    low: &mut [u8],
+    high: &mut [u8],
+    work: &mut [u8],
+    text: &mut [u8],
+    list: &mut [u8],
+    fs: Frames,
+    first: Walk,
+    member: u16,
+    g0: Progress,
+) -> Onward {
+    let mut w = first;
+    let mut g = g0;
+    let mut turns: usize = 2_048;
+    while 0 < turns {
+        turns -= 1;
+        match w {
+            Walk::To(x) => {
+                return Onward::Good(x, g);
+            }
+            Walk::Up(n) => {
+                let r = text_behind(
+                    deck,
+                    s,
+                    rows,
+                    names,
+                    cells,
+                    low,
+                    high,
+                    work,
+                    text,
+                    list,
+                    n,
+                    member,
+                    g,
+                );
+                match r {
+                    Ran::Good(h) => {
+                        g = h;
+                        w = flow::walk_behind(rows, fs, n);
+                    }
+                    Ran::Bad(stop, h) => {
+                        return Onward::Bad(stop, h);
+                    }
+                }
+            }
+        }
+    }
+    Onward::Good(Next::Over, g)
+}
+
+// ---- ACTIVATE, DEACTIVATE, DECLARE
+
+// Sets the activity of a variable or an entry, and says whether the name is one.
+fn activate(
+    deck: &[u8],
+    s: &[u8],
+    names: &mut [u16],
+    count: u16,
+    t: Lexeme,
+    act: Activity,
+) -> bool {
+    let found = find(
+        deck,
+        names,
+        count,
+        s,
+        t.from,
+        span(t.from, t.to),
+        Owner::Everyone,
+    );
+    match found {
+        Found::Unknown => false,
+        Found::Known(a) => {
+            let x = name_at(names, a);
+            if is_active_kind(x) {
+                let identifier = x.identifier;
+                let owner = x.owner;
+                let denotation = x.denotation;
+                put_name(
+                    names,
+                    a,
+                    Name {
+                        identifier,
+                        owner,
+                        denotation,
+                        activity: act,
+                    },
+                );
+                return true;
+            }
+            false
+        }
+    }
+}
+
+fn is_active_kind(x: Name) -> bool {
+    let d = x.denotation;
+    match d {
+        Denotation::Variable(_) => true,
+        Denotation::EntryName(_) => true,
+        Denotation::LabelName(_) => false,
+        Denotation::Builtin => false,
+    }
+}
+
+// The words that a list of names may have beside its names, by statement.
+enum Listed {
+    Plainly,
+    WithRescan,
+    WithAttributes,
+}
+
+// What a name in ACTIVATE becomes: the word behind it says.
+fn activity_at(s: &[u8], at: usize, kind: Listed, act: Activity) -> Activity {
+    match kind {
+        Listed::Plainly => act,
+        Listed::WithAttributes => act,
+        Listed::WithRescan => {
+            let t = token_at(s, at);
+            if is_word(s, t, b"NORESCAN") {
+                return Activity::CopiedOnly;
+            }
+            Activity::Rescanned
+        }
+    }
+}
+
+// The place of the next name behind one that ends at a place, or that the statement ends. Only names, commas, parentheses and one
+// word behind each stand there, since the statement was read.
+enum Following {
+    NameAt(usize),
+    AtEnd,
+}
+
+// One token that may stand between two names.
+enum Gap {
+    More(usize),
+    Name(usize),
+    End,
+}
+
+fn gap_at(s: &[u8], at: usize, was_comma: bool) -> Gap {
+    let t = token_at(s, at);
+    if is_sign(s, t, b";") {
+        return Gap::End;
+    }
+    if was_comma {
+        if is_sign(s, t, b"(") {
+            return Gap::More(t.to);
+        }
+        return Gap::Name(at);
+    }
+    Gap::More(t.to)
+}
+
+fn is_comma_before(s: &[u8], at: usize, was_comma: bool) -> bool {
+    let t = token_at(s, at);
+    if is_sign(s, t, b",") {
+        return true;
+    }
+    if was_comma {
+        return is_sign(s, t, b"(");
+    }
+    false
+}
+
+// From a place between names to the next name: a name stands behind a comma or a parenthesis that opens.
+fn next_name(s: &[u8], from: usize, at_start: bool) -> Following {
+    let mut at = from;
+    let mut was_comma = at_start;
+    let mut turns = s.len();
+    while 0 < turns {
+        turns -= 1;
+        let g = gap_at(s, at, was_comma);
+        match g {
+            Gap::More(e) => {
+                was_comma = is_comma_before(s, at, was_comma);
+                at = e;
+            }
+            Gap::Name(p) => {
+                return Following::NameAt(p);
+            }
+            Gap::End => {
+                return Following::AtEnd;
+            }
+        }
+    }
+    Following::AtEnd
+}
+
+// Sets the activity of each name of the list at a place; false where one is no variable and no entry.
+fn activate_all(
+    deck: &[u8],
+    s: &[u8],
+    names: &mut [u16],
+    count: u16,
+    from: usize,
+    kind: Listed,
+    act: Activity,
+) -> bool {
+    let mut next = next_name(s, from, true);
+    let mut turns = s.len();
+    while 0 < turns {
+        turns -= 1;
+        match next {
+            Following::NameAt(p) => {
+                let t = token_at(s, p);
+                if activate(deck, s, names, count, t, activity_at(s, t.to, kind, act)) {
+                    next = next_name(s, t.to, false);
+                } else {
+                    return false;
+                }
+            }
+            Following::AtEnd => {
+                return true;
+            }
+        }
+    }
+    true
+}
+
+// ---- GOTO
+
+// Members that are running below this one: how many, and of each the row where it stands.
+pub struct Below {
+    pub count: usize,
+    pub members: [u16; 16],
+    pub rows: [u16; 16],
+}
+
+fn none_below() -> Below {
+    Below {
+        count: 0,
+        members: [0; 16],
+        rows: [0; 16],
+    }
+}
+
+fn with_below(b: Below, member: u16, row: u16) -> Below {
+    let n = b.count;
+    let mut all = b;
+    if n < 16 {
+        all.members[n] = member;
+        all.rows[n] = row;
+        all.count = n + 1;
+    }
+    all
+}
+
+// The row where the newest running member of this number stands.
+fn row_below(b: Below, member: u16) -> Link {
+    let mut i: usize = 16;
+    while 0 < i {
+        i -= 1;
+        if i < b.count {
+            if b.members[i] == member {
+                return Link::To(b.rows[i]);
+            }
+        }
+    }
+    Link::Nowhere
+}
+
+// A label that GOTO leads to, here or in a member below, or why it may not.
+enum Jump {
+    Here(Label),
+    Away(Label),
+    Bad(Why),
+}
+
+fn jump_away(rows: &[u16], below: Below, l: Label) -> Jump {
+    let p = l.place;
+    let from = row_below(below, p.member);
+    match from {
+        Link::To(n) => {
+            if flow::may_go(rows, n, p.row, l.is_end) {
+                return Jump::Away(l);
+            }
+            Jump::Bad(Why::WrongGoto)
+        }
+        Link::Nowhere => Jump::Bad(Why::WrongGoto),
+    }
+}
+
+fn jump_label(rows: &[u16], below: Below, here: u16, n: u16, l: Label) -> Jump {
+    let p = l.place;
+    if p.member == here {
+        if flow::may_go(rows, n, p.row, l.is_end) {
+            return Jump::Here(l);
+        }
+        return Jump::Bad(Why::WrongGoto);
+    }
+    jump_away(rows, below, l)
+}
+
+// The GOTO of row n in the member `here`: kind first, then 13.
+fn jump_from(
+    deck: &[u8],
+    s: &[u8],
+    rows: &[u16],
+    names: &[u16],
+    count: u16,
+    below: Below,
+    here: u16,
+    n: u16,
+) -> Jump {
+    let r = row_at(rows, n);
+    let t = token_at(s, r.content as usize);
+    let found = find(
+        deck,
+        names,
+        count,
+        s,
+        t.from,
+        span(t.from, t.to),
+        Owner::Everyone,
+    );
+    match found {
+        Found::Unknown => Jump::Bad(Why::WrongName),
+        Found::Known(a) => {
+            let x = name_at(names, a);
+            let d = x.denotation;
+            match d {
+                Denotation::LabelName(l) => jump_label(rows, below, here, n, l),
+                Denotation::Variable(_) => Jump::Bad(Why::WrongName),
+                Denotation::EntryName(_) => Jump::Bad(Why::WrongName),
+                Denotation::Builtin => Jump::Bad(Why::WrongName),
+            }
+        }
+    }
+}
+
+// ---- statements
+
+// What a statement does: control goes on, a GOTO leads out of the member, or a refusal.
+enum Step {
+    On(Walk, Progress),
+    Went(Label, Progress),
+    Bad(Stop, Progress),
+}
+
+struct Turned {
+    frames: Frames,
+    step: Step,
+}
+
+fn with_step(frames: Frames, step: Step) -> Turned {
+    Turned { frames, step }
+}
+
+fn refused(fs: Frames, g: Progress, why: Why, member: u16, place: usize) -> Turned {
+    with_step(fs, Step::Bad(Stop { why, member, place }, g))
+}
+
+fn on_done(fs: Frames, n: u16, d: Done, g: Progress, member: u16, place: usize) -> Turned {
+    match d {
+        Done::Good(m) => with_step(fs, Step::On(Walk::Up(n), with_meter(g, m))),
+        Done::Bad(w, m) => refused(fs, with_meter(g, m), w, member, place),
+    }
+}
+
+fn on_test(
+    rows: &[u16],
+    fs: Frames,
+    n: u16,
+    t: Tested,
+    g: Progress,
+    member: u16,
+    place: usize,
+) -> Turned {
+    match t {
+        Tested::Is(b, m) => with_step(fs, Step::On(flow::chosen(rows, n, b), with_meter(g, m))),
+        Tested::Bad(w, m) => refused(fs, with_meter(g, m), w, member, place),
+    }
+}
+
+fn on_jump(rows: &[u16], fs: Frames, j: Jump, g: Progress, member: u16, place: usize) -> Turned {
+    match j {
+        Jump::Here(l) => with_step(fs, Step::On(flow::landing(rows, fs, l), g)),
+        Jump::Away(l) => with_step(fs, Step::Went(l, g)),
+        Jump::Bad(w) => refused(fs, g, w, member, place),
+    }
+}
+
+fn on_activated(
+    fs: Frames,
+    n: u16,
+    is_good: bool,
+    g: Progress,
+    member: u16,
+    place: usize,
+) -> Turned {
+    if is_good {
+        return with_step(fs, Step::On(Walk::Up(n), g));
+    }
+    refused(fs, g, Why::WrongName, member, place)
+}
+
+// Into the group n, with the text that it begins with.
+fn into(
+    deck: &[u8],
+    s: &[u8],
+    rows: &[u16],
+    names: &[u16],
+    cells: &mut [u32],
+    low: &mut [u8],
+    high: &mut [u8],
+    work: &mut [u8],
+    text: &mut [u8],
+    list: &mut [u8],
+    fs: Frames,
+    n: u16,
+    member: u16,
+    g: Progress,
+) -> Turned {
+    let r = row_at(rows, n);
+    let x = lead_out(
+        deck,
+        s,
+        rows,
+        names,
+        cells,
+        low,
+        high,
+        work,
+        text,
+        list,
+        r.lead,
+        member,
+        g,
+    );
+    match x {
+        Ran::Good(h) => with_step(fs, Step::On(flow::first_in(rows, fs, n), h)),
+        Ran::Bad(stop, h) => with_step(fs, Step::Bad(stop, h)),
+    }
+}
+
+// The iterated group n, which starts so.
+fn into_started(
+    deck: &[u8],
+    s: &[u8],
+    rows: &[u16],
+    names: &[u16],
+    cells: &mut [u32],
+    low: &mut [u8],
+    high: &mut [u8],
+    work: &mut [u8],
+    text: &mut [u8],
+    list: &mut [u8],
+    fs: Frames,
+    n: u16,
+    x: Started,
+    member: u16,
+    place: usize,
+    g: Progress,
+) -> Turned {
+    match x {
+        Started::Is(f, begins, m) => {
+            let h = with_meter(g, m);
+            if begins {
+                let inner = flow::with_frame(rows, fs, n, f);
+                return into(
+                    deck,
+                    s,
+                    rows,
+                    names,
+                    cells,
+                    low,
+                    high,
+                    work,
+                    text,
+                    list,
+                    inner,
+                    n,
+                    member,
+                    h,
+                );
+            }
+            with_step(fs, Step::On(Walk::Up(n), h))
+        }
+        Started::Bad(w, m) => refused(fs, with_meter(g, m), w, member, place),
+    }
+}
+
+// The iterated group n, which is tested again.
+fn into_again(
+    deck: &[u8],
+    s: &[u8],
+    rows: &[u16],
+    names: &[u16],
+    cells: &mut [u32],
+    low: &mut [u8],
+    high: &mut [u8],
+    work: &mut [u8],
+    text: &mut [u8],
+    list: &mut [u8],
+    fs: Frames,
+    n: u16,
+    member: u16,
+    g: Progress,
+) -> Turned {
+    let r = row_at(rows, n);
+    let m0 = g.meter;
+    let t = stepped(cells, flow::frame_of(rows, fs, n), m0);
+    match t {
+        Tested::Is(b, m) => {
+            let h = with_meter(g, m);
+            if b {
+                return into(
+                    deck,
+                    s,
+                    rows,
+                    names,
+                    cells,
+                    low,
+                    high,
+                    work,
+                    text,
+                    list,
+                    fs,
+                    n,
+                    member,
+                    h,
+                );
+            }
+            with_step(fs, Step::On(Walk::Up(n), h))
+        }
+        Tested::Bad(w, m) => refused(fs, with_meter(g, m), w, member, r.place as usize),
+    }
+}
+
+// The statement of row n, but INCLUDE, whose step is charged.
+fn statement(
+    deck: &[u8],
+    s: &[u8],
+    rows: &[u16],
+    names: &mut [u16],
+    cells: &mut [u32],
+    low: &mut [u8],
+    high: &mut [u8],
+    work: &mut [u8],
+    text: &mut [u8],
+    list: &mut [u8],
+    fs: Frames,
+    n: u16,
+    below: Below,
+    member: u16,
+    g: Progress,
+) -> Turned {
+    let r = row_at(rows, n);
+    let at = r.content as usize;
+    let place = r.place as usize;
+    let m = g.meter;
+    let x = r.statement;
+    match x {
+        Statement::Assign => {
+            let d = assign(
+                deck,
+                s,
+                rows,
+                names,
+                cells,
+                low,
+                high,
+                work,
+                at,
+                0,
+                scene(g),
+                m,
+            );
+            on_done(fs, n, d, g, member, place)
+        }
+        Statement::Conditional => {
+            let t = test(
+                deck,
+                s,
+                rows,
+                names,
+                cells,
+                low,
+                high,
+                work,
+                at,
+                0,
+                scene(g),
+                m,
+            );
+            on_test(rows, fs, n, t, g, member, place)
+        }
+        Statement::Iterated => {
+            let y = start(
+                deck,
+                s,
+                rows,
+                names,
+                cells,
+                low,
+                high,
+                work,
+                n,
+                at,
+                0,
+                scene(g),
+                m,
+            );
+            into_started(
+                deck,
+                s,
+                rows,
+                names,
+                cells,
+                low,
+                high,
+                work,
+                text,
+                list,
+                fs,
+                n,
+                y,
+                member,
+                place,
+                g,
+            )
+        }
+        Statement::Group => into(
+            deck,
+            s,
+            rows,
+            names,
+            cells,
+            low,
+            high,
+            work,
+            text,
+            list,
+            fs,
+            n,
+            member,
+            g,
+        ),
+        Statement::Goto => {
+            let j = jump_from(deck, s, rows, names, g.names, below, member, n);
+            on_jump(rows, fs, j, g, member, place)
+        }
+        Statement::Declare => {
+            let b = activate_all(
+                deck,
+                s,
+                names,
+                g.names,
+                at,
+                Listed::WithAttributes,
+                Activity::Rescanned,
+            );
+            on_activated(fs, n, b, g, member, place)
+        }
+        Statement::Activate => {
+            let b = activate_all(
+                deck,
+                s,
+                names,
+                g.names,
+                at,
+                Listed::WithRescan,
+                Activity::Rescanned,
+            );
+            on_activated(fs, n, b, g, member, place)
+        }
+        Statement::Deactivate => {
+            let b = activate_all(
+                deck,
+                s,
+                names,
+                g.names,
+                at,
+                Listed::Plainly,
+                Activity::Inactive,
+            );
+            on_activated(fs, n, b, g, member, place)
+        }
+        Statement::Null => with_step(fs, Step::On(Walk::Up(n), g)),
+        Statement::Procedure => with_step(fs, Step::On(Walk::Up(n), g)),
+        Statement::Include => with_step(fs, Step::On(Walk::Up(n), g)),
+        Statement::Return => with_step(fs, Step::On(Walk::Up(n), g)),
+    }
+}
+
+// ---- members
+
+// How the rows of a member have ended.
+enum Ended {
+    Ran(Progress),
+    Went(Label, Progress),
+    Bad(Stop, Progress),
+}
+
+// What an INCLUDE gives: it is passed, or a GOTO came out of a member.
+fn on_ended(rows: &[u16], fs: Frames, n: u16, e: Ended, member: u16) -> Turned {
+    match e {
+        Ended::Ran(g) => with_step(fs, Step::On(Walk::Up(n), g)),
+        Ended::Went(l, g) => {
+            let p = l.place;
+            if p.member == member {
+                return with_step(fs, Step::On(flow::landing(rows, fs, l), g));
+            }
+            with_step(fs, Step::Went(l, g))
+        }
+        Ended::Bad(stop, g) => with_step(fs, Step::Bad(stop, g)),
+    }
+}
+
+fn with_source(g: Progress, x: Source) -> Progress {
+    let meter = g.meter;
+    let out = g.out;
+    Progress {
+        meter,
+        out,
+        rows: x.rows,
+        names: x.names,
+    }
+}
+
+// The line of the member whose name is t, which the body of member `here` spells.
+fn member_named(deck: &[u8], here: u16, t: Lexeme) -> deck::Found {
+    let base = deck::offset(deck, here) as usize;
+    deck::find(deck, plus(base, t.from), span(t.from, t.to))
+}
+
+// The member of the deck that a name of INCLUDE means is entered and run: 14, 15, then the member.
+fn include_one(
+    deck: &[u8],
+    rows: &mut [u16],
+    names: &mut [u16],
+    cells: &mut [u32],
+    low: &mut [u8],
+    high: &mut [u8],
+    work: &mut [u8],
+    text: &mut [u8],
+    list: &mut [u8],
+    t: Lexeme,
+    place: usize,
+    below: Below,
+    here: u16,
+    left: usize,
+    g: Progress,
+) -> Ended {
+    let found = member_named(deck, here, t);
+    match found {
+        deck::Found::Nothing => Ended::Bad(
+            Stop {
+                why: Why::UnknownMember,
+                member: here,
+                place,
+            },
+            g,
+        ),
+        deck::Found::Line(k) => {
+            if left < 1 {
+                return Ended::Bad(
+                    Stop {
+                        why: Why::TooDeep,
+                        member: here,
+                        place,
+                    },
+                    g,
+                );
+            }
+            enter_and_run(
+                deck,
+                rows,
+                names,
+                cells,
+                low,
+                high,
+                work,
+                text,
+                list,
+                k,
+                below,
+                left - 1,
+                g,
+            )
+        }
+    }
+}
+
+// The INCLUDE of row n: its members one after the other.
+fn include_all(
+    deck: &[u8],
+    rows: &mut [u16],
+    names: &mut [u16],
+    cells: &mut [u32],
+    low: &mut [u8],
+    high: &mut [u8],
+    work: &mut [u8],
+    text: &mut [u8],
+    list: &mut [u8],
+    n: u16,
+    below: Below,
+    here: u16,
+    left: usize,
+    g0: Progress,
+) -> Ended {
+    let s = body(deck, here);
+    let r = row_at(rows, n);
+    let place = r.place as usize;
+    let inner = with_below(below, here, n);
+    let mut at = r.content as usize;
+    let mut g = g0;
+    let mut turns = s.len();
+    while 0 < turns {
+        turns -= 1;
+        let t = token_at(s, at);
+        let e = include_one(
+            deck,
+            rows,
+            names,
+            cells,
+            low,
+            high,
+            work,
+            text,
+            list,
+            t,
+            place,
+            inner,
+            here,
+            left,
+            g,
+        );
+        match e {
+            Ended::Ran(h) => {
+                g = h;
+            }
+            Ended::Went(l, h) => {
+                return Ended::Went(l, h);
+            }
+            Ended::Bad(stop, h) => {
+                return Ended::Bad(stop, h);
+            }
+        }
+        let comma = token_at(s, t.to);
+        if is_sign(s, comma, b",") {
+            at = comma.to;
+        } else {
+            return Ended::Ran(g);
+        }
+    }
+    Ended::Ran(g)
+}
+
+fn is_include(r: Row) -> bool {
+    let x = r.statement;
+    match x {
+        Statement::Include => true,
+        Statement::Null => false,
+        Statement::Declare => false,
+        Statement::Procedure => false,
+        Statement::Assign => false,
+        Statement::Conditional => false,
+        Statement::Group => false,
+        Statement::Iterated => false,
+        Statement::Goto => false,
+        Statement::Activate => false,
+        Statement::Deactivate => false,
+        Statement::Return => false,
+    }
+}
+
+// The statement of row n begins: its step is charged.
+fn begin(
+    deck: &[u8],
+    s: &[u8],
+    rows: &mut [u16],
+    names: &mut [u16],
+    cells: &mut [u32],
+    low: &mut [u8],
+    high: &mut [u8],
+    work: &mut [u8],
+    text: &mut [u8],
+    list: &mut [u8],
+    fs: Frames,
+    n: u16,
+    below: Below,
+    member: u16,
+    left: usize,
+    g0: Progress,
+) -> Turned {
+    let r = row_at(rows, n);
+    let before = g0.meter;
+    let paid = before.charged();
+    let m = paid.meter;
+    let g = with_meter(g0, m);
+    if !paid.paid {
+        return refused(fs, g, Why::NoStep, member, r.place as usize);
+    }
+    if is_include(r) {
+        let e = include_all(
+            deck,
+            rows,
+            names,
+            cells,
+            low,
+            high,
+            work,
+            text,
+            list,
+            n,
+            below,
+            member,
+            left,
+            g,
+        );
+        return on_ended(rows, fs, n, e, member);
+    }
+    statement(
+        deck,
+        s,
+        rows,
+        names,
+        cells,
+        low,
+        high,
+        work,
+        text,
+        list,
+        fs,
+        n,
+        below,
+        member,
+        g,
+    )
+}
+
+// One turn of a member: a statement begins, or an iterated group is tested again.
+fn turn(
+    deck: &[u8],
+    s: &[u8],
+    rows: &mut [u16],
+    names: &mut [u16],
+    cells: &mut [u32],
+    low: &mut [u8],
+    high: &mut [u8],
+    work: &mut [u8],
+    text: &mut [u8],
+    list: &mut [u8],
+    fs: Frames,
+    next: Next,
+    below: Below,
+    member: u16,
+    left: usize,
+    g: Progress,
+) -> Turned {
+    match next {
+        Next::Begin(n) => {
+            begin(
+                deck,
+                s,
+                rows,
+                names,
+                cells,
+                low,
+                high,
+                work,
+                text,
+                list,
+                fs,
+                n,
+                below,
+                member,
+                left,
+                g,
+            )
+        }
+        Next::Again(n) => {
+            into_again(
+                deck,
+                s,
+                rows,
+                names,
+                cells,
+                low,
+                high,
+                work,
+                text,
+                list,
+                fs,
+                n,
+                member,
+                g,
+            )
+        }
+        Next::Over => with_step(fs, Step::On(Walk::To(Next::Over), g)),
+    }
+}
+
+// What a turn gives, with the texts that come behind it.
+enum After {
+    On(Next, Progress),
+    End(Ended),
+}
+
+fn settle(
+    deck: &[u8],
+    s: &[u8],
+    rows: &[u16],
+    names: &[u16],
+    cells: &mut [u32],
+    low: &mut [u8],
+    high: &mut [u8],
+    work: &mut [u8],
+    text: &mut [u8],
+    list: &mut [u8],
+    fs: Frames,
+    step: Step,
+    member: u16,
+) -> After {
+    match step {
+        Step::On(w, g) => {
+            let o = follow(
+                deck,
+                s,
+                rows,
+                names,
+                cells,
+                low,
+                high,
+                work,
+                text,
+                list,
+                fs,
+                w,
+                member,
+                g,
+            );
+            match o {
+                Onward::Good(next, h) => After::On(next, h),
+                Onward::Bad(stop, h) => After::End(Ended::Bad(stop, h)),
+            }
+        }
+        Step::Went(l, g) => After::End(Ended::Went(l, g)),
+        Step::Bad(stop, g) => After::End(Ended::Bad(stop, g)),
+    }
+}
+
+fn is_over(x: Next) -> bool {
+    match x {
+        Next::Begin(_) => false,
+        Next::Again(_) => false,
+        Next::Over => true,
+    }
+}
+
+// The rows of a member, from one on; `left` include levels are left.
+fn run_rows(
+    deck: &[u8],
+    rows: &mut [u16],
+    names: &mut [u16],
+    cells: &mut [u32],
+    low: &mut [u8],
+    high: &mut [u8],
+    work: &mut [u8],
+    text: &mut [u8],
+    list: &mut [u8],
+    first: Next,
+    below: Below,
+    member: u16,
+    left: usize,
+    g0: Progress,
+) -> Ended {
+    let s = body(deck, member);
+    let mut next = first;
+    let mut fs = flow::no_frames();
+    let mut g = g0;
+    let m0 = g0.meter;
+    let mut turns = turns_left(m0);
+    while 0 < turns {
+        turns -= 1;
+        if is_over(next) {
+            return Ended::Ran(g);
+        }
+        let t = turn(
+            deck,
+            s,
+            rows,
+            names,
+            cells,
+            low,
+            high,
+            work,
+            text,
+            list,
+            fs,
+            next,
+            below,
+            member,
+            left,
+            g,
+        );
+        let step = t.step;
+        fs = t.frames;
+        let a = settle(
+            deck,
+            s,
+            rows,
+            names,
+            cells,
+            low,
+            high,
+            work,
+            text,
+            list,
+            fs,
+            step,
+            member,
+        );
+        match a {
+            After::On(x, h) => {
+                next = x;
+                g = h;
+            }
+            After::End(e) => {
+                return e;
+            }
+        }
+    }
+    Ended::Ran(g)
+}
+
+// A member that was entered: its leading text, then its rows.
+fn run_source(
+    deck: &[u8],
+    rows: &mut [u16],
+    names: &mut [u16],
+    cells: &mut [u32],
+    low: &mut [u8],
+    high: &mut [u8],
+    work: &mut [u8],
+    text: &mut [u8],
+    list: &mut [u8],
+    x: Source,
+    below: Below,
+    member: u16,
+    left: usize,
+    g: Progress,
+) -> Ended {
+    let s = body(deck, member);
+    let first = x.first;
+    let l = lead_out(
+        deck,
+        s,
+        rows,
+        names,
+        cells,
+        low,
+        high,
+        work,
+        text,
+        list,
+        x.lead,
+        member,
+        g,
+    );
+    match l {
+        Ran::Good(h) => {
+            run_rows(
+                deck,
+                rows,
+                names,
+                cells,
+                low,
+                high,
+                work,
+                text,
+                list,
+                flow::first_of(first),
+                below,
+                member,
+                left,
+                h,
+            )
+        }
+        Ran::Bad(stop, h) => Ended::Bad(stop, h),
+    }
+}
+
+// Member k is read, its names are declared, and it is run.
+fn enter_and_run(
+    deck: &[u8],
+    rows: &mut [u16],
+    names: &mut [u16],
+    cells: &mut [u32],
+    low: &mut [u8],
+    high: &mut [u8],
+    work: &mut [u8],
+    text: &mut [u8],
+    list: &mut [u8],
+    k: u16,
+    below: Below,
+    left: usize,
+    g: Progress,
+) -> Ended {
+    let x = read_member(deck, rows, names, k, g.rows, g.names);
+    let fault = x.fault;
+    match fault {
+        Fault::Sound => {
+            run_source(
+                deck,
+                rows,
+                names,
+                cells,
+                low,
+                high,
+                work,
+                text,
+                list,
+                x,
+                below,
+                k,
+                left,
+                with_source(g, x),
+            )
+        }
+        Fault::Faulty(why, place) => Ended::Bad(
+            Stop {
+                why,
+                member: k,
+                place,
+            },
+            g,
+        ),
+    }
+}
+
+// THE RUN of a sound deck, whose line 0 is the main program.
+pub fn run(
+    deck: &[u8],
+    rows: &mut [u16],
+    names: &mut [u16],
+    cells: &mut [u32],
+    low: &mut [u8],
+    high: &mut [u8],
+    work: &mut [u8],
+    text: &mut [u8],
+    list: &mut [u8],
+    steps: u32,
+) -> Ran {
+    let g = Progress {
+        meter: Meter::new(steps),
+        out: Out::new(text.len(), list.len()),
+        rows: 0,
+        names: 0,
+    };
+    let e = enter_and_run(
+        deck,
+        rows,
+        names,
+        cells,
+        low,
+        high,
+        work,
+        text,
+        list,
+        0,
+        none_below(),
+        Levels::INCLUDES,
+        g,
+    );
+    match e {
+        Ended::Ran(h) => Ran::Good(h),
+        Ended::Went(_, h) => Ran::Good(h),
+        Ended::Bad(stop, h) => Ran::Bad(stop, h),
+    }
+}

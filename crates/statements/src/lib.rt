@@ -1,0 +1,622 @@
+// What each statement is, from behind its first word to behind its semicolon, or of an IF to behind THEN.
+use definition::ValueType;
+use definition::Why;
+use entering::Meaning;
+use entering::Spelling;
+use entering::Tally;
+use entering::declare;
+use entering::with_second;
+use expressions::Expected;
+use expressions::NamedAt;
+use expressions::check;
+use expressions::expect_sign;
+use expressions::expect_word;
+use expressions::name_at;
+use names::Owner;
+use rooms::is_same;
+use rows::Statement;
+use tokens::Lexeme;
+use tokens::is_sign;
+use tokens::is_word;
+use tokens::token_at;
+
+// The words that begin statements.
+pub enum Keyword {
+    If,
+    Do,
+    Goto,
+    Go,
+    Include,
+    Activate,
+    Deactivate,
+    Return,
+    Declare,
+    Procedure,
+    Other,
+}
+
+// What a statement opens: nothing, a group, a procedure's body, or the THEN alternative.
+pub enum Opens {
+    Nothing,
+    Group,
+    Body,
+    Then,
+}
+
+// A statement that was read: where it is read again when it runs, the place past it, and of a procedure its type.
+pub struct Clause {
+    pub statement: Statement,
+    pub opens: Opens,
+    pub content: usize,
+    pub to: usize,
+    pub value_type: ValueType,
+}
+
+pub enum Read {
+    Is(Clause),
+    Refused(Why, usize),
+}
+
+// The names that were read count even where the statement is wrong.
+pub struct Declaring {
+    pub tally: Tally,
+    pub read: Read,
+}
+
+// Words of two spellings.
+fn is_either(s: &[u8], t: Lexeme, long: &[u8], short: &[u8]) -> bool {
+    if is_word(s, t, long) {
+        return true;
+    }
+    is_word(s, t, short)
+}
+
+// The words that may stand outside procedures alone, or in them alone, or in lists alone.
+fn other_keyword(s: &[u8], t: Lexeme) -> Keyword {
+    if is_word(s, t, b"INCLUDE") {
+        return Keyword::Include;
+    }
+    if is_either(s, t, b"ACTIVATE", b"ACT") {
+        return Keyword::Activate;
+    }
+    if is_either(s, t, b"DEACTIVATE", b"DEACT") {
+        return Keyword::Deactivate;
+    }
+    if is_word(s, t, b"RETURN") {
+        return Keyword::Return;
+    }
+    if is_either(s, t, b"DECLARE", b"DCL") {
+        return Keyword::Declare;
+    }
+    if is_either(s, t, b"PROCEDURE", b"PROC") {
+        return Keyword::Procedure;
+    }
+    Keyword::Other
+}
+
+pub fn keyword_of(s: &[u8], t: Lexeme) -> Keyword {
+    if is_word(s, t, b"IF") {
+        return Keyword::If;
+    }
+    if is_word(s, t, b"DO") {
+        return Keyword::Do;
+    }
+    if is_word(s, t, b"GOTO") {
+        return Keyword::Goto;
+    }
+    if is_word(s, t, b"GO") {
+        return Keyword::Go;
+    }
+    other_keyword(s, t)
+}
+
+// A statement that is read as far as `e` says.
+fn read_up_to(statement: Statement, opens: Opens, content: usize, e: Expected) -> Read {
+    match e {
+        Expected::Past(to) => Read::Is(Clause {
+            statement,
+            opens,
+            content,
+            to,
+            value_type: ValueType::FixedType,
+        }),
+        Expected::Refused(w, p) => Read::Refused(w, p),
+    }
+}
+
+// What must follow, and behind it a sign.
+fn then_sign(s: &[u8], e: Expected, w: &[u8]) -> Expected {
+    match e {
+        Expected::Past(q) => expect_sign(s, q, w),
+        Expected::Refused(y, p) => Expected::Refused(y, p),
+    }
+}
+
+fn then_word(s: &[u8], e: Expected, w: &[u8]) -> Expected {
+    match e {
+        Expected::Past(q) => expect_word(s, q, w),
+        Expected::Refused(y, p) => Expected::Refused(y, p),
+    }
+}
+
+fn then_expression(s: &[u8], e: Expected) -> Expected {
+    match e {
+        Expected::Past(q) => check(s, q),
+        Expected::Refused(y, p) => Expected::Refused(y, p),
+    }
+}
+
+// The assignment to t, from behind `=`.
+pub fn assignment(s: &[u8], t: Lexeme, at: usize) -> Read {
+    let e = then_sign(s, check(s, at), b";");
+    read_up_to(Statement::Assign, Opens::Nothing, t.from, e)
+}
+
+// Outside procedures THEN has its own `%`.
+fn if_clause(s: &[u8], at: usize, in_body: bool) -> Read {
+    let x = check(s, at);
+    if in_body {
+        let e = then_word(s, x, b"THEN");
+        return read_up_to(Statement::Conditional, Opens::Then, at, e);
+    }
+    let e = then_word(s, then_sign(s, x, b"%"), b"THEN");
+    read_up_to(Statement::Conditional, Opens::Then, at, e)
+}
+
+// BY or TO with its expression, if the word stands there.
+fn bound_at(s: &[u8], e: Expected, w: &[u8]) -> Expected {
+    match e {
+        Expected::Past(q) => {
+            let t = token_at(s, q);
+            if is_word(s, t, w) {
+                return check(s, t.to);
+            }
+            Expected::Past(q)
+        }
+        Expected::Refused(y, p) => Expected::Refused(y, p),
+    }
+}
+
+// BY and TO in either order, each at most once.
+fn do_bounds(s: &[u8], e: Expected) -> Expected {
+    match e {
+        Expected::Past(q) => {
+            let t = token_at(s, q);
+            if is_word(s, t, b"BY") {
+                return bound_at(s, check(s, t.to), b"TO");
+            }
+            bound_at(s, bound_at(s, Expected::Past(q), b"TO"), b"BY")
+        }
+        Expected::Refused(y, p) => Expected::Refused(y, p),
+    }
+}
+
+fn name_past(s: &[u8], at: usize) -> Expected {
+    let n = name_at(s, at);
+    match n {
+        NamedAt::Is(_, to) => Expected::Past(to),
+        NamedAt::Refused(w, p) => Expected::Refused(w, p),
+    }
+}
+
+fn do_clause(s: &[u8], at: usize) -> Read {
+    let t = token_at(s, at);
+    if is_sign(s, t, b";") {
+        return read_up_to(Statement::Group, Opens::Group, at, Expected::Past(t.to));
+    }
+    let start = then_expression(s, then_sign(s, name_past(s, at), b"="));
+    let e = then_sign(s, do_bounds(s, start), b";");
+    read_up_to(Statement::Iterated, Opens::Group, at, e)
+}
+
+fn goto_clause(s: &[u8], at: usize) -> Read {
+    let e = then_sign(s, name_past(s, at), b";");
+    read_up_to(Statement::Goto, Opens::Nothing, at, e)
+}
+
+// GO and TO apart.
+fn go_clause(s: &[u8], at: usize) -> Read {
+    let e = expect_word(s, at, b"TO");
+    match e {
+        Expected::Past(q) => goto_clause(s, q),
+        Expected::Refused(w, p) => Read::Refused(w, p),
+    }
+}
+
+// A name of a list, and of ACTIVATE what may stand behind it.
+fn list_item(s: &[u8], at: usize, is_activate: bool) -> Expected {
+    let e = name_past(s, at);
+    if is_activate {
+        return match e {
+            Expected::Past(q) => Expected::Past(past_rescan(s, q)),
+            Expected::Refused(w, p) => Expected::Refused(w, p),
+        };
+    }
+    e
+}
+
+// The place past NORESCAN or RESCAN, if one of them stands there.
+fn past_rescan(s: &[u8], at: usize) -> usize {
+    let t = token_at(s, at);
+    if is_either(s, t, b"NORESCAN", b"RESCAN") {
+        return t.to;
+    }
+    at
+}
+
+// Names with commas between them, and the semicolon.
+fn name_list(s: &[u8], from: usize, is_activate: bool) -> Expected {
+    let mut at = from;
+    let mut turns = s.len();
+    while 0 < turns {
+        turns -= 1;
+        let e = list_item(s, at, is_activate);
+        match e {
+            Expected::Past(q) => {
+                let t = token_at(s, q);
+                if is_sign(s, t, b",") {
+                    at = t.to;
+                } else {
+                    return expect_sign(s, q, b";");
+                }
+            }
+            Expected::Refused(w, p) => {
+                return Expected::Refused(w, p);
+            }
+        }
+    }
+    Expected::Refused(Why::Syntax, at)
+}
+
+// RETURN's own parenthesis is not part of the expression.
+fn return_clause(s: &[u8], at: usize) -> Read {
+    let x = then_expression(s, expect_sign(s, at, b"("));
+    let e = then_sign(s, then_sign(s, x, b")"), b";");
+    read_up_to(Statement::Return, Opens::Nothing, at, e)
+}
+
+// The statements that declare nothing, from behind the word t that begins them.
+pub fn plain_clause(s: &[u8], k: Keyword, t: Lexeme, in_body: bool) -> Read {
+    let at = t.to;
+    match k {
+        Keyword::If => if_clause(s, at, in_body),
+        Keyword::Do => do_clause(s, at),
+        Keyword::Goto => goto_clause(s, at),
+        Keyword::Go => go_clause(s, at),
+        Keyword::Include => read_up_to(
+            Statement::Include,
+            Opens::Nothing,
+            at,
+            name_list(s, at, false),
+        ),
+        Keyword::Activate => read_up_to(
+            Statement::Activate,
+            Opens::Nothing,
+            at,
+            name_list(s, at, true),
+        ),
+        Keyword::Deactivate => read_up_to(
+            Statement::Deactivate,
+            Opens::Nothing,
+            at,
+            name_list(s, at, false),
+        ),
+        Keyword::Return => return_clause(s, at),
+        Keyword::Declare => Read::Refused(Why::Syntax, t.from),
+        Keyword::Procedure => Read::Refused(Why::Syntax, t.from),
+        Keyword::Other => Read::Refused(Why::Syntax, t.from),
+    }
+}
+
+// ---- DECLARE
+
+// Names in parentheses, from behind `(`: the place past `)`.
+fn names_in(s: &[u8], from: usize) -> Expected {
+    let mut at = from;
+    let mut turns = s.len();
+    while 0 < turns {
+        turns -= 1;
+        let e = name_past(s, at);
+        match e {
+            Expected::Past(q) => {
+                let t = token_at(s, q);
+                if is_sign(s, t, b",") {
+                    at = t.to;
+                } else {
+                    return expect_sign(s, q, b")");
+                }
+            }
+            Expected::Refused(w, p) => {
+                return Expected::Refused(w, p);
+            }
+        }
+    }
+    Expected::Refused(Why::Syntax, at)
+}
+
+// Declares the name at a place, or those in parentheses, as far as they can be read.
+fn declare_names(
+    deck: &[u8],
+    s: &[u8],
+    names: &mut [u16],
+    t0: Tally,
+    owner: Owner,
+    x: Item,
+    meaning: Meaning,
+) -> Tally {
+    let mut tally = t0;
+    let mut at = x.names;
+    let mut turns = x.most;
+    while 0 < turns {
+        turns -= 1;
+        let n = name_at(s, at);
+        match n {
+            NamedAt::Is(from, to) => {
+                tally = declare(deck, s, names, tally, Spelling { from, to }, owner, meaning);
+                let t = token_at(s, to);
+                if is_sign(s, t, b",") {
+                    at = t.to;
+                } else {
+                    return tally;
+                }
+            }
+            NamedAt::Refused(_, _) => {
+                return tally;
+            }
+        }
+    }
+    tally
+}
+
+// One item of a declaration: where its names begin, how many there may be, and the place past them.
+struct Item {
+    names: usize,
+    most: usize,
+    to: Expected,
+}
+
+fn item_at(s: &[u8], at: usize) -> Item {
+    let t = token_at(s, at);
+    if is_sign(s, t, b"(") {
+        return Item {
+            names: t.to,
+            most: s.len(),
+            to: names_in(s, t.to),
+        };
+    }
+    Item {
+        names: at,
+        most: 1,
+        to: name_past(s, at),
+    }
+}
+
+enum Attribute {
+    Means(Meaning),
+    Missing,
+}
+
+fn is_inside(owner: Owner) -> bool {
+    match owner {
+        Owner::Everyone => false,
+        Owner::Procedure(_) => true,
+    }
+}
+
+// ENTRY stands outside procedures, BUILTIN inside.
+fn attribute_at(s: &[u8], t: Lexeme, owner: Owner) -> Attribute {
+    if is_either(s, t, b"CHARACTER", b"CHAR") {
+        return Attribute::Means(Meaning::Variable(ValueType::CharacterType));
+    }
+    if is_word(s, t, b"FIXED") {
+        return Attribute::Means(Meaning::Variable(ValueType::FixedType));
+    }
+    if is_inside(owner) {
+        if is_word(s, t, b"BUILTIN") {
+            return Attribute::Means(Meaning::BuiltinName);
+        }
+        return Attribute::Missing;
+    }
+    if is_word(s, t, b"ENTRY") {
+        return Attribute::Means(Meaning::EntryOnly);
+    }
+    Attribute::Missing
+}
+
+// What an item is: its meaning and the place past its attribute, or why it is wrong.
+enum Itemized {
+    Means(Meaning, usize),
+    Refused(Why, usize),
+}
+
+fn item_means(s: &[u8], x: Item, owner: Owner) -> Itemized {
+    let to = x.to;
+    match to {
+        Expected::Past(e) => {
+            let t = token_at(s, e);
+            let a = attribute_at(s, t, owner);
+            match a {
+                Attribute::Means(m) => Itemized::Means(m, t.to),
+                Attribute::Missing => Itemized::Refused(Why::Syntax, t.from),
+            }
+        }
+        Expected::Refused(w, p) => Itemized::Refused(w, p),
+    }
+}
+
+fn meaning_of(x: Itemized) -> Meaning {
+    match x {
+        Itemized::Means(m, _) => m,
+        Itemized::Refused(_, _) => Meaning::Variable(ValueType::FixedType),
+    }
+}
+
+// The statement from behind DECLARE.
+pub fn declare_clause(
+    deck: &[u8],
+    s: &[u8],
+    names: &mut [u16],
+    t0: Tally,
+    owner: Owner,
+    from: usize,
+) -> Declaring {
+    let mut tally = t0;
+    let mut at = from;
+    let mut turns = s.len();
+    while 0 < turns {
+        turns -= 1;
+        let x = item_at(s, at);
+        let y = item_means(s, x, owner);
+        tally = declare_names(deck, s, names, tally, owner, x, meaning_of(y));
+        match y {
+            Itemized::Means(_, e) => {
+                let t = token_at(s, e);
+                if is_sign(s, t, b",") {
+                    at = t.to;
+                } else {
+                    let read = read_up_to(
+                        Statement::Declare,
+                        Opens::Nothing,
+                        from,
+                        expect_sign(s, e, b";"),
+                    );
+                    return Declaring { tally, read };
+                }
+            }
+            Itemized::Refused(w, p) => {
+                return Declaring {
+                    tally,
+                    read: Read::Refused(w, p),
+                };
+            }
+        }
+    }
+    Declaring {
+        tally,
+        read: Read::Refused(Why::Syntax, at),
+    }
+}
+
+// ---- PROCEDURE
+
+fn span(from: usize, to: usize) -> usize {
+    if to < from {
+        return 0;
+    }
+    to - from
+}
+
+// Whether the name x is among those from a place on, before its own place.
+fn is_listed_before(s: &[u8], list: usize, x: Spelling) -> bool {
+    let n = span(x.from, x.to);
+    let mut at = list;
+    let mut turns = s.len();
+    while 0 < turns {
+        turns -= 1;
+        let t = token_at(s, at);
+        if x.from <= t.from {
+            return false;
+        }
+        if span(t.from, t.to) == n {
+            if is_same(s, t.from, s, x.from, n) {
+                return true;
+            }
+        }
+        let comma = token_at(s, t.to);
+        at = comma.to;
+    }
+    false
+}
+
+// The first parameter that is listed twice is kept.
+fn parameters(s: &[u8], tally: Tally, list: usize) -> Tally {
+    let mut at = list;
+    let mut turns = s.len();
+    while 0 < turns {
+        turns -= 1;
+        let t = token_at(s, at);
+        if is_listed_before(
+            s,
+            list,
+            Spelling {
+                from: t.from,
+                to: t.to,
+            },
+        ) {
+            return with_second(tally, t.from);
+        }
+        let comma = token_at(s, t.to);
+        if is_sign(s, comma, b",") {
+            at = comma.to;
+        } else {
+            return tally;
+        }
+    }
+    tally
+}
+
+// The type that a procedure returns, and the place past it.
+enum Typed {
+    Is(ValueType, usize),
+    Refused(Why, usize),
+}
+
+fn returned_type(s: &[u8], e: Expected) -> Typed {
+    let open = then_sign(s, then_word(s, e, b"RETURNS"), b"(");
+    match open {
+        Expected::Past(q) => {
+            let t = token_at(s, q);
+            if is_either(s, t, b"CHARACTER", b"CHAR") {
+                return Typed::Is(ValueType::CharacterType, t.to);
+            }
+            if is_word(s, t, b"FIXED") {
+                return Typed::Is(ValueType::FixedType, t.to);
+            }
+            Typed::Refused(Why::Syntax, t.from)
+        }
+        Expected::Refused(w, p) => Typed::Refused(w, p),
+    }
+}
+
+// RETURNS and its type, behind the parameters, which end as e says.
+fn procedure_head(s: &[u8], e: Expected, from: usize) -> Read {
+    let t = returned_type(s, e);
+    match t {
+        Typed::Is(value_type, q) => {
+            let end = then_sign(s, expect_sign(s, q, b")"), b";");
+            match end {
+                Expected::Past(to) => Read::Is(Clause {
+                    statement: Statement::Procedure,
+                    opens: Opens::Body,
+                    content: from,
+                    to,
+                    value_type,
+                }),
+                Expected::Refused(w, p) => Read::Refused(w, p),
+            }
+        }
+        Typed::Refused(w, p) => Read::Refused(w, p),
+    }
+}
+
+// The statement from behind PROCEDURE.
+pub fn procedure_clause(s: &[u8], tally: Tally, from: usize) -> Declaring {
+    let t = token_at(s, from);
+    if is_sign(s, t, b"(") {
+        let read = procedure_head(s, names_in(s, t.to), from);
+        return match read {
+            Read::Is(c) => Declaring {
+                tally: parameters(s, tally, t.to),
+                read: Read::Is(c),
+            },
+            Read::Refused(w, p) => Declaring {
+                tally,
+                read: Read::Refused(w, p),
+            },
+        };
+    }
+    Declaring {
+        tally,
+        read: procedure_head(s, Expected::Past(from), from),
+    }
+}
