@@ -64,9 +64,9 @@ const DECKS: &[Deck] = &[
     ("arguments-30000", 11, arguments_of_substr),
     ("arguments-from-text-255", 0, || arguments_in_text(255)),
     ("arguments-from-text-256", 11, || arguments_in_text(256)),
-    ("parameters-15000", 6, || parameters(15_000, "")),
-    ("parameters-15000-one-twice", 5, || {
-        parameters(15_000, ",AAA")
+    ("parameters-5000", 6, || parameters(5_000, "")),
+    ("parameters-5000-one-twice", 5, || {
+        parameters(5_000, ",AAA")
     }),
     ("labels-30000", 5, labels_same),
     ("labels-distinct", 4, labels_distinct),
@@ -377,7 +377,7 @@ fn names_far() -> Bodies {
     let last = long(250);
     let statements = format!("{last}={last};").repeat(9);
     let mut bodies = in_procedure(&format!(
-        "DCL I FIXED;{last}=1;DO I=1 TO 20000;{statements}END;"
+        "DCL I FIXED;{last}=1;DO I=1 TO 5000;{statements}END;"
     ));
     bodies[0].insert_str(0, &format!("%DCL ({}) FIXED;", all.join(",")));
     bodies
