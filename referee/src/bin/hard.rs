@@ -65,9 +65,7 @@ const DECKS: &[Deck] = &[
     ("arguments-from-text-255", 0, || arguments_in_text(255)),
     ("arguments-from-text-256", 11, || arguments_in_text(256)),
     ("parameters-5000", 6, || parameters(5_000, "")),
-    ("parameters-5000-one-twice", 5, || {
-        parameters(5_000, ",AAA")
-    }),
+    ("parameters-5000-one-twice", 5, || parameters(5_000, ",AAA")),
     ("labels-30000", 5, labels_same),
     ("labels-distinct", 4, labels_distinct),
     ("labels-end", 3, labels_end),
