@@ -27,10 +27,17 @@ pub const AMPLE: Rooms = Rooms {
     list: 49_152,
 };
 pub const MOST_STEPS: u32 = 1_000_000;
+/// What a record may hold, twice what a deck may have.
+const MOST_DECK: usize = 131_072;
 
 /// The deck with this number of this seed.
 pub fn record(seed: u64, number: u64) -> Record {
-    let random = &mut Random::for_deck(seed, number);
+    let mut record = made(&mut Random::for_deck(seed, number));
+    record.deck.truncate(MOST_DECK);
+    record
+}
+
+fn made(random: &mut Random) -> Record {
     match random.weighted(&[36, 6, 3, 3, 2, 10, 11, 4, 3, 5, 10, 2, 1, 5, 4]) {
         0 => with_rooms(random, programs),
         1 => with_rooms(random, damaged_by_tokens),

@@ -13,7 +13,6 @@ use crate::deck;
 use crate::record::Record;
 
 const RECORDS: &[u8] = include_bytes!("../../../tests/cases/records.bin");
-const MOST_DECK: usize = 131_072;
 
 fn cases() -> &'static [Record] {
     static CASES: OnceLock<Vec<Record>> = OnceLock::new();
@@ -40,7 +39,6 @@ pub fn mutated(random: &mut Random) -> Record {
         }
         None => damage::damage_bytes(random, &mut record.deck),
     }
-    record.deck.truncate(MOST_DECK);
     cramp(random, &mut record);
     record
 }
