@@ -24,7 +24,6 @@ use names::Found;
 use names::Label;
 use names::Name;
 use names::Owner;
-use names::Place;
 use names::find;
 use names::name_at;
 use names::put_name;

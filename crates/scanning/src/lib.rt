@@ -20,7 +20,6 @@ use limits::Filling;
 use meter::Meter;
 use names::Activity;
 use names::Address;
-use names::Body;
 use names::Denotation;
 use names::Found;
 use names::Owner;
