@@ -39,7 +39,6 @@ use statements::keyword_of;
 use statements::plain_clause;
 use statements::procedure_clause;
 use tokens::Ending;
-use tokens::Kind;
 use tokens::Lexeme;
 use tokens::is_nothing;
 use tokens::is_sign;
