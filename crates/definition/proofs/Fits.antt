@@ -13,7 +13,7 @@ use Rattle.definition.specs.Deck.{isSound}
 use Rattle.definition.specs.Reading.{readMember}
 use Rattle.definition.specs.Events.{Event, blank, copied, replaced, bytesIn, textOf, Line, linesOf, listBytes}
 use Rattle.definition.specs.World as W
-use Rattle.definition.specs.World.{World}
+use Rattle.definition.specs.World.{Pass, World}
 use Rattle.definition.specs.Names.{Entering}
 use Rattle.definition.specs.Flow.{End, ran, returned, went}
 use Rattle.definition.specs.Run.{Stop, bodyOf}
@@ -21,10 +21,10 @@ use Rattle.definition.specs.Expansion.{Expansion, result, runMain, cappe
 use Rattle.definition.proofs.Choices.{when-has, cond-has}
 use Rattle.definition.proofs.Views.{sizes, sizes-add-up, lines-taken, FullEvents, FullLines, no-stretch-empty}
 use Rattle.definition.proofs.Keeping.{Any, Laws, valueless, OfEnd, Leaves, leaves, stops, SoundEntering, entered-sound, unreadable-any, enter-leaves}
-use Rattle.definition.proofs.Members.{Takes, member-leaves}
+use Rattle.definition.proofs.Members.{Takes, text-out, member-leaves}
 
 -- one more event
-full-more : (e : Event) (es : List Event) → FullEvents (e ∷ []) → FullEvents es → FullEvents (e ∷ es)
+pub full-more : (e : Event) (es : List Event) → FullEvents (e ∷ []) → FullEvents es → FullEvents (e ∷ es)
 full-more (blank m p) es h k = k
 full-more (copied m p l) es h k = (h .0, k)
 full-more (replaced m p l) es h k = k
@@ -45,8 +45,8 @@ module _ (bytes lines : ℕ) where
       valueless (λ w h. tt) (λ w h _. record { text = h .text; list = h .list; full = h .full })
       λ v w h k. record { text = rw (k .events, k .textLeft) (h .text); list = rw (k .events, k .linesLeft) (h .list); full = rw (k .events) (h .full) }
 
-  happens : (e : Event) (n : ℕ) (w : World) → Takes e n w → Roomy w → Roomy (W.withEvent e n w)
-  happens e n w t h = record {
+  happens : (d : List ℕ) (e : Event) (g : Pass) (n : ℕ) (w : World) → Takes d e n w → Roomy w → Roomy (W.withEvent e g n w)
+  happens d e g n w t h = record {
     text = omega (arith, h .text, t .bytes, text-more e (w .events));
     list = omega (arith, h .list, t .lines, t .right, lines-taken e (w .events));
     full = full-more e (w .events) (t .full) (h .full);
@@ -73,7 +73,7 @@ module _ (bytes lines : ℕ) where
 
   main-within : {e : Entering} (d : List ℕ) → SoundEntering rooms e → Within (runMain e d)
   main-within d unreadable-any = none-within _ _ _ _
-  main-within d (entered-sound {w} h) = result-within (member-leaves rooms happens includeLevels d 0 [] w h)
+  main-within d (entered-sound {w} h) = result-within (member-leaves rooms d (text-out rooms d (happens d)) includeLevels 0 [] w h)
 
 begun : (textRoom listRoom steps : ℕ) → Roomy (capped textRoom) (listRoom / originLineBytes) (mainWorld textRoom listRoom steps)
 unfolding textOf linesOf

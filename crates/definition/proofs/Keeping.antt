@@ -127,6 +127,7 @@ pub record Alike (v w : World) : Type 0 where
   pub events : v .events ≡ w .events
   pub textLeft : v .textLeft ≡ w .textLeft
   pub linesLeft : v .linesLeft ≡ w .linesLeft
+  pub passes : v .passes ≡ w .passes
 
 -- THE LAWS: what single changes keep, and what single values are. A world is `Sound`, a value is `Of` the kind, a refusal
 -- has `Left` so many steps
@@ -164,7 +165,7 @@ valueless left charged changed = record {
   charged = charged;
   changed = λ v w h k _. changed v w h k;
   named = λ v w h k _. changed v w h k;
-  stored = λ a x w _ h. changed (store a x w) w h (record { limit = refl; used = refl; events = refl; textLeft = refl; linesLeft = refl });
+  stored = λ a x w _ h. changed (store a x w) w h (record { limit = refl; used = refl; events = refl; textLeft = refl; linesLeft = refl; passes = refl });
   cells = λ a w h. any-cell (valueAt a w);
   constants = λ ds. any-given (constant ds);
   strings = λ l. any-given (limited (characters l));
@@ -316,8 +317,8 @@ module _ {Sound : World → Type 0} {Of : Value → Type 0} {Left : ℕ → Type
         arguments-leaves none = λ ws u w h. leaves tt h
         arguments-leaves (more a b) = more-leaves a b (evaluate-leaves a) (arguments-leaves b)
 
-  -- ---- rows, in a machine whose parts keep
-  module _ {E : Type 0} (M : Machine E) (values : (x : Tree) (w : World) → Sound w → Leaves Of (M .value x w)) (outs : (s : Stretch) (w : World) → Sound w → Leaves Any (M .out s w)) (acts : (n : ℕ) (w : World) → Sound w → Leaves (OfDeed Of) (M .act n w)) (goes : (n : ℕ) (t : List ℕ) (w : World) → Sound w → Leaves Any (M .jump n t w)) where
+  -- ---- rows, in a machine whose parts keep; the texts that it puts out are `Ok`
+  module _ {E : Type 0} (M : Machine E) (Ok : Stretch → Type 0) (texts : (n : ℕ) → Ok (W.rowOf (M .rows) n .text)) (leads : (n : ℕ) → Ok (W.rowOf (M .rows) n .lead)) (values : (x : Tree) (w : World) → Sound w → Leaves Of (M .value x w)) (outs : (s : Stretch) (w : World) → Ok s → Sound w → Leaves Any (M .out s w)) (acts : (n : ℕ) (w : World) → Sound w → Leaves (OfDeed Of) (M .act n w)) (goes : (n : ℕ) (t : List ℕ) (w : World) → Sound w → Leaves Any (M .jump n t w)) where
     end-leaves : (s : Statement) (g : ℕ) (fs : List Frame) (up : Unit {0} → Res E Next) → Leaves Any (up tt) → {w : World} → Sound w → Leaves Any (endIn M s g fs up w)
     end-leaves null g fs up k h = k
     end-leaves (declare ns) g fs up k h = k
@@ -352,9 +353,9 @@ module _ {Sound : World → Type 0} {Of : Value → Type 0} {Left : ℕ → Type
     behind-leaves fs zero n w h = passes h
     behind-leaves fs (suc f) n w h = search (behind-as, behind-leaves fs f)
 
-    pub lead-leaves : (s : Stretch) {w : World} → Sound w → Leaves Any (leadOut M s w)
+    pub lead-leaves : (s : Stretch) {w : World} → Ok s → Sound w → Leaves Any (leadOut M s w)
     unfolding leadOut
-    lead-leaves s h = search keeping
+    lead-leaves s k h = search keeping
 
     first-leaves : (l : Link) (g : ℕ) (fs : List Frame) {w : World} → Sound w → Leaves Any (firstIn M l g fs w)
     first-leaves (row m) g fs h = passes h
@@ -524,7 +525,9 @@ module _ {Sound : World → Type 0} {Of : Value → Type 0} {Left : ℕ → Type
 
   body-leaves : (run : Call) → KeepingCall run → (m r u : ℕ) {w : World} → Sound w → Leaves Of (bodyRun run m r u w)
   unfolding bodyRun bodyMachine
-  body-leaves run runs m r u h = search (value-leaves, runOn-leaves, evaluate-leaves, act-leaves, jump-in, passes)
+  body-leaves run runs m r u {w} h =
+      value-leaves (runOn-leaves (bodyMachine run m r u (W.rowsOf m w)) Any (λ n. tt) (λ n. tt) (λ x v k. evaluate-leaves run runs (W.procedureAt m r) x u v k) (λ s v _ k. passes k)
+      (λ n v k. act-leaves (W.rowOf (W.rowsOf m w) n .statement) _ u _ (λ x z i. evaluate-leaves run runs (W.procedureAt m r) x u z i) k) (λ n t v k. jump-in (W.addressOf t (W.procedureAt m r) v) t (W.rowsOf m w) n k) _ _ [] w h)
 
   pub calls-leaves : (n : ℕ) (ps : List Place) → KeepingCall (calls n ps)
   unfolding calls
@@ -610,7 +613,7 @@ module _ {Sound : World → Type 0} {Of : Value → Type 0} {Left : ℕ → Type
     unreadable-any : {e : Why} {p : ℕ} → SoundEntering (unreadable e p)
 
   declared-at : (x : Address) (i : Identifier) (d : Denotation) (p : ℕ) {w : World} → Sound w → SoundDeclaring (declaredAt x i d p w)
-  declared-at unknown i d p {w} h = fine-sound (laws .named (addName i d w) w h (record { limit = refl; used = refl; events = refl; textLeft = refl; linesLeft = refl }) refl)
+  declared-at unknown i d p {w} h = fine-sound (laws .named (addName i d w) w h (record { limit = refl; used = refl; events = refl; textLeft = refl; linesLeft = refl; passes = refl }) refl)
   declared-at (address a) i d p {w} h = go (jointOf (W.denotation a w) d)
     where
       go : (j : Joint) → SoundDeclaring (elim j [ joint e ↦ fine (setDenotation a e w) | twice ↦ second p ])

@@ -10,3 +10,6 @@ pub mod Members
 pub mod Thrift
 pub mod Ranges
 pub mod Fits
+pub mod Follows
+pub mod FollowsRun
+pub mod Texts

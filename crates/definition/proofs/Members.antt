@@ -12,8 +12,10 @@ use Rattle.definition.specs.Limits.{runningProcedures, replacementLevels
 use Rattle.definition.specs.Program.{Statement, null, declare, procedure, assign, conditional, group, iterated, goto, include, activate, deactivate, return, row, Stretch, Row, Activation, Source}
 use Rattle.definition.specs.Values.{Value}
 use Rattle.definition.specs.World as W
-use Rattle.definition.specs.World.{Denotation, variableOf, entryOf, labelAt, builtinName, Address, address, unknown, Activity, inactive, rescanned, World, Res, bind}
-use Rattle.definition.specs.Flow.{Deed, End, ran, returned, went}
+use Rattle.definition.specs.World.{Denotation, variableOf, entryOf, labelAt, builtinName, Address, address, unknown, Activity, inactive, rescanned, Pass, World, Res, bind}
+use Rattle.definition.specs.Flow.{Deed, End, ran, returned, went, Machine}
+use Rattle.definition.specs.Expressions.{Tree}
+use Rattle.definition.proofs.Texts.{TextOf, first, behind, leading, text-inside}
 use Rattle.definition.specs.Calls.{Place, callOut}
 use Rattle.definition.specs.Lists.{part}
 use Rattle.definition.specs.Tokens.{pieceAt}
@@ -25,12 +27,19 @@ use Rattle.definition.specs.Deck as Deck
 use Rattle.definition.specs.Run.{Stop, bodyOf, putOut, copyHere, replaceHere, tokenHere, textOn, textOut, activated, activateAt, activateAll, activations, jumpAway, jumpLabel, jumpBy, jumpFrom, Inner, Level, noLevel, level, cameOut, includeEntered, includeAt, includeAll, actAs, memberMachine, runSource, runMember}
 use Rattle.definition.proofs.Views.{takenBy, FullEvents}
 use Rattle.definition.proofs.Ends.{pieceAt-past}
-use Rattle.definition.proofs.Parts.{length-part}
+use Rattle.definition.proofs.Parts.{length-part, part-of-part}
 use Rattle.definition.proofs.Choices.{when-has}
 use Rattle.definition.proofs.Keeping.{Any, OfDeed, OfEnd, Awake, AllAwake, awake-in, and-left, and-right, Alike, Laws, valueless, Leaves, leaves, stops, passes, halt, bind-leaves, bind-any, placed-leaves, keeping, charge-leaves, evaluate-leaves, lead-leaves, runOn-leaves, calls-leaves, replacer-leaves, SoundEntering, entered-sound, unreadable-any, enter-leaves}
 
--- an event that can go out: its lines and its bytes have room, and a copied one has a byte
-pub record Takes (e : Event) (n : ℕ) (w : World) : Type 0 where
+-- what is copied stands in the body of the member that the event names
+abbrev pub Copies : List ℕ → Event → Type 0
+Copies d (blank m p) = Unit {0}
+Copies d (copied m p l) = (l ≡ part (length l) p (bodyOf d m)) × (p + length l ≤ length (bodyOf d m))
+Copies d (replaced m p l) = Unit {0}
+
+-- an event that can go out: its lines and its bytes have room, and a copied one has a byte and stands in the deck d
+pub record Takes (d : List ℕ) (e : Event) (n : ℕ) (w : World) : Type 0 where
+  pub true : Copies d e
   pub right : n ≡ takenBy e (w .events)
   pub lines : n ≤ w .linesLeft
   pub bytes : length (bytesIn e) ≤ w .textLeft
@@ -42,62 +51,73 @@ bind-both laws others (leaves {a} {w} h k) (leaves p q) g = g a w h k p q
 bind-both laws others (stops h) (stops k) g = stops h
 
 -- ---- no event goes out but from program text: what is before it, and its rooms, stay
-record Still (w v : World) : Type 0 where
-  events : v .events ≡ w .events
-  textLeft : v .textLeft ≡ w .textLeft
-  linesLeft : v .linesLeft ≡ w .linesLeft
+pub record Still (w v : World) : Type 0 where
+  pub events : v .events ≡ w .events
+  pub textLeft : v .textLeft ≡ w .textLeft
+  pub linesLeft : v .linesLeft ≡ w .linesLeft
+  pub passes : v .passes ≡ w .passes
 
-still-begun : (w : World) → Still w w
-still-begun w = record { events = refl; textLeft = refl; linesLeft = refl }
+pub still-begun : (w : World) → Still w w
+still-begun w = record { events = refl; textLeft = refl; linesLeft = refl; passes = refl }
 
 still-alike : (w v u : World) → Still w u → Alike v u → Still w v
-still-alike w v u h k = record { events = k .events ∙ h .events; textLeft = k .textLeft ∙ h .textLeft; linesLeft = k .linesLeft ∙ h .linesLeft }
+still-alike w v u h k = record { events = k .events ∙ h .events; textLeft = k .textLeft ∙ h .textLeft; linesLeft = k .linesLeft ∙ h .linesLeft; passes = k .passes ∙ h .passes }
 
-still : (w : World) → Laws (Still w) Any Any
-still w = valueless (λ v h. tt) (λ v h _. record { events = h .events; textLeft = h .textLeft; linesLeft = h .linesLeft }) (still-alike w)
+pub still : (w : World) → Laws (Still w) Any Any
+still w = valueless (λ v h. tt) (λ v h _. record { events = h .events; textLeft = h .textLeft; linesLeft = h .linesLeft; passes = h .passes }) (still-alike w)
 
 -- ---- program text and members, in which events go out
-module _ {Sound : World → Type 0} {Of : Value → Type 0} {Left : ℕ → Type 0} (laws : Laws Sound Of Left) (happens : (e : Event) (n : ℕ) (w : World) → Takes e n w → Sound w → Sound (W.withEvent e n w)) where
-  put-out : (e : Event) (n : ℕ) {w : World} → n ≡ takenBy e (w .events) → FullEvents (e ∷ []) → Sound w → Leaves laws Any (putOut e n w)
+module _ {Sound : World → Type 0} {Of : Value → Type 0} {Left : ℕ → Type 0} (laws : Laws Sound Of Left) (d : List ℕ) (happens : (e : Event) (g : Pass) (n : ℕ) (w : World) → Takes d e n w → Sound w → Sound (W.withEvent e g n w)) where
+  put-out : (e : Event) (g : Pass) (n : ℕ) {w : World} → Copies d e → n ≡ takenBy e (w .events) → FullEvents (e ∷ []) → Sound w → Leaves laws Any (putOut e g n w)
   unfolding putOut
-  put-out e n {w} r f h =
+  put-out e g n {w} c r f h =
       let l : Bool = leb n (w .linesLeft) in
       let b : Bool = leb (length (bytesIn e)) (w .textLeft) in
       when-has (Leaves laws Any) (l && b) _ _
-      (λ t. passes laws (happens e n w (record { right = r; lines = leb-true n (w .linesLeft) (and-left l b t); bytes = leb-true (length (bytesIn e)) (w .textLeft) (and-right l b t); full = f }) h)) λ _. halt laws h
+      (λ t. passes laws (happens e g n w (record { true = c; right = r; lines = leb-true n (w .linesLeft) (and-left l b t); bytes = leb-true (length (bytesIn e)) (w .textLeft) (and-right l b t); full = f }) h)) λ _. halt laws h
 
-  copy-here : (m place : ℕ) (l : List ℕ) {w : World} → 1 ≤ length l → Sound w → Leaves laws Any (copyHere m place l w)
+  copy-here : (m place : ℕ) (l : List ℕ) (g : Pass) {w : World} → Copies d (copied m place l) → 1 ≤ length l → Sound w → Leaves laws Any (copyHere m place l g w)
   unfolding copyHere
-  copy-here m place l {w} f h = put-out (copied m place l) (cond (joins (w .events) m place) 0 1) refl (f, tt) h
+  copy-here m place l g {w} c f h = put-out (copied m place l) g (cond (joins (w .events) m place) 0 1) c refl (f, tt) h
 
   -- the rooms are as they were before a replacement, and its outcome fits
-  replace-here : (m place : ℕ) (t : List ℕ) (q a : ℕ) (x : Activity) → Awake x → {w : World} → Sound w → Leaves laws Any (replaceHere m place t q a x w)
+  replace-here : (m place : ℕ) (t : List ℕ) (q a : ℕ) (x : Activity) → Awake x → (to : List ℕ → ℕ → Pass) {w : World} → Sound w → Leaves laws Any (replaceHere m place t q a x to w)
   unfolding replaceHere
-  replace-here m place t q a x y {w} h =
+  replace-here m place t q a x y to {w} h =
       when-has (Leaves laws Any) (leb 1 (w .linesLeft)) _ _
       (λ e. bind-both laws (still w) (replacer-leaves laws callOut (calls-leaves laws runningProcedures []) replacementLevels t q a x (toText (w .textLeft)) 0 w y h)
       (replacer-leaves (still w) callOut (calls-leaves (still w) runningProcedures []) replacementLevels t q a x (toText (w .textLeft)) 0 w y (still-begun w))
-      λ r v f k _ g. passes laws (happens (replaced m place (r .bytes)) 1 v (record { right = refl; lines = omega (arith, leb-true 1 (w .linesLeft) e, g .linesLeft); bytes = omega (arith, f, g .textLeft); full = tt }) k)) λ _. halt laws h
+      λ r v f k _ g. passes laws (happens (replaced m place (r .bytes)) (to (r .bytes) (r .to)) 1 v (record { true = tt; right = refl; lines = omega (arith, leb-true 1 (w .linesLeft) e, g .linesLeft); bytes = omega (arith, f, g .textLeft); full = tt }) k)) λ _. halt laws h
 
-  token-here : (x : Active) → AllAwake x → (m place : ℕ) (t : List ℕ) (p q : ℕ) {w : World} → p < q → Sound w → Leaves laws Any (tokenHere x m place t p q w)
-  token-here notActive y m place t p q l h = bind-any laws (copy-here m place (part (q - p) p t) (omega (arith, length-part (q - p) p t)) h) λ _ v k. passes laws k
-  token-here (active a x) y m place t p q l h = replace-here m place t q a x y h
+  token-here : (x : Active) → AllAwake x → (m place : ℕ) (t : List ℕ) (p q : ℕ) (g : List ℕ → ℕ → Pass) {w : World} → p < q → (part (q - p) p t ≡ part (q - p) place (bodyOf d m)) × (place + (q - p) ≤ length (bodyOf d m)) → Sound w → Leaves laws Any (tokenHere x m place t p q g w)
+  token-here notActive y m place t p q g l c h = bind-any laws (copy-here m place (part (q - p) p t) (g (part (q - p) p t) q) (rw length-part c) (omega (arith, length-part (q - p) p t)) h) λ _ v k. passes laws k
+  token-here (active a x) y m place t p q g l c h = replace-here m place t q a x y g h
 
-  text-leaves : (m from : ℕ) (t : List ℕ) (f p : ℕ) (w : World) → Sound w → Leaves laws Any (textOn m from t f p w)
+  -- t is the text of member m that begins at `from`
+  abbrev Lies : ℕ → ℕ → List ℕ → Type 0
+  Lies m from t = (p q : ℕ) → p < q → q ≤ length t → (part (q - p) p t ≡ part (q - p) (from + p) (bodyOf d m)) × (from + p + (q - p) ≤ length (bodyOf d m))
+
+  text-leaves : (m from : ℕ) (t : List ℕ) → Lies m from t → (f p : ℕ) (w : World) → Sound w → Leaves laws Any (textOn m from t f p w)
   unfolding textOn
-  text-leaves m from t zero p w h = passes laws h
-  text-leaves m from t (suc f) p w h = when-has (Leaves laws Any) (leb (length t) p) _ _ (λ _. passes laws h) λ e.
+  text-leaves m from t z zero p w h = passes laws h
+  text-leaves m from t z (suc f) p w h = when-has (Leaves laws Any) (leb (length t) p) _ _ (λ _. passes laws h) λ e.
       let l : p < pieceAt t p .to = pieceAt-past t p (leb-false (length t) p e) .above in
-      bind-any laws (placed-leaves laws _ (bind-any laws (charge-leaves laws h) λ _ v k. token-here (activeIn (pieceAt t p .piece) v) (awake-in (pieceAt t p .piece) v) m (from + p) t p (pieceAt t p .to) l k)) λ q x k.
-      text-leaves m from t f q x k
+      let k : pieceAt t p .to ≤ length t = pieceAt-past t p (leb-false (length t) p e) .within in
+      bind-any laws (placed-leaves laws _ (bind-any laws (charge-leaves laws h) λ _ v g. token-here (activeIn (pieceAt t p .piece) v) (awake-in (pieceAt t p .piece) v) m (from + p) t p (pieceAt t p .to) _ l (z p (pieceAt t p .to) l k) g)) λ q x g.
+      text-leaves m from t z f q x g
 
-  pub text-out : (m : ℕ) (s : List ℕ) (x : Stretch) {w : World} → Sound w → Leaves laws Any (textOut m s x w)
+  pub text-out : (m : ℕ) (x : Stretch) (w : World) → TextOf (readMember (bodyOf d m)) x → Sound w → Leaves laws Any (textOut m (bodyOf d m) x w)
   unfolding textOut
-  text-out m s x {w} h = bind-any laws (placed-leaves laws _ (put-out (blank m (x .from)) 1 refl tt h)) λ _ v k. text-leaves m (x .from) _ _ 0 v k
+  text-out m x w o h =
+      let n : ℕ = x .to - x .from in
+      let z : x .to ≤ length (bodyOf d m) = text-inside (bodyOf d m) o in
+      bind-any laws (placed-leaves laws _ (put-out (blank m (x .from)) (W.began m x) 1 tt refl tt h)) λ _ v k.
+      text-leaves m (x .from) (part n (x .from) (bodyOf d m)) (λ p q i j. (part-of-part (q - p) p n (x .from) (bodyOf d m) (omega (arith, length-part n (x .from) (bodyOf d m))), omega (arith, length-part n (x .from) (bodyOf d m)))) _ 0 v k
 
-  -- ---- members
+-- ---- members, where program text keeps
+module _ {Sound : World → Type 0} {Of : Value → Type 0} {Left : ℕ → Type 0} (laws : Laws Sound Of Left) (d : List ℕ) (texts : (m : ℕ) (x : Stretch) (w : World) → TextOf (readMember (bodyOf d m)) x → Sound w → Leaves laws Any (textOut m (bodyOf d m) x w)) where
   awaken : (x : Activity) (a : ℕ) {w : World} → Sound w → Sound (W.setActivity x a w)
-  awaken x a {w} h = laws .changed (W.setActivity x a w) w h (record { limit = refl; used = refl; events = refl; textLeft = refl; linesLeft = refl }) refl
+  awaken x a {w} h = laws .changed (W.setActivity x a w) w h (record { limit = refl; used = refl; events = refl; textLeft = refl; linesLeft = refl; passes = refl }) refl
 
   activated-leaves : (d : Denotation) (x : Activity) (a : ℕ) {w : World} → Sound w → Leaves laws Any (activated d x a w)
   activated-leaves (variableOf t) x a h = passes laws (awaken x a h)
@@ -153,12 +173,12 @@ module _ {Sound : World → Type 0} {Of : Value → Type 0} {Left : ℕ → Type
     include-entered unreadable-any inner is k m n ps h = halt laws h
     include-entered (entered-sound {w = v} g) inner is k m n ps h = bind-leaves laws (is k (record { member = m; row = n } ∷ ps) v g) λ x y _ i. came-out m x i
 
-    include-at : (f : Deck.Found) (l : Level) → KeepingLevel l → (d : List ℕ) (p m n : ℕ) (ps : List Place) {w : World} → Sound w → Leaves laws (OfDeed Of) (includeAt f l d p m n ps w next)
-    include-at Deck.none l is d p m n ps h = halt laws h
-    include-at (Deck.line k) noLevel is d p m n ps h = halt laws h
-    include-at (Deck.line k) (level inner) is d p m n ps h = search (include-entered, enter-leaves)
+    include-at : (f : Deck.Found) (l : Level) → KeepingLevel l → (p m n : ℕ) (ps : List Place) {w : World} → Sound w → Leaves laws (OfDeed Of) (includeAt f l d p m n ps w next)
+    include-at Deck.none l is p m n ps h = halt laws h
+    include-at (Deck.line k) noLevel is p m n ps h = halt laws h
+    include-at (Deck.line k) (level inner) is p m n ps h = search (include-entered, enter-leaves)
 
-  module _ (l : Level) (is : KeepingLevel l) (d : List ℕ) where
+  module _ (l : Level) (is : KeepingLevel l) where
     pub include-all : (p m n : ℕ) (ps : List Place) (xs : List (List ℕ)) (w : World) → Sound w → Leaves laws (OfDeed Of) (includeAll l d p m n ps xs w)
     unfolding includeAll
     include-all p m n ps [] w h = leaves tt h
@@ -178,11 +198,17 @@ module _ {Sound : World → Type 0} {Of : Value → Type 0} {Left : ℕ → Type
     act-as (deactivate ns) p m n ps {w} h = placed-leaves laws _ (bind-leaves laws (activate-all inactive ns w h) λ _ v _ k. leaves tt k)
     act-as (return x) p m n ps h = leaves tt h
 
-    source-leaves : (m : ℕ) (ps : List Place) (s : Source) {w : World} → Sound w → Leaves laws (OfEnd Of) (runSource l d m ps s w)
+    source-leaves : (m : ℕ) (ps : List Place) (s : Source) → ((x : Stretch) → TextOf s x → TextOf (readMember (bodyOf d m)) x) → {w : World} → Sound w → Leaves laws (OfEnd Of) (runSource l d m ps s w)
     unfolding runSource memberMachine
-    source-leaves m ps s h = search (keeping, lead-leaves, runOn-leaves, evaluate-leaves, calls-leaves, text-out, act-as, jump-from)
+    source-leaves m ps s i {w} h =
+        let M : Machine Stop = memberMachine l d m ps s in
+        let values : (x : Tree) (v : World) → Sound v → Leaves laws Of (M .value x v) = λ x v k. evaluate-leaves laws callOut (calls-leaves laws runningProcedures []) W.everyone x 0 v k in
+        let acts : (n : ℕ) (v : World) → Sound v → Leaves laws (OfDeed Of) (M .act n v) = λ n v k. act-as (W.rowOf (s .rows) n .statement) _ m n ps k in
+        let jumps : (n : ℕ) (t : List ℕ) (v : World) → Sound v → Leaves laws Any (M .jump n t v) = λ n t v k. placed-leaves laws _ (jump-from (W.addressOf t W.everyone v) m (s .rows) ps n k) in
+        bind-any laws (lead-leaves laws M (TextOf s) behind leading values (λ x v k. texts m x v (i x k)) acts jumps (s .lead) first h)
+        λ _ v k. runOn-leaves laws M (TextOf s) behind leading values (λ x v k. texts m x v (i x k)) acts jumps _ _ [] v k
 
-  pub member-leaves : (n : ℕ) (d : List ℕ) → KeepingInner (runMember n d)
+  pub member-leaves : (n : ℕ) → KeepingInner (runMember n d)
   unfolding runMember
-  member-leaves zero d m ps w h = source-leaves noLevel tt d m ps (readMember (bodyOf d m)) h
-  member-leaves (suc n) d m ps w h = source-leaves (level (runMember n d)) (member-leaves n d) d m ps (readMember (bodyOf d m)) h
+  member-leaves zero m ps w h = source-leaves noLevel tt m ps (readMember (bodyOf d m)) (λ x k. k) h
+  member-leaves (suc n) m ps w h = source-leaves (level (runMember n d)) (member-leaves n) m ps (readMember (bodyOf d m)) (λ x k. k) h

@@ -27,7 +27,7 @@ use Rattle.definition.specs.Flow.{End}
 use Rattle.definition.specs.Calls.{Place, calls}
 use Rattle.definition.specs.Run.{runMember}
 use Rattle.definition.proofs.Keeping.{Any, Gives, given, failed, any-given, then-gives, OfCell, OfAll, Laws, leaves-it, evaluate-leaves, calls-leaves}
-use Rattle.definition.proofs.Members.{member-leaves}
+use Rattle.definition.proofs.Members.{text-out, member-leaves}
 use Rattle.definition.proofs.Choices.{when-has, cond-has}
 
 abbrev pub Small : ℤ → Type 0
@@ -293,4 +293,4 @@ pub evaluate-fine : (n : ℕ) (ps : List Place) (k : Owner) (x : Tree) (u : ℕ)
 evaluate-fine n ps k x u w h e = leaves-it ranges (evaluate-leaves ranges (calls n ps) (calls-leaves ranges n ps) k x u w h) e
 
 pub member-fine : (n : ℕ) (d : List ℕ) (m : ℕ) (ps : List Place) (w : World) → FineWorld w → {x : End} {y : World} → runMember n d m ps w ≡ good x y → FineWorld y
-member-fine n d m ps w h e = leaves-it ranges (member-leaves ranges (λ e k v _ g. record { cells = g .cells }) n d m ps w h) e .1
+member-fine n d m ps w h e = leaves-it ranges (member-leaves ranges d (text-out ranges d λ e _ k v _ g. record { cells = g .cells }) n m ps w h) e .1

@@ -19,7 +19,7 @@ use Rattle.definition.specs.Run.{Stop, bodyOf}
 use Rattle.definition.specs.Expansion.{Expansion, result, runMain, mainWorld, expansion}
 use Rattle.definition.proofs.Choices.{when-has}
 use Rattle.definition.proofs.Keeping.{Any, any-all, Laws, valueless, Leaves, leaves, stops, evaluate-leaves, calls-leaves, SoundEntering, entered-sound, unreadable-any, enter-leaves}
-use Rattle.definition.proofs.Members.{member-leaves}
+use Rattle.definition.proofs.Members.{text-out, member-leaves}
 
 -- the steps charged after a part of the run
 abbrev pub usedBy : {E A : Type 0} → Res E A → ℕ
@@ -66,7 +66,7 @@ result-used (bad s u) = refl
 
 main-fits : (limit : ℕ) {e : Entering} (d : List ℕ) → SoundEntering (thrift 0 limit) e → runMain e d .steps ≤ limit
 main-fits limit d unreadable-any = omega arith
-main-fits limit d (entered-sound {w} h) = rw result-used (spent-by 0 limit (member-leaves (thrift 0 limit) (λ e n v _ k. record { same = k .same; spent = k .spent }) includeLevels d 0 [] w h) .1)
+main-fits limit d (entered-sound {w} h) = rw result-used (spent-by 0 limit (member-leaves (thrift 0 limit) d (text-out (thrift 0 limit) d λ e _ n v _ k. record { same = k .same; spent = k .spent }) includeLevels 0 [] w h) .1)
 
 pub expansion-fits : (roomy : Bool) (d : List ℕ) (textRoom listRoom steps : ℕ) → expansion roomy d textRoom listRoom steps .steps ≤ steps
 unfolding expansion

@@ -1,7 +1,7 @@
 -- 01, "Running", as far as members and procedures have it in common: lists of rows, IF, groups, DO, GOTO, assignment.
 -- One turn charges one step: a statement begins, or an iterated group is tested again.
 use Prim.Native.Nat.{ℕ, zero, suc}
-use mathlib.Core.Bool.{Bool, true, false, not, cond, _&&_, _||_}
+use mathlib.Core.Bool.{Bool, true, false, cond, _&&_, _||_}
 use mathlib.Core.List.{List, [], _∷_}
 use lib.Dec.{ltb, eqb}
 use lib.IntN.{ℤ, pos}
@@ -77,14 +77,26 @@ pub data Turn : Type 0 where
   on : Next → List Frame → Turn
   ended : End → Turn
 
+-- ---- frames: the newest of a group counts
+unfoldable pub isOnce : ℕ → List Frame → Bool
+isOnce g [] = true
+isOnce g (f ∷ fs) = when (eqb (f .group) g) (λ _. f .isOnce) (λ _. isOnce g fs)
+
+-- "Each pass is tested first: it ends over TO, under TO if BY is negative, never without TO."
+abbrev pub within : Limit → ℤ → ℤ → Bool
+within noLimit step z = true
+within (limitAt t) step z = cond (nonNeg step) (leZ z t) (leZ t z)
+
+abbrev pub passes : Frame → ℤ → Bool
+passes f z = within (f .limit) (f .step) z
+
+pub record Started : Type 0 where
+  pub frame : Frame
+  pub begins : Bool
+
 module _ {E : Type 0} (M : Machine E) where
   abbrev pub at : ℕ → Row
   at n = rowOf (M .rows) n
-
-  -- ---- frames: the newest of a group counts
-  unfoldable pub isOnce : ℕ → List Frame → Bool
-  isOnce g [] = true
-  isOnce g (f ∷ fs) = when (eqb (f .group) g) (λ _. f .isOnce) (λ _. isOnce g fs)
 
   -- ---- behind a statement
   -- the end of what stands in the row g: a pass of an iterated group is over, or the row itself is
@@ -176,18 +188,6 @@ module _ {E : Type 0} (M : Machine E) where
   unfoldable pub bounds : List Bound → Frame → World → Res Why Frame
   bounds [] f w = good f w
   bounds (b ∷ bs) f w = bind (bounded b f w) λ g y. bounds bs g y
-
-  -- "Each pass is tested first: it ends over TO, under TO if BY is negative, never without TO."
-  abbrev pub within : Limit → ℤ → ℤ → Bool
-  within noLimit step z = true
-  within (limitAt t) step z = cond (nonNeg step) (leZ z t) (leZ t z)
-
-  abbrev pub passes : Frame → ℤ → Bool
-  passes f z = within (f .limit) (f .step) z
-
-  pub record Started : Type 0 where
-    pub frame : Frame
-    pub begins : Bool
 
   abbrev pub startAs : Type′ → ℕ → ℕ → Tree → List Bound → World → Res Why Started
   startAs characterType g a x bs w = bad wrongName (w .used)

@@ -58,10 +58,10 @@ pub data Declaring : Type 0 where
   second : ℕ → Declaring
 
 abbrev pub addName : Identifier → Denotation → World → World
-addName i d w = record { identifiers = w .identifiers ++ i ∷ []; denotations = w .denotations ++ d ∷ []; values = w .values ++ noValue ∷ []; activities = w .activities ++ inactive ∷ []; members = w .members; sentences = w .sentences; limit = w .limit; used = w .used; events = w .events; textLeft = w .textLeft; linesLeft = w .linesLeft }
+addName i d w = record { identifiers = w .identifiers ++ i ∷ []; denotations = w .denotations ++ d ∷ []; values = w .values ++ noValue ∷ []; activities = w .activities ++ inactive ∷ []; members = w .members; sentences = w .sentences; limit = w .limit; used = w .used; events = w .events; textLeft = w .textLeft; linesLeft = w .linesLeft; passes = w .passes }
 
 abbrev pub setDenotation : ℕ → Denotation → World → World
-setDenotation a d w = record { identifiers = w .identifiers; denotations = set (w .denotations) a d; values = w .values; activities = w .activities; members = w .members; sentences = w .sentences; limit = w .limit; used = w .used; events = w .events; textLeft = w .textLeft; linesLeft = w .linesLeft }
+setDenotation a d w = record { identifiers = w .identifiers; denotations = set (w .denotations) a d; values = w .values; activities = w .activities; members = w .members; sentences = w .sentences; limit = w .limit; used = w .used; events = w .events; textLeft = w .textLeft; linesLeft = w .linesLeft; passes = w .passes }
 
 abbrev pub declaredAt : Address → Identifier → Denotation → ℕ → World → Declaring
 declaredAt unknown i d p w = fine (addName i d w)
@@ -135,7 +135,7 @@ pub data Entering : Type 0 where
   unreadable : Why → ℕ → Entering
 
 abbrev pub withMember : ℕ → Source → World → World
-withMember m s w = record { identifiers = w .identifiers; denotations = w .denotations; values = w .values; activities = w .activities; members = record { member = m; source = s } ∷ w .members; sentences = w .sentences + length (s .begun); limit = w .limit; used = w .used; events = w .events; textLeft = w .textLeft; linesLeft = w .linesLeft }
+withMember m s w = record { identifiers = w .identifiers; denotations = w .denotations; values = w .values; activities = w .activities; members = record { member = m; source = s } ∷ w .members; sentences = w .sentences + length (s .begun); limit = w .limit; used = w .used; events = w .events; textLeft = w .textLeft; linesLeft = w .linesLeft; passes = w .passes }
 
 abbrev pub enteredAs : Fault → ℕ → Source → World → Entering
 enteredAs (faulty e p) m s w = unreadable e p

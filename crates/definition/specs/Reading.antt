@@ -9,7 +9,7 @@ use Rattle.definition.specs.Choice.{when}
 use Rattle.definition.specs.Limits.{memberSentences, openGroups}
 use Rattle.definition.specs.Lists.{isOneOf}
 use Rattle.definition.specs.Refusal.{Why, syntax, overLimit}
-use Rattle.definition.specs.Tokens.{Token, word, integer, string, bits, sign, nothing, wrong, Lexeme, isWord, isSign, isNothing, tokenAt, TextEnd, percentAt, atEnd, openAt, textEnd}
+use Rattle.definition.specs.Tokens.{Token, word, integer, string, bits, sign, nothing, wrong, Lexeme, isWord, isSign, tokenAt, TextEnd, percentAt, atEnd, openAt, textEnd}
 use Rattle.definition.specs.Expressions.{Reading, read, refused, then, expectWord, Named, nameOf}
 use Rattle.definition.specs.Program.{Statement, null, Link, nowhere, row, Role, listed, thenPart, elsePart, Stretch, Row, Scope, global, inside, Meaning, label, endLabel, body, Declared, Fault, sound, faulty, Source}
 use Rattle.definition.specs.Statements.{Opens, closes, opensGroup, opensBody, opensThen, Clause, clause, assignment, ifClause, doClause, gotoClause, includeClause, activateClause, deactivateClause, returnClause, Declaring, declared, undeclared, declareFrom, procedureClause, means}
@@ -176,9 +176,9 @@ pub data Turn : Type 0 where
   stop : Why → ℕ → List ℕ → State → Turn
   finish : State → Turn
 
--- ELSE and END are words that may turn out to be a label or a target, also where the body ends behind them
+-- ELSE and END are words that may turn out to be a target or a label, by the token behind them
 unfoldable pub isDecided : Token → Bool
-isDecided t = not (isSign "=" t) && not (isSign ":" t) && not (isNothing t)
+isDecided t = not (isSign "=" t) && not (isSign ":" t)
 
 -- ELSE: the place past it
 pub data Else : Type 0 where
@@ -266,6 +266,10 @@ unfoldable pub taken : List ℕ → ℕ → List Named → State → Clause → 
 taken s p ns st c ds =
     let n = length (st .rows) in
     opened (c .opens) s n ns (c .to) (withNames (means (st .scope) (labelMeaning (c .opens) n) ns ++ ds) (addRow (c .statement) p st))
+
+-- the labels of what turns out wrong: they are names, and count as such
+abbrev pub named : List Named → State → State
+named ns st = withNames (means (st .scope) (label 0) ns) st
 
 -- a statement that is wrong: it counts as one, and its names count
 abbrev pub untaken : ℕ → List Named → State → Why → ℕ → List Declared → Turn
@@ -391,7 +395,7 @@ tooLong (p ∷ ps) f on = f p
 unfoldable pub clauseFrom : List ℕ → ℕ → Labelled → State → Turn
 clauseFrom s p L st =
     when (isInGroup (kindOf (st .opened)) && isEnd s (L .behind))
-    (λ _. tooLong (L .long) (λ q. stop overLimit q [] st) (λ _. endAt s (L .labels) (L .behind .to) (st .opened) st))
+    (λ _. tooLong (L .long) (λ q. stop overLimit q [] (named (L .labels) st)) (λ _. endAt s (L .labels) (L .behind .to) (st .opened) st))
     (λ _. when (isFull st) (λ _. stop overLimit p (p ∷ []) st)
     (λ _. tooLong (L .long) (λ q. untaken p (L .labels) st overLimit q [])
     (λ _. byToken (L .behind .token) s p (L .labels) (L .behind) st)))
@@ -424,9 +428,9 @@ notEnd (refused w p) s st = stop w p [] st
 
 abbrev pub procedureEnd : List ℕ → Labelled → State → Turn
 procedureEnd s L st =
-    tooLong (L .long) (λ q. stop overLimit q [] st)
+    tooLong (L .long) (λ q. stop overLimit q [] (named (L .labels) st))
     (λ _. when (isWord "END" (L .behind .token)) (λ _. endAt s (L .labels) (L .behind .to) (st .opened) st)
-    (λ _. notEnd (nameOf (L .behind .token) (L .behind .from) (L .behind .to)) s (withNames (means (st .scope) (label 0) (L .labels)) st)))
+    (λ _. notEnd (nameOf (L .behind .token) (L .behind .from) (L .behind .to)) s (named (L .labels) st)))
 
 -- whether a token can begin a statement
 abbrev pub begins : Token → Bool

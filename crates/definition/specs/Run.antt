@@ -11,11 +11,11 @@ use Rattle.definition.specs.Limits.{replacementLevels}
 use Rattle.definition.specs.Lists.{part}
 use Rattle.definition.specs.Refusal.{Why, wrongName, wrongGoto, unknownMember, tooDeep, roomFull}
 use Rattle.definition.specs.Deck as Deck
-use Rattle.definition.specs.Tokens.{pieceAt}
+use Rattle.definition.specs.Tokens.{Piece, pieceAt}
 use Rattle.definition.specs.Program.{Activation, Statement, null, declare, procedure, assign, conditional, group, iterated, goto, include, activate, deactivate, return, row, Stretch, Row, Source}
 use Rattle.definition.specs.Reading.{readMember}
 use Rattle.definition.specs.Events.{Event, blank, copied, replaced, bytesIn, joins}
-use Rattle.definition.specs.World.{everyone, Denotation, variableOf, entryOf, labelAt, builtinName, Activity, inactive, rescanned, copiedOnly, Address, address, unknown, World, Res, good, bad, bind, placed, charge, addressOf, denotation, setActivity, withEvent, rowOf, rowsOf}
+use Rattle.definition.specs.World.{everyone, Denotation, variableOf, entryOf, labelAt, builtinName, Activity, inactive, rescanned, copiedOnly, Address, address, unknown, Pass, began, passed as passedBy, World, Res, good, bad, bind, placed, charge, addressOf, denotation, setActivity, withEvent, rowOf, rowsOf}
 use Rattle.definition.specs.Names.{Entering, entered, unreadable, enter}
 use Rattle.definition.specs.Evaluate.{evaluate}
 use Rattle.definition.specs.Calls.{Place, callOut, firstOf}
@@ -39,41 +39,45 @@ unfoldable pub bodyOf : List ℕ → ℕ → List ℕ
 bodyOf d m = part (lineOf d m .size) (lineOf d m .offset) d
 
 -- ---- events go out if the rooms hold them: "list before text"
--- an event that takes some lines
-unfoldable pub putOut : Event → ℕ → World → Res Why (Unit {0})
-putOut e taken w =
-    when (leb taken (w .linesLeft) && leb (length (bytesIn e)) (w .textLeft)) (λ _. good tt (withEvent e taken w))
+-- an event that takes some lines, with its pass
+unfoldable pub putOut : Event → Pass → ℕ → World → Res Why (Unit {0})
+putOut e g taken w =
+    when (leb taken (w .linesLeft) && leb (length (bytesIn e)) (w .textLeft)) (λ _. good tt (withEvent e g taken w))
     (λ _. bad roomFull (w .used))
 
 -- ---- program text: the text t of member m, which begins at `from`
 -- "A stretch takes its line at its first byte"
-unfoldable pub copyHere : ℕ → ℕ → List ℕ → World → Res Why (Unit {0})
-copyHere m place l w = putOut (copied m place l) (cond (joins (w .events) m place) 0 1) w
+unfoldable pub copyHere : ℕ → ℕ → List ℕ → Pass → World → Res Why (Unit {0})
+copyHere m place l g w = putOut (copied m place l) g (cond (joins (w .events) m place) 0 1) w
 
--- "a replacement at its name"
-unfoldable pub replaceHere : ℕ → ℕ → List ℕ → ℕ → ℕ → Activity → World → Res Why ℕ
-replaceHere m place t q a act w =
+-- "a replacement at its name"; g is its pass by its outcome and where the scan goes on
+unfoldable pub replaceHere : ℕ → ℕ → List ℕ → ℕ → ℕ → Activity → (List ℕ → ℕ → Pass) → World → Res Why ℕ
+replaceHere m place t q a act g w =
     when (leb 1 (w .linesLeft))
     (λ _. bind (replacer callOut replacementLevels t q a act (toText (w .textLeft)) 0 w) λ r v.
-    good (r .to) (withEvent (replaced m place (r .bytes)) 1 v))
+    good (r .to) (withEvent (replaced m place (r .bytes)) (g (r .bytes) (r .to)) 1 v))
     (λ _. bad roomFull (w .used))
 
-abbrev pub tokenHere : Active → ℕ → ℕ → List ℕ → ℕ → ℕ → World → Res Why ℕ
-tokenHere notActive m place t p q w = bind (copyHere m place (part (q - p) p t) w) λ _ v. good q v
-tokenHere (active a act) m place t p q w = replaceHere m place t q a act w
+-- the pass of the token x at a place of member m, in the world w: l goes out for it, and the scan goes on at the place `to`
+abbrev pub passOf : ℕ → ℕ → Piece → World → List ℕ → ℕ → Pass
+passOf m place x w l to = passedBy (record { member = m; place = place; piece = x; identifiers = w .identifiers; denotations = w .denotations; activities = w .activities; members = w .members; outcome = l; to = to })
+
+abbrev pub tokenHere : Active → ℕ → ℕ → List ℕ → ℕ → ℕ → (List ℕ → ℕ → Pass) → World → Res Why ℕ
+tokenHere notActive m place t p q g w = bind (copyHere m place (part (q - p) p t) (g (part (q - p) p t) q) w) λ _ v. good q v
+tokenHere (active a act) m place t p q g w = replaceHere m place t q a act g w
 
 unfoldable pub textOn : ℕ → ℕ → List ℕ → ℕ → ℕ → World → Res Stop (Unit {0})
 textOn m from t zero p w = good tt w
 textOn m from t (suc f) p w =
     when (leb (length t) p) (λ _. good tt w)
     (λ _. bind (placed (stop m (from + p)) (bind (charge w) λ _ v.
-    tokenHere (activeIn (pieceAt t p .piece) v) m (from + p) t p (pieceAt t p .to) v)) λ q x.
+    tokenHere (activeIn (pieceAt t p .piece) v) m (from + p) t p (pieceAt t p .to) (λ l q. passOf m (from + p) (pieceAt t p .piece) v l (from + q)) v)) λ q x.
     textOn m from t f q x)
 
 -- one blank, then the text
 unfoldable pub textOut : ℕ → List ℕ → Stretch → World → Res Stop (Unit {0})
 textOut m s x w =
-    bind (placed (stop m (x .from)) (putOut (blank m (x .from)) 1 w)) λ _ v.
+    bind (placed (stop m (x .from)) (putOut (blank m (x .from)) (began m x) 1 w)) λ _ v.
     textOn m (x .from) (part (x .to - x .from) (x .from) s) (suc (x .to - x .from)) 0 v
 
 -- ---- ACTIVATE, DEACTIVATE and DECLARE: of a variable or an entry, else 6

@@ -80,15 +80,6 @@ isSign w (sign x) = same x (bytesOf w)
 isSign w nothing = false
 isSign w wrong = false
 
-abbrev pub isNothing : Token → Bool
-isNothing (word x) = false
-isNothing (integer x) = false
-isNothing (string x) = false
-isNothing (bits x) = false
-isNothing (sign x) = false
-isNothing nothing = true
-isNothing wrong = false
-
 -- spaces: where they end, or where a comment in them stays open
 pub data Spaces : Type 0 where
   upTo : ℕ → Spaces

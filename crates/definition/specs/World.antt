@@ -10,6 +10,7 @@ use Rattle.definition.specs.Choice.{when}
 use Rattle.definition.specs.Lists.{same}
 use Rattle.definition.specs.Refusal.{Why, noStep}
 use Rattle.definition.specs.Steps.{isLeft, usedAfter}
+use Rattle.definition.specs.Tokens.{Piece}
 use Rattle.definition.specs.Program.{Type′, null, nowhere, listed, Stretch, Row, Source}
 use Rattle.definition.specs.Values.{Value, Answer, gives, fails}
 use Rattle.definition.specs.Events.{Event, bytesIn}
@@ -56,9 +57,27 @@ pub record Entered : Type 0 where
   pub member : ℕ
   pub source : Source
 
+-- A GHOST, which nothing in the definition reads and the promises speak of: what the scan of program text stood at when an
+-- event went out. The blank before the text of a member; or a token of that text: its place, what it is, the names at
+-- that moment, what they stood for and which were active, the bytes that went out for it, and the place where the scan went on
+pub record Sight : Type 0 where
+  pub member : ℕ
+  pub place : ℕ
+  pub piece : Piece
+  pub identifiers : List Identifier
+  pub denotations : List Denotation
+  pub activities : List Activity
+  pub members : List Entered
+  pub outcome : List ℕ
+  pub to : ℕ
+
+pub data Pass : Type 0 where
+  began : ℕ → Stretch → Pass
+  passed : Sight → Pass
+
 -- all that a run changes: identifiers; by address denotations, values and activities; the members entered, the sentences in
 -- them, each inclusion counted; the steps; the events so far, the bytes that the text room and the lines that the list room
--- may still take
+-- may still take; the ghost, which has a pass for each event
 pub record World : Type 0 where
   pub identifiers : List Identifier
   pub denotations : List Denotation
@@ -71,9 +90,10 @@ pub record World : Type 0 where
   pub events : List Event
   pub textLeft : ℕ
   pub linesLeft : ℕ
+  pub passes : List Pass
 
 abbrev pub newWorld : ℕ → ℕ → ℕ → World
-newWorld limit text lines = record { identifiers = []; denotations = []; values = []; activities = []; members = []; sentences = 0; limit = limit; used = 0; events = []; textLeft = text; linesLeft = lines }
+newWorld limit text lines = record { identifiers = []; denotations = []; values = []; activities = []; members = []; sentences = 0; limit = limit; used = 0; events = []; textLeft = text; linesLeft = lines; passes = [] }
 
 -- ---- what a part of the run gives: something and the world after it, or a refusal with the steps charged. A refusal is a
 -- `Why` where its place is still to be said
@@ -96,7 +116,7 @@ ask (fails e) w = bad e (w .used)
 
 -- ---- the meter: "it is not counted"
 abbrev pub withUsed : ℕ → World → World
-withUsed u w = record { identifiers = w .identifiers; denotations = w .denotations; values = w .values; activities = w .activities; members = w .members; sentences = w .sentences; limit = w .limit; used = u; events = w .events; textLeft = w .textLeft; linesLeft = w .linesLeft }
+withUsed u w = record { identifiers = w .identifiers; denotations = w .denotations; values = w .values; activities = w .activities; members = w .members; sentences = w .sentences; limit = w .limit; used = u; events = w .events; textLeft = w .textLeft; linesLeft = w .linesLeft; passes = w .passes }
 
 unfoldable pub charge : World → Res Why (Unit {0})
 charge w =
@@ -136,14 +156,14 @@ abbrev pub activityAt : ℕ → World → Activity
 activityAt a w = getD (w .activities) a inactive
 
 abbrev pub store : ℕ → Value → World → World
-store a v w = record { identifiers = w .identifiers; denotations = w .denotations; values = set (w .values) a (holds v); activities = w .activities; members = w .members; sentences = w .sentences; limit = w .limit; used = w .used; events = w .events; textLeft = w .textLeft; linesLeft = w .linesLeft }
+store a v w = record { identifiers = w .identifiers; denotations = w .denotations; values = set (w .values) a (holds v); activities = w .activities; members = w .members; sentences = w .sentences; limit = w .limit; used = w .used; events = w .events; textLeft = w .textLeft; linesLeft = w .linesLeft; passes = w .passes }
 
 abbrev pub setActivity : Activity → ℕ → World → World
-setActivity x a w = record { identifiers = w .identifiers; denotations = w .denotations; values = w .values; activities = set (w .activities) a x; members = w .members; sentences = w .sentences; limit = w .limit; used = w .used; events = w .events; textLeft = w .textLeft; linesLeft = w .linesLeft }
+setActivity x a w = record { identifiers = w .identifiers; denotations = w .denotations; values = w .values; activities = set (w .activities) a x; members = w .members; sentences = w .sentences; limit = w .limit; used = w .used; events = w .events; textLeft = w .textLeft; linesLeft = w .linesLeft; passes = w .passes }
 
 -- one more event, which takes some lines; its bytes take their room
-abbrev pub withEvent : Event → ℕ → World → World
-withEvent e taken w = record { identifiers = w .identifiers; denotations = w .denotations; values = w .values; activities = w .activities; members = w .members; sentences = w .sentences; limit = w .limit; used = w .used; events = e ∷ w .events; textLeft = w .textLeft - length (bytesIn e); linesLeft = w .linesLeft - taken }
+abbrev pub withEvent : Event → Pass → ℕ → World → World
+withEvent e g taken w = record { identifiers = w .identifiers; denotations = w .denotations; values = w .values; activities = w .activities; members = w .members; sentences = w .sentences; limit = w .limit; used = w .used; events = e ∷ w .events; textLeft = w .textLeft - length (bytesIn e); linesLeft = w .linesLeft - taken; passes = g ∷ w .passes }
 
 -- ---- the rows of a member that was entered
 abbrev pub noStretch : Stretch

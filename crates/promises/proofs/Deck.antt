@@ -1,0 +1,115 @@
+-- A deck with another body in place of one of its own: the contents and the other bodies are as they were.
+-- Assumes nothing.
+use Prim.Native.Nat.{ℕ, zero, suc, _+_, _≤_, _<_}
+use native.Mathlib.Nat.{not-suc-le-zero, add-zero, add-suc, suc-add}
+use native.Mathlib.Omega.{arith}
+use mathlib.Core.Bool.{Bool, true, false, cond, _&&_, false≢true}
+use mathlib.Core.List.{List, [], _∷_}
+use mathlib.Core.Path.{_≡_, refl, sym, ap}
+use lib.Dec.{leb, ltb, eqb}
+use lib.ListN.{length}
+use borrow.Author.Tests.{eqb-true, ltb-true, ltb-false}
+use Rattle.definition.specs.Lists.{part, number}
+use Rattle.definition.specs.Limits.{deckBytes, deckLines}
+use Rattle.definition.specs.Room.{over}
+use Rattle.definition.specs.Deck.{Line, count, linePlace, lineAt, linesFrom, lines, line, find, isCalled, areNamed, areDistinct, follow, isSound}
+use Rattle.definition.specs.Run.{bodyOf}
+use Rattle.definition.proofs.Rooms.{length-over, getD-over-low, getD-over-high}
+use Rattle.promises.specs.Unread.{withBody}
+
+-- ---- a part that does not meet what is written over
+part-low : (n p at : ℕ) (b d : List ℕ) → p + n ≤ at → part n p (over d at b) ≡ part n p d
+part-low zero p at b d h = refl
+part-low (suc n) p at b d h = rw (getD-over-low d at p b (omega arith), part-low n (suc p) at b d (omega arith))
+
+part-high : (n p at : ℕ) (b d : List ℕ) → at + length b ≤ p → part n p (over d at b) ≡ part n p d
+part-high zero p at b d h = refl
+part-high (suc n) p at b d h = rw (getD-over-high d at p b h, part-high n (suc p) at b d (omega arith))
+
+-- ---- bodies follow in order
+and-left : (a b : Bool) → (a && b) ≡ true → a ≡ true
+and-left true b e = refl
+and-left false b e = e
+
+and-right : (a b : Bool) → (a && b) ≡ true → b ≡ true
+and-right true b e = e
+and-right false b e = absurd (false≢true e)
+
+-- line i + j lies from `at` on
+follows-low : (d : List ℕ) (i n at end j : ℕ) → follow at (linesFrom d i n) end ≡ true → j < n → at ≤ lineAt d (i + j) .offset
+unfolding follow linesFrom
+follows-low d i zero at end j e h = absurd (not-suc-le-zero h)
+follows-low d i (suc n) at end zero e h = rw add-zero (omega (arith, eqb-true (lineAt d i .offset) at (and-left (eqb (lineAt d i .offset) at) _ e)))
+follows-low d i (suc n) at end (suc j) e h =
+    rw (add-suc, ← suc-add) (omega (arith, follows-low d (suc i) n (at + lineAt d i .size) end j (and-right (eqb (lineAt d i .offset) at) _ e) (omega arith)))
+
+-- a later line lies behind an earlier one
+follows-apart : (d : List ℕ) (i n at end j k : ℕ) → follow at (linesFrom d i n) end ≡ true → j < k → k < n → lineAt d (i + j) .offset + lineAt d (i + j) .size ≤ lineAt d (i + k) .offset
+unfolding follow linesFrom
+follows-apart d i zero at end j k e h g = absurd (not-suc-le-zero g)
+follows-apart d i (suc n) at end zero zero e h g = absurd (not-suc-le-zero h)
+follows-apart d i (suc n) at end zero (suc k) e h g =
+    rw (add-zero, add-suc, ← suc-add) (omega (arith, eqb-true (lineAt d i .offset) at (and-left (eqb (lineAt d i .offset) at) _ e), follows-low d (suc i) n (at + lineAt d i .size) end k (and-right (eqb (lineAt d i .offset) at) _ e) (omega arith)))
+follows-apart d i (suc n) at end (suc j) zero e h g = absurd (not-suc-le-zero h)
+follows-apart d i (suc n) at end (suc j) (suc k) e h g =
+    rw (add-suc, add-suc, ← suc-add, ← suc-add) (follows-apart d (suc i) n (at + lineAt d i .size) end j k (and-right (eqb (lineAt d i .offset) at) _ e) (omega arith) (omega arith))
+
+-- ---- how a member is found
+pub find-range : (x : List ℕ) (i : ℕ) (ls : List Line) (j : ℕ) → find x i ls ≡ line j → j < i + length ls
+unfolding find
+find-range x i [] j e = let z : _≡_ {A = ℕ} 0 1 = cc in absurd (omega arith)
+find-range x i (l ∷ ls) j e = go (isCalled x l) e (find-range x (suc i) ls j)
+  where
+    go : (t : Bool) → cond t (line i) (find x (suc i) ls) ≡ line j → (find x (suc i) ls ≡ line j → j < suc i + length ls) → j < i + suc (length ls)
+    go true f h = let z : i ≡ j = cc in omega arith
+    go false f h = omega (arith, h f)
+
+pub length-lines : (d : List ℕ) (i n : ℕ) → length (linesFrom d i n) ≡ n
+unfolding linesFrom
+length-lines d i zero = refl
+length-lines d i (suc n) = ap suc (length-lines d (suc i) n)
+
+line-low : (d b : List ℕ) (at j : ℕ) → linePlace (suc j) ≤ at → lineAt (over d at b) j ≡ lineAt d j
+unfolding lineAt
+line-low d b at j h =
+    let p : part 8 (linePlace j) (over d at b) ≡ part 8 (linePlace j) d = part-low 8 (linePlace j) at b d (omega arith) in
+    let q : part 4 (linePlace j + 8) (over d at b) ≡ part 4 (linePlace j + 8) d = part-low 4 (linePlace j + 8) at b d (omega arith) in
+    let r : part 4 (linePlace j + 12) (over d at b) ≡ part 4 (linePlace j + 12) d = part-low 4 (linePlace j + 12) at b d (omega arith) in
+    λ i. record { name = p i; offset = number (q i); size = number (r i) }
+
+lines-low : (d b : List ℕ) (at i n : ℕ) → linePlace (i + n) ≤ at → linesFrom (over d at b) i n ≡ linesFrom d i n
+unfolding linesFrom
+lines-low d b at i zero h = refl
+lines-low d b at i (suc n) h = rw (line-low d b at i (omega arith), lines-low d b at (suc i) n (omega arith))
+
+module _ (d : List ℕ) (k : ℕ) (b : List ℕ) (sound : isSound d ≡ true) (member : k < count d) (fits : length b ≡ lineAt d k .size) where
+  followed : follow (linePlace (count d)) (lines d) (length d) ≡ true
+  unfolding isSound
+  followed = and-right (leb (length d) deckBytes && leb 1 (count d) && leb (count d) deckLines && leb (linePlace (count d)) (length d) && areNamed (lines d) && areDistinct (lines d)) (follow (linePlace (count d)) (lines d) (length d)) sound
+
+  at-zero : (j : ℕ) → 0 + j ≡ j
+  at-zero j = omega arith
+
+  table : linePlace (count d) ≤ lineAt d k .offset
+  table = rw (at-zero k) at (follows-low d 0 (count d) (linePlace (count d)) (length d) k followed member)
+
+  pub count-same : count (withBody k b d) ≡ count d
+  count-same = ap number (part-low 2 0 (lineAt d k .offset) b d (omega (arith, table)))
+
+  line-same : (j : ℕ) → j < count d → lineAt (withBody k b d) j ≡ lineAt d j
+  line-same j h = line-low d b (lineAt d k .offset) j (omega (arith, table))
+
+  pub lines-same : lines (withBody k b d) ≡ lines d
+  lines-same = rw count-same (lines-low d b (lineAt d k .offset) 0 (count d) (omega (arith, table)))
+
+  pub sound-same : isSound (withBody k b d) ≡ isSound d
+  unfolding isSound
+  sound-same = rw (lines-same, count-same, length-over d (lineAt d k .offset) b)
+
+  pub body-same : (m : ℕ) → m < count d → (m ≡ k → ⊥) → bodyOf d m ≡ bodyOf (withBody k b d) m
+  unfolding bodyOf
+  body-same m h n = sym (rw (line-same m h) (go (ltb m k) refl))
+    where
+      go : (t : Bool) → ltb m k ≡ t → part (lineAt d m .size) (lineAt d m .offset) (over d (lineAt d k .offset) b) ≡ part (lineAt d m .size) (lineAt d m .offset) d
+      go true e = part-low (lineAt d m .size) (lineAt d m .offset) (lineAt d k .offset) b d (rw (at-zero m, at-zero k) at (follows-apart d 0 (count d) (linePlace (count d)) (length d) m k followed (ltb-true m k e) member))
+      go false e = part-high (lineAt d m .size) (lineAt d m .offset) (lineAt d k .offset) b d (rw fits (rw (at-zero m, at-zero k) at (follows-apart d 0 (count d) (linePlace (count d)) (length d) k m followed (omega (arith, ltb-false m k e, n)) h)))

@@ -1,0 +1,176 @@
+-- A body that is never included may be any other of its length.
+-- Assumes nothing.
+use Prim.Native.Nat.{ℕ, zero, suc, _+_, _<_}
+use native.Mathlib.Nat.{add-zero}
+use native.Mathlib.Omega.{arith}
+use mathlib.Core.Bool.{Bool, true, false}
+use mathlib.Core.List.{List, [], _∷_, _++_, append-nil}
+use mathlib.Core.Path.{_≡_, refl, sym, ap, subst, _∙_}
+use lib.Dec.{eqb}
+use borrow.Author.Tests.{eqb-false}
+use Rattle.definition.specs.declared.Why.{Why}
+use Rattle.definition.specs.declared.Why.the-variants.{MalformedDeck as malformedDeck, ShortRoom as shortRoom}
+use Rattle.definition.specs.Choice.{when}
+use Rattle.definition.specs.Limits.{includeLevels, runningProcedures}
+use Rattle.definition.specs.Deck as Deck
+use Rattle.definition.specs.Program.{Stretch, Statement, null, declare, procedure, assign, conditional, group, iterated, goto, include, activate, deactivate, return, Source}
+use Rattle.definition.specs.Reading.{readMember}
+use Rattle.definition.specs.World.{everyone, inactive, rescanned, World, Res, good, bad, placed, addressOf, rowOf}
+use Rattle.definition.specs.Names.{Entering, entered, unreadable, enter}
+use Rattle.definition.specs.Flow.{Deed, End, ran, returned, went, Machine}
+use Rattle.definition.specs.Calls.{Place, callOut, firstOf}
+use Rattle.definition.specs.Expressions.{Tree}
+use Rattle.definition.specs.Run.{Stop, bodyOf, textOut, Inner, Level, noLevel, level, cameOut, includeEntered, includeAt, includeAll, actAs, memberMachine, runSource, runMember}
+use Rattle.definition.specs.Expansion.{Expansion, refusal, result, runMain, mainWorld, expansion}
+use Rattle.definition.proofs.Follows.{Spare, no-more, Follows, Fol, goes, halts, lacks, same, bind-follows, FollowingCall, calls-follows, evaluate-follows, lead-follows, runOn-follows}
+use Rattle.definition.proofs.FollowsRun.{G, T, Enters, enters, refuses, enter-follows, at-place, activate-all, activations-follows, text-out, jump-from}
+use Rattle.promises.specs.Unread.{Halt, halted, barred, InnerBut, LevelBut, noLevelBut, levelBut, cameOutBut, includeEnteredBut, includeLineBut, includeAtBut, includeAllBut, actBut, machineBut, runSourceBut, runBut, AtBar, MainAtBar, withBody, Unread}
+use Rattle.promises.proofs.Deck.{find-range, length-lines, lines-same, sound-same, body-same}
+
+abbrev Never : Why → Type 0
+Never e = ⊥
+
+abbrev even : Spare 0 0 0 Never
+even = no-more refl refl refl
+
+abbrev G₀ : World → World
+G₀ = G 0 0 0 [] Never even
+
+-- the first run halts as the second does, or at the bar
+data Alike : Halt → Stop → Type 0 where
+  alike : {s : Stop} → Alike (halted s) s
+
+data Bar : Halt → Type 0 where
+  bar : Bar barred
+
+abbrev T₀ : {A : Type 0} → Res Halt A → Res Stop A → Type 0
+T₀ r s = Follows 0 0 0 [] Never even Alike Bar r s
+
+lifted : {A : Type 0} {r s : Res Stop A} → T 0 0 0 [] Never even r s → T₀ (placed halted r) s
+lifted goes = goes
+lifted (halts same) = halts alike
+lifted (lacks h) = absurd h
+
+-- ---- the run of d that may not include k, and the run of a deck e that differs in the body of k at most
+module _ (k : ℕ) (d e : List ℕ) (contents : Deck.lines e ≡ Deck.lines d) (bodies : (m : ℕ) → m < Deck.count d → (m ≡ k → ⊥) → bodyOf d m ≡ bodyOf e m) where
+  abbrev Inners : InnerBut → Inner → Type 0
+  Inners i j = (q : ℕ) → q < Deck.count d → (q ≡ k → ⊥) → (ps : List Place) (w : World) → T₀ (i q ps w) (j q ps (G₀ w))
+
+  abbrev Levels : LevelBut → Level → Type 0
+  Levels noLevelBut noLevel = Unit {0}
+  Levels noLevelBut (level j) = ⊥
+  Levels (levelBut i) noLevel = ⊥
+  Levels (levelBut i) (level j) = Inners i j
+
+  module _ (f : World → Res Halt Deed) (g : World → Res Stop Deed) (h : (w : World) → T₀ (f w) (g (G₀ w))) where
+    came-out : (m : ℕ) (x : End) (w : World) → T₀ (cameOutBut m x w f) (cameOut m x (G₀ w) g)
+    came-out m ran w = h w
+    came-out m (returned v) w = h w
+    came-out m (went t) w = goes
+
+    entered-but : {x y : Entering} → Enters 0 0 0 [] Never even x y → (i : InnerBut) (j : Inner) (q : ℕ) → ((ps : List Place) (w : World) → T₀ (i q ps w) (j q ps (G₀ w))) → (m n : ℕ) (ps : List Place) (w : World) → T₀ (includeEnteredBut x i q m n ps w f) (includeEntered y j q m n ps (G₀ w) g)
+    entered-but refuses i j q is m n ps w = halts alike
+    entered-but (enters {w = v}) i j q is m n ps w = bind-follows 0 0 0 [] Never even _ _ (is (record { member = m; row = n } ∷ ps) v) λ x y. came-out m x y
+
+    include-line : (j : ℕ) → j < Deck.count d → (j ≡ k → ⊥) → (l : LevelBut) (r : Level) → Levels l r → (p m n : ℕ) (ps : List Place) (w : World) → T₀ (includeLineBut l j d p m n ps w f) (includeAt (Deck.line j) r e p m n ps (G₀ w) g)
+    include-line j i n noLevelBut noLevel z p m q ps w = halts alike
+    include-line j i n noLevelBut (level y) z p m q ps w = absurd z
+    include-line j i n (levelBut x) noLevel z p m q ps w = absurd z
+    include-line j i n (levelBut x) (level y) z p m q ps w = rw (bodies j i n) (entered-but (enter-follows 0 0 0 [] Never even j (readMember (bodyOf e j)) w) x y j (z j i n) m q ps w)
+
+    include-at : (x : Deck.Found) → ((j : ℕ) → x ≡ Deck.line j → j < Deck.count d) → (l : LevelBut) (r : Level) → Levels l r → (p m n : ℕ) (ps : List Place) (w : World) → T₀ (includeAtBut k x l d p m n ps w f) (includeAt x r e p m n ps (G₀ w) g)
+    include-at Deck.none i l r z p m n ps w = halts alike
+    include-at (Deck.line j) i l r z p m n ps w = go (eqb j k) refl
+      where
+        go : (t : Bool) → eqb j k ≡ t → T₀ (when t (λ _. bad barred (w .used)) (λ _. includeLineBut l j d p m n ps w f)) (includeAt (Deck.line j) r e p m n ps (G₀ w) g)
+        go true y = lacks bar
+        go false y = include-line j (i j refl) (eqb-false j k y) l r z p m n ps w
+
+  found : (x : List ℕ) (j : ℕ) → Deck.find x 0 (Deck.lines d) ≡ Deck.line j → j < Deck.count d
+  found x j z = omega (arith, find-range x 0 (Deck.lines d) j z, length-lines d 0 (Deck.count d))
+
+  include-all : (l : LevelBut) (r : Level) → Levels l r → (p m n : ℕ) (ps : List Place) (xs : List (List ℕ)) (w : World) → T₀ (includeAllBut k l d p m n ps xs w) (includeAll r e p m n ps xs (G₀ w))
+  unfolding includeAllBut includeAll
+  include-all l r h p m n ps [] w = goes
+  include-all l r h p m n ps (x ∷ xs) w = rw contents (include-at _ _ (include-all l r h p m n ps xs) (Deck.find x 0 (Deck.lines d)) (found x) l r h p m n ps w)
+
+  act-but : (s : Statement) (l : LevelBut) (r : Level) → Levels l r → (p m n : ℕ) (ps : List Place) (w : World) → T₀ (actBut k s l d p m n ps w) (actAs s r e p m n ps (G₀ w))
+  act-but null l r h p m n ps w = goes
+  act-but (declare ns) l r h p m n ps w = lifted (at-place 0 0 0 [] Never even m p (bind-follows 0 0 0 [] Never even _ _ (activate-all 0 0 0 [] Never even rescanned ns w) λ _ v. goes))
+  act-but (procedure ns t) l r h p m n ps w = goes
+  act-but (assign t x) l r h p m n ps w = goes
+  act-but (conditional x) l r h p m n ps w = goes
+  act-but group l r h p m n ps w = goes
+  act-but (iterated t x bs) l r h p m n ps w = goes
+  act-but (goto t) l r h p m n ps w = goes
+  act-but (include ns) l r h p m n ps w = include-all l r h p m n ps ns w
+  act-but (activate xs) l r h p m n ps w = lifted (at-place 0 0 0 [] Never even m p (bind-follows 0 0 0 [] Never even _ _ (activations-follows 0 0 0 [] Never even xs w) λ _ v. goes))
+  act-but (deactivate ns) l r h p m n ps w = lifted (at-place 0 0 0 [] Never even m p (bind-follows 0 0 0 [] Never even _ _ (activate-all 0 0 0 [] Never even inactive ns w) λ _ v. goes))
+  act-but (return x) l r h p m n ps w = goes
+
+  source-but : (l : LevelBut) (r : Level) → Levels l r → (m : ℕ) → m < Deck.count d → (m ≡ k → ⊥) → (ps : List Place) (s : Source) (w : World) → T₀ (runSourceBut k l d m ps s w) (runSource r e m ps s (G₀ w))
+  unfolding runSourceBut machineBut memberMachine runSource
+  source-but l r h m i n ps s w =
+      let M : Machine Halt = machineBut k l d m ps s in
+      let N : Machine Stop = memberMachine r e m ps s in
+      let calls : FollowingCall 0 0 0 [] Never even callOut = calls-follows 0 0 0 [] Never even runningProcedures [] in
+      let values : (x : Tree) (v : World) → Fol 0 0 0 [] Never even (M .value x v) (N .value x (G₀ v)) = λ x v. evaluate-follows 0 0 0 [] Never even callOut calls everyone x 0 v in
+      let outs : (x : Stretch) (v : World) → T₀ (M .out x v) (N .out x (G₀ v)) = λ x v. subst (λ (t : List ℕ). T₀ (placed halted (textOut m t x v)) (textOut m (bodyOf e m) x (G₀ v))) (sym (bodies m i n)) (lifted (text-out 0 0 0 [] Never even m (bodyOf e m) x v)) in
+      let acts : (q : ℕ) (v : World) → T₀ (M .act q v) (N .act q (G₀ v)) = λ q v. act-but (rowOf (s .rows) q .statement) l r h (rowOf (s .rows) q .place) m q ps v in
+      let gotos : (q : ℕ) (t : List ℕ) (v : World) → T₀ (M .jump q t v) (N .jump q t (G₀ v)) = λ q t v. lifted (at-place 0 0 0 [] Never even m (rowOf (s .rows) q .place) (jump-from 0 0 0 [] Never even (addressOf t everyone v) m (s .rows) ps q v)) in
+      bind-follows 0 0 0 [] Never even _ _
+      (lead-follows 0 0 0 [] Never even M (N .fault) (N .value) (N .out) (N .act) (N .jump) (λ x z. alike) (λ x z y. absurd y) values outs acts gotos (s .lead) w)
+      λ _ v. runOn-follows 0 0 0 [] Never even M (N .fault) (N .value) (N .out) (N .act) (N .jump) (λ x z. alike) (λ x z y. absurd y) values outs acts gotos (firstOf (s .first)) [] v
+
+  run-but : (n : ℕ) → Inners (runBut k n d) (runMember n e)
+  unfolding runBut runMember
+  run-but zero m i n ps w = rw (bodies m i n) (source-but noLevelBut noLevel tt m i n ps (readMember (bodyOf e m)) w)
+  run-but (suc j) m i n ps w = rw (bodies m i n) (source-but (levelBut (runBut k j d)) (level (runMember j e)) (run-but j) m i n ps (readMember (bodyOf e m)) w)
+
+  -- what the run with the bar gives where it does not meet it
+  abbrev resultBut : Res Halt End → Expansion
+  resultBut (good x w) = result (good x w)
+  resultBut (bad (halted s) u) = result (bad s u)
+  resultBut (bad barred u) = refusal malformedDeck 0 0 0
+
+  abbrev mainBut : Entering → Expansion
+  mainBut (unreadable x p) = refusal x 0 p 0
+  mainBut (entered w) = resultBut (runBut k includeLevels d 0 [] w)
+
+  result-but : {r : Res Halt End} {s : Res Stop End} → T₀ r s → (AtBar r → ⊥) → result s ≡ resultBut r
+  result-but (goes {x = ran}) h = refl
+  result-but (goes {x = returned v}) h = refl
+  result-but (goes {x = went t}) h = refl
+  result-but (halts alike) h = refl
+  result-but (lacks bar) h = absurd (h tt)
+
+  main-but : 0 < k → 0 < Deck.count d → {x y : Entering} → Enters 0 0 0 [] Never even x y → (MainAtBar k x d → ⊥) → runMain y e ≡ mainBut x
+  main-but i j refuses h = refl
+  main-but i j (enters {w}) h = result-but (run-but includeLevels 0 j (λ z. absurd (omega arith)) [] w) h
+
+-- a world with nothing more is the same
+same-world : (w : World) → w ≡ G₀ w
+same-world w =
+    let p : w .limit ≡ w .limit + 0 = sym (add-zero (w .limit)) in
+    let q : w .textLeft ≡ w .textLeft + 0 = sym (add-zero (w .textLeft)) in
+    let r : w .linesLeft ≡ w .linesLeft + 0 = sym (add-zero (w .linesLeft)) in
+    let o : w .passes ≡ w .passes ++ [] = sym (append-nil (w .passes)) in
+    λ i. record { identifiers = w .identifiers; denotations = w .denotations; values = w .values; activities = w .activities; members = w .members; sentences = w .sentences; limit = p i; used = w .used; events = w .events; textLeft = q i; linesLeft = r i; passes = o i }
+
+main-same : (k : ℕ) (d e : List ℕ) (contents : Deck.lines e ≡ Deck.lines d) (bodies : (m : ℕ) → m < Deck.count d → (m ≡ k → ⊥) → bodyOf d m ≡ bodyOf e m) → 0 < k → 0 < Deck.count d → (w : World) → (MainAtBar k (enter 0 (readMember (bodyOf d 0)) w) d → ⊥) → runMain (enter 0 (readMember (bodyOf e 0)) w) e ≡ mainBut k d e contents bodies (enter 0 (readMember (bodyOf d 0)) w)
+main-same k d e contents bodies i j w h =
+    ap (λ (t : List ℕ). runMain (enter 0 (readMember t) w) e) (sym (bodies 0 j (λ y. absurd (omega arith))))
+    ∙ ap (λ (v : World). runMain (enter 0 (readMember (bodyOf d 0)) v) e) (same-world w)
+    ∙ main-but k d e contents bodies i j (enter-follows 0 0 0 [] Never even 0 (readMember (bodyOf d 0)) w) h
+
+-- UNREAD
+pub unread : (d : List ℕ) → Unread d
+unfolding expansion
+unread d roomy k b t l s sound i j fits never =
+    let w : World = mainWorld t l s in
+    let e : List ℕ = withBody k b d in
+    rw (sound-same d k b sound j fits, sound) (go roomy (main-same k d e (lines-same d k b sound j fits) (body-same d k b sound j fits) i (omega arith) w never ∙ sym (main-same k d d refl (λ m _ _. refl) i (omega arith) w never)))
+  where
+    go : (y : Bool) → runMain (enter 0 (readMember (bodyOf (withBody k b d) 0)) (mainWorld t l s)) (withBody k b d) ≡ runMain (enter 0 (readMember (bodyOf d 0)) (mainWorld t l s)) d → when y (λ _. runMain (enter 0 (readMember (bodyOf (withBody k b d) 0)) (mainWorld t l s)) (withBody k b d)) (λ _. refusal shortRoom 0 0 0) ≡ when y (λ _. runMain (enter 0 (readMember (bodyOf d 0)) (mainWorld t l s)) d) (λ _. refusal shortRoom 0 0 0)
+    go true z = z
+    go false z = refl

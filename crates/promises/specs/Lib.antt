@@ -1,0 +1,6 @@
+-- What the user was promised of every expansion, as statements about the definition.
+pub mod Origin
+pub mod More
+pub mod Passes
+pub mod Unread
+pub mod Ghost
