@@ -210,8 +210,8 @@ impl Reader<'_, '_> {
     }
 }
 
-/// Whether the token behind END or ELSE shows that the word is no target; at
-/// the end of a body that stays undecided (reading 9).
+/// Whether the token behind END or ELSE shows that the word is no target; the
+/// end of a body shows it too, since what stands before it can still go on.
 fn decided(behind: &Token) -> bool {
-    !behind.is(Mark::Equal) && behind.kind != Kind::End
+    !behind.is(Mark::Equal)
 }
