@@ -1,5 +1,10 @@
 // Where control goes in rows: behind a statement, into a group, to a label. It is the same for members and procedures; what a
 // member puts out on the way is not done here.
+ghost use mathlib.Core.Path.{_≡_};
+ghost use Prim.Native.Nat.{_+_};
+ghost use Rattle.fixed.specs.Answer.{resultOf};
+ghost use Rattle.fixed.specs.Signed.{fromStored};
+ghost use Rattle.flow.specs.Walks.{noFrame, noFrames, leadsTo, frameIn, framesWith, isDown, passesBy, endWalk, nextWalk, upWalk, behindWalk, behindOn, arrivedAt, firstWalk, chosenWalk, linkWalk, firstOf, iteratedAt, parentAt, aroundOn, mayStand, mayGoOn, labelFrom, landingWalk};
 use fixed::Answer;
 use fixed::Fixed;
 use names::Label;
@@ -36,7 +41,9 @@ pub struct Frames {
     pub items: [Frame; 16],
 }
 
-fn no_frame() -> Frame {
+fn no_frame() -> Frame
+    ensures { λ r. ⌜ r ≡ noFrame ⌝ }
+{
     Frame {
         group: Link::Nowhere,
         address: 0,
@@ -46,13 +53,17 @@ fn no_frame() -> Frame {
     }
 }
 
-pub fn no_frames() -> Frames {
+pub fn no_frames() -> Frames
+    ensures { λ r. ⌜ r ≡ noFrames ⌝ }
+{
     Frames {
         items: [no_frame(); 16],
     }
 }
 
-fn leads_to(x: Link, n: u16) -> bool {
+fn leads_to(x: Link, n: u16) -> bool
+    ensures { λ r. ⌜ r ≡ leadsTo x n ⌝ }
+{
     match x {
         Link::Nowhere => false,
         Link::To(m) => m == n,
@@ -60,7 +71,9 @@ fn leads_to(x: Link, n: u16) -> bool {
 }
 
 // The frame of the group g.
-pub fn frame_of(rows: &[u16], fs: Frames, g: u16) -> Frame {
+pub fn frame_of(rows: &[u16], fs: Frames, g: u16) -> Frame
+    ensures { λ r. ⌜ r ≡ frameIn (now (rows .entry)) fs g ⌝ }
+{
     let r = row_at(rows, g);
     let d = r.depth as usize;
     if d < 16 {
@@ -69,12 +82,15 @@ pub fn frame_of(rows: &[u16], fs: Frames, g: u16) -> Frame {
         if leads_to(group, g) {
             return f;
         }
+        return no_frame();
     }
     no_frame()
 }
 
 // With the frame of a group that is entered.
-pub fn with_frame(rows: &[u16], fs: Frames, g: u16, f: Frame) -> Frames {
+pub fn with_frame(rows: &[u16], fs: Frames, g: u16, f: Frame) -> Frames
+    ensures { λ r. ⌜ r ≡ framesWith (now (rows .entry)) fs g f ⌝ }
+{
     let r = row_at(rows, g);
     let d = r.depth as usize;
     let mut all = fs;
@@ -85,7 +101,9 @@ pub fn with_frame(rows: &[u16], fs: Frames, g: u16, f: Frame) -> Frames {
 }
 
 // "it ends over TO, under TO if BY is negative, never without TO"
-pub fn passes(f: Frame, x: Fixed) -> bool {
+pub fn passes(f: Frame, x: Fixed) -> bool
+    ensures { λ r. ⌜ r ≡ passesBy (fromStored (f .limit)) (fromStored (f .step)) (x .value) ⌝ }
+{
     let to = Fixed::from_stored(f.limit);
     let by = Fixed::from_stored(f.step);
     match to {
@@ -100,7 +118,9 @@ pub fn passes(f: Frame, x: Fixed) -> bool {
     }
 }
 
-fn is_down(by: Answer) -> bool {
+fn is_down(by: Answer) -> bool
+    ensures { λ r. ⌜ r ≡ isDown (resultOf by) ⌝ }
+{
     match by {
         Answer::Is(x) => x.is_negative(),
         Answer::OutOfRange => false,
@@ -111,7 +131,9 @@ fn is_down(by: Answer) -> bool {
 // ---- behind a statement
 
 // The end of what stands in the row g: a pass of an iterated group is over, or the row itself is.
-pub fn end_in(rows: &[u16], fs: Frames, g: u16) -> Walk {
+pub fn end_in(rows: &[u16], fs: Frames, g: u16) -> Walk
+    ensures { λ r. ⌜ r ≡ endWalk (now (rows .entry)) fs g ⌝ }
+{
     let r = row_at(rows, g);
     let x = r.statement;
     match x {
@@ -137,9 +159,11 @@ pub fn end_in(rows: &[u16], fs: Frames, g: u16) -> Walk {
 }
 
 // The next of a list, or the end of what the list stands in.
-fn next_in(rows: &[u16], fs: Frames, r: Row) -> Walk {
-    let next = r.next;
-    let parent = r.parent;
+fn next_in(rows: &[u16], fs: Frames, x: Row) -> Walk
+    ensures { λ r. ⌜ r ≡ nextWalk (now (rows .entry)) fs (x .next) (x .parent) ⌝ }
+{
+    let next = x.next;
+    let parent = x.parent;
     match next {
         Link::To(m) => Walk::To(Next::Begin(m)),
         Link::Nowhere => match parent {
@@ -149,7 +173,9 @@ fn next_in(rows: &[u16], fs: Frames, r: Row) -> Walk {
     }
 }
 
-fn up_from(parent: Link) -> Walk {
+fn up_from(parent: Link) -> Walk
+    ensures { λ r. ⌜ r ≡ upWalk parent ⌝ }
+{
     match parent {
         Link::To(g) => Walk::Up(g),
         Link::Nowhere => Walk::To(Next::Over),
@@ -157,7 +183,9 @@ fn up_from(parent: Link) -> Walk {
 }
 
 // Behind the row n: behind an alternative comes what is behind its IF.
-pub fn walk_behind(rows: &[u16], fs: Frames, n: u16) -> Walk {
+pub fn walk_behind(rows: &[u16], fs: Frames, n: u16) -> Walk
+    ensures { λ r. ⌜ r ≡ behindWalk (now (rows .entry)) fs n ⌝ }
+{
     let r = row_at(rows, n);
     let role = r.role;
     let parent = r.parent;
@@ -169,7 +197,9 @@ pub fn walk_behind(rows: &[u16], fs: Frames, n: u16) -> Walk {
 }
 
 // Behind the row n, where nothing is put out on the way. A parent comes before its rows, so its number is more than the turns.
-pub fn behind(rows: &[u16], fs: Frames, n: u16) -> Next {
+pub fn behind(rows: &[u16], fs: Frames, n: u16) -> Next
+    ensures { λ r. ⌜ r ≡ behindOn (now (rows .entry)) fs (n + 1) n ⌝ }
+{
     let mut at = n;
     let mut turns = n as usize + 1;
     while 0 < turns {
@@ -188,7 +218,9 @@ pub fn behind(rows: &[u16], fs: Frames, n: u16) -> Next {
 }
 
 // Where a walk leads, if nothing is put out on the way.
-pub fn arrived(rows: &[u16], fs: Frames, w: Walk) -> Next {
+pub fn arrived(rows: &[u16], fs: Frames, w: Walk) -> Next
+    ensures { λ r. ⌜ r ≡ arrivedAt (now (rows .entry)) fs w ⌝ }
+{
     match w {
         Walk::To(x) => x,
         Walk::Up(g) => behind(rows, fs, g),
@@ -196,7 +228,9 @@ pub fn arrived(rows: &[u16], fs: Frames, w: Walk) -> Next {
 }
 
 // The first row in the group g, or its end.
-pub fn first_in(rows: &[u16], fs: Frames, g: u16) -> Walk {
+pub fn first_in(rows: &[u16], fs: Frames, g: u16) -> Walk
+    ensures { λ r. ⌜ r ≡ firstWalk (now (rows .entry)) fs g ⌝ }
+{
     let r = row_at(rows, g);
     let child = r.child;
     match child {
@@ -206,7 +240,9 @@ pub fn first_in(rows: &[u16], fs: Frames, g: u16) -> Walk {
 }
 
 // The alternative that an IF takes, or what is behind it.
-pub fn chosen(rows: &[u16], n: u16, holds: bool) -> Walk {
+pub fn chosen(rows: &[u16], n: u16, holds: bool) -> Walk
+    ensures { λ r. ⌜ r ≡ chosenWalk (now (rows .entry)) n holds ⌝ }
+{
     let r = row_at(rows, n);
     let first = r.child;
     let second = r.other;
@@ -216,14 +252,18 @@ pub fn chosen(rows: &[u16], n: u16, holds: bool) -> Walk {
     link_walk(second, n)
 }
 
-fn link_walk(x: Link, n: u16) -> Walk {
+fn link_walk(x: Link, n: u16) -> Walk
+    ensures { λ r. ⌜ r ≡ linkWalk x n ⌝ }
+{
     match x {
         Link::To(m) => Walk::To(Next::Begin(m)),
         Link::Nowhere => Walk::Up(n),
     }
 }
 
-pub fn first_of(x: Link) -> Next {
+pub fn first_of(x: Link) -> Next
+    ensures { λ r. ⌜ r ≡ firstOf x ⌝ }
+{
     match x {
         Link::To(n) => Next::Begin(n),
         Link::Nowhere => Next::Over,
@@ -232,7 +272,9 @@ pub fn first_of(x: Link) -> Next {
 
 // ---- GOTO
 
-fn is_iterated(rows: &[u16], n: u16) -> bool {
+fn is_iterated(rows: &[u16], n: u16) -> bool
+    ensures { λ r. ⌜ r ≡ iteratedAt (now (rows .entry)) n ⌝ }
+{
     let r = row_at(rows, n);
     let x = r.statement;
     match x {
@@ -251,7 +293,9 @@ fn is_iterated(rows: &[u16], n: u16) -> bool {
     }
 }
 
-fn parent_of(rows: &[u16], n: u16) -> Link {
+fn parent_of(rows: &[u16], n: u16) -> Link
+    ensures { λ r. ⌜ r ≡ parentAt (now (rows .entry)) n ⌝ }
+{
     let r = row_at(rows, n);
     r.parent
 }
@@ -260,7 +304,9 @@ fn parent_of(rows: &[u16], n: u16) -> Link {
 const TURNS: usize = 2_048;
 
 // Whether the row g is around the row n.
-fn is_around(rows: &[u16], g: u16, n: u16) -> bool {
+fn is_around(rows: &[u16], g: u16, n: u16) -> bool
+    ensures { λ r. ⌜ r ≡ aroundOn (now (rows .entry)) g 2048 (parentAt (now (rows .entry)) n) ⌝ }
+{
     let mut up = parent_of(rows, n);
     let mut turns = TURNS;
     while 0 < turns {
@@ -281,14 +327,18 @@ fn is_around(rows: &[u16], g: u16, n: u16) -> bool {
 }
 
 // Whether a group may be around the target of a GOTO from row n.
-fn may_be_around(rows: &[u16], g: u16, n: u16) -> bool {
+fn may_be_around(rows: &[u16], g: u16, n: u16) -> bool
+    ensures { λ r. ⌜ r ≡ mayStand (now (rows .entry)) g n ⌝ }
+{
     if is_iterated(rows, g) {
         return is_around(rows, g, n);
     }
     true
 }
 
-fn label_from(rows: &[u16], r: u16, is_end: bool) -> Link {
+fn label_from(rows: &[u16], r: u16, is_end: bool) -> Link
+    ensures { λ b. ⌜ b ≡ labelFrom (now (rows .entry)) r «is_end» ⌝ }
+{
     if is_end {
         return Link::To(r);
     }
@@ -296,7 +346,9 @@ fn label_from(rows: &[u16], r: u16, is_end: bool) -> Link {
 }
 
 // "It may not enter an iterated group": each around the label of row r, or of its END, is around row n.
-pub fn may_go(rows: &[u16], n: u16, r: u16, is_end: bool) -> bool {
+pub fn may_go(rows: &[u16], n: u16, r: u16, is_end: bool) -> bool
+    ensures { λ b. ⌜ b ≡ mayGoOn (now (rows .entry)) n 2048 (labelFrom (now (rows .entry)) r «is_end») ⌝ }
+{
     let mut up = label_from(rows, r, is_end);
     let mut turns = TURNS;
     while 0 < turns {
@@ -318,7 +370,9 @@ pub fn may_go(rows: &[u16], n: u16, r: u16, is_end: bool) -> bool {
 }
 
 // Where a GOTO to a label lands.
-pub fn landing(rows: &[u16], fs: Frames, x: Label) -> Walk {
+pub fn landing(rows: &[u16], fs: Frames, x: Label) -> Walk
+    ensures { λ r. ⌜ r ≡ landingWalk (now (rows .entry)) fs (x .place .row) (x .«is_end») ⌝ }
+{
     let p = x.place;
     if x.is_end {
         return end_in(rows, fs, p.row);

@@ -1,5 +1,18 @@
 // Values among those that are unfinished, and the operators on them. A CHARACTER or BIT value lies in the work room at a place u,
 // above the bytes of those that wait; the second side of an operator lies directly above the first. A result lies at u again.
+ghost use mathlib.Core.Path.{_≡_};
+ghost use mathlib.Core.List.{_∷_, []};
+ghost use Prim.Native.Nat.{_+_};
+ghost use lib.Dec.{leb};
+ghost use Rattle.definition.specs.Lists.{part};
+ghost use Rattle.definition.specs.Room.{over};
+ghost use Rattle.definition.specs.Limits.{unfinishedBytes};
+ghost use Rattle.definition.specs.Values as D;
+ghost use Rattle.fixed.specs.Answer.{resultOf};
+ghost use Rattle.values.specs.Answers.{answerOf};
+ghost use Rattle.values.specs.Bits.{logicOf};
+ghost use Rattle.operators.specs.Stands.{valueIn, numberFor, sizeFor, stacked, Gave, Told, Made, topOf, amongFor, limitedFor, MovedDown, MovedUp, numberValue, asBit, asSubject, textPut, bitsPut, heldBy};
+ghost use Rattle.operators.specs.Sides.{negatedFor, calcOf, numbersIn, pairFor, orderAnswer, numericOf, bytesOrdered, wantedBy, Raised, First, textSize, numberText, WroteFirst, bothBits, joinedValue, sameKind, Took};
 use definition::Operator;
 use definition::Prefix;
 use definition::ValueType;
@@ -52,7 +65,9 @@ const BITS: usize = 17;
 // ---- the work room
 
 // The bytes that a value takes while it waits.
-pub fn size_of(v: Value) -> usize {
+pub fn size_of(v: Value) -> usize
+    ensures { λ r. ⌜ r ≡ sizeFor v ⌝ }
+{
     match v {
         Value::Number(_) => 0,
         Value::Characters(n) => n,
@@ -61,7 +76,9 @@ pub fn size_of(v: Value) -> usize {
 }
 
 // Whether n bytes go above u bytes that wait.
-pub fn fits(u: usize, n: usize) -> bool {
+pub fn fits(u: usize, n: usize) -> bool
+    ensures { λ r. ⌜ r ≡ leb (u + n) unfinishedBytes ⌝ }
+{
     if Filling::UNFINISHED < u {
         return false;
     }
@@ -69,7 +86,9 @@ pub fn fits(u: usize, n: usize) -> bool {
 }
 
 // The place above n bytes at u, which fit.
-pub fn above(u: usize, n: usize) -> usize {
+pub fn above(u: usize, n: usize) -> usize
+    ensures { λ r. ⌜ r ≡ topOf u n ⌝ }
+{
     if u <= Filling::UNFINISHED {
         if n <= Filling::UNFINISHED - u {
             return u + n;
@@ -79,14 +98,18 @@ pub fn above(u: usize, n: usize) -> usize {
 }
 
 // A value put above u bytes.
-pub fn among(u: usize, v: Value) -> Given {
+pub fn among(u: usize, v: Value) -> Given
+    ensures { λ r. ⌜ r ≡ amongFor u v ⌝ }
+{
     if fits(u, size_of(v)) {
         return Given::Gives(v);
     }
     Given::Fails(Why::TooLong)
 }
 
-fn limited(u: usize, v: Value) -> Given {
+fn limited(u: usize, v: Value) -> Given
+    ensures { λ r. ⌜ r ≡ limitedFor u v ⌝ }
+{
     if size_of(v) <= limits::Value::LONGEST {
         return among(u, v);
     }
@@ -94,7 +117,9 @@ fn limited(u: usize, v: Value) -> Given {
 }
 
 // Moves the n bytes at `from` down to `to`.
-pub fn move_down(room: &mut [u8], from: usize, n: usize, to: usize) {
+pub fn move_down(room: &mut [u8], from: usize, n: usize, to: usize)
+    ensures { λ _. ⌜ MovedDown (now (room .entry)) from n to (now (room .exit)) ⌝ }
+{
     let mut j: usize = 0;
     while j < n {
         let b = byte(room, from, j);
@@ -104,7 +129,9 @@ pub fn move_down(room: &mut [u8], from: usize, n: usize, to: usize) {
 }
 
 // Moves the n bytes at `from` up to `to`, the last first.
-fn move_up(room: &mut [u8], from: usize, n: usize, to: usize) {
+fn move_up(room: &mut [u8], from: usize, n: usize, to: usize)
+    ensures { λ _. ⌜ MovedUp (now (room .entry)) from n to (now (room .exit)) ⌝ }
+{
     let mut j = n;
     while 0 < j {
         j -= 1;
@@ -115,7 +142,9 @@ fn move_up(room: &mut [u8], from: usize, n: usize, to: usize) {
 
 // ---- conversions
 
-fn number_given(x: NumberAnswer) -> NumberGiven {
+fn number_given(x: NumberAnswer) -> NumberGiven
+    ensures { λ r. ⌜ numberFor r ≡ answerOf x ⌝ }
+{
     match x {
         NumberAnswer::Is(n) => NumberGiven::Is(n),
         NumberAnswer::NoConversion => NumberGiven::Fails(Why::NoConversion),
@@ -123,7 +152,9 @@ fn number_given(x: NumberAnswer) -> NumberGiven {
     }
 }
 
-fn answer_given(x: Answer) -> NumberGiven {
+fn answer_given(x: Answer) -> NumberGiven
+    ensures { λ r. ⌜ numberFor r ≡ D.fromFixed (resultOf x) ⌝ }
+{
     match x {
         Answer::Is(n) => NumberGiven::Is(n),
         Answer::OutOfRange => NumberGiven::Fails(Why::OutOfRange),
@@ -131,7 +162,9 @@ fn answer_given(x: Answer) -> NumberGiven {
     }
 }
 
-pub fn to_fixed(work: &[u8], u: usize, v: Value) -> NumberGiven {
+pub fn to_fixed(work: &[u8], u: usize, v: Value) -> NumberGiven
+    ensures { λ r. ⌜ numberFor r ≡ D.toFixed (valueIn (now (work .entry)) u v) ⌝ }
+{
     match v {
         Value::Number(x) => NumberGiven::Is(x),
         Value::Characters(n) => number_given(number_in(work, u, n)),
@@ -140,7 +173,9 @@ pub fn to_fixed(work: &[u8], u: usize, v: Value) -> NumberGiven {
 }
 
 // The value as CHARACTER, where it stands.
-pub fn to_characters(work: &mut [u8], u: usize, v: Value) -> Given {
+pub fn to_characters(work: &mut [u8], u: usize, v: Value) -> Given
+    ensures { λ r. ⌜ Made (now (work .entry)) u (textPut u v) (stacked u (D.convert ValueType.CharacterType (valueIn (now (work .entry)) u v))) (now (work .exit)) r ⌝ }
+{
     match v {
         Value::Number(x) => {
             if fits(u, fixed_length(x)) {
@@ -154,7 +189,9 @@ pub fn to_characters(work: &mut [u8], u: usize, v: Value) -> Given {
 }
 
 // The value as BIT, where it stands.
-pub fn to_bits(work: &mut [u8], u: usize, v: Value) -> Given {
+pub fn to_bits(work: &mut [u8], u: usize, v: Value) -> Given
+    ensures { λ r. ⌜ Made (now (work .entry)) u (bitsPut u v) (stacked u (asBit (valueIn (now (work .entry)) u v))) (now (work .exit)) r ⌝ }
+{
     match v {
         Value::Number(x) => {
             if fits(u, BITS) {
@@ -173,7 +210,9 @@ pub fn to_bits(work: &mut [u8], u: usize, v: Value) -> Given {
     }
 }
 
-fn number_value(x: NumberGiven) -> Given {
+fn number_value(x: NumberGiven) -> Given
+    ensures { λ r. ⌜ r ≡ numberValue x ⌝ }
+{
     match x {
         NumberGiven::Is(n) => Given::Gives(Value::Number(n)),
         NumberGiven::Fails(w) => Given::Fails(w),
@@ -181,7 +220,9 @@ fn number_value(x: NumberGiven) -> Given {
 }
 
 // "Assignment, argument and RETURN convert to the declared type."
-pub fn convert(work: &mut [u8], u: usize, t: ValueType, v: Value) -> Given {
+pub fn convert(work: &mut [u8], u: usize, t: ValueType, v: Value) -> Given
+    ensures { λ r. ⌜ Gave (now (work .entry)) u (sizeFor v) (stacked u (D.convert t (valueIn (now (work .entry)) u v))) (now (work .exit)) r ⌝ }
+{
     match t {
         ValueType::FixedType => number_value(to_fixed(work, u, v)),
         ValueType::CharacterType => to_characters(work, u, v),
@@ -189,7 +230,9 @@ pub fn convert(work: &mut [u8], u: usize, t: ValueType, v: Value) -> Given {
 }
 
 // What SUBSTR is taken of: a FIXED is first made CHARACTER.
-pub fn subject(work: &mut [u8], u: usize, v: Value) -> Given {
+pub fn subject(work: &mut [u8], u: usize, v: Value) -> Given
+    ensures { λ r. ⌜ Gave (now (work .entry)) u (sizeFor v) (stacked u (asSubject (valueIn (now (work .entry)) u v))) (now (work .exit)) r ⌝ }
+{
     match v {
         Value::Number(x) => to_characters(work, u, Value::Number(x)),
         Value::Characters(n) => among(u, Value::Characters(n)),
@@ -203,7 +246,9 @@ pub enum Truth {
 }
 
 // "IF holds when any bit is 1."
-pub fn holds(work: &mut [u8], u: usize, v: Value) -> Truth {
+pub fn holds(work: &mut [u8], u: usize, v: Value) -> Truth
+    ensures { λ r. ⌜ Told (now (work .entry)) u (sizeFor v) (heldBy (stacked u (asBit (valueIn (now (work .entry)) u v)))) (now (work .exit)) r ⌝ }
+{
     let b = to_bits(work, u, v);
     match b {
         Given::Gives(x) => Truth::Is(any_one(work, u, size_of(x))),
@@ -213,10 +258,12 @@ pub fn holds(work: &mut [u8], u: usize, v: Value) -> Truth {
 
 // ---- prefix operators
 
-pub fn prefixed(work: &mut [u8], u: usize, o: Prefix, v: Value) -> Given {
+pub fn prefixed(work: &mut [u8], u: usize, o: Prefix, v: Value) -> Given
+    ensures { λ r. ⌜ Gave (now (work .entry)) u (sizeFor v) (stacked u (D.prefixed o (valueIn (now (work .entry)) u v))) (now (work .exit)) r ⌝ }
+{
     match o {
         Prefix::Positive => number_value(to_fixed(work, u, v)),
-        Prefix::Negative => negated(to_fixed(work, u, v)),
+        Prefix::Negative => number_value(negated(to_fixed(work, u, v))),
         Prefix::Complement => {
             let b = to_bits(work, u, v);
             match b {
@@ -230,16 +277,20 @@ pub fn prefixed(work: &mut [u8], u: usize, o: Prefix, v: Value) -> Given {
     }
 }
 
-fn negated(x: NumberGiven) -> Given {
+fn negated(x: NumberGiven) -> NumberGiven
+    ensures { λ r. ⌜ numberFor r ≡ negatedFor (numberFor x) ⌝ }
+{
     match x {
-        NumberGiven::Is(n) => number_value(answer_given(n.negate())),
-        NumberGiven::Fails(w) => Given::Fails(w),
+        NumberGiven::Is(n) => answer_given(n.negate()),
+        NumberGiven::Fails(w) => NumberGiven::Fails(w),
     }
 }
 
 // ---- infix operators: x at u, y directly above it
 
-fn arithmetic(o: Operator, a: Fixed, b: Fixed) -> Answer {
+fn arithmetic(o: Operator, a: Fixed, b: Fixed) -> Answer
+    ensures { λ r. ⌜ resultOf r ≡ calcOf o (a .value) (b .value) ⌝ }
+{
     match o {
         Operator::Plus => a.add(b),
         Operator::Minus => a.subtract(b),
@@ -265,7 +316,9 @@ enum Pair {
     Fails(Why),
 }
 
-fn numbers_of(work: &[u8], u: usize, x: Value, y: Value) -> Pair {
+fn numbers_of(work: &[u8], u: usize, x: Value, y: Value) -> Pair
+    ensures { λ r. ⌜ pairFor r ≡ numbersIn (valueIn (now (work .entry)) u x) (valueIn (now (work .entry)) (topOf u (sizeFor x)) y) ⌝ }
+{
     let a = to_fixed(work, u, x);
     match a {
         NumberGiven::Is(n) => {
@@ -279,7 +332,9 @@ fn numbers_of(work: &[u8], u: usize, x: Value, y: Value) -> Pair {
     }
 }
 
-fn calculated(work: &[u8], u: usize, o: Operator, x: Value, y: Value) -> Given {
+fn calculated(work: &[u8], u: usize, o: Operator, x: Value, y: Value) -> Given
+    ensures { λ r. ⌜ Gave (now (work .entry)) u (sizeFor x + sizeFor y) (stacked u (D.arithmetic (calcOf o) (valueIn (now (work .entry)) u x) (valueIn (now (work .entry)) (u + sizeFor x) y))) (now (work .entry)) r ⌝ }
+{
     let p = numbers_of(work, u, x, y);
     match p {
         Pair::Are(a, b) => number_value(answer_given(arithmetic(o, a, b))),
@@ -292,7 +347,9 @@ enum OrderGiven {
     Fails(Why),
 }
 
-fn numeric_order(work: &[u8], u: usize, x: Value, y: Value) -> OrderGiven {
+fn numeric_order(work: &[u8], u: usize, x: Value, y: Value) -> OrderGiven
+    ensures { λ r. ⌜ orderAnswer r ≡ numericOf (valueIn (now (work .entry)) u x) (valueIn (now (work .entry)) (topOf u (sizeFor x)) y) ⌝ }
+{
     let p = numbers_of(work, u, x, y);
     match p {
         Pair::Are(a, b) => OrderGiven::Is(numbers_order(a, b)),
@@ -301,12 +358,16 @@ fn numeric_order(work: &[u8], u: usize, x: Value, y: Value) -> OrderGiven {
 }
 
 // Where they stand: n bytes at u, and m above them.
-fn order_at(work: &[u8], u: usize, n: usize, m: usize, pad: u8) -> OrderGiven {
+fn order_at(work: &[u8], u: usize, n: usize, m: usize, pad: u8) -> OrderGiven
+    ensures { λ r. ⌜ orderAnswer r ≡ bytesOrdered pad (part n u (now (work .entry))) (part m (topOf u n) (now (work .entry))) ⌝ }
+{
     OrderGiven::Is(bytes_order(work, u, n, work, above(u, n), m, pad))
 }
 
 // "numeric if one side is FIXED; else as characters if one is CHARACTER; else bits padded with zeros"
-fn compared(work: &[u8], u: usize, x: Value, y: Value) -> OrderGiven {
+fn compared(work: &[u8], u: usize, x: Value, y: Value) -> OrderGiven
+    ensures { λ r. ⌜ orderAnswer r ≡ D.compared (valueIn (now (work .entry)) u x) (valueIn (now (work .entry)) (topOf u (sizeFor x)) y) ⌝ }
+{
     match x {
         Value::Number(_) => numeric_order(work, u, x, y),
         Value::Characters(n) => match y {
@@ -322,7 +383,9 @@ fn compared(work: &[u8], u: usize, x: Value, y: Value) -> OrderGiven {
     }
 }
 
-fn bit(t: bool) -> u8 {
+fn bit(t: bool) -> u8
+    ensures { λ r. ⌜ r ≡ D.bitOf t ⌝ }
+{
     if t {
         return b'1';
     }
@@ -330,7 +393,9 @@ fn bit(t: bool) -> u8 {
 }
 
 // The outcome of a comparison is one bit.
-fn comparing(work: &mut [u8], u: usize, c: Comparison, x: Value, y: Value) -> Given {
+fn comparing(work: &mut [u8], u: usize, c: Comparison, x: Value, y: Value) -> Given
+    ensures { λ r. ⌜ Gave (now (work .entry)) u (sizeFor x + sizeFor y) (stacked u (D.comparing (wantedBy c) (valueIn (now (work .entry)) u x) (valueIn (now (work .entry)) (u + sizeFor x) y))) (now (work .exit)) r ⌝ }
+{
     let o = compared(work, u, x, y);
     match o {
         OrderGiven::Is(order) => {
@@ -345,12 +410,16 @@ fn comparing(work: &mut [u8], u: usize, c: Comparison, x: Value, y: Value) -> Gi
 }
 
 // Makes room below a second side of m bytes, where the first side, a number, takes k.
-fn raise(work: &mut [u8], u: usize, m: usize, k: usize) {
+fn raise(work: &mut [u8], u: usize, m: usize, k: usize)
+    ensures { λ _. ⌜ Raised (now (work .entry)) u m k (now (work .exit)) ⌝ }
+{
     move_up(work, u, m, above(u, k));
 }
 
 // The first side as BIT, below the second of m bytes.
-fn first_bits(work: &mut [u8], u: usize, x: Value, m: usize) -> Given {
+fn first_bits(work: &mut [u8], u: usize, x: Value, m: usize) -> Given
+    ensures { λ r. ⌜ First (now (work .entry)) u x m (now (work .exit)) r ⌝ }
+{
     match x {
         Value::Number(_) => {
             if fits(above(u, m), BITS) {
@@ -364,7 +433,9 @@ fn first_bits(work: &mut [u8], u: usize, x: Value, m: usize) -> Given {
     }
 }
 
-fn logical(work: &mut [u8], u: usize, o: Logic, x: Value, y: Value) -> Given {
+fn logical(work: &mut [u8], u: usize, o: Logic, x: Value, y: Value) -> Given
+    ensures { λ r. ⌜ Gave (now (work .entry)) u (sizeFor x + sizeFor y) (stacked u (D.logical u (logicOf o) (valueIn (now (work .entry)) u x) (valueIn (now (work .entry)) (u + sizeFor x) y))) (now (work .exit)) r ⌝ }
+{
     let a = first_bits(work, u, x, size_of(y));
     match a {
         Given::Gives(first) => {
@@ -382,7 +453,9 @@ fn logical(work: &mut [u8], u: usize, o: Logic, x: Value, y: Value) -> Given {
 }
 
 // The bytes that a value has as CHARACTER.
-fn text_size(v: Value) -> usize {
+fn text_size(v: Value) -> usize
+    ensures { λ r. ⌜ r ≡ textSize v ⌝ }
+{
     match v {
         Value::Number(x) => fixed_length(x),
         Value::Characters(n) => n,
@@ -391,7 +464,9 @@ fn text_size(v: Value) -> usize {
 }
 
 // Writes the digits of a number, for which there is room.
-fn write_number(work: &mut [u8], u: usize, v: Value) {
+fn write_number(work: &mut [u8], u: usize, v: Value)
+    ensures { λ _. ⌜ (now (work .exit)) ≡ over (now (work .entry)) u (numberText v) ⌝ }
+{
     match v {
         Value::Number(x) => {
             put_fixed(x, work, u);
@@ -402,7 +477,9 @@ fn write_number(work: &mut [u8], u: usize, v: Value) {
 }
 
 // The same of a first side, below the second of m bytes.
-fn write_first(work: &mut [u8], u: usize, v: Value, m: usize) {
+fn write_first(work: &mut [u8], u: usize, v: Value, m: usize)
+    ensures { λ _. ⌜ WroteFirst (now (work .entry)) u m v (now (work .exit)) ⌝ }
+{
     match v {
         Value::Number(x) => {
             raise(work, u, m, fixed_length(x));
@@ -413,7 +490,9 @@ fn write_first(work: &mut [u8], u: usize, v: Value, m: usize) {
     }
 }
 
-fn are_both_bits(x: Value, y: Value) -> bool {
+fn are_both_bits(x: Value, y: Value) -> bool
+    ensures { λ r. ⌜ r ≡ bothBits x y ⌝ }
+{
     match x {
         Value::Number(_) => false,
         Value::Characters(_) => false,
@@ -426,14 +505,18 @@ fn are_both_bits(x: Value, y: Value) -> bool {
 }
 
 // "`||` of two BIT is BIT, else CHARACTER."
-fn joined_value(x: Value, y: Value, n: usize) -> Value {
+fn joined_value(x: Value, y: Value, n: usize) -> Value
+    ensures { λ r. ⌜ r ≡ joinedValue x y n ⌝ }
+{
     if are_both_bits(x, y) {
         return Value::Bits(n);
     }
     Value::Characters(n)
 }
 
-fn joined(work: &mut [u8], u: usize, x: Value, y: Value) -> Given {
+fn joined(work: &mut [u8], u: usize, x: Value, y: Value) -> Given
+    ensures { λ r. ⌜ Gave (now (work .entry)) u (sizeFor x + sizeFor y) (stacked u (D.joined (valueIn (now (work .entry)) u x) (valueIn (now (work .entry)) (u + sizeFor x) y))) (now (work .exit)) r ⌝ }
+{
     let n = text_size(x);
     let m = text_size(y);
     let g = limited(u, joined_value(x, y, above(n, m)));
@@ -448,7 +531,9 @@ fn joined(work: &mut [u8], u: usize, x: Value, y: Value) -> Given {
 }
 
 // THE INFIX OPERATORS.
-pub fn infixed(work: &mut [u8], u: usize, o: Operator, x: Value, y: Value) -> Given {
+pub fn infixed(work: &mut [u8], u: usize, o: Operator, x: Value, y: Value) -> Given
+    ensures { λ r. ⌜ Gave (now (work .entry)) u (sizeFor x + sizeFor y) (stacked u (D.infixed u o (valueIn (now (work .entry)) u x) (valueIn (now (work .entry)) (u + sizeFor x) y))) (now (work .exit)) r ⌝ }
+{
     match o {
         Operator::OrOp => logical(work, u, Logic::Or, x, y),
         Operator::AndOp => logical(work, u, Logic::And, x, y),
@@ -470,7 +555,9 @@ pub fn infixed(work: &mut [u8], u: usize, o: Operator, x: Value, y: Value) -> Gi
 
 // ---- SUBSTR
 
-fn same_kind(v: Value, n: usize) -> Value {
+fn same_kind(v: Value, n: usize) -> Value
+    ensures { λ r. ⌜ r ≡ sameKind v n ⌝ }
+{
     match v {
         Value::Number(_) => Value::Characters(n),
         Value::Characters(_) => Value::Characters(n),
@@ -479,7 +566,9 @@ fn same_kind(v: Value, n: usize) -> Value {
 }
 
 // What a cut takes of the value at u, moved down to u.
-fn taken(work: &mut [u8], u: usize, v: Value, c: Cut) -> Given {
+fn taken(work: &mut [u8], u: usize, v: Value, c: Cut) -> Given
+    ensures { λ r. ⌜ Took (now (work .entry)) u v c (now (work .exit)) r ⌝ }
+{
     match c {
         Cut::Stretch(from, n) => {
             move_down(work, above(u, from), n, u);
@@ -489,10 +578,14 @@ fn taken(work: &mut [u8], u: usize, v: Value, c: Cut) -> Given {
     }
 }
 
-pub fn substr_rest(work: &mut [u8], u: usize, v: Value, from: Fixed) -> Given {
+pub fn substr_rest(work: &mut [u8], u: usize, v: Value, from: Fixed) -> Given
+    ensures { λ r. ⌜ Gave (now (work .entry)) u (sizeFor v) (stacked u (D.substr ((valueIn (now (work .entry)) u v) ∷ D.fixed (from .value) ∷ []))) (now (work .exit)) r ⌝ }
+{
     taken(work, u, v, cut_rest(size_of(v), from))
 }
 
-pub fn substr_part(work: &mut [u8], u: usize, v: Value, from: Fixed, count: Fixed) -> Given {
+pub fn substr_part(work: &mut [u8], u: usize, v: Value, from: Fixed, count: Fixed) -> Given
+    ensures { λ r. ⌜ Gave (now (work .entry)) u (sizeFor v) (stacked u (D.substr ((valueIn (now (work .entry)) u v) ∷ D.fixed (from .value) ∷ D.fixed (count .value) ∷ []))) (now (work .exit)) r ⌝ }
+{
     taken(work, u, v, cut_part(size_of(v), from, count))
 }

@@ -1,0 +1,545 @@
+-- What the functions of this crate are in the definition: where the table stands for the rows of a member, each walk leads where
+-- the definition goes, and a GOTO may go where it may.
+-- Assumes nothing.
+use mathlib.Core.Path.{_≡_, refl, sym, ap, _∙_}
+use mathlib.Core.Bool.{Bool, true, false, cond, not, _&&_, _||_}
+use mathlib.Core.List.{List, [], _∷_}
+use Prim.Native.Nat.{ℕ, zero, suc, _+_, _-_, _<_, _≤_}
+use native.Mathlib.Numerals.{add-one}
+use native.Mathlib.Omega.{arith}
+use borrow.Author.Tests.{lt-ltb, eq-eqb, ne-eqb, eqb-true, eqb-false}
+use lib.Dec.{eqb}
+use lib.IntN.{ℤ, pos, negsuc}
+use lib.ListN.{length, getD, set}
+use lib.Seq.{getD-set-same, getD-set-other}
+use lib.Signed.{leZ, nonNeg}
+use Rattle.definition.specs.Choice.{when}
+use Rattle.definition.specs.Program as P
+use Rattle.definition.specs.World.{World, Res, good, bad, bind, rowOf}
+use Rattle.definition.specs.Fixed as F
+use Rattle.definition.specs.Flow as D
+use Rattle.fixed.specs.Signed.{fromStored}
+use Rattle.rows.specs.declared.Statement.{Statement}
+use Rattle.rows.specs.declared.Statement.the-variants.{Null, Declare, Procedure, Assign, Conditional, Group, Iterated, Goto, Include, Activate, Deactivate, Return}
+use Rattle.rows.specs.declared.Link.{Link}
+use Rattle.rows.specs.declared.Link.the-variants.{Nowhere, To}
+use Rattle.rows.specs.declared.Row.{Row}
+use Rattle.rows.specs.Table.{rowIn}
+use Rattle.flow.specs.declared.Next.{Next}
+use Rattle.flow.specs.declared.Next.the-variants.{Begin, Again, Over}
+use Rattle.flow.specs.declared.Walk.{Walk}
+use Rattle.flow.specs.declared.Walk.the-variants.{To as Arrives, Up}
+use Rattle.flow.specs.declared.Frame.{Frame}
+use Rattle.flow.specs.declared.Frames.{Frames}
+use Rattle.flow.specs.Walks as C
+use Rattle.flow.specs.Shown.{kindOf, roleOf, linkOf, Stands, Shown, Around, parent, outer, Framed, limitOf, FrameShown, nextFrom, walked}
+
+back : (b n : ℕ) → b + n - b ≡ n
+back b n = omega arith
+
+module _ {E : Type 0} (M : D.Machine E) (b : ℕ) (F : List D.Frame) (up : ℕ → World → Res E D.Next) (w : World) where
+  -- ---- the end of what stands in a row
+  once-is : (o : Bool) (g : ℕ) → when o (λ _. up g w) (λ _. good (D.again g) w) ≡ walked b (cond o (Up (b + g)) (Arrives (Again (b + g)))) up w
+  once-is true g = rw back
+  once-is false g = rw back
+
+  end-as : (x : P.Statement) (g : ℕ) (o : Bool) → (D.isIterated x ≡ true → o ≡ D.isOnce g F)
+      → D.endIn M x g F (λ _. up g w) w ≡ walked b (C.endAs (kindOf x) o (b + g)) up w
+  unfolding C.endAs D.isIterated
+  end-as P.null g o h = rw back
+  end-as (P.declare ns) g o h = rw back
+  end-as (P.procedure ns t′) g o h = refl
+  end-as (P.assign v x) g o h = rw back
+  end-as (P.conditional x) g o h = rw back
+  end-as P.group g o h = rw back
+  end-as (P.iterated v x bs) g o h = rw (h refl) (once-is (D.isOnce g F) g)
+  end-as (P.goto v) g o h = rw back
+  end-as (P.include ns) g o h = rw back
+  end-as (P.activate ns) g o h = rw back
+  end-as (P.deactivate ns) g o h = rw back
+  end-as (P.return x) g o h = rw back
+
+  module _ (t : List ℕ) (s : Shown b t (M .rows)) (fs : Frames) where
+    pub end-is : (g : ℕ) → g < length (M .rows) → (D.isIterated (rowOf (M .rows) g .statement) ≡ true → C.frameIn t fs (b + g) .«is_once» ≡ D.isOnce g F)
+        → D.endIn M (rowOf (M .rows) g .statement) g F (λ _. up g w) w ≡ walked b (C.endWalk t fs (b + g)) up w
+    unfolding C.endWalk
+    end-is g h o = rw (s .rows g h .kind) (end-as (rowOf (M .rows) g .statement) g (C.frameIn t fs (b + g) .«is_once») o)
+
+    -- ---- behind a row
+    up-as : (p : P.Link) → D.upFrom M p up w ≡ walked b (C.upWalk (linkOf b p)) up w
+    unfolding C.upWalk
+    up-as P.nowhere = refl
+    up-as (P.row g) = rw back
+
+    next-as : (x p : P.Link) → ((g : ℕ) → p ≡ P.row g → D.endIn M (rowOf (M .rows) g .statement) g F (λ _. up g w) w ≡ walked b (C.endWalk t fs (b + g)) up w)
+        → D.nextIn M x p F up w ≡ walked b (C.nextWalk t fs (linkOf b x) (linkOf b p)) up w
+    unfolding C.nextWalk
+    next-as (P.row m) p h = rw back
+    next-as P.nowhere P.nowhere h = refl
+    next-as P.nowhere (P.row g) h = h g refl
+
+    pub next-is : (n : ℕ) → n < length (M .rows) → Framed M b t fs F n
+        → D.nextIn M (rowOf (M .rows) n .next) (rowOf (M .rows) n .parent) F up w ≡ walked b (C.nextWalk t fs (rowIn t (b + n) .next) (rowIn t (b + n) .parent)) up w
+    next-is n h f = rw (s .rows n h .next, s .rows n h .parent) (next-as (rowOf (M .rows) n .next) (rowOf (M .rows) n .parent) (λ g e.
+        let k : g < n = s .before n g h e in
+        end-is g (omega arith) (f .once g (parent n g e))))
+
+    -- what the walk is in each role
+    pub listed-is : (n : ℕ) → n < length (M .rows) → rowOf (M .rows) n .role ≡ P.listed
+        → C.behindWalk t fs (b + n) ≡ C.nextWalk t fs (rowIn t (b + n) .next) (rowIn t (b + n) .parent)
+    unfolding C.behindWalk C.behindAs
+    listed-is n h e = rw (s .rows n h .role, e)
+
+    pub up-is : (n : ℕ) → n < length (M .rows) → D.upFrom M (rowOf (M .rows) n .parent) up w ≡ walked b (C.upWalk (rowIn t (b + n) .parent)) up w
+    up-is n h = rw (s .rows n h .parent) (up-as (rowOf (M .rows) n .parent))
+
+-- ---- "Each pass is tested first"
+passes-as : (l : F.Result) (p : ℤ) (z : ℤ) {E : Type 0} (M : D.Machine E) → C.passesBy l (F.is p) z ≡ D.within (limitOf l) p z
+unfolding C.passesBy C.isDown
+passes-as (F.is q) (pos n) z M = refl
+passes-as (F.is q) (negsuc n) z M = refl
+passes-as F.outOfRange p z M = refl
+passes-as F.zeroDivisor p z M = refl
+
+pub passes-is : {E : Type 0} (M : D.Machine E) (b : ℕ) (f : Frame) (d : D.Frame) (z : ℤ) → FrameShown b f d
+    → C.passesBy (fromStored (f .limit)) (fromStored (f .step)) z ≡ D.passes d z
+passes-is M b f d z s = rw (s .step, ← s .limit) (passes-as (fromStored (f .limit)) (d .step) z M)
+
+-- ---- a walk that goes up goes to the parent
+end-up : (x : Statement) (o : Bool) (g p : ℕ) → C.endAs x o g ≡ Up p → p ≡ g
+unfolding C.endAs
+end-up Null o g p e = cc
+end-up Declare o g p e = cc
+end-up Procedure o g p e = cc
+end-up Assign o g p e = cc
+end-up Conditional o g p e = cc
+end-up Group o g p e = cc
+end-up Iterated true g p e = cc
+end-up Iterated false g p e = cc
+end-up Goto o g p e = cc
+end-up Include o g p e = cc
+end-up Activate o g p e = cc
+end-up Deactivate o g p e = cc
+end-up Return o g p e = cc
+
+pub record Upwards (b : ℕ) (rs : List P.Row) (n p : ℕ) : Type 0 where
+  pub group : ℕ
+  pub stands : rowOf rs n .parent ≡ P.row group
+  pub is : p ≡ b + group
+
+module _ (b : ℕ) (t : List ℕ) (fs : Frames) (rs : List P.Row) (n p : ℕ) where
+  above-as : (x : P.Link) → rowOf rs n .parent ≡ x → C.upWalk (linkOf b x) ≡ Up p → Upwards b rs n p
+  unfolding C.upWalk
+  above-as P.nowhere e h = let z : _≡_ {A = ℕ} 0 1 = cc in absurd (omega arith)
+  above-as (P.row g) e h = record { group = g; stands = e; is = cc }
+
+  next-up-as : (y x : P.Link) → rowOf rs n .parent ≡ x → C.nextWalk t fs (linkOf b y) (linkOf b x) ≡ Up p → Upwards b rs n p
+  unfolding C.nextWalk C.endWalk
+  next-up-as (P.row m) x e h = let z : _≡_ {A = ℕ} 0 1 = cc in absurd (omega arith)
+  next-up-as P.nowhere P.nowhere e h = let z : _≡_ {A = ℕ} 0 1 = cc in absurd (omega arith)
+  next-up-as P.nowhere (P.row g) e h = record { group = g; stands = e; is = end-up _ _ (b + g) p h }
+
+  role-up-as : (r : P.Role) (y x : P.Link) → rowOf rs n .parent ≡ x → C.behindAs (roleOf r) t fs (linkOf b y) (linkOf b x) ≡ Up p → Upwards b rs n p
+  unfolding C.behindAs
+  role-up-as P.listed y x e h = next-up-as y x e h
+  role-up-as P.thenPart y x e h = above-as x e h
+  role-up-as P.elsePart y x e h = above-as x e h
+
+  pub behind-up : Shown b t rs → n < length rs → C.behindWalk t fs (b + n) ≡ Up p → Upwards b rs n p
+  unfolding C.behindWalk
+  behind-up s h e = role-up-as (rowOf rs n .role) (rowOf rs n .next) (rowOf rs n .parent) refl
+      (rw (s .rows n h .role, s .rows n h .next, s .rows n h .parent) at e)
+
+pub framed-up : {E : Type 0} (M : D.Machine E) (b : ℕ) (t : List ℕ) (fs : Frames) (F : List D.Frame) (n g : ℕ) → Framed M b t fs F n → rowOf (M .rows) n .parent ≡ P.row g → Framed M b t fs F g
+framed-up M b t fs F n g f e = record { once = λ k a. f .once k (outer n g k e a) }
+
+-- ---- behind a row, where nothing is put out on the way
+module _ {E : Type 0} (M : D.Machine E) (quiet : (x : P.Stretch) (w : World) → M .out x w ≡ good tt w) (b : ℕ) (t : List ℕ) (s : Shown b t (M .rows)) (fs : Frames) (F : List D.Frame) where
+  -- one turn
+  turn-as : (x : P.Role) (n : ℕ) (up : ℕ → World → Res E D.Next) (w : World) → n < length (M .rows) → Framed M b t fs F n → rowOf (M .rows) n .role ≡ x
+      → D.behindAs M x n F up w ≡ walked b (C.behindWalk t fs (b + n)) up w
+  unfolding C.behindWalk C.behindAs
+  turn-as P.listed n up w h f e = rw (quiet, s .rows n h .role, e) (next-is M b F up w t s fs n h f)
+  turn-as P.thenPart n up w h f e = rw (s .rows n h .role, e) (up-is M b F up w t s fs n h)
+  turn-as P.elsePart n up w h f e = rw (s .rows n h .role, e) (up-is M b F up w t s fs n h)
+
+  -- what follows a walk
+  step-as : (n k : ℕ) (w : World) (up : ℕ → World → Res E D.Next) → n < length (M .rows)
+      → ((g : ℕ) → rowOf (M .rows) n .parent ≡ P.row g → up g w ≡ good (nextFrom b (C.behindOn t fs k (b + g))) w)
+      → (x : Walk) → C.behindWalk t fs (b + n) ≡ x → walked b x up w ≡ good (nextFrom b (C.follow x (λ g. C.behindOn t fs k g))) w
+  step-as n k w up h i (Arrives x) e = refl
+  step-as n k w up h i (Up p) e =
+      let q = behind-up b t fs (M .rows) n p s h e in
+      let z : p - b ≡ q .group = omega (arith, q .is) in
+      rw (z, i (q .group) (q .stands), ← q .is)
+
+  behind-on : (f k n : ℕ) (w : World) → n < f → n < k → n < length (M .rows) → Framed M b t fs F n
+      → D.behindOn M F f n w ≡ good (nextFrom b (C.behindOn t fs k (b + n))) w
+  unfolding D.behindOn C.behindOn
+  behind-on zero k n w h i l fr = absurd (omega arith)
+  behind-on (suc f) zero n w h i l fr = absurd (omega arith)
+  behind-on (suc f) (suc k) n w h i l fr =
+      turn-as (rowOf (M .rows) n .role) n (λ g v. D.behindOn M F f g v) w l fr refl
+      ∙ step-as n k w (λ g v. D.behindOn M F f g v) l (λ g e.
+      let lt : g < n = s .before n g l e in
+      behind-on f k g w (omega arith) (omega arith) (omega arith) (framed-up M b t fs F n g fr e)) (C.behindWalk t fs (b + n)) refl
+
+  -- THE FUNCTION `behind` of the code is the definition's
+  pub behind-is : (n : ℕ) (w : World) → n < length (M .rows) → Framed M b t fs F n → D.behind M F n w ≡ good (nextFrom b (C.behindOn t fs (b + n + 1) (b + n))) w
+  behind-is n w l fr = behind-on (suc n) (b + n + 1) n w (omega arith) (omega arith) l fr
+
+  -- and so is `arrived` of the walk to a row, of the end of a group, of a group's beginning
+  arrived-as : (x : Walk) (w : World) → ((p : ℕ) → x ≡ Up p → D.behind M F (p - b) w ≡ good (nextFrom b (C.behindOn t fs (p + 1) p)) w)
+      → walked b x (λ g v. D.behind M F g v) w ≡ good (nextFrom b (C.arrivedAt t fs x)) w
+  unfolding C.arrivedAt
+  arrived-as (Arrives x) w h = refl
+  arrived-as (Up p) w h = h p refl
+
+  behind-at : (g p : ℕ) (w : World) → p ≡ b + g → g < length (M .rows) → Framed M b t fs F g → D.behind M F (p - b) w ≡ good (nextFrom b (C.behindOn t fs (p + 1) p)) w
+  behind-at g p w e h fr = let z : p - b ≡ g = omega arith in rw (z, e) (behind-is g w h fr)
+
+  pub end-arrives : (g : ℕ) (w : World) → g < length (M .rows) → Framed M b t fs F g → (D.isIterated (rowOf (M .rows) g .statement) ≡ true → C.frameIn t fs (b + g) .«is_once» ≡ D.isOnce g F)
+      → D.endOf M F g w ≡ good (nextFrom b (C.arrivedAt t fs (C.endWalk t fs (b + g)))) w
+  unfolding C.endWalk
+  end-arrives g w h fr o = end-is M b F (λ k v. D.behind M F k v) w t s fs g h o
+      ∙ arrived-as (C.endWalk t fs (b + g)) w (λ p e. behind-at g p w (end-up _ _ (b + g) p e) h fr)
+
+  first-as : (x : P.Link) (g : ℕ) (w : World) → D.endOf M F g w ≡ good (nextFrom b (C.arrivedAt t fs (C.endWalk t fs (b + g)))) w
+      → D.firstIn M x g F w ≡ good (nextFrom b (C.arrivedAt t fs (C.firstAs (linkOf b x) t fs (b + g)))) w
+  unfolding C.firstAs C.arrivedAt
+  first-as (P.row m) g w h = rw back
+  first-as P.nowhere g w h = h
+
+  pub first-arrives : (g : ℕ) (w : World) → g < length (M .rows) → Framed M b t fs F g → (D.isIterated (rowOf (M .rows) g .statement) ≡ true → C.frameIn t fs (b + g) .«is_once» ≡ D.isOnce g F)
+      → D.firstIn M (rowOf (M .rows) g .child) g F w ≡ good (nextFrom b (C.arrivedAt t fs (C.firstWalk t fs (b + g)))) w
+  unfolding C.firstWalk
+  first-arrives g w h fr o = rw (s .rows g h .child) (first-as (rowOf (M .rows) g .child) g w (end-arrives g w h fr o))
+
+-- ---- IF, and where a GOTO lands, whatever is put out
+module _ {E : Type 0} (M : D.Machine E) (b : ℕ) (t : List ℕ) (s : Shown b t (M .rows)) (fs : Frames) (F : List D.Frame) (w : World) where
+  chosen-as : (x : P.Link) (n : ℕ) → D.chosen M x F n w ≡ D.onward M F (walked b (C.linkWalk (linkOf b x) (b + n)) (λ g v. D.behind M F g v) w)
+  unfolding C.linkWalk
+  chosen-as (P.row m) n = rw back
+  chosen-as P.nowhere n = rw back
+
+  pub chosen-is : (n : ℕ) (c : Bool) → n < length (M .rows) → D.chosen M (D.alternativeOf M c n) F n w ≡ D.onward M F (walked b (C.chosenWalk t (b + n) c) (λ g v. D.behind M F g v) w)
+  unfolding C.chosenWalk
+  chosen-is n true h = rw (s .rows n h .child) (chosen-as (rowOf (M .rows) n .child) n)
+  chosen-is n false h = rw (s .rows n h .other) (chosen-as (rowOf (M .rows) n .other) n)
+
+  pub landing-row-is : (r : ℕ) → D.follow M (D.toRow r) F w ≡ D.onward M F (walked b (C.landingWalk t fs (b + r) false) (λ g v. D.behind M F g v) w)
+  unfolding C.landingWalk
+  landing-row-is r = rw back
+
+  pub landing-end-is : (r : ℕ) → r < length (M .rows) → (D.isIterated (rowOf (M .rows) r .statement) ≡ true → C.frameIn t fs (b + r) .«is_once» ≡ D.isOnce r F)
+      → D.follow M (D.toEnd r) F w ≡ D.onward M F (walked b (C.landingWalk t fs (b + r) true) (λ g v. D.behind M F g v) w)
+  unfolding C.landingWalk
+  landing-end-is r h o = ap (D.onward M F) (end-is M b F (λ g v. D.behind M F g v) w t s fs r h o)
+
+-- ---- GOTO: "It may not enter an iterated group"
+iterated-as : (x : P.Statement) → C.isIterated (kindOf x) ≡ D.isIterated x
+unfolding C.isIterated D.isIterated
+iterated-as P.null = refl
+iterated-as (P.declare ns) = refl
+iterated-as (P.procedure ns t) = refl
+iterated-as (P.assign v x) = refl
+iterated-as (P.conditional x) = refl
+iterated-as P.group = refl
+iterated-as (P.iterated v x bs) = refl
+iterated-as (P.goto v) = refl
+iterated-as (P.include ns) = refl
+iterated-as (P.activate ns) = refl
+iterated-as (P.deactivate ns) = refl
+iterated-as (P.return x) = refl
+
+same-test : (b p g : ℕ) → eqb (b + p) (b + g) ≡ eqb p g
+same-test b p g = go (eqb p g) refl
+  where
+    go : (t : Bool) → eqb p g ≡ t → eqb (b + p) (b + g) ≡ t
+    go true e = eq-eqb (b + p) (b + g) (ap (λ (k : ℕ). b + k) (eqb-true p g e))
+    go false e = ne-eqb (b + p) (b + g) (λ h. eqb-false p g e (omega arith))
+
+turned : (p g : ℕ) → eqb g p ≡ eqb p g
+turned p g = go (eqb p g) refl
+  where
+    go : (t : Bool) → eqb p g ≡ t → eqb g p ≡ t
+    go true e = eq-eqb g p (sym (eqb-true p g e))
+    go false e = ne-eqb g p (λ h. eqb-false p g e (sym h))
+
+in-list : (g p : ℕ) (t : Bool) (l : List ℕ) → (eqb p g ≡ true → t ≡ true) → D.isIn g (cond t (p ∷ l) l) ≡ cond (eqb p g) true (D.isIn g l)
+unfolding D.isIn
+in-list g p t l h = go (eqb p g) refl t h
+  where
+    go : (o : Bool) → eqb p g ≡ o → (t : Bool) → (eqb p g ≡ true → t ≡ true) → D.isIn g (cond t (p ∷ l) l) ≡ cond o true (D.isIn g l)
+    go true e true h = rw (turned p g, e)
+    go true e false h = let z : false ≡ true = h e in let y : _≡_ {A = ℕ} 0 1 = cc in absurd (omega arith)
+    go false e true h = rw (turned p g, e)
+    go false e false h = refl
+
+are-list : (q : ℕ) (t : Bool) (l ys : List ℕ) → D.areIn (cond t (q ∷ l) l) ys ≡ cond (cond t (D.isIn q ys) true) (D.areIn l ys) false
+unfolding D.areIn
+are-list q true l ys = go (D.isIn q ys)
+  where
+    go : (o : Bool) → (o && D.areIn l ys) ≡ cond o (D.areIn l ys) false
+    go true = refl
+    go false = refl
+are-list q false l ys = refl
+
+module _ (b : ℕ) (t : List ℕ) (rs : List P.Row) (s : Shown b t rs) where
+  parent-at : (n : ℕ) → n < length rs → C.parentAt t (b + n) ≡ linkOf b (rowOf rs n .parent)
+  unfolding C.parentAt
+  parent-at n h = s .rows n h .parent
+
+  iterated-at : (n : ℕ) → n < length rs → C.iteratedAt t (b + n) ≡ D.isIterated (rowOf rs n .statement)
+  unfolding C.iteratedAt
+  iterated-at n h = rw (s .rows n h .kind) (iterated-as (rowOf rs n .statement))
+
+  -- a group is around a row
+  module _ (g : ℕ) (i : D.isIterated (rowOf rs g .statement) ≡ true) where
+    around-none : (k : ℕ) → false ≡ C.aroundOn t (b + g) k Nowhere
+    unfolding C.aroundOn
+    around-none zero = refl
+    around-none (suc k) = refl
+
+    around-link : (k : ℕ) (from : ℕ → List ℕ) (x : P.Link) → ((q : ℕ) → x ≡ P.row q → D.isIn g (from q) ≡ C.aroundOn t (b + g) k (To (b + q)))
+        → D.isIn g (D.groupsUp x from) ≡ C.aroundOn t (b + g) k (linkOf b x)
+    unfolding D.isIn
+    around-link k from P.nowhere h = around-none k
+    around-link k from (P.row q) h = h q refl
+
+    around-from : (f k p : ℕ) → p < f → p < k → p < length rs → D.isIn g (D.groupsFrom rs f p) ≡ C.aroundOn t (b + g) k (To (b + p))
+    unfolding D.groupsFrom C.aroundOn
+    around-from zero k p h j l = absurd (omega arith)
+    around-from (suc f) zero p h j l = absurd (omega arith)
+    around-from (suc f) (suc k) p h j l =
+        in-list g p (D.isIterated (rowOf rs p .statement)) (D.groupsUp (rowOf rs p .parent) (λ q. D.groupsFrom rs f q)) (λ e. rw (eqb-true p g e) i)
+        ∙ ap (λ (z : Bool). cond (eqb p g) true z) (around-link k (λ q. D.groupsFrom rs f q) (rowOf rs p .parent) (λ q e.
+        let m : q < p = s .before p q l e in
+        around-from f k q (omega arith) (omega arith) (omega arith)))
+        ∙ rw (same-test b p g, parent-at p l)
+
+  module _ (n : ℕ) (ln : n < length rs) (small : length rs ≤ 2048) where
+    in-around : (q : ℕ) → D.isIterated (rowOf rs q .statement) ≡ true → C.aroundOn t (b + q) 2048 (C.parentAt t (b + n)) ≡ D.isIn q (D.groupsAround rs (rowOf rs n .parent))
+    in-around q i = rw (parent-at n ln) (sym (around-link q i 2048 (λ g. D.groupsFrom rs (suc g) g) (rowOf rs n .parent) (λ p e.
+        let m : p < n = s .before n p ln e in
+        around-from q i (suc p) 2048 p (omega arith) (omega arith) (omega arith))))
+
+    stand-is : (q : ℕ) → q < length rs → C.mayStand t (b + q) (b + n) ≡ cond (D.isIterated (rowOf rs q .statement)) (D.isIn q (D.groupsAround rs (rowOf rs n .parent))) true
+    unfolding C.mayStand
+    stand-is q l = rw (iterated-at q l) (go (D.isIterated (rowOf rs q .statement)) refl)
+      where
+        go : (o : Bool) → D.isIterated (rowOf rs q .statement) ≡ o
+            → cond o (C.aroundOn t (b + q) 2048 (C.parentAt t (b + n))) true ≡ cond o (D.isIn q (D.groupsAround rs (rowOf rs n .parent))) true
+        go true e = in-around q e
+        go false e = refl
+
+    go-none : (k : ℕ) → true ≡ C.mayGoOn t (b + n) k Nowhere
+    unfolding C.mayGoOn
+    go-none zero = refl
+    go-none (suc k) = refl
+
+    go-link : (k : ℕ) (from : ℕ → List ℕ) (x : P.Link) → ((q : ℕ) → x ≡ P.row q → D.areIn (from q) (D.groupsAround rs (rowOf rs n .parent)) ≡ C.mayGoOn t (b + n) k (To (b + q)))
+        → D.areIn (D.groupsUp x from) (D.groupsAround rs (rowOf rs n .parent)) ≡ C.mayGoOn t (b + n) k (linkOf b x)
+    unfolding D.areIn
+    go-link k from P.nowhere h = go-none k
+    go-link k from (P.row q) h = h q refl
+
+    go-from : (f k q : ℕ) → q < f → q < k → q < length rs → D.areIn (D.groupsFrom rs f q) (D.groupsAround rs (rowOf rs n .parent)) ≡ C.mayGoOn t (b + n) k (To (b + q))
+    unfolding D.groupsFrom C.mayGoOn
+    go-from zero k q h j l = absurd (omega arith)
+    go-from (suc f) zero q h j l = absurd (omega arith)
+    go-from (suc f) (suc k) q h j l =
+        are-list q (D.isIterated (rowOf rs q .statement)) (D.groupsUp (rowOf rs q .parent) (λ p. D.groupsFrom rs f p)) (D.groupsAround rs (rowOf rs n .parent))
+        ∙ ap (λ (z : Bool). cond (cond (D.isIterated (rowOf rs q .statement)) (D.isIn q (D.groupsAround rs (rowOf rs n .parent))) true) z false)
+        (go-link k (λ p. D.groupsFrom rs f p) (rowOf rs q .parent) (λ p e.
+        let m : p < q = s .before q p l e in
+        go-from f k p (omega arith) (omega arith) (omega arith)))
+        ∙ rw (stand-is q l, parent-at q l)
+
+    -- THE FUNCTION `may_go` of the code is the definition's
+    pub may-go-is : (r : ℕ) (e : Bool) → r < length rs → D.mayGo rs n r e ≡ C.mayGoOn t (b + n) 2048 (C.labelFrom t (b + r) e)
+    unfolding D.mayGo C.labelFrom
+    may-go-is r true l = go-from (suc r) 2048 r (omega arith) (omega arith) l
+    may-go-is r false l = rw (parent-at r l) (go-link 2048 (λ g. D.groupsFrom rs (suc g) g) (rowOf rs r .parent) (λ p e.
+        let m : p < r = s .before r p l e in
+        go-from (suc p) 2048 p (omega arith) (omega arith) (omega arith)))
+
+-- ---- the frames: what is around a row is before it and, if it is an iterated group, less deep
+module _ (b : ℕ) (t : List ℕ) (rs : List P.Row) (s : Shown b t rs) where
+  pub around-before : (n g : ℕ) → n < length rs → Around rs n g → g < n
+  around-before n g h (parent _ _ e) = s .before n g h e
+  around-before n g h (outer _ p _ e a) =
+      let k : p < n = s .before n p h e in
+      let l : g < p = around-before p g (omega arith) a in
+      omega arith
+
+  pub around-depth : (n g : ℕ) → n < length rs → Around rs n g → D.isIterated (rowOf rs g .statement) ≡ true → rowIn t (b + g) .depth < rowIn t (b + n) .depth
+  around-depth n g h (parent _ _ e) i = s .inner n g h e i
+  around-depth n g h (outer _ p _ e a) i =
+      let k : p < n = s .before n p h e in
+      let l : rowIn t (b + g) .depth < rowIn t (b + p) .depth = around-depth p g (omega arith) a i in
+      let m : rowIn t (b + p) .depth ≤ rowIn t (b + n) .depth = s .level n p h e in
+      omega arith
+
+-- rows in the same place have the same groups around them
+pub framed-same : {E : Type 0} (M : D.Machine E) (b : ℕ) (t : List ℕ) (fs : Frames) (F : List D.Frame) (n m : ℕ) → rowOf (M .rows) m .parent ≡ rowOf (M .rows) n .parent → Framed M b t fs F n → Framed M b t fs F m
+framed-same M b t fs F n m e f = record { once = λ g a. f .once g (moved g a) }
+  where
+    moved : (g : ℕ) → Around (M .rows) m g → Around (M .rows) n g
+    moved g (parent _ _ h) = parent n g (sym e ∙ h)
+    moved g (outer _ p _ h a) = outer n p g (sym e ∙ h) a
+
+-- nothing is around a row of the first list
+pub framed-first : {E : Type 0} (M : D.Machine E) (b : ℕ) (t : List ℕ) (fs : Frames) (F : List D.Frame) (n : ℕ) → rowOf (M .rows) n .parent ≡ P.nowhere → Framed M b t fs F n
+framed-first M b t fs F n e = record { once = λ g a i. none g a }
+  where
+    none : (g : ℕ) → Around (M .rows) n g → C.frameIn t fs (b + g) .«is_once» ≡ D.isOnce g F
+    none g (parent _ _ h) = let z : _≡_ {A = ℕ} 0 1 = cc in absurd (omega arith)
+    none g (outer _ p _ h a) = let z : _≡_ {A = ℕ} 0 1 = cc in absurd (omega arith)
+
+frame-as : (xs ys : List Frame) (k g : ℕ) → getD xs k C.blankFrame ≡ getD ys k C.blankFrame → C.frameAt xs k g ≡ C.frameAt ys k g
+unfolding C.frameAt
+frame-as xs ys k g e = rw e
+
+-- ---- a group is entered: its frame goes to its depth, and is the newest
+module _ {E : Type 0} (M : D.Machine E) (b : ℕ) (t : List ℕ) (s : Shown b t (M .rows)) (fs : Frames) (F : List D.Frame) (whole : length (fs .items) ≡ 16)
+    (g : ℕ) (lg : g < length (M .rows)) (i : D.isIterated (rowOf (M .rows) g .statement) ≡ true) (f : Frame) (d : D.Frame) (sh : FrameShown b f d) (own : d .group ≡ g) where
+  deep : rowIn t (b + g) .depth < 16
+  deep = s .shallow g lg i
+
+  items-are : C.framesWith t fs (b + g) f .items ≡ set (fs .items) (rowIn t (b + g) .depth) f
+  unfolding C.framesWith
+  items-are = rw (lt-ltb (rowIn t (b + g) .depth) 16 deep)
+
+  own-frame : C.frameIn t (C.framesWith t fs (b + g) f) (b + g) ≡ f
+  unfolding C.frameIn C.frameAt C.leadsTo
+  own-frame =
+      let e : getD (set (fs .items) (rowIn t (b + g) .depth) f) (rowIn t (b + g) .depth) C.blankFrame ≡ f = getD-set-same (fs .items) (rowIn t (b + g) .depth) f C.blankFrame (omega (arith, deep, whole)) in
+      rw (items-are, e, lt-ltb (rowIn t (b + g) .depth) 16 deep, sh .group, own, eq-eqb (b + g) (b + g) refl)
+
+  other-frame : (k : ℕ) → rowIn t (b + k) .depth < rowIn t (b + g) .depth → C.frameIn t (C.framesWith t fs (b + g) f) (b + k) ≡ C.frameIn t fs (b + k)
+  unfolding C.frameIn
+  other-frame k h =
+      let e : getD (set (fs .items) (rowIn t (b + g) .depth) f) (rowIn t (b + k) .depth) C.blankFrame ≡ getD (fs .items) (rowIn t (b + k) .depth) C.blankFrame =
+      getD-set-other (fs .items) (rowIn t (b + g) .depth) (rowIn t (b + k) .depth) f C.blankFrame (λ q. absurd (omega arith)) in
+      rw items-are (frame-as (set (fs .items) (rowIn t (b + g) .depth) f) (fs .items) (rowIn t (b + k) .depth) (b + k) e)
+
+  newest-own : D.isOnce g (d ∷ F) ≡ d .isOnce
+  unfolding D.isOnce
+  newest-own = rw (eq-eqb (d .group) g own)
+
+  newest-other : (k : ℕ) → k < g → D.isOnce k (d ∷ F) ≡ D.isOnce k F
+  unfolding D.isOnce
+  newest-other k h = rw (own, ne-eqb g k (λ e. absurd (omega arith)))
+
+  once-in : Framed M b t fs F g → (k : ℕ) → Around (M .rows) g k → D.isIterated (rowOf (M .rows) k .statement) ≡ true
+      → C.frameIn t (C.framesWith t fs (b + g) f) (b + k) .«is_once» ≡ D.isOnce k (d ∷ F)
+  once-in fr k a j = rw (other-frame k (around-depth b t (M .rows) s g k lg a j), newest-other k (around-before b t (M .rows) s g k lg a)) (fr .once k a j)
+
+  pub framed-enter : (m : ℕ) → rowOf (M .rows) m .parent ≡ P.row g → Framed M b t fs F g → Framed M b t (C.framesWith t fs (b + g) f) (d ∷ F) m
+  framed-enter m e fr = record { once = λ k a j. go k a j }
+    where
+      go : (k : ℕ) → Around (M .rows) m k → D.isIterated (rowOf (M .rows) k .statement) ≡ true → C.frameIn t (C.framesWith t fs (b + g) f) (b + k) .«is_once» ≡ D.isOnce k (d ∷ F)
+      go k (parent _ _ h) j =
+          let z : k ≡ g = cc in
+          rw (z, own-frame, newest-own) (sh .once)
+      go k (outer _ p _ h a) j =
+          let z : p ≡ g = cc in
+          once-in fr k (rw z at a) j
+
+-- ---- a GOTO: the iterated groups around its label are around where the run stands
+no : (A : Type 0) → false ≡ true → A
+no A e = let z : _≡_ {A = ℕ} 0 1 = cc in absurd (omega arith)
+
+-- one of the groups from a row upwards: the row itself, or one around it
+pub data Within (rs : List P.Row) (p k : ℕ) : Type 0 where
+  itself : k ≡ p → Within rs p k
+  outside : Around rs p k → Within rs p k
+
+module _ (rs : List P.Row) (k : ℕ) where
+  stands-up : (p : ℕ) (x : P.Link) (from : ℕ → List ℕ) → rowOf rs p .parent ≡ x → ((q : ℕ) → D.isIn k (from q) ≡ true → Within rs q k)
+      → D.isIn k (D.groupsUp x from) ≡ true → Around rs p k
+  unfolding D.isIn
+  stands-up p P.nowhere from e h i = no _ i
+  stands-up p (P.row q) from e h i = go (h q i)
+    where
+      go : Within rs q k → Around rs p k
+      go (itself f) = parent p k (rw f e)
+      go (outside a) = outer p q k e a
+
+  listed-up : (f p : ℕ) → D.isIn k (D.groupsFrom rs f p) ≡ true → Within rs p k
+  unfolding D.groupsFrom D.isIn
+  listed-up zero p i = no _ i
+  listed-up (suc f) p i = one (λ j. outside (stands-up p (rowOf rs p .parent) (λ q. D.groupsFrom rs f q) refl (λ q l. listed-up f q l) j)) (D.isIterated (rowOf rs p .statement)) i
+    where
+      two : (D.isIn k (D.groupsUp (rowOf rs p .parent) (λ q. D.groupsFrom rs f q)) ≡ true → Within rs p k)
+          → (o : Bool) → eqb k p ≡ o → (o || D.isIn k (D.groupsUp (rowOf rs p .parent) (λ q. D.groupsFrom rs f q))) ≡ true → Within rs p k
+      two up true e j = itself (eqb-true k p e)
+      two up false e j = up j
+
+      one : (D.isIn k (D.groupsUp (rowOf rs p .parent) (λ q. D.groupsFrom rs f q)) ≡ true → Within rs p k) → (t : Bool)
+          → D.isIn k (cond t (p ∷ D.groupsUp (rowOf rs p .parent) (λ q. D.groupsFrom rs f q)) (D.groupsUp (rowOf rs p .parent) (λ q. D.groupsFrom rs f q))) ≡ true → Within rs p k
+      one up true j = two up (eqb k p) refl j
+      one up false j = up j
+
+  -- and back, for an iterated group
+  in-either : (p : ℕ) (t : Bool) (l : List ℕ) → D.isIn k l ≡ true → D.isIn k (cond t (p ∷ l) l) ≡ true
+  unfolding D.isIn
+  in-either p true l i = go (eqb k p)
+    where
+      go : (o : Bool) → (o || D.isIn k l) ≡ true
+      go true = refl
+      go false = i
+  in-either p false l i = i
+
+  in-first : (l : List ℕ) → D.isIn k (k ∷ l) ≡ true
+  unfolding D.isIn
+  in-first l = rw (eq-eqb k k refl)
+
+  up-listed : (b : ℕ) (t : List ℕ) → Shown b t rs → D.isIterated (rowOf rs k .statement) ≡ true → (f p : ℕ) → p < f → p < length rs → Within rs p k → D.isIn k (D.groupsFrom rs f p) ≡ true
+  unfolding D.groupsFrom
+  up-listed b t s i zero p h l a = absurd (omega arith)
+  up-listed b t s i (suc f) p h l (itself e) = rw (← e, i) (in-first (D.groupsUp (rowOf rs k .parent) (λ q. D.groupsFrom rs f q)))
+  up-listed b t s i (suc f) p h l (outside (parent _ _ e)) =
+      let m : k < p = s .before p k l e in
+      in-either p (D.isIterated (rowOf rs p .statement)) (D.groupsUp (rowOf rs p .parent) (λ q. D.groupsFrom rs f q)) (rw e (up-listed b t s i f k (omega arith) (omega arith) (itself refl)))
+  up-listed b t s i (suc f) p h l (outside (outer _ q _ e a)) =
+      let m : q < p = s .before p q l e in
+      in-either p (D.isIterated (rowOf rs p .statement)) (D.groupsUp (rowOf rs p .parent) (λ q. D.groupsFrom rs f q)) (rw e (up-listed b t s i f q (omega arith) (omega arith) (outside a)))
+
+  in-both : (xs ys : List ℕ) → D.areIn xs ys ≡ true → D.isIn k xs ≡ true → D.isIn k ys ≡ true
+  unfolding D.areIn D.isIn
+  in-both [] ys h i = no _ i
+  in-both (x ∷ xs) ys h i = go (λ h i. in-both xs ys h i) (D.isIn x ys) refl h (eqb k x) refl i
+    where
+      go : (D.areIn xs ys ≡ true → D.isIn k xs ≡ true → D.isIn k ys ≡ true)
+          → (a : Bool) → D.isIn x ys ≡ a → (a && D.areIn xs ys) ≡ true → (o : Bool) → eqb k x ≡ o → (o || D.isIn k xs) ≡ true → D.isIn k ys ≡ true
+      go rest true e h true f i = rw (eqb-true k x f) e
+      go rest true e h false f i = rest h i
+      go rest false e h o f i = no _ h
+
+module _ {E : Type 0} (M : D.Machine E) (b : ℕ) (t : List ℕ) (s : Shown b t (M .rows)) (fs : Frames) (F : List D.Frame) (n r : ℕ) (ln : n < length (M .rows)) (lr : r < length (M .rows)) (fr : Framed M b t fs F n) where
+  here : (k : ℕ) → D.isIn k (D.groupsAround (M .rows) (rowOf (M .rows) n .parent)) ≡ true → Around (M .rows) n k
+  here k i = stands-up (M .rows) k n (rowOf (M .rows) n .parent) (λ g. D.groupsFrom (M .rows) (suc g) g) refl (λ q j. listed-up (M .rows) k (suc q) q j) i
+
+  -- at the END of a row: the row's own frame, and those of the groups around it
+  pub end-own : D.mayGo (M .rows) n r true ≡ true → D.isIterated (rowOf (M .rows) r .statement) ≡ true → C.frameIn t fs (b + r) .«is_once» ≡ D.isOnce r F
+  unfolding D.mayGo
+  end-own m i = fr .once r (here r (in-both (M .rows) r (D.groupsFrom (M .rows) (suc r) r) _ m (up-listed (M .rows) r b t s i (suc r) r (omega arith) lr (itself refl)))) i
+
+  pub framed-end : D.mayGo (M .rows) n r true ≡ true → Framed M b t fs F r
+  unfolding D.mayGo
+  framed-end m = record { once = λ k a i. fr .once k (here k (in-both (M .rows) k (D.groupsFrom (M .rows) (suc r) r) _ m (up-listed (M .rows) k b t s i (suc r) r (omega arith) lr (outside a)))) i }
+
+  -- at a row
+  around-label : (k : ℕ) → D.isIterated (rowOf (M .rows) k .statement) ≡ true → Around (M .rows) r k → D.isIn k (D.groupsAround (M .rows) (rowOf (M .rows) r .parent)) ≡ true
+  around-label k i (parent _ _ e) =
+      let m : k < r = s .before r k lr e in
+      rw e (up-listed (M .rows) k b t s i (suc k) k (omega arith) (omega arith) (itself refl))
+  around-label k i (outer _ p _ e a) =
+      let m : p < r = s .before r p lr e in
+      rw e (up-listed (M .rows) k b t s i (suc p) p (omega arith) (omega arith) (outside a))
+
+  pub framed-goto : D.mayGo (M .rows) n r false ≡ true → Framed M b t fs F r
+  unfolding D.mayGo
+  framed-goto m = record { once = λ k a i. fr .once k (here k (in-both (M .rows) k (D.groupsAround (M .rows) (rowOf (M .rows) r .parent)) _ m (around-label k i a))) i }

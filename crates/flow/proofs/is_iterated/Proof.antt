@@ -1,0 +1,113 @@
+-- A case for each statement.
+use borrow.Author.Needs.{needs}
+use Rattle.flow.proofs.is_iterated.Statement.{statement}
+use Rattle.flow.proofs.is_iterated.Tie as tie
+use Rattle.flow.proofs.is_iterated.Reads as reads
+use Rattle.flow.proofs.is_iterated.Lts as lts
+use Rattle.rows.proofs.row_at.Reads as row-at-reads
+use Rattle.flow.proofs.Steps.{iterated-null, iterated-declare, iterated-procedure, iterated-assign, iterated-conditional, iterated-group, iterated-iterated, iterated-goto, iterated-include, iterated-activate, iterated-deactivate, iterated-return}
+
+row-at-requires : tie.Need-row-at-requires
+row-at-requires c κs = search needs
+
+enum-told : tie.Need-enum-told
+enum-told c = search needs
+
+enum-told-2 : tie.Need-enum-told-2
+enum-told-2 c = search needs
+
+enum-told-3 : tie.Need-enum-told-3
+enum-told-3 c = search needs
+
+enum-told-4 : tie.Need-enum-told-4
+enum-told-4 c = search needs
+
+enum-told-5 : tie.Need-enum-told-5
+enum-told-5 c = search needs
+
+enum-told-6 : tie.Need-enum-told-6
+enum-told-6 c = search needs
+
+enum-told-7 : tie.Need-enum-told-7
+enum-told-7 c = search needs
+
+enum-told-8 : tie.Need-enum-told-8
+enum-told-8 c = search needs
+
+enum-told-9 : tie.Need-enum-told-9
+enum-told-9 c = search needs
+
+enum-told-10 : tie.Need-enum-told-10
+enum-told-10 c = search needs
+
+enum-told-11 : tie.Need-enum-told-11
+enum-told-11 c = search needs
+
+enum-told-12 : tie.Need-enum-told-12
+enum-told-12 c = search needs
+
+returns : tie.Need-returns
+returns c = search iterated-iterated
+
+returns-2 : tie.Need-returns-2
+returns-2 c = search iterated-null
+
+returns-3 : tie.Need-returns-3
+returns-3 c = search iterated-declare
+
+returns-4 : tie.Need-returns-4
+returns-4 c = search iterated-procedure
+
+returns-5 : tie.Need-returns-5
+returns-5 c = search iterated-assign
+
+returns-6 : tie.Need-returns-6
+returns-6 c = search iterated-conditional
+
+returns-7 : tie.Need-returns-7
+returns-7 c = search iterated-group
+
+returns-8 : tie.Need-returns-8
+returns-8 c = search iterated-goto
+
+returns-9 : tie.Need-returns-9
+returns-9 c = search iterated-include
+
+returns-10 : tie.Need-returns-10
+returns-10 c = search iterated-activate
+
+returns-11 : tie.Need-returns-11
+returns-11 c = search iterated-deactivate
+
+returns-12 : tie.Need-returns-12
+returns-12 c = search iterated-return
+
+pub is-iterated-spec : {M : Type 1} → statement M
+is-iterated-spec =
+    tie.close
+    (tie.spec
+    row-at-requires
+    enum-told
+    enum-told-2
+    enum-told-3
+    enum-told-4
+    enum-told-5
+    enum-told-6
+    enum-told-7
+    enum-told-8
+    enum-told-9
+    enum-told-10
+    enum-told-11
+    enum-told-12
+    returns
+    returns-2
+    returns-3
+    returns-4
+    returns-5
+    returns-6
+    returns-7
+    returns-8
+    returns-9
+    returns-10
+    returns-11
+    returns-12)

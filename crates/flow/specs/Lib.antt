@@ -1,0 +1,3 @@
+-- What the contracts of this crate cite beside the definition.
+pub mod Walks
+pub mod Shown

@@ -1,0 +1,99 @@
+-- What the table of rows stands for: the rows of a member begin at the record b, and their links are numbers of records.
+use Prim.Native.Nat.{ℕ, _+_, _-_, _<_, _≤_}
+use mathlib.Core.Path.{_≡_}
+use mathlib.Core.Bool.{Bool, true}
+use mathlib.Core.List.{List}
+use lib.ListN.{length}
+use Rattle.definition.specs.Program as P
+use Rattle.definition.specs.World.{World, Res, good, rowOf}
+use Rattle.definition.specs.Fixed as F
+use Rattle.definition.specs.Flow as D
+use Rattle.fixed.specs.Signed.{fromStored}
+use Rattle.rows.specs.declared.Statement.{Statement}
+use Rattle.rows.specs.declared.Statement.the-variants.{Null, Declare, Procedure, Assign, Conditional, Group, Iterated, Goto, Include, Activate, Deactivate, Return}
+use Rattle.rows.specs.declared.Role.{Role}
+use Rattle.rows.specs.declared.Role.the-variants.{Listed, ThenPart, ElsePart}
+use Rattle.rows.specs.declared.Link.{Link}
+use Rattle.rows.specs.declared.Link.the-variants.{Nowhere, To}
+use Rattle.rows.specs.declared.Row.{Row}
+use Rattle.rows.specs.Table.{rowIn}
+use Rattle.flow.specs.declared.Next.{Next}
+use Rattle.flow.specs.declared.Next.the-variants.{Begin, Again, Over}
+use Rattle.flow.specs.declared.Walk.{Walk}
+use Rattle.flow.specs.declared.Walk.the-variants.{To as Arrives, Up}
+use Rattle.flow.specs.declared.Frame.{Frame}
+use Rattle.flow.specs.declared.Frames.{Frames}
+use Rattle.flow.specs.Walks.{frameIn}
+
+abbrev pub kindOf : P.Statement → Statement
+kindOf P.null = Null
+kindOf (P.declare ns) = Declare
+kindOf (P.procedure ns t) = Procedure
+kindOf (P.assign n x) = Assign
+kindOf (P.conditional x) = Conditional
+kindOf P.group = Group
+kindOf (P.iterated n x bs) = Iterated
+kindOf (P.goto n) = Goto
+kindOf (P.include ns) = Include
+kindOf (P.activate ns) = Activate
+kindOf (P.deactivate ns) = Deactivate
+kindOf (P.return x) = Return
+
+abbrev pub roleOf : P.Role → Role
+roleOf P.listed = Listed
+roleOf P.thenPart = ThenPart
+roleOf P.elsePart = ElsePart
+
+abbrev pub linkOf : ℕ → P.Link → Link
+linkOf b P.nowhere = Nowhere
+linkOf b (P.row n) = To (b + n)
+
+-- a record stands for a row
+pub record Stands (b : ℕ) (r : Row) (d : P.Row) : Type 0 where
+  pub kind : r .statement ≡ kindOf (d .statement)
+  pub parent : r .parent ≡ linkOf b (d .parent)
+  pub role : r .role ≡ roleOf (d .role)
+  pub next : r .next ≡ linkOf b (d .next)
+  pub child : r .child ≡ linkOf b (d .child)
+  pub other : r .other ≡ linkOf b (d .other)
+
+-- THE ABSTRACTION: the table from record b on stands for rows; "A parent comes before its rows"; what stands in an iterated
+-- group is deeper than the group, and the group is not the 17th
+pub record Shown (b : ℕ) (t : List ℕ) (rs : List P.Row) : Type 0 where
+  pub rows : (n : ℕ) → n < length rs → Stands b (rowIn t (b + n)) (rowOf rs n)
+  pub before : (n g : ℕ) → n < length rs → rowOf rs n .parent ≡ P.row g → g < n
+  pub level : (n g : ℕ) → n < length rs → rowOf rs n .parent ≡ P.row g → rowIn t (b + g) .depth ≤ rowIn t (b + n) .depth
+  pub inner : (n g : ℕ) → n < length rs → rowOf rs n .parent ≡ P.row g → D.isIterated (rowOf rs g .statement) ≡ true → rowIn t (b + g) .depth < rowIn t (b + n) .depth
+  pub shallow : (g : ℕ) → g < length rs → D.isIterated (rowOf rs g .statement) ≡ true → rowIn t (b + g) .depth < 16
+
+-- the row g is around the row n
+pub data Around (rs : List P.Row) : ℕ → ℕ → Type 0 where
+  parent : (n g : ℕ) → rowOf rs n .parent ≡ P.row g → Around rs n g
+  outer : (n p g : ℕ) → rowOf rs n .parent ≡ P.row p → Around rs p g → Around rs n g
+
+-- the frames of the iterated groups around a row: the newest of each is the one at its depth
+pub record Framed {E : Type 0} (M : D.Machine E) (b : ℕ) (t : List ℕ) (fs : Frames) (F : List D.Frame) (n : ℕ) : Type 0 where
+  pub once : (g : ℕ) → Around (M .rows) n g → D.isIterated (rowOf (M .rows) g .statement) ≡ true → frameIn t fs (b + g) .«is_once» ≡ D.isOnce g F
+
+-- a frame, its numbers as stored
+abbrev pub limitOf : F.Result → D.Limit
+limitOf (F.is z) = D.limitAt z
+limitOf F.outOfRange = D.noLimit
+limitOf F.zeroDivisor = D.noLimit
+
+pub record FrameShown (b : ℕ) (f : Frame) (d : D.Frame) : Type 0 where
+  pub group : f .group ≡ To (b + d .group)
+  pub address : f .address ≡ d .at
+  pub step : fromStored (f .step) ≡ F.is (d .step)
+  pub limit : limitOf (fromStored (f .limit)) ≡ d .limit
+  pub once : f .«is_once» ≡ d .isOnce
+
+-- ---- what a walk leads to; `up` goes on behind a row
+abbrev pub nextFrom : ℕ → Next → D.Next
+nextFrom b (Begin n) = D.begin (n - b)
+nextFrom b (Again n) = D.again (n - b)
+nextFrom b Over = D.over
+
+abbrev pub walked : {E : Type 0} → ℕ → Walk → (ℕ → World → Res E D.Next) → World → Res E D.Next
+walked b (Arrives x) up w = good (nextFrom b x) w
+walked b (Up g) up w = up (g - b) w
