@@ -1,5 +1,12 @@
 // Declaring names: what a declaration makes of a name, the limit on names, and the name that is declared twice. A refusal ends the
 // run, so the names of a member are declared while it is read; which refusal comes first is decided when the member is read.
+ghost use mathlib.Core.Path.{_≡_};
+ghost use Prim.Native.Nat.{_-_};
+ghost use Rattle.definition.specs.Names as N;
+ghost use Rattle.names.specs.Table.{denotationOf};
+ghost use Rattle.names.specs.declared.Denotation.the-variants as D;
+ghost use Rattle.entering.specs.declared.Mark.the-variants as K;
+ghost use Rattle.entering.specs.Book as B;
 use definition::ValueType;
 use definition::Why;
 use limits::Names;
@@ -51,14 +58,18 @@ pub struct Spelling {
 }
 
 // The first place stays.
-fn first_of(m: Mark, p: usize) -> Mark {
+fn first_of(m: Mark, p: usize) -> Mark
+    ensures { λ r. ⌜ r ≡ B.firstOf m p ⌝ }
+{
     match m {
         Mark::Unmarked => Mark::Marked(p),
         Mark::Marked(q) => Mark::Marked(q),
     }
 }
 
-pub fn with_past(t: Tally, p: usize) -> Tally {
+pub fn with_past(t: Tally, p: usize) -> Tally
+    ensures { λ r. ⌜ r ≡ B.tallyPast t p ⌝ }
+{
     let old = t.past;
     let past = first_of(old, p);
     let second = t.second;
@@ -71,7 +82,9 @@ pub fn with_past(t: Tally, p: usize) -> Tally {
     }
 }
 
-pub fn with_second(t: Tally, p: usize) -> Tally {
+pub fn with_second(t: Tally, p: usize) -> Tally
+    ensures { λ r. ⌜ r ≡ B.tallySecond t p ⌝ }
+{
     let old = t.second;
     let past = t.past;
     let second = first_of(old, p);
@@ -84,7 +97,9 @@ pub fn with_second(t: Tally, p: usize) -> Tally {
     }
 }
 
-pub fn new_tally(member: u16, base: u16, names: u16) -> Tally {
+pub fn new_tally(member: u16, base: u16, names: u16) -> Tally
+    ensures { λ r. ⌜ r ≡ B.tallyOf member base names K.Unmarked K.Unmarked ⌝ }
+{
     Tally {
         member,
         base,
@@ -95,7 +110,9 @@ pub fn new_tally(member: u16, base: u16, names: u16) -> Tally {
 }
 
 // What a declaration in member m makes of a name that had no meaning.
-fn denotation_of(m: u16, x: Meaning) -> Denotation {
+fn denotation_of(m: u16, x: Meaning) -> Denotation
+    ensures { λ r. ⌜ r ≡ B.newDenotation m x ⌝ }
+{
     match x {
         Meaning::Variable(t) => Denotation::Variable(t),
         Meaning::EntryOnly => Denotation::EntryName(Entry {
@@ -125,7 +142,9 @@ enum Joint {
 }
 
 // An ENTRY declaration and a procedure may share a name.
-fn joint_entry(a: Entry, b: Entry) -> Joint {
+fn joint_entry(a: Entry, b: Entry) -> Joint
+    ensures { λ r. ⌜ B.jointFor r ≡ N.jointOf (denotationOf (D.EntryName a)) (denotationOf (D.EntryName b)) ⌝ }
+{
     let first = a.body;
     let second = b.body;
     match first {
@@ -141,7 +160,9 @@ fn joint_entry(a: Entry, b: Entry) -> Joint {
 }
 
 // The entry with its body and its declaration, unless one of the two is there twice.
-fn both(is_new: bool, p: Place) -> Joint {
+fn both(is_new: bool, p: Place) -> Joint
+    ensures { λ r. ⌜ B.jointFor r ≡ B.jointBoth «is_new» p ⌝ }
+{
     if is_new {
         return Joint::Joined(Denotation::EntryName(Entry {
             declared: true,
@@ -151,7 +172,9 @@ fn both(is_new: bool, p: Place) -> Joint {
     Joint::Twice
 }
 
-fn joint_of(a: Denotation, b: Denotation) -> Joint {
+fn joint_of(a: Denotation, b: Denotation) -> Joint
+    ensures { λ r. ⌜ B.jointFor r ≡ N.jointOf (denotationOf a) (denotationOf b) ⌝ }
+{
     match a {
         Denotation::Variable(_) => Joint::Twice,
         Denotation::EntryName(e) => match b {
@@ -166,13 +189,17 @@ fn joint_of(a: Denotation, b: Denotation) -> Joint {
 }
 
 // A place of the deck and a length, which both are below 65,536.
-fn identifier(base: u16, x: Spelling) -> Identifier {
+fn identifier(base: u16, x: Spelling) -> Identifier
+    ensures { λ r. ⌜ r ≡ B.identifierIn base x ⌝ }
+{
     let place = (base as usize + x.from % 65_536) % 65_536;
     let length = length_of(x) % 65_536;
     Identifier(place as u16, length as u16)
 }
 
-pub fn length_of(x: Spelling) -> usize {
+pub fn length_of(x: Spelling) -> usize
+    ensures { λ r. ⌜ r ≡ x .to - x .from ⌝ }
+{
     if x.to < x.from {
         return 0;
     }
@@ -180,7 +207,9 @@ pub fn length_of(x: Spelling) -> usize {
 }
 
 // A name that was not known.
-fn add_name(names: &mut [u16], t: Tally, x: Spelling, owner: Owner, d: Denotation) -> Tally {
+fn add_name(names: &mut [u16], t: Tally, x: Spelling, owner: Owner, d: Denotation) -> Tally
+    ensures { λ r. ⌜ B.AddedIf (now (names .entry)) t x owner d (now (names .exit)) r ⌝ }
+{
     if Names::MOST <= t.names as usize {
         return with_past(t, x.from);
     }
@@ -203,7 +232,9 @@ fn add_name(names: &mut [u16], t: Tally, x: Spelling, owner: Owner, d: Denotatio
 }
 
 // A name that was known.
-fn join_name(names: &mut [u16], t: Tally, a: Address, p: usize, d: Denotation) -> Tally {
+fn join_name(names: &mut [u16], t: Tally, a: Address, p: usize, d: Denotation) -> Tally
+    ensures { λ r. ⌜ B.JoinedIf (now (names .entry)) t (a .0) p d (now (names .exit)) r ⌝ }
+{
     let old = name_at(names, a);
     let before = old.denotation;
     let owner = old.owner;
@@ -237,7 +268,9 @@ pub fn declare(
     x: Spelling,
     owner: Owner,
     meaning: Meaning,
-) -> Tally {
+) -> Tally
+    ensures { λ r. ⌜ B.EnteredIf (now (deck .entry)) (now (s .entry)) (now (names .entry)) t x (B.bookOne (B.identifierAt (now (s .entry)) x owner) (denotationOf (B.newDenotation (t .member) meaning)) (x .from)) (now (names .exit)) r ⌝ }
+{
     let d = denotation_of(t.member, meaning);
     let found = find(deck, names, t.names, s, x.from, length_of(x), owner);
     match found {
@@ -253,7 +286,9 @@ pub enum Fault {
 }
 
 // 3 and 4 by place, and then 5.
-pub fn fault_of(t: Tally, f: Fault) -> Fault {
+pub fn fault_of(t: Tally, f: Fault) -> Fault
+    ensures { λ r. ⌜ r ≡ B.faultIn (t .past) (t .second) f ⌝ }
+{
     let past = t.past;
     match past {
         Mark::Unmarked => twice_or(t, f),
@@ -270,7 +305,9 @@ pub fn fault_of(t: Tally, f: Fault) -> Fault {
     }
 }
 
-fn twice_or(t: Tally, f: Fault) -> Fault {
+fn twice_or(t: Tally, f: Fault) -> Fault
+    ensures { λ r. ⌜ r ≡ B.twiceOr (t .second) f ⌝ }
+{
     let second = t.second;
     match f {
         Fault::Sound => match second {

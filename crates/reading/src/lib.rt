@@ -1,4 +1,9 @@
 // A member is read once, from left to right, with a list of what is open: its sentences become rows, its names are declared.
+ghost use mathlib.Core.Path.{_≡_};
+ghost use Rattle.definition.specs.Tokens.{tokenAt};
+ghost use Rattle.definition.specs.Reading as D;
+ghost use Rattle.statements.specs.Clauses as C;
+ghost use Rattle.reading.specs.State as T;
 use deck::body;
 use definition::Why;
 use entering::Fault;
@@ -40,7 +45,6 @@ use statements::plain_clause;
 use statements::procedure_clause;
 use tokens::Ending;
 use tokens::Lexeme;
-use tokens::is_nothing;
 use tokens::is_sign;
 use tokens::is_word;
 use tokens::is_word_kind;
@@ -109,7 +113,9 @@ fn pop(o: Opened) -> Opened {
     all
 }
 
-fn counts(k: Where) -> usize {
+fn counts(k: Where) -> usize
+    ensures { λ r. ⌜ r ≡ T.countsFor k ⌝ }
+{
     match k {
         Where::InProgram => 0,
         Where::InGroup => 1,
@@ -144,7 +150,9 @@ fn sum20(n: usize, k: usize) -> usize {
     20
 }
 
-fn is_in_group(k: Where) -> bool {
+fn is_in_group(k: Where) -> bool
+    ensures { λ r. ⌜ r ≡ D.isInGroup (T.whereOf k) ⌝ }
+{
     match k {
         Where::InProgram => false,
         Where::InGroup => true,
@@ -154,7 +162,9 @@ fn is_in_group(k: Where) -> bool {
     }
 }
 
-fn is_in_body(k: Where) -> bool {
+fn is_in_body(k: Where) -> bool
+    ensures { λ r. ⌜ r ≡ D.isInBody (T.whereOf k) ⌝ }
+{
     match k {
         Where::InProgram => false,
         Where::InGroup => false,
@@ -165,7 +175,9 @@ fn is_in_body(k: Where) -> bool {
 }
 
 // Whether sentences of a list stand there, and not an alternative.
-fn is_list(k: Where) -> bool {
+fn is_list(k: Where) -> bool
+    ensures { λ r. ⌜ r ≡ D.isList (T.whereOf k) ⌝ }
+{
     match k {
         Where::InProgram => true,
         Where::InGroup => true,
@@ -265,7 +277,9 @@ fn with_scope(st: State, scope: Owner) -> State {
     }
 }
 
-fn is_inside(k: Owner) -> bool {
+fn is_inside(k: Owner) -> bool
+    ensures { λ r. ⌜ r ≡ C.isInside k ⌝ }
+{
     match k {
         Owner::Everyone => false,
         Owner::Procedure(_) => true,
@@ -410,20 +424,20 @@ fn add_row(rows: &mut [u16], st: State, c: Clause, p: usize) -> State {
 
 // ---- behind a statement
 
-// ELSE and END are words that may turn out to be a label or a target, also where the body ends behind them.
-fn is_decided(s: &[u8], at: usize) -> bool {
+// ELSE and END are words that may turn out to be a target or a label, by the token behind them.
+fn is_decided(s: &[u8], at: usize) -> bool
+    ensures { λ r. ⌜ r ≡ D.isDecided (tokenAt (now (s .entry)) at .token) ⌝ }
+{
     let t = token_at(s, at);
-    let kind = t.kind;
     if is_sign(s, t, b"=") {
         return false;
     }
-    if is_sign(s, t, b":") {
-        return false;
-    }
-    !is_nothing(kind)
+    !is_sign(s, t, b":")
 }
 
-fn else_word(s: &[u8], t: Lexeme) -> Mark {
+fn else_word(s: &[u8], t: Lexeme) -> Mark
+    ensures { λ r. ⌜ r ≡ T.elseWordIn (now (s .entry)) t ⌝ }
+{
     if is_word(s, t, b"ELSE") {
         if is_decided(s, t.to) {
             return Mark::Marked(t.to);
@@ -433,7 +447,9 @@ fn else_word(s: &[u8], t: Lexeme) -> Mark {
 }
 
 // ELSE, if it stands next: the place past it.
-fn else_at(s: &[u8], scope: Owner, e: usize) -> Mark {
+fn else_at(s: &[u8], scope: Owner, e: usize) -> Mark
+    ensures { λ r. ⌜ r ≡ T.elseFor (D.elseAt (C.isInside scope) (now (s .entry)) e) ⌝ }
+{
     let t = token_at(s, e);
     if is_inside(scope) {
         return else_word(s, t);
@@ -525,7 +541,9 @@ struct Labels {
 }
 
 // The place past a label at a place, or that none stands there.
-fn label_at(s: &[u8], at: usize) -> Mark {
+fn label_at(s: &[u8], at: usize) -> Mark
+    ensures { λ r. ⌜ r ≡ T.labelPast (now (s .entry)) at ⌝ }
+{
     let t = token_at(s, at);
     let kind = t.kind;
     if is_word_kind(kind) {
@@ -772,10 +790,10 @@ fn label_meaning(k: Keyword, n: u16) -> Meaning {
 }
 
 // A word that begins no statement here is not wrong, but the token behind it is, unless it is `=`.
-fn other_clause(s: &[u8], t: Lexeme) -> Read {
+fn other_clause(s: &[u8], t: Lexeme, from: usize) -> Read {
     let u = token_at(s, t.to);
     if is_sign(s, u, b"=") {
-        return assignment(s, t, u.to);
+        return assignment(s, from, u.to);
     }
     Read::Refused(Why::Syntax, u.from)
 }
@@ -793,7 +811,7 @@ fn after_declaring(
     taken(s, rows, with_tally(st, tally), read, p, labels)
 }
 
-// The statement that begins with the word t; `labels` is where its labels begin.
+// The statement that begins with the word t, the first token behind `from`; `labels` is where its labels begin.
 fn by_word(
     deck: &[u8],
     s: &[u8],
@@ -802,6 +820,7 @@ fn by_word(
     st: State,
     k: Keyword,
     t: Lexeme,
+    from: usize,
     p: usize,
     labels: usize,
 ) -> Turned {
@@ -816,7 +835,7 @@ fn by_word(
             let d = procedure_clause(s, tally, t.to);
             after_declaring(s, rows, st, d, p, labels)
         }
-        Keyword::Other => taken(s, rows, st, other_clause(s, t), p, labels),
+        Keyword::Other => taken(s, rows, st, other_clause(s, t, from), p, labels),
         Keyword::Do => {
             let opened = st.opened;
             if depth(opened) < Nesting::GROUPS {
@@ -850,13 +869,14 @@ fn by_token(
     st: State,
     k: Keyword,
     t: Lexeme,
+    from: usize,
     p: usize,
     labels: usize,
 ) -> Turned {
     let kind = t.kind;
     if is_word_kind(kind) {
         if span(t) <= limits::Name::LONGEST {
-            return by_word(deck, s, rows, names, st, k, t, p, labels);
+            return by_word(deck, s, rows, names, st, k, t, from, p, labels);
         }
         return stop(st, Why::OverLimit, t.from);
     }
@@ -918,6 +938,19 @@ fn end_at(
     }
 }
 
+// END with a label over 31 bytes at q; `labels` is where its labels begin, which count as names.
+fn end_too_long(
+    deck: &[u8],
+    s: &[u8],
+    names: &mut [u16],
+    st: State,
+    labels: usize,
+    q: usize,
+) -> Turned {
+    let named = declare_labels(deck, s, names, st, labels, Meaning::LabelAt(0));
+    stop(named, Why::OverLimit, q)
+}
+
 // ---- a clause at p, from behind its `%` or in a procedure from its first token
 
 fn is_end(s: &[u8], st: State, t: Lexeme) -> bool {
@@ -956,7 +989,7 @@ fn clause_at(
     let long = l.long;
     if is_end(s, st, t) {
         return match long {
-            Mark::Marked(q) => stop(st, Why::OverLimit, q),
+            Mark::Marked(q) => end_too_long(deck, s, names, st, at, q),
             Mark::Unmarked => end_at(deck, s, names, st, at, t.to),
         };
     }
@@ -967,14 +1000,16 @@ fn clause_at(
     let named = declare_labels(deck, s, names, st, at, label_meaning(k, st.rows));
     match long {
         Mark::Marked(q) => stop(named, Why::OverLimit, q),
-        Mark::Unmarked => by_token(deck, s, rows, names, named, k, t, p, at),
+        Mark::Unmarked => by_token(deck, s, rows, names, named, k, t, l.to, p, at),
     }
 }
 
 // ---- texts
 
 // Where a text ends.
-fn end_of(s: &[u8], e: Ending) -> usize {
+fn end_of(s: &[u8], e: Ending) -> usize
+    ensures { λ r. ⌜ r ≡ T.endFor (now (s .entry)) e ⌝ }
+{
     match e {
         Ending::Percent(p) => p,
         Ending::AtEnd => s.len(),
@@ -1042,7 +1077,7 @@ fn procedure_end(deck: &[u8], s: &[u8], names: &mut [u16], st: State, at: usize)
     let t = token_at(s, l.to);
     let long = l.long;
     match long {
-        Mark::Marked(q) => stop(st, Why::OverLimit, q),
+        Mark::Marked(q) => end_too_long(deck, s, names, st, at, q),
         Mark::Unmarked => {
             if is_word(s, t, b"END") {
                 return end_at(deck, s, names, st, at, t.to);

@@ -1,4 +1,18 @@
 // What each statement is, from behind its first word to behind its semicolon, or of an IF to behind THEN.
+ghost use mathlib.Core.Path.{_≡_};
+ghost use mathlib.Core.Bool.{_||_, true, false};
+ghost use mathlib.Core.List.{_∷_, []};
+ghost use Prim.Native.Nat.{_-_};
+ghost use lib.ListN.{length};
+ghost use Rattle.definition.specs.Text.{bytesOf};
+ghost use Rattle.definition.specs.Expressions.{nameAt};
+ghost use Rattle.definition.specs.Statements as D;
+ghost use Rattle.definition.specs.declared.ValueType.the-variants.{FixedType};
+ghost use Rattle.definition.specs.Tokens.{tokenAt};
+ghost use Rattle.tokens.specs.Answer.{isWordIn};
+ghost use Rattle.rows.specs.declared.Statement.the-variants as S;
+ghost use Rattle.entering.specs.Book.{bookAll, meaningOf};
+ghost use Rattle.statements.specs.Clauses as C;
 use definition::ValueType;
 use definition::Why;
 use entering::Meaning;
@@ -64,7 +78,9 @@ pub struct Declaring {
 }
 
 // Words of two spellings.
-fn is_either(s: &[u8], t: Lexeme, long: &[u8], short: &[u8]) -> bool {
+fn is_either(s: &[u8], t: Lexeme, long: &[u8], short: &[u8]) -> bool
+    ensures { λ r. ⌜ r ≡ (isWordIn (now (s .entry)) t (now (long .entry)) || isWordIn (now (s .entry)) t (now (short .entry))) ⌝ }
+{
     if is_word(s, t, long) {
         return true;
     }
@@ -72,7 +88,9 @@ fn is_either(s: &[u8], t: Lexeme, long: &[u8], short: &[u8]) -> bool {
 }
 
 // The words that may stand outside procedures alone, or in them alone, or in lists alone.
-fn other_keyword(s: &[u8], t: Lexeme) -> Keyword {
+fn other_keyword(s: &[u8], t: Lexeme) -> Keyword
+    ensures { λ r. ⌜ r ≡ C.otherBy (isWordIn (now (s .entry)) t) ⌝ }
+{
     if is_word(s, t, b"INCLUDE") {
         return Keyword::Include;
     }
@@ -94,7 +112,9 @@ fn other_keyword(s: &[u8], t: Lexeme) -> Keyword {
     Keyword::Other
 }
 
-pub fn keyword_of(s: &[u8], t: Lexeme) -> Keyword {
+pub fn keyword_of(s: &[u8], t: Lexeme) -> Keyword
+    ensures { λ r. ⌜ r ≡ C.keywordBy (isWordIn (now (s .entry)) t) ⌝ }
+{
     if is_word(s, t, b"IF") {
         return Keyword::If;
     }
@@ -111,7 +131,9 @@ pub fn keyword_of(s: &[u8], t: Lexeme) -> Keyword {
 }
 
 // A statement that is read as far as `e` says.
-fn read_up_to(statement: Statement, opens: Opens, content: usize, e: Expected) -> Read {
+fn read_up_to(statement: Statement, opens: Opens, content: usize, e: Expected) -> Read
+    ensures { λ r. ⌜ r ≡ C.readUpTo statement opens content e ⌝ }
+{
     match e {
         Expected::Past(to) => Read::Is(Clause {
             statement,
@@ -125,35 +147,45 @@ fn read_up_to(statement: Statement, opens: Opens, content: usize, e: Expected) -
 }
 
 // What must follow, and behind it a sign.
-fn then_sign(s: &[u8], e: Expected, w: &[u8]) -> Expected {
+fn then_sign(s: &[u8], e: Expected, w: &[u8]) -> Expected
+    ensures { λ r. ⌜ r ≡ C.thenSign (now (w .entry)) (now (s .entry)) e ⌝ }
+{
     match e {
         Expected::Past(q) => expect_sign(s, q, w),
         Expected::Refused(y, p) => Expected::Refused(y, p),
     }
 }
 
-fn then_word(s: &[u8], e: Expected, w: &[u8]) -> Expected {
+fn then_word(s: &[u8], e: Expected, w: &[u8]) -> Expected
+    ensures { λ r. ⌜ r ≡ C.thenWord (now (w .entry)) (now (s .entry)) e ⌝ }
+{
     match e {
         Expected::Past(q) => expect_word(s, q, w),
         Expected::Refused(y, p) => Expected::Refused(y, p),
     }
 }
 
-fn then_expression(s: &[u8], e: Expected) -> Expected {
+fn then_expression(s: &[u8], e: Expected) -> Expected
+    ensures { λ r. ⌜ r ≡ C.thenExpression (now (s .entry)) e ⌝ }
+{
     match e {
         Expected::Past(q) => check(s, q),
         Expected::Refused(y, p) => Expected::Refused(y, p),
     }
 }
 
-// The assignment to t, from behind `=`.
-pub fn assignment(s: &[u8], t: Lexeme, at: usize) -> Read {
+// The assignment from behind `=`; its target is the first token behind the place `content`.
+pub fn assignment(s: &[u8], content: usize, at: usize) -> Read
+    ensures { λ r. ⌜ r ≡ C.readFor S.Assign content FixedType (D.assignment (now (s .entry)) [] at) ⌝ }
+{
     let e = then_sign(s, check(s, at), b";");
-    read_up_to(Statement::Assign, Opens::Nothing, t.from, e)
+    read_up_to(Statement::Assign, Opens::Nothing, content, e)
 }
 
 // Outside procedures THEN has its own `%`.
-fn if_clause(s: &[u8], at: usize, in_body: bool) -> Read {
+fn if_clause(s: &[u8], at: usize, in_body: bool) -> Read
+    ensures { λ r. ⌜ r ≡ C.readFor S.Conditional at FixedType (D.ifClause «in_body» (now (s .entry)) at) ⌝ }
+{
     let x = check(s, at);
     if in_body {
         let e = then_word(s, x, b"THEN");
@@ -164,7 +196,9 @@ fn if_clause(s: &[u8], at: usize, in_body: bool) -> Read {
 }
 
 // BY or TO with its expression, if the word stands there.
-fn bound_at(s: &[u8], e: Expected, w: &[u8]) -> Expected {
+fn bound_at(s: &[u8], e: Expected, w: &[u8]) -> Expected
+    ensures { λ r. ⌜ r ≡ C.boundPast (now (w .entry)) (now (s .entry)) e ⌝ }
+{
     match e {
         Expected::Past(q) => {
             let t = token_at(s, q);
@@ -178,7 +212,9 @@ fn bound_at(s: &[u8], e: Expected, w: &[u8]) -> Expected {
 }
 
 // BY and TO in either order, each at most once.
-fn do_bounds(s: &[u8], e: Expected) -> Expected {
+fn do_bounds(s: &[u8], e: Expected) -> Expected
+    ensures { λ r. ⌜ r ≡ C.boundsPast (now (s .entry)) e ⌝ }
+{
     match e {
         Expected::Past(q) => {
             let t = token_at(s, q);
@@ -191,7 +227,9 @@ fn do_bounds(s: &[u8], e: Expected) -> Expected {
     }
 }
 
-fn name_past(s: &[u8], at: usize) -> Expected {
+fn name_past(s: &[u8], at: usize) -> Expected
+    ensures { λ r. ⌜ r ≡ C.nameEnd (nameAt (now (s .entry)) at) ⌝ }
+{
     let n = name_at(s, at);
     match n {
         NamedAt::Is(_, to) => Expected::Past(to),
@@ -199,7 +237,9 @@ fn name_past(s: &[u8], at: usize) -> Expected {
     }
 }
 
-fn do_clause(s: &[u8], at: usize) -> Read {
+fn do_clause(s: &[u8], at: usize) -> Read
+    ensures { λ r. ⌜ r ≡ C.readFor (C.doKind (now (s .entry)) at) at FixedType (D.doClause (now (s .entry)) at) ⌝ }
+{
     let t = token_at(s, at);
     if is_sign(s, t, b";") {
         return read_up_to(Statement::Group, Opens::Group, at, Expected::Past(t.to));
@@ -209,13 +249,17 @@ fn do_clause(s: &[u8], at: usize) -> Read {
     read_up_to(Statement::Iterated, Opens::Group, at, e)
 }
 
-fn goto_clause(s: &[u8], at: usize) -> Read {
+fn goto_clause(s: &[u8], at: usize) -> Read
+    ensures { λ r. ⌜ r ≡ C.readFor S.Goto at FixedType (D.gotoClause (now (s .entry)) at) ⌝ }
+{
     let e = then_sign(s, name_past(s, at), b";");
     read_up_to(Statement::Goto, Opens::Nothing, at, e)
 }
 
 // GO and TO apart.
-fn go_clause(s: &[u8], at: usize) -> Read {
+fn go_clause(s: &[u8], at: usize) -> Read
+    ensures { λ r. ⌜ r ≡ C.readFor S.Goto (tokenAt (now (s .entry)) at .to) FixedType (C.goClause (now (s .entry)) at) ⌝ }
+{
     let e = expect_word(s, at, b"TO");
     match e {
         Expected::Past(q) => goto_clause(s, q),
@@ -224,7 +268,9 @@ fn go_clause(s: &[u8], at: usize) -> Read {
 }
 
 // A name of a list, and of ACTIVATE what may stand behind it.
-fn list_item(s: &[u8], at: usize, is_activate: bool) -> Expected {
+fn list_item(s: &[u8], at: usize, is_activate: bool) -> Expected
+    ensures { λ r. ⌜ r ≡ C.itemPast «is_activate» (now (s .entry)) at ⌝ }
+{
     let e = name_past(s, at);
     if is_activate {
         return match e {
@@ -236,7 +282,9 @@ fn list_item(s: &[u8], at: usize, is_activate: bool) -> Expected {
 }
 
 // The place past NORESCAN or RESCAN, if one of them stands there.
-fn past_rescan(s: &[u8], at: usize) -> usize {
+fn past_rescan(s: &[u8], at: usize) -> usize
+    ensures { λ r. ⌜ r ≡ C.rescanPast (now (s .entry)) at ⌝ }
+{
     let t = token_at(s, at);
     if is_either(s, t, b"NORESCAN", b"RESCAN") {
         return t.to;
@@ -245,7 +293,9 @@ fn past_rescan(s: &[u8], at: usize) -> usize {
 }
 
 // Names with commas between them, and the semicolon.
-fn name_list(s: &[u8], from: usize, is_activate: bool) -> Expected {
+fn name_list(s: &[u8], from: usize, is_activate: bool) -> Expected
+    ensures { λ r. ⌜ r ≡ C.listEnd (bytesOf ";") «is_activate» (now (s .entry)) (length (now (s .entry))) from ⌝ }
+{
     let mut at = from;
     let mut turns = s.len();
     while 0 < turns {
@@ -269,14 +319,18 @@ fn name_list(s: &[u8], from: usize, is_activate: bool) -> Expected {
 }
 
 // RETURN's own parenthesis is not part of the expression.
-fn return_clause(s: &[u8], at: usize) -> Read {
+fn return_clause(s: &[u8], at: usize) -> Read
+    ensures { λ r. ⌜ r ≡ C.readFor S.Return at FixedType (D.returnClause (now (s .entry)) at) ⌝ }
+{
     let x = then_expression(s, expect_sign(s, at, b"("));
     let e = then_sign(s, then_sign(s, x, b")"), b";");
     read_up_to(Statement::Return, Opens::Nothing, at, e)
 }
 
 // The statements that declare nothing, from behind the word t that begins them.
-pub fn plain_clause(s: &[u8], k: Keyword, t: Lexeme, in_body: bool) -> Read {
+pub fn plain_clause(s: &[u8], k: Keyword, t: Lexeme, in_body: bool) -> Read
+    ensures { λ r. ⌜ r ≡ C.plainFor k «in_body» (now (s .entry)) (t .from) (t .to) ⌝ }
+{
     let at = t.to;
     match k {
         Keyword::If => if_clause(s, at, in_body),
@@ -311,7 +365,9 @@ pub fn plain_clause(s: &[u8], k: Keyword, t: Lexeme, in_body: bool) -> Read {
 // ---- DECLARE
 
 // Names in parentheses, from behind `(`: the place past `)`.
-fn names_in(s: &[u8], from: usize) -> Expected {
+fn names_in(s: &[u8], from: usize) -> Expected
+    ensures { λ r. ⌜ r ≡ C.listEnd (bytesOf ")") false (now (s .entry)) (length (now (s .entry))) from ⌝ }
+{
     let mut at = from;
     let mut turns = s.len();
     while 0 < turns {
@@ -343,7 +399,9 @@ fn declare_names(
     owner: Owner,
     x: Item,
     meaning: Meaning,
-) -> Tally {
+) -> Tally
+    ensures { λ r. ⌜ C.NamedIf (now (deck .entry)) (now (s .entry)) (now (names .entry)) t0 owner (bookAll (t0 .member) (D.means (C.scopeOf owner) (meaningOf meaning) (C.namesRead (now (s .entry)) (x .most) (x .names)))) (now (names .exit)) r ⌝ }
+{
     let mut tally = t0;
     let mut at = x.names;
     let mut turns = x.most;
@@ -375,7 +433,9 @@ struct Item {
     to: Expected,
 }
 
-fn item_at(s: &[u8], at: usize) -> Item {
+fn item_at(s: &[u8], at: usize) -> Item
+    ensures { λ r. ⌜ r ≡ C.itemIn (now (s .entry)) at ⌝ }
+{
     let t = token_at(s, at);
     if is_sign(s, t, b"(") {
         return Item {
@@ -396,7 +456,9 @@ enum Attribute {
     Missing,
 }
 
-fn is_inside(owner: Owner) -> bool {
+fn is_inside(owner: Owner) -> bool
+    ensures { λ r. ⌜ r ≡ C.isInside owner ⌝ }
+{
     match owner {
         Owner::Everyone => false,
         Owner::Procedure(_) => true,
@@ -404,7 +466,9 @@ fn is_inside(owner: Owner) -> bool {
 }
 
 // ENTRY stands outside procedures, BUILTIN inside.
-fn attribute_at(s: &[u8], t: Lexeme, owner: Owner) -> Attribute {
+fn attribute_at(s: &[u8], t: Lexeme, owner: Owner) -> Attribute
+    ensures { λ r. ⌜ r ≡ C.attributeBy (C.isInside owner) (isWordIn (now (s .entry)) t) ⌝ }
+{
     if is_either(s, t, b"CHARACTER", b"CHAR") {
         return Attribute::Means(Meaning::Variable(ValueType::CharacterType));
     }
@@ -429,7 +493,9 @@ enum Itemized {
     Refused(Why, usize),
 }
 
-fn item_means(s: &[u8], x: Item, owner: Owner) -> Itemized {
+fn item_means(s: &[u8], x: Item, owner: Owner) -> Itemized
+    ensures { λ r. ⌜ r ≡ C.itemized (now (s .entry)) (x .to) (C.isInside owner) ⌝ }
+{
     let to = x.to;
     match to {
         Expected::Past(e) => {
@@ -444,7 +510,9 @@ fn item_means(s: &[u8], x: Item, owner: Owner) -> Itemized {
     }
 }
 
-fn meaning_of(x: Itemized) -> Meaning {
+fn meaning_of(x: Itemized) -> Meaning
+    ensures { λ r. ⌜ r ≡ C.meaningIn x ⌝ }
+{
     match x {
         Itemized::Means(m, _) => m,
         Itemized::Refused(_, _) => Meaning::Variable(ValueType::FixedType),
@@ -459,7 +527,9 @@ pub fn declare_clause(
     t0: Tally,
     owner: Owner,
     from: usize,
-) -> Declaring {
+) -> Declaring
+    ensures { λ r. ⌜ C.DeclaresIf (now (deck .entry)) (now (s .entry)) (now (names .entry)) t0 owner from (now (names .exit)) r ⌝ }
+{
     let mut tally = t0;
     let mut at = from;
     let mut turns = s.len();
@@ -499,16 +569,29 @@ pub fn declare_clause(
 
 // ---- PROCEDURE
 
-fn span(from: usize, to: usize) -> usize {
+fn span(from: usize, to: usize) -> usize
+    ensures { λ r. ⌜ r ≡ to - from ⌝ }
+{
     if to < from {
         return 0;
     }
     to - from
 }
 
-// Whether the name x is among those from a place on, before its own place.
-fn is_listed_before(s: &[u8], list: usize, x: Spelling) -> bool {
+fn is_spelled_as(s: &[u8], t: Lexeme, x: Spelling) -> bool
+    ensures { λ r. ⌜ r ≡ C.spelledAs (now (s .entry)) (x .from) (x .to) (t .from) (t .to) ⌝ }
+{
     let n = span(x.from, x.to);
+    if span(t.from, t.to) == n {
+        return is_same(s, t.from, s, x.from, n);
+    }
+    false
+}
+
+// Whether the name x is among those from a place on, before its own place.
+fn is_listed_before(s: &[u8], list: usize, x: Spelling) -> bool
+    ensures { λ r. ⌜ r ≡ C.listedBefore (now (s .entry)) (x .from) (x .to) (length (now (s .entry))) list ⌝ }
+{
     let mut at = list;
     let mut turns = s.len();
     while 0 < turns {
@@ -517,10 +600,8 @@ fn is_listed_before(s: &[u8], list: usize, x: Spelling) -> bool {
         if x.from <= t.from {
             return false;
         }
-        if span(t.from, t.to) == n {
-            if is_same(s, t.from, s, x.from, n) {
-                return true;
-            }
+        if is_spelled_as(s, t, x) {
+            return true;
         }
         let comma = token_at(s, t.to);
         at = comma.to;
@@ -529,7 +610,9 @@ fn is_listed_before(s: &[u8], list: usize, x: Spelling) -> bool {
 }
 
 // The first parameter that is listed twice is kept.
-fn parameters(s: &[u8], tally: Tally, list: usize) -> Tally {
+fn parameters(s: &[u8], tally: Tally, list: usize) -> Tally
+    ensures { λ r. ⌜ r ≡ C.tallyTwice (C.parameterTwice (now (s .entry)) list (length (now (s .entry))) list) tally ⌝ }
+{
     let mut at = list;
     let mut turns = s.len();
     while 0 < turns {
@@ -561,7 +644,9 @@ enum Typed {
     Refused(Why, usize),
 }
 
-fn returned_type(s: &[u8], e: Expected) -> Typed {
+fn returned_type(s: &[u8], e: Expected) -> Typed
+    ensures { λ r. ⌜ r ≡ C.typeFrom (now (s .entry)) (C.thenSign (bytesOf "(") (now (s .entry)) (C.thenWord (bytesOf "RETURNS") (now (s .entry)) e)) ⌝ }
+{
     let open = then_sign(s, then_word(s, e, b"RETURNS"), b"(");
     match open {
         Expected::Past(q) => {
@@ -579,7 +664,9 @@ fn returned_type(s: &[u8], e: Expected) -> Typed {
 }
 
 // RETURNS and its type, behind the parameters, which end as e says.
-fn procedure_head(s: &[u8], e: Expected, from: usize) -> Read {
+fn procedure_head(s: &[u8], e: Expected, from: usize) -> Read
+    ensures { λ r. ⌜ r ≡ C.headFrom (now (s .entry)) from (C.typeFrom (now (s .entry)) (C.thenSign (bytesOf "(") (now (s .entry)) (C.thenWord (bytesOf "RETURNS") (now (s .entry)) e))) ⌝ }
+{
     let t = returned_type(s, e);
     match t {
         Typed::Is(value_type, q) => {
@@ -600,7 +687,9 @@ fn procedure_head(s: &[u8], e: Expected, from: usize) -> Read {
 }
 
 // The statement from behind PROCEDURE.
-pub fn procedure_clause(s: &[u8], tally: Tally, from: usize) -> Declaring {
+pub fn procedure_clause(s: &[u8], tally: Tally, from: usize) -> Declaring
+    ensures { λ r. ⌜ C.Heads (now (s .entry)) tally from r ⌝ }
+{
     let t = token_at(s, from);
     if is_sign(s, t, b"(") {
         let read = procedure_head(s, names_in(s, t.to), from);

@@ -1,4 +1,4 @@
--- The turns left get fewer.
+-- What is left to read, with what was entered, is what the definition reads.
 use borrow.Author.Needs.{needs}
 use Rattle.statements.proofs.declare_clause.Statement.{statement}
 use Rattle.statements.proofs.declare_clause.Tie as tie
@@ -12,18 +12,17 @@ use Rattle.statements.proofs.meaning_of.Reads as meaning-of-reads
 use Rattle.statements.proofs.read_up_to.Reads as read-up-to-reads
 use Rattle.tokens.proofs.is_sign.Reads as is-sign-reads
 use Rattle.tokens.proofs.token_at.Reads as token-at-reads
-use Prim.Native.Nat.{_≤_}
-use mathlib.Core.Path.{_≡_, _∙_}
-use lib.ListN.{length}
+use mathlib.Core.Path.{_∙_}
+use Rattle.statements.proofs.Items.{ItemizingIf, if-start, if-more, if-done, if-refused, if-none}
 
 abbrev Inv-loop : tie.InvT-loop
-Inv-loop deck s names₀ owner from tally₀ at₀ turns₀ t17 t18 names tally at turns = (turns ≤ turns₀) × (length names ≡ length names₀)
+Inv-loop deck s names₀ owner from tally₀ at₀ turns₀ t17 t18 names tally at turns = ItemizingIf deck s names₀ owner tally₀ from names tally at turns
 
 abbrev μ-loop : tie.MeasureT-loop
 μ-loop deck s names₀ owner from tally₀ at₀ turns₀ t17 t18 names tally at turns = turns
 
 loop-holds : tie.Need-loop-holds Inv-loop μ-loop
-loop-holds c = search needs
+loop-holds c = search if-start
 
 sub-turns : tie.Need-sub-turns Inv-loop μ-loop
 sub-turns c = search needs
@@ -56,7 +55,7 @@ loop-less : tie.Need-loop-less Inv-loop μ-loop
 loop-less c = search needs
 
 loop-again : tie.Need-loop-again Inv-loop μ-loop
-loop-again c = search needs
+loop-again c = search (if-more, (c .before .before .before .before .before .before .before .before .before .before .before .before .before .before .before .loop .inv), (c .before .before .before .before .before .before .before .before .before .before .before .before .before .before .loop-test .taken), (c .before .before .before .before .before .before .before .before .before .before .before .before .before .item-at .ensures), (c .before .before .before .before .before .before .before .before .before .before .before .before .item-means .ensures), (c .before .before .before .before .before .before .before .before .before .before .meaning-of .ensures), (c .before .before .before .before .before .before .before .before .before .declare-names .ensures), (c .before .before .before .before .before .before .before .before .before .declare-names .kept .1 .1 .0), (c .before .before .before .before .before .y .given .1), (c .before .before .before .token-at .ensures), (c .before .is-sign .ensures), (c .if1 .taken))
 
 slice-aggregate-expect-sign : tie.Need-slice-aggregate-expect-sign Inv-loop μ-loop
 slice-aggregate-expect-sign c = search needs
@@ -68,10 +67,10 @@ read-up-to-requires : tie.Need-read-up-to-requires Inv-loop μ-loop
 read-up-to-requires c κs = search needs
 
 same-length : tie.Need-same-length Inv-loop μ-loop
-same-length c = (c .before .before .before .before .before .before .before .before .before .before .before .before .declare-names .kept .1 .1 .0) ∙ (c .before .before .before .before .before .before .before .before .before .before .before .before .before .before .before .before .before .before .loop .inv .1)
+same-length c = (c .before .before .before .before .before .before .before .before .before .before .before .before .declare-names .kept .1 .1 .0) ∙ (c .before .before .before .before .before .before .before .before .before .before .before .before .before .before .before .before .before .before .loop .inv .size)
 
 returns : tie.Need-returns Inv-loop μ-loop
-returns c = search needs
+returns c = search (if-done, (c .before .before .before .before .before .before .before .before .before .before .before .before .before .before .before .before .before .before .loop .inv), (c .before .before .before .before .before .before .before .before .before .before .before .before .before .before .before .before .before .loop-test .taken), (c .before .before .before .before .before .before .before .before .before .before .before .before .before .before .before .before .item-at .ensures), (c .before .before .before .before .before .before .before .before .before .before .before .before .before .before .before .item-means .ensures), (c .before .before .before .before .before .before .before .before .before .before .before .before .before .meaning-of .ensures), (c .before .before .before .before .before .before .before .before .before .before .before .before .declare-names .ensures), (c .before .before .before .before .before .before .before .before .before .before .before .before .declare-names .kept .1 .1 .0), (c .before .before .before .before .before .before .before .before .y .given .1), (c .before .before .before .before .before .before .token-at .ensures), (c .before .before .before .before .is-sign .ensures), (c .before .before .before .if1 .left), (c .before .expect-sign .ensures), (c .read-up-to .ensures))
 
 enum-known-y-2 : tie.Need-enum-known-y-2 Inv-loop μ-loop
 enum-known-y-2 c = search needs
@@ -80,13 +79,13 @@ same-length-2 : tie.Need-same-length-2 Inv-loop μ-loop
 same-length-2 c = search needs
 
 returns-2 : tie.Need-returns-2 Inv-loop μ-loop
-returns-2 c = search needs
+returns-2 c = search if-refused
 
 same-length-3 : tie.Need-same-length-3 Inv-loop μ-loop
 same-length-3 c = search needs
 
 returns-3 : tie.Need-returns-3 Inv-loop μ-loop
-returns-3 c = search needs
+returns-3 c = search if-none
 
 pub declare-clause-spec : {M : Type 1} → statement M
 declare-clause-spec =

@@ -1,4 +1,4 @@
--- The turns left get fewer.
+-- Those that were declared and those that are left are all that can be read.
 use borrow.Author.Needs.{needs}
 use Rattle.statements.proofs.declare_names.Statement.{statement}
 use Rattle.statements.proofs.declare_names.Tie as tie
@@ -8,18 +8,16 @@ use Rattle.entering.proofs.declare.Reads as declare-reads
 use Rattle.expressions.proofs.name_at.Reads as name-at-reads
 use Rattle.tokens.proofs.is_sign.Reads as is-sign-reads
 use Rattle.tokens.proofs.token_at.Reads as token-at-reads
-use Prim.Native.Nat.{_≤_}
-use mathlib.Core.Path.{_≡_}
-use lib.ListN.{length}
+use Rattle.statements.proofs.Listed.{NamingIf, if-start, if-more, if-done, if-refused, if-none}
 
 abbrev Inv-loop : tie.InvT-loop
-Inv-loop deck s names₀ owner meaning tally₀ at₀ turns₀ t15 names tally at turns = (turns ≤ turns₀) × (length names ≡ length names₀)
+Inv-loop deck s names₀ owner meaning tally₀ at₀ turns₀ t15 names tally at turns = NamingIf deck s names₀ owner meaning tally₀ at₀ turns₀ names tally at turns
 
 abbrev μ-loop : tie.MeasureT-loop
 μ-loop deck s names₀ owner meaning tally₀ at₀ turns₀ t15 names tally at turns = turns
 
 loop-holds : tie.Need-loop-holds Inv-loop μ-loop
-loop-holds c = search needs
+loop-holds c = search if-start
 
 sub-turns : tie.Need-sub-turns Inv-loop μ-loop
 sub-turns c = search needs
@@ -46,13 +44,13 @@ loop-less : tie.Need-loop-less Inv-loop μ-loop
 loop-less c = search needs
 
 loop-again : tie.Need-loop-again Inv-loop μ-loop
-loop-again c = search needs
+loop-again c = search if-more
 
 same-length : tie.Need-same-length Inv-loop μ-loop
 same-length c = search needs
 
 returns : tie.Need-returns Inv-loop μ-loop
-returns c = search needs
+returns c = search if-done
 
 enum-told : tie.Need-enum-told Inv-loop μ-loop
 enum-told c = search needs
@@ -61,13 +59,13 @@ same-length-2 : tie.Need-same-length-2 Inv-loop μ-loop
 same-length-2 c = search needs
 
 returns-2 : tie.Need-returns-2 Inv-loop μ-loop
-returns-2 c = search needs
+returns-2 c = search if-refused
 
 same-length-3 : tie.Need-same-length-3 Inv-loop μ-loop
 same-length-3 c = search needs
 
 returns-3 : tie.Need-returns-3 Inv-loop μ-loop
-returns-3 c = search needs
+returns-3 c = search if-none
 
 pub declare-names-spec : {M : Type 1} → statement M
 declare-names-spec =

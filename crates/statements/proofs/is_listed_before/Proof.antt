@@ -1,25 +1,21 @@
--- The turns left get fewer.
+-- What is left decides.
 use borrow.Author.Needs.{needs}
 use Rattle.statements.proofs.is_listed_before.Statement.{statement}
 use Rattle.statements.proofs.is_listed_before.Tie as tie
 use Rattle.statements.proofs.is_listed_before.Reads as reads
 use Rattle.statements.proofs.is_listed_before.Lts as lts
-use Rattle.rooms.proofs.is_same.Reads as is-same-reads
-use Rattle.statements.proofs.span.Reads as span-reads
+use Rattle.statements.proofs.is_spelled_as.Reads as is-spelled-as-reads
 use Rattle.tokens.proofs.token_at.Reads as token-at-reads
-use Prim.Native.Nat.{_≤_}
+use Rattle.statements.proofs.Heads.{Before, before-start, before-end, before-own, before-there, before-more}
 
 abbrev Inv-loop : tie.InvT-loop
-Inv-loop s list x n at₀ turns₀ at turns = (turns ≤ turns₀)
+Inv-loop s list x at₀ turns₀ at turns = Before s (x .from) (x .to) list turns at
 
 abbrev μ-loop : tie.MeasureT-loop
-μ-loop s list x n at₀ turns₀ at turns = turns
-
-span-requires : tie.Need-span-requires Inv-loop μ-loop
-span-requires c κs = search needs
+μ-loop s list x at₀ turns₀ at turns = turns
 
 loop-holds : tie.Need-loop-holds Inv-loop μ-loop
-loop-holds c = search needs
+loop-holds c = before-start _ _ _ _
 
 sub-turns : tie.Need-sub-turns Inv-loop μ-loop
 sub-turns c = search needs
@@ -28,16 +24,13 @@ token-at-requires : tie.Need-token-at-requires Inv-loop μ-loop
 token-at-requires c κs = search needs
 
 returns : tie.Need-returns Inv-loop μ-loop
-returns c = search needs
+returns c = search before-own
 
-span-requires-2 : tie.Need-span-requires-2 Inv-loop μ-loop
-span-requires-2 c κs = search needs
-
-is-same-requires : tie.Need-is-same-requires Inv-loop μ-loop
-is-same-requires c κs = search needs
+is-spelled-as-requires : tie.Need-is-spelled-as-requires Inv-loop μ-loop
+is-spelled-as-requires c κs = search needs
 
 returns-2 : tie.Need-returns-2 Inv-loop μ-loop
-returns-2 c = search needs
+returns-2 c = search before-there
 
 token-at-requires-2 : tie.Need-token-at-requires-2 Inv-loop μ-loop
 token-at-requires-2 c κs = search needs
@@ -46,10 +39,10 @@ loop-less : tie.Need-loop-less Inv-loop μ-loop
 loop-less c = search needs
 
 loop-again : tie.Need-loop-again Inv-loop μ-loop
-loop-again c = search needs
+loop-again c = search before-more
 
 returns-3 : tie.Need-returns-3 Inv-loop μ-loop
-returns-3 c = search needs
+returns-3 c = search before-end
 
 pub is-listed-before-spec : {M : Type 1} → statement M
 is-listed-before-spec =
@@ -57,13 +50,11 @@ is-listed-before-spec =
     (tie.spec
     Inv-loop
     μ-loop
-    span-requires
     loop-holds
     sub-turns
     token-at-requires
     returns
-    span-requires-2
-    is-same-requires
+    is-spelled-as-requires
     returns-2
     token-at-requires-2
     loop-less

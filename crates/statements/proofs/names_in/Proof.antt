@@ -1,4 +1,4 @@
--- The turns left get fewer.
+-- What is left ends where all of it does.
 use borrow.Author.Needs.{needs}
 use Rattle.statements.proofs.names_in.Statement.{statement}
 use Rattle.statements.proofs.names_in.Tie as tie
@@ -8,16 +8,18 @@ use Rattle.expressions.proofs.expect_sign.Reads as expect-sign-reads
 use Rattle.statements.proofs.name_past.Reads as name-past-reads
 use Rattle.tokens.proofs.is_sign.Reads as is-sign-reads
 use Rattle.tokens.proofs.token_at.Reads as token-at-reads
-use Prim.Native.Nat.{_≤_}
+use mathlib.Core.List.{_∷_, []}
+use mathlib.Core.Bool.{false}
+use Rattle.statements.proofs.Laws.{Listing, listing-start, listing-end, naming-more, naming-done, naming-refused}
 
 abbrev Inv-loop : tie.InvT-loop
-Inv-loop s from at₀ turns₀ t10 t11 at turns = (turns ≤ turns₀)
+Inv-loop s from at₀ turns₀ t10 t11 at turns = Listing (41 ∷ []) false s from turns at
 
 abbrev μ-loop : tie.MeasureT-loop
 μ-loop s from at₀ turns₀ t10 t11 at turns = turns
 
 loop-holds : tie.Need-loop-holds Inv-loop μ-loop
-loop-holds c = search needs
+loop-holds c = listing-start _ _ _ _
 
 sub-turns : tie.Need-sub-turns Inv-loop μ-loop
 sub-turns c = search needs
@@ -41,7 +43,7 @@ loop-less : tie.Need-loop-less Inv-loop μ-loop
 loop-less c = search needs
 
 loop-again : tie.Need-loop-again Inv-loop μ-loop
-loop-again c = search needs
+loop-again c = search naming-more
 
 slice-aggregate-expect-sign : tie.Need-slice-aggregate-expect-sign Inv-loop μ-loop
 slice-aggregate-expect-sign c = search needs
@@ -50,16 +52,16 @@ expect-sign-requires : tie.Need-expect-sign-requires Inv-loop μ-loop
 expect-sign-requires c κs = search needs
 
 returns : tie.Need-returns Inv-loop μ-loop
-returns c = search needs
+returns c = search naming-done
 
 enum-known-e-2 : tie.Need-enum-known-e-2 Inv-loop μ-loop
 enum-known-e-2 c = search needs
 
 returns-2 : tie.Need-returns-2 Inv-loop μ-loop
-returns-2 c = search needs
+returns-2 c = search naming-refused
 
 returns-3 : tie.Need-returns-3 Inv-loop μ-loop
-returns-3 c = search needs
+returns-3 c = search listing-end
 
 pub names-in-spec : {M : Type 1} → statement M
 names-in-spec =

@@ -1,4 +1,4 @@
--- The turns left get fewer.
+-- What is left decides.
 use borrow.Author.Needs.{needs}
 use Rattle.statements.proofs.parameters.Statement.{statement}
 use Rattle.statements.proofs.parameters.Tie as tie
@@ -8,16 +8,16 @@ use Rattle.entering.proofs.with_second.Reads as with-second-reads
 use Rattle.statements.proofs.is_listed_before.Reads as is-listed-before-reads
 use Rattle.tokens.proofs.is_sign.Reads as is-sign-reads
 use Rattle.tokens.proofs.token_at.Reads as token-at-reads
-use Prim.Native.Nat.{_≤_}
+use Rattle.statements.proofs.Heads.{Twice, twice-start, twice-end, twice-there, twice-more, twice-none}
 
 abbrev Inv-loop : tie.InvT-loop
-Inv-loop s tally list at₀ turns₀ t8 at turns = (turns ≤ turns₀)
+Inv-loop s tally list at₀ turns₀ t8 at turns = Twice s list turns at
 
 abbrev μ-loop : tie.MeasureT-loop
 μ-loop s tally list at₀ turns₀ t8 at turns = turns
 
 loop-holds : tie.Need-loop-holds Inv-loop μ-loop
-loop-holds c = search needs
+loop-holds c = twice-start _ _
 
 sub-turns : tie.Need-sub-turns Inv-loop μ-loop
 sub-turns c = search needs
@@ -32,7 +32,7 @@ with-second-requires : tie.Need-with-second-requires Inv-loop μ-loop
 with-second-requires c κs = search needs
 
 returns : tie.Need-returns Inv-loop μ-loop
-returns c = search needs
+returns c = search twice-there
 
 token-at-requires-2 : tie.Need-token-at-requires-2 Inv-loop μ-loop
 token-at-requires-2 c κs = search needs
@@ -47,13 +47,13 @@ loop-less : tie.Need-loop-less Inv-loop μ-loop
 loop-less c = search needs
 
 loop-again : tie.Need-loop-again Inv-loop μ-loop
-loop-again c = search needs
+loop-again c = search twice-more
 
 returns-2 : tie.Need-returns-2 Inv-loop μ-loop
-returns-2 c = search needs
+returns-2 c = search twice-none
 
 returns-3 : tie.Need-returns-3 Inv-loop μ-loop
-returns-3 c = search needs
+returns-3 c = search twice-end
 
 pub parameters-spec : {M : Type 1} → statement M
 parameters-spec =

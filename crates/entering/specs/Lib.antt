@@ -1,0 +1,2 @@
+-- What the contracts of `entering` cite.
+pub mod Book

@@ -1,0 +1,201 @@
+-- What the state of the reading and the room of rows stand for in the definition. Rows of the room have numbers that go on from
+-- inclusion to inclusion; those of a member begin at `base`.
+use Prim.Native.Nat.{ℕ, zero, suc, _+_, _-_, _≤_, _<_}
+use mathlib.Core.Bool.{Bool, true, false, cond, _&&_}
+use mathlib.Core.List.{List, [], _∷_}
+use mathlib.Core.Path.{_≡_}
+use lib.ListN.{length, getD}
+use Rattle.definition.specs.Text.{bytesOf}
+use Rattle.definition.specs.Tokens as Tk
+use Rattle.definition.specs.Tokens.{tokenAt}
+use Rattle.definition.specs.Program as P
+use Rattle.definition.specs.Reading as D
+use Rattle.tokens.specs.Answer.{isWordIn}
+use Rattle.tokens.specs.declared.Lexeme.{Lexeme}
+use Rattle.tokens.specs.declared.Ending.{Ending}
+use Rattle.tokens.specs.declared.Ending.the-variants as E
+use Rattle.rows.specs.Table.{rowIn}
+use Rattle.rows.specs.declared.Link.{Link}
+use Rattle.rows.specs.declared.Link.the-variants as L
+use Rattle.rows.specs.declared.Role.{Role}
+use Rattle.rows.specs.declared.Role.the-variants as Rl
+use Rattle.rows.specs.declared.Stretch.{Stretch}
+use Rattle.rows.specs.declared.Row.{Row}
+use Rattle.entering.specs.declared.Mark.{Mark}
+use Rattle.entering.specs.declared.Mark.the-variants.{Unmarked, Marked}
+use Rattle.entering.specs.Book.{Book, bookWhole, Entered, bookAll}
+use Rattle.statements.specs.Clauses.{scopeOf, Ready}
+use Rattle.statements.specs.Again.{statementAt}
+use Rattle.reading.specs.declared.Where.{Where}
+use Rattle.reading.specs.declared.Where.the-variants as Wh
+use Rattle.reading.specs.declared.Open.{Open}
+use Rattle.reading.specs.declared.State.{State}
+use Rattle.reading.specs.declared.Mode.{Mode}
+use Rattle.reading.specs.declared.Mode.the-variants as Md
+use Rattle.reading.specs.declared.Next.{Next}
+use Rattle.reading.specs.declared.Next.the-variants as Nx
+use Rattle.reading.specs.declared.Turned.{Turned}
+use Rattle.reading.specs.declared.Source.{Source}
+
+-- ---- rows
+abbrev pub linkOf : ℕ → Link → P.Link
+linkOf base L.Nowhere = P.nowhere
+linkOf base (L.To n) = P.row (n - base)
+
+abbrev pub roleOf : Role → P.Role
+roleOf Rl.Listed = P.listed
+roleOf Rl.ThenPart = P.thenPart
+roleOf Rl.ElsePart = P.elsePart
+
+abbrev pub stretchOf : Stretch → P.Stretch
+stretchOf x = record { from = x .from; to = x .to }
+
+-- THE ROW that a record of the table is, in the body s: its statement is read again
+unfoldable pub rowOf : List ℕ → ℕ → Row → P.Row
+rowOf s base x = record {
+  statement = statementAt s (x .statement) (x .content);
+  place = x .place;
+  parent = linkOf base (x .parent);
+  role = roleOf (x .role);
+  next = linkOf base (x .next);
+  child = linkOf base (x .child);
+  other = linkOf base (x .other);
+  lead = stretchOf (x .lead);
+  text = stretchOf (x .text);
+}
+
+-- n rows of the room t, from row a on
+unfoldable pub rowsFrom : List ℕ → ℕ → List ℕ → ℕ → ℕ → List P.Row
+rowsFrom s base t a zero = []
+rowsFrom s base t a (suc n) = rowOf s base (rowIn t a) ∷ rowsFrom s base t (suc a) n
+
+-- ---- what is open, innermost first
+abbrev pub whereOf : Where → D.Where
+whereOf Wh.InProgram = D.inProgram
+whereOf Wh.InGroup = D.inGroup
+whereOf Wh.InBody = D.inBody
+whereOf Wh.InThen = D.inThen
+whereOf Wh.InElse = D.inElse
+
+-- an alternative has one statement, so that its last row is of no matter; END names labels of groups and bodies alone
+abbrev pub lastOf : ℕ → Where → Link → P.Link
+lastOf base Wh.InProgram l = linkOf base l
+lastOf base Wh.InGroup l = linkOf base l
+lastOf base Wh.InBody l = linkOf base l
+lastOf base Wh.InThen l = P.nowhere
+lastOf base Wh.InElse l = P.nowhere
+
+abbrev pub labelsOf : List ℕ → Where → ℕ → List (List ℕ)
+labelsOf s Wh.InProgram at = []
+labelsOf s Wh.InGroup at = D.spelled (D.labels s at .labels)
+labelsOf s Wh.InBody at = D.spelled (D.labels s at .labels)
+labelsOf s Wh.InThen at = []
+labelsOf s Wh.InElse at = []
+
+unfoldable pub openOf : List ℕ → ℕ → Open → D.Open
+openOf s base o = record { kind = whereOf (o .kind); row = o .row - base; last = lastOf base (o .kind) (o .last); labels = labelsOf s (o .kind) (o .labels) }
+
+abbrev pub noOpen : Open
+noOpen = record { kind = Wh.InProgram; row = 0; last = L.Nowhere; labels = 0 }
+
+-- the n first of a list of what is open, the last of them on top
+unfoldable pub openFrom : List ℕ → ℕ → List Open → ℕ → List D.Open
+openFrom s base os zero = []
+openFrom s base os (suc n) = openOf s base (getD os n noOpen) ∷ openFrom s base os n
+
+abbrev pub scopeIn : ℕ → P.Scope → P.Scope
+scopeIn base P.global = P.global
+scopeIn base (P.inside r) = P.inside (r - base)
+
+-- ---- THE STATE: of the body s, the room of rows t, and the declarations ds so far, which the room of names has entered
+unfoldable pub stateOf : List ℕ → List ℕ → List P.Declared → State → D.State
+stateOf s t ds x = record {
+  lead = stretchOf (x .lead);
+  first = linkOf (x .«base_row») (x .first);
+  rows = rowsFrom s (x .«base_row») t (x .«base_row») (x .rows - x .«base_row»);
+  declared = ds;
+  opened = openFrom s (x .«base_row») (x .opened .items) (x .opened .count);
+  scope = scopeIn (x .«base_row») (scopeOf (x .scope));
+}
+
+abbrev pub modeOf : ℕ → Mode → D.Mode
+modeOf base Md.Leading = D.leadingText
+modeOf base (Md.Behind n) = D.textBehind (n - base)
+modeOf base Md.Alternative = D.alternative
+modeOf base Md.Inner = D.inner
+
+-- THE TURN that an answer is; a sentence that stops the reading is `begun`
+abbrev pub nextOf : ℕ → Next → List ℕ → D.State → D.Turn
+nextOf base (Nx.Go m at) begun st = D.go (modeOf base m) at st
+nextOf base (Nx.Stop w p) begun st = D.stop w p begun st
+nextOf base Nx.Finish begun st = D.finish st
+
+unfoldable pub turnOf : List ℕ → List ℕ → List P.Declared → List ℕ → Turned → D.Turn
+turnOf s t ds begun r = nextOf (r .state .«base_row») (r .next) begun (stateOf s t ds (r .state))
+
+-- what the definition's turn declares, and the sentence that it stopped at
+abbrev pub stateIn : D.Turn → D.State
+stateIn (D.go m at st) = st
+stateIn (D.stop w p begun st) = st
+stateIn (D.finish st) = st
+
+abbrev pub begunIn : D.Turn → List ℕ
+begunIn (D.go m at st) = []
+begunIn (D.stop w p begun st) = begun
+begunIn (D.finish st) = []
+
+-- ---- what a turn needs and does: deck d, body s, rooms of rows t and of names n
+pub record Sits (d s t n : List ℕ) (x : State) : Type 0 where
+  pub ready : Ready d s n (x .tally) (x .scope)
+  pub rows : x .«base_row» ≤ x .rows
+  pub few : x .rows ≤ 2048
+  pub room : 32768 ≤ length t
+  pub some : 0 < x .opened .count
+  pub deep : x .opened .count ≤ 19
+
+-- X is the turn that the definition takes from a state without declarations; those that it makes are entered
+pub record Takes (d s t n : List ℕ) (x : State) (X : D.Turn) (t′ n′ : List ℕ) (r : Turned) : Type 0 where
+  pub turn : turnOf s t′ (stateIn X .declared) (begunIn X) r ≡ X
+  pub entered : Entered d n (x .tally) (bookAll (x .tally .member) (stateIn X .declared)) n′ (r .state .tally)
+  pub sits : Sits d s t′ n′ (r .state)
+  pub base : r .state .«base_row» ≡ x .«base_row»
+
+abbrev pub fromState : List ℕ → List ℕ → State → D.State
+fromState s t x = stateOf s t [] x
+
+-- the contract of `turn`
+abbrev pub Turns : List ℕ → List ℕ → List ℕ → List ℕ → State → Mode → ℕ → List ℕ → List ℕ → Turned → Type 0
+Turns d s t n x m at t′ n′ r = Takes d s t n x (D.turn s (modeOf (x .«base_row») m) at (fromState s t x)) t′ n′ r
+
+-- and of `clause_at`
+abbrev pub Clauses : List ℕ → List ℕ → List ℕ → List ℕ → State → ℕ → ℕ → List ℕ → List ℕ → Turned → Type 0
+Clauses d s t n x p at t′ n′ r = Takes d s t n x (D.clauseAt s p at (fromState s t x)) t′ n′ r
+
+-- THE MEMBER m of the deck, whose body is s and whose rows begin at `base`; b is the book before it
+pub record Reads (s : List ℕ) (m base : ℕ) (b : Book) (t′ : List ℕ) (c : Book) (r : Source) : Type 0 where
+  pub lead : stretchOf (r .lead) ≡ D.readMember s .lead
+  pub first : linkOf base (r .first) ≡ D.readMember s .first
+  pub rows : rowsFrom s base t′ base (r .rows - base) ≡ D.readMember s .rows
+  pub names : c ≡ bookWhole m [] (D.readMember s .declared) b
+
+-- ---- leaves
+abbrev pub countsFor : Where → ℕ
+countsFor k = D.counts (whereOf k)
+
+abbrev pub elseFor : D.Else → Mark
+elseFor (D.elseTo q) = Marked q
+elseFor D.noElse = Unmarked
+
+-- where a text ends
+abbrev pub endFor : List ℕ → Ending → ℕ
+endFor s (E.Percent p) = p
+endFor s E.AtEnd = length s
+endFor s (E.OpenAt p) = p
+
+-- the place past a label
+unfoldable pub labelPast : List ℕ → ℕ → Mark
+labelPast s at = cond (D.isName (tokenAt s at .token) && Tk.isSign ":" (tokenAt s (tokenAt s at .to) .token)) (Marked (tokenAt s (tokenAt s at .to) .to)) Unmarked
+
+-- ELSE, as the lexeme t says
+unfoldable pub elseWordIn : List ℕ → Lexeme → Mark
+elseWordIn s t = cond (isWordIn s t (bytesOf "ELSE") && D.isDecided (tokenAt s (t .to) .token)) (Marked (t .to)) Unmarked

@@ -1,0 +1,3 @@
+-- What the contracts of `statements` cite.
+pub mod Clauses
+pub mod Again
