@@ -1,7 +1,17 @@
 // What a name means in an expression, and what a call needs to know of its procedure: its parameters, the arguments that wait for
 // it, and which procedures are running.
 ghost use mathlib.Core.Path.{_≡_};
+ghost use mathlib.Core.Bool.{cond, not, _&&_};
+ghost use lib.Dec.{eqb};
+ghost use Rattle.definition.specs.Tokens.{tokenAt, isSign};
 ghost use Prim.Native.Nat.{_-_};
+ghost use Rattle.definition.specs.Lists.{part};
+ghost use Rattle.definition.specs.Evaluate as E;
+ghost use Rattle.definition.specs.Calls.{isRunning};
+ghost use Rattle.names.specs.Table.{ownerOf};
+ghost use Rattle.callees.specs.Shown.{namesWorld};
+ghost use Rattle.callees.specs.Answer.{meantFor, onOf, Starts, ParameterIs, CountedIs, CalleeOf, heldNumber, HeldWith, heldAt, FixedHeld, HeldIs, VariableIs, ValueStored, AllStored};
+ghost use Rattle.callees.specs.declared.Meant.the-variants.{TheSubstr, NoSuch};
 use deck::body;
 use definition::ValueType;
 use definition::Why;
@@ -41,21 +51,27 @@ pub enum Meant {
     NoSuch,
 }
 
-fn is_substr(s: &[u8], from: usize, n: usize) -> bool {
+fn is_substr(s: &[u8], from: usize, n: usize) -> bool
+    ensures { λ r. ⌜ r ≡ E.isSubstr (part n from (now (s .entry))) ⌝ }
+{
     if n == 6 {
         return is_same(s, from, b"SUBSTR", 0, 6);
     }
     false
 }
 
-fn substr_or(is_builtin: bool) -> Meant {
+fn substr_or(is_builtin: bool) -> Meant
+    ensures { λ r. ⌜ r ≡ cond «is_builtin» TheSubstr NoSuch ⌝ }
+{
     if is_builtin {
         return Meant::TheSubstr;
     }
     Meant::NoSuch
 }
 
-fn span(from: usize, to: usize) -> usize {
+fn span(from: usize, to: usize) -> usize
+    ensures { λ r. ⌜ r ≡ to - from ⌝ }
+{
     if to < from {
         return 0;
     }
@@ -71,7 +87,9 @@ pub fn meant_by(
     owner: Owner,
     from: usize,
     to: usize,
-) -> Meant {
+) -> Meant
+    ensures { λ r. ⌜ meantFor r ≡ E.meant (ownerOf owner) (part (to - from) from (now (s .entry))) (namesWorld (now (deck .entry)) (now (names .entry)) count) ⌝ }
+{
     let n = span(from, to);
     let found = seen_from(deck, names, count, s, from, n, owner);
     match found {
@@ -97,20 +115,27 @@ pub fn meant_by(
 pub struct Running {
     // how many may still be started
     pub left: usize,
+    pub members: [u16; 16],
     pub rows: [u16; 16],
 }
 
-pub fn none_running() -> Running {
+pub fn none_running() -> Running
+    ensures { λ r. ⌜ r .left ≡ 16 ⌝ }
+{
     Running {
         left: Levels::PROCEDURES,
+        members: [0; 16],
         rows: [0; 16],
     }
 }
 
-pub fn is_running(g: Running, row: u16) -> bool {
+// Whether the procedure at p is running.
+pub fn is_running(g: Running, p: Place) -> bool
+    ensures { λ r. ⌜ r ≡ isRunning (p .member) (p .row) (onOf g) ⌝ }
+{
     let mut i = g.left;
     while i < 16 {
-        if g.rows[i] == row {
+        if is_here(g.members[i], g.rows[i], p) {
             return true;
         }
         i += 1;
@@ -118,18 +143,34 @@ pub fn is_running(g: Running, row: u16) -> bool {
     false
 }
 
-// The procedure of a row started.
-pub fn started(g: Running, row: u16) -> Running
-    ensures { λ r. ⌜ r .left ≡ g .left - 1 ⌝ }
+fn is_here(member: u16, row: u16, p: Place) -> bool
+    ensures { λ r. ⌜ r ≡ (eqb member (p .member) && eqb row (p .row)) ⌝ }
+{
+    if member == p.member {
+        if row == p.row {
+            return true;
+        }
+        return false;
+    }
+    false
+}
+
+// The procedure at p started.
+pub fn started(g: Running, p: Place) -> Running
+    ensures { λ r. ⌜ Starts g p r ⌝ }
 {
     let n = g.left;
     let mut all = g;
-    if 0 < n {
-        if n <= 16 {
-            all.rows[n - 1] = row;
-        }
-        all.left = n - 1;
+    if n < 1 {
+        return all;
     }
+    if n <= 16 {
+        all.members[n - 1] = p.member;
+        all.rows[n - 1] = p.row;
+        all.left = n - 1;
+        return all;
+    }
+    all.left = n - 1;
     all
 }
 
@@ -155,7 +196,9 @@ pub fn parameter_at(
     count: u16,
     p: Place,
     at: usize,
-) -> ParameterAt {
+) -> ParameterAt
+    ensures { λ r. ⌜ ParameterIs (now (deck .entry)) (now (s .entry)) (now (names .entry)) count p at r ⌝ }
+{
     let t = token_at(s, at);
     let found = find(
         deck,
@@ -201,7 +244,9 @@ pub enum Called {
 }
 
 // Counts the parameters of the list at a place of the body s.
-fn counted(deck: &[u8], s: &[u8], names: &[u16], count: u16, p: Place, list: usize) -> Called {
+fn counted(deck: &[u8], s: &[u8], names: &[u16], count: u16, p: Place, list: usize) -> Called
+    ensures { λ r. ⌜ CountedIs (now (deck .entry)) (now (s .entry)) (now (names .entry)) count p list r ⌝ }
+{
     let mut at = list;
     let mut n: usize = 0;
     while n < s.len() {
@@ -227,14 +272,21 @@ fn counted(deck: &[u8], s: &[u8], names: &[u16], count: u16, p: Place, list: usi
 }
 
 // Whether no comma follows the name at a place.
-fn is_last(s: &[u8], at: usize) -> bool {
+fn is_last(s: &[u8], at: usize) -> bool
+    ensures { λ r. ⌜ r ≡ not (isSign "," (tokenAt (now (s .entry)) (tokenAt (now (s .entry)) at .to) .token)) ⌝ }
+{
     let t = token_at(s, at);
     let comma = token_at(s, t.to);
-    !is_sign(s, comma, b",")
+    if is_sign(s, comma, b",") {
+        return false;
+    }
+    true
 }
 
 // "as is an entry without a body"
-pub fn callee_of(deck: &[u8], rows: &[u16], names: &[u16], count: u16, b: Body) -> Called {
+pub fn callee_of(deck: &[u8], rows: &[u16], names: &[u16], count: u16, b: Body) -> Called
+    ensures { λ r. ⌜ CalleeOf (now (deck .entry)) (now (rows .entry)) (now (names .entry)) count b r ⌝ }
+{
     match b {
         Body::Nothing => Called::Fails(Why::WrongName),
         Body::At(p) => {
@@ -263,7 +315,9 @@ pub fn nothing_held() -> Held {
     Held { numbers: [0; 256] }
 }
 
-fn held_number(v: Value) -> u32 {
+fn held_number(v: Value) -> u32
+    ensures { λ r. ⌜ r ≡ heldNumber v ⌝ }
+{
     match v {
         Value::Number(x) => x.stored(),
         Value::Characters(n) => (n % 65_536) as u32,
@@ -271,16 +325,21 @@ fn held_number(v: Value) -> u32 {
     }
 }
 
-pub fn with_held(h: Held, i: usize, v: Value) -> Held {
+pub fn with_held(h: Held, i: usize, v: Value) -> Held
+    ensures { λ r. ⌜ HeldWith h i v r ⌝ }
+{
     let n = held_number(v);
     let mut all = h;
     if i < 256 {
         all.numbers[i] = n;
+        return all;
     }
     all
 }
 
-pub fn held_at(h: Held, i: usize) -> u32 {
+pub fn held_at(h: Held, i: usize) -> u32
+    ensures { λ r. ⌜ r ≡ heldAt h i ⌝ }
+{
     if i < 256 {
         return h.numbers[i];
     }
@@ -288,7 +347,9 @@ pub fn held_at(h: Held, i: usize) -> u32 {
 }
 
 // A waiting number; it is always in range.
-pub fn fixed_held(h: Held, i: usize) -> Fixed {
+pub fn fixed_held(h: Held, i: usize) -> Fixed
+    ensures { λ r. ⌜ FixedHeld h i r ⌝ }
+{
     let x = Fixed::from_stored(held_at(h, i));
     match x {
         Answer::Is(n) => n,
@@ -308,7 +369,9 @@ pub fn variable_value(
     a: u16,
     t: ValueType,
     u: usize,
-) -> Given {
+) -> Given
+    ensures { λ r. ⌜ VariableIs (now (cells .entry)) (now (low .entry)) (now (high .entry)) (now (work .entry)) a t u (now (work .exit)) r ⌝ }
+{
     match t {
         ValueType::FixedType => {
             let x = number_at(cells, a);
@@ -340,7 +403,9 @@ pub fn store_value(
     a: u16,
     u: usize,
     v: Value,
-) {
+)
+    ensures { λ _. ⌜ ValueStored (now (cells .entry)) (now (low .entry)) (now (high .entry)) (now (work .entry)) a u v (now (cells .exit)) (now (low .exit)) (now (high .exit)) ⌝ }
+{
     match v {
         Value::Number(x) => store_number(cells, a, x),
         Value::Characters(n) => store_characters(cells, low, high, a, work, u, (n % 65_536) as u16),
@@ -349,7 +414,9 @@ pub fn store_value(
 }
 
 // The waiting argument i, of a type.
-fn held_value(h: Held, i: usize, t: ValueType) -> Value {
+fn held_value(h: Held, i: usize, t: ValueType) -> Value
+    ensures { λ r. ⌜ HeldIs h i t r ⌝ }
+{
     match t {
         ValueType::FixedType => Value::Number(fixed_held(h, i)),
         ValueType::CharacterType => Value::Characters(held_at(h, i) as usize),
@@ -368,7 +435,9 @@ pub fn store_all(
     c: Callee,
     h: Held,
     u: usize,
-) {
+)
+    ensures { λ _. ⌜ AllStored (now (deck .entry)) (now (names .entry)) (now (cells .entry)) (now (low .entry)) (now (high .entry)) (now (work .entry)) count c h u (now (cells .exit)) (now (low .exit)) (now (high .exit)) ⌝ }
+{
     let p = c.place;
     let s = body(deck, p.member);
     let mut at = c.list;

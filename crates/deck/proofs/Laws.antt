@@ -10,7 +10,7 @@ use native.Mathlib.Omega.{arith}
 use borrow.Author.Needs.{needs}
 use borrow.Author.Tests.{eq-eqb, ne-eqb, le-leb, lt-leb}
 use lib.Dec.{eqb, leb}
-use lib.ListN.{length, getD, replicate}
+use lib.ListN.{length, getD, replicate, take, drop}
 use Rattle.definition.specs.Lists.{part, number, all, past, same}
 use Rattle.definition.specs.Bytes.{isLetter, isAlphameric, isBlank}
 use Rattle.definition.specs.Deck.{Line, linePlace, lineAt, linesFrom, lines, count, isMemberName, areNamed, isCalled, Found, none, line, find, isNone, areDistinct, follow, isSound, contents, holds, malformed}
@@ -336,3 +336,21 @@ module _ (d : List ℕ) (n : ℕ) (e : n ≡ count d) (small : length d ≤ 6553
             pub of-sound : v ≡ true → C.the-variants.Sound (record { lines = n }) ≡ A.answerFor (contents d)
             unfolding contents isSound
             of-sound g = rw (size-ok, ← e, some-ok, few-ok, there-ok, ← f, named, ← i, distinct, ← k, g, length-lines d 0 n)
+
+-- ---- the body of a line
+module _ (d : List ℕ) (k from n : ℕ) (e : from ≡ lineAt d k .offset) (f : n ≡ lineAt d k .size) where
+  no-body : length d < from + n → [] ≡ A.bodyIn d k
+  unfolding A.bodyIn
+  no-body h = rw (← e, ← f, lt-leb (from + n) (length d) h)
+
+  pub body-past : (r : List ℕ) → r ≡ [] → length d < from → r ≡ A.bodyIn d k
+  body-past r g h = g ∙ no-body (omega arith)
+
+  pub body-short : (r : List ℕ) → r ≡ [] → from ≤ length d → length d - from < n → r ≡ A.bodyIn d k
+  body-short r g l h = g ∙ no-body (omega arith)
+
+  pub body-whole : (r : List ℕ) → r ≡ take (from + n - from) (drop from d) → from ≤ length d → n ≤ length d - from → r ≡ A.bodyIn d k
+  unfolding A.bodyIn
+  body-whole r g l h =
+      let a : from + n - from ≡ n = omega arith in
+      g ∙ rw (a, ← e, ← f, le-leb (from + n) (length d) (omega arith))

@@ -6,7 +6,7 @@ ghost use Rattle.definition.specs.Lists.{part, all};
 ghost use Rattle.definition.specs.Bytes.{isBlank};
 ghost use Rattle.definition.specs.Deck.{linePlace, lineAt, linesFrom, isMemberName, areNamed, isCalled, areDistinct, follow};
 ghost use Rattle.definition.specs.Deck as D;
-ghost use Rattle.deck.specs.Answer.{answerFor, foundFor, refusalOf};
+ghost use Rattle.deck.specs.Answer.{answerFor, foundFor, refusalOf, bodyIn};
 ghost use Rattle.deck.specs.Word.{Word};
 use chars::is_alphameric;
 use chars::is_letter;
@@ -220,7 +220,9 @@ impl Deck {
 }
 
 // The body of line k; nothing where the deck does not have it.
-pub fn body(d: &[u8], k: u16) -> &[u8] {
+pub fn body(d: &[u8], k: u16) -> &[u8]
+    ensures { λ r. ⌜ now r ≡ bodyIn (now (d .entry)) k ⌝ }
+{
     let from = offset(d, k) as usize;
     let n = size(d, k) as usize;
     if d.len() < from {

@@ -1,28 +1,39 @@
--- The turns left get fewer.
+-- What is left to look at decides.
 use borrow.Author.Needs.{needs}
 use Rattle.callees.proofs.is_running.Statement.{statement}
 use Rattle.callees.proofs.is_running.Tie as tie
 use Rattle.callees.proofs.is_running.Reads as reads
 use Rattle.callees.proofs.is_running.Lts as lts
+use Rattle.callees.proofs.is_here.Reads as is-here-reads
 use Prim.Native.Nat.{_≤_, _-_}
+use Rattle.callees.proofs.Starting.{Looking, looking-start, looking-more, looking-here, looking-done}
 
 abbrev Inv-loop : tie.InvT-loop
-Inv-loop row g i₀ i = (i₀ ≤ i)
+Inv-loop p g i₀ i = Looking g p i
 
 abbrev μ-loop : tie.MeasureT-loop
-μ-loop row g i₀ i = 16 - i
+μ-loop p g i₀ i = 16 - i
 
 loop-holds : tie.Need-loop-holds Inv-loop μ-loop
-loop-holds c = search needs
+loop-holds c = looking-start _ _
 
-mul-if1 : tie.Need-mul-if1 Inv-loop μ-loop
-mul-if1 c = search needs
+mul-is-here : tie.Need-mul-is-here Inv-loop μ-loop
+mul-is-here c = search needs
 
-element-copy-out-if1 : tie.Need-element-copy-out-if1 Inv-loop μ-loop
-element-copy-out-if1 c = search needs
+element-copy-out-is-here : tie.Need-element-copy-out-is-here Inv-loop μ-loop
+element-copy-out-is-here c = search needs
+
+mul-is-here-2 : tie.Need-mul-is-here-2 Inv-loop μ-loop
+mul-is-here-2 c = search needs
+
+element-copy-out-is-here-2 : tie.Need-element-copy-out-is-here-2 Inv-loop μ-loop
+element-copy-out-is-here-2 c = search needs
+
+is-here-requires : tie.Need-is-here-requires Inv-loop μ-loop
+is-here-requires c κs = search needs
 
 returns : tie.Need-returns Inv-loop μ-loop
-returns c = search needs
+returns c = search looking-here
 
 add-i : tie.Need-add-i Inv-loop μ-loop
 add-i c = search needs
@@ -31,10 +42,10 @@ loop-less : tie.Need-loop-less Inv-loop μ-loop
 loop-less c = search needs
 
 loop-again : tie.Need-loop-again Inv-loop μ-loop
-loop-again c = search needs
+loop-again c = search looking-more
 
 returns-2 : tie.Need-returns-2 Inv-loop μ-loop
-returns-2 c = search needs
+returns-2 c = search looking-done
 
 pub is-running-spec : {M : Type 1} → statement M
 is-running-spec =
@@ -43,8 +54,11 @@ is-running-spec =
     Inv-loop
     μ-loop
     loop-holds
-    mul-if1
-    element-copy-out-if1
+    mul-is-here
+    element-copy-out-is-here
+    mul-is-here-2
+    element-copy-out-is-here-2
+    is-here-requires
     returns
     add-i
     loop-less

@@ -1,4 +1,4 @@
--- The turns left get fewer.
+-- What is left to store, after what was stored, is all.
 use borrow.Author.Needs.{needs}
 use Rattle.callees.proofs.store_all.Statement.{statement}
 use Rattle.callees.proofs.store_all.Tie as tie
@@ -10,12 +10,12 @@ use Rattle.callees.proofs.store_value.Reads as store-value-reads
 use Rattle.deck.proofs.body.Reads as body-reads
 use Rattle.operators.proofs.above.Reads as above-reads
 use Rattle.operators.proofs.size_of.Reads as size-of-reads
-use Prim.Native.Nat.{_≤_, _-_}
-use mathlib.Core.Path.{_≡_}
-use lib.ListN.{length}
+use Prim.Native.Nat.{_-_}
+use native.Mathlib.Omega.{arith}
+use Rattle.callees.proofs.Storing.{Storing, storing-start, storing-more, storing-wrong, storing-done}
 
 abbrev Inv-loop : tie.InvT-loop
-Inv-loop deck names cells₀ low₀ high₀ work count c h u p s at₀ top₀ i₀ cells low high at top i = (i₀ ≤ i) × (length cells ≡ length cells₀) × (length low ≡ length low₀) × (length high ≡ length high₀)
+Inv-loop deck names cells₀ low₀ high₀ work count c h u p s at₀ top₀ i₀ cells low high at top i = Storing deck names count c s h work cells₀ low₀ high₀ u i at top cells low high
 
 abbrev μ-loop : tie.MeasureT-loop
 μ-loop deck names cells₀ low₀ high₀ work count c h u p s at₀ top₀ i₀ cells low high at top i = c .count - i
@@ -24,7 +24,7 @@ body-requires : tie.Need-body-requires Inv-loop μ-loop
 body-requires c κs = search needs
 
 loop-holds : tie.Need-loop-holds Inv-loop μ-loop
-loop-holds c = search needs
+loop-holds c = search (needs, storing-start)
 
 parameter-at-requires : tie.Need-parameter-at-requires Inv-loop μ-loop
 parameter-at-requires c κs = search needs
@@ -57,16 +57,16 @@ same-length-3 : tie.Need-same-length-3 Inv-loop μ-loop
 same-length-3 c = search needs
 
 returns : tie.Need-returns Inv-loop μ-loop
-returns c = search needs
+returns c = search storing-wrong
 
 add-i : tie.Need-add-i Inv-loop μ-loop
-add-i c = search needs
+add-i c = record { fits = omega (arith, (c .before .before .before .before .before .before .before .before .before .before .before .before .before .before .before .before .before .if1 .taken), (c .before .before .before .before .before .before .before .before .before .before .before .before .before .before .before .before .before .before .before .loop .inv .whole)) }
 
 loop-less : tie.Need-loop-less Inv-loop μ-loop
-loop-less c = search needs
+loop-less c = omega (arith, (c .before .before .before .before .before .before .before .before .before .before .before .before .before .before .before .before .before .if1 .taken))
 
 loop-again : tie.Need-loop-again Inv-loop μ-loop
-loop-again c = search needs
+loop-again c = search storing-more
 
 same-length-4 : tie.Need-same-length-4 Inv-loop μ-loop
 same-length-4 c = search needs
@@ -78,7 +78,7 @@ same-length-6 : tie.Need-same-length-6 Inv-loop μ-loop
 same-length-6 c = search needs
 
 returns-2 : tie.Need-returns-2 Inv-loop μ-loop
-returns-2 c = search needs
+returns-2 c = search storing-done
 
 pub store-all-spec : {M : Type 1} → statement M
 store-all-spec =

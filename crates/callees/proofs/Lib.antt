@@ -1,0 +1,4 @@
+pub mod Naming
+pub mod Starting
+pub mod Listing
+pub mod Storing
