@@ -1021,7 +1021,7 @@ pub fn call(
 ) -> Evaluated {
     let p = y.place;
     let running = c.running;
-    if is_running(running, p.row) {
+    if is_running(running, p) {
         return Evaluated::Failed(Why::WronglyRun, m);
     }
     if running.left < 1 {
@@ -1031,7 +1031,7 @@ pub fn call(
     let inner = Scene {
         names: c.names,
         owner: Owner::Procedure(p),
-        running: started(running, p.row),
+        running: started(running, p),
     };
     run_body(
         deck,

@@ -17,7 +17,7 @@ use Rattle.definition.specs.declared.Class.{Class}
 use Rattle.definition.specs.declared.Class.the-variants.{Letter, Digit, Break, Blank, LineFeed, Percent, Quote, Mark, Other}
 use Rattle.definition.proofs.Parts.{length-part}
 use Rattle.definition.specs.Tokens as T
-use Rattle.tokens.specs.Answer.{gapFor, constantFor, signSize, kindOf, lexOf, lexemeFor, Lexed, spelling, isWordKind, isSignKind, isNothingKind, isWordIn, isSignIn, contentOf, content, tokenFor}
+use Rattle.tokens.specs.Answer.{gapFor, constantFor, signSize, kindOf, lexOf, lexemeFor, Lexed, spelling, isWordKind, isSignKind, isWordIn, isSignIn, contentOf, content, tokenFor}
 use Rattle.tokens.specs.declared.Kind.{Kind}
 use Rattle.tokens.specs.declared.Kind.the-variants.{Word, Integer, String, Bits, Sign, Nothing, Wrong}
 use Rattle.tokens.specs.declared.Lexeme.{Lexeme}
@@ -259,18 +259,6 @@ module _ (s : List ℕ) (e : ℕ) (l : Lexeme) (h : Lexed s e l) where
 
   pub lexeme-is : T.tokenAt s e ≡ T.lexeme (tokenFor (l .kind) (spelling s l) (content s (l .from))) (l .from) (l .to)
   lexeme-is = rw (← token-is, h .from, h .to)
-
-  pub is-nothing : isNothingKind (l .kind) ≡ T.isNothing (T.tokenAt s e .token)
-  is-nothing = rw (h .kind) (by-token (T.tokenAt s e .token))
-    where
-      by-token : (x : T.Token) → isNothingKind (kindOf x) ≡ T.isNothing x
-      by-token (T.word x) = refl
-      by-token (T.integer x) = refl
-      by-token (T.string x) = refl
-      by-token (T.bits x) = refl
-      by-token (T.sign x) = refl
-      by-token T.nothing = refl
-      by-token T.wrong = refl
 
   pub is-word : (W : S.String) (w : List ℕ) → bytesOf W ≡ w → isWordIn s l w ≡ T.isWord W (T.tokenAt s e .token)
   unfolding isWordIn

@@ -108,15 +108,6 @@ isSignKind Sign = true
 isSignKind Nothing = false
 isSignKind Wrong = false
 
-abbrev pub isNothingKind : Kind → Bool
-isNothingKind Word = false
-isNothingKind Integer = false
-isNothingKind String = false
-isNothingKind Bits = false
-isNothingKind Sign = false
-isNothingKind Nothing = true
-isNothingKind Wrong = false
-
 -- whether it is a token at all
 abbrev pub isToken : Kind → Bool
 isToken Word = true

@@ -8,7 +8,7 @@ ghost use lib.ListN.{length, drop};
 ghost use Rattle.definition.specs.Lists.{leading, same};
 ghost use Rattle.definition.specs.Bytes.{isAlphameric, isDigit};
 ghost use Rattle.definition.specs.Tokens as T;
-ghost use Rattle.tokens.specs.Answer.{closedFor, stepFor, stepAt, gapFor, constantFor, byteWidth, signSize, isSolid, lexOf, lexemeFor, Lexed, spelling, isWordKind, isSignKind, isNothingKind, isWordIn, isSignIn, content, Unquoted, cutOf, closedPiece, Cuts, isUnclosed, endingFor};
+ghost use Rattle.tokens.specs.Answer.{closedFor, stepFor, stepAt, gapFor, constantFor, byteWidth, signSize, isSolid, lexOf, lexemeFor, Lexed, spelling, isWordKind, isSignKind, isWordIn, isSignIn, content, Unquoted, cutOf, closedPiece, Cuts, isUnclosed, endingFor};
 use chars::class;
 use chars::is_alphameric;
 use chars::is_bit;
@@ -380,21 +380,6 @@ pub fn is_word_kind(k: Kind) -> bool
         Kind::Bits => false,
         Kind::Sign => false,
         Kind::Nothing => false,
-        Kind::Wrong => false,
-    }
-}
-
-// Whether the body's end was reached.
-pub fn is_nothing(k: Kind) -> bool
-    ensures { λ r. ⌜ r ≡ isNothingKind k ⌝ }
-{
-    match k {
-        Kind::Word => false,
-        Kind::Integer => false,
-        Kind::String => false,
-        Kind::Bits => false,
-        Kind::Sign => false,
-        Kind::Nothing => true,
         Kind::Wrong => false,
     }
 }

@@ -4010,7 +4010,7 @@ call-run-body-requires : (t : ℕ) → call-lts.Need-run-body-requires (
   run-body-below t,
   run-body.Post,
 ) (call-at t) call.Post
-call-run-body-requires t c κs = omega (arith, (c .before .before .before .before .before .before .before .before .before .before .before .before .before .before .before .before .before .before .before .before .before .before .before .before .before .before .before .before .before .before .pre), (c .before .before .before .before .before .started .ensures), (c .before .before .before .before .before .before .before .before .before .before .before .before .before .before .before .before .before .if2 .left))
+call-run-body-requires t c κs = omega (arith, (c .before .before .before .before .before .before .before .before .before .before .before .before .before .before .before .before .before .before .before .before .before .before .before .before .before .before .before .before .before .before .pre), (c .before .before .before .before .before .started .ensures .left), (c .before .before .before .before .before .before .before .before .before .before .before .before .before .before .before .before .before .if2 .left))
 
 call-same-length : (t : ℕ) → call-lts.Need-same-length (
   is-running-reads.Asked,
