@@ -138,8 +138,8 @@ lt-or-gt a b h = by (ltb a b) refl
     by false e = inr (omega (arith, ltb-false a b e, h))
 
 -- ---- reading a variable
-among-part : (w w′ : List ℕ) (u n : ℕ) (xs : List ℕ) → w′ ≡ over w u xs → length xs ≡ n → 65536 ≤ length w → givenIn w′ u (amongFor u (O.Characters n)) ≡ Val.among u (Val.characters xs)
-unfolding amongFor sizeFor givenIn valueIn Val.among
+among-part : (w w′ : List ℕ) (u n : ℕ) (xs : List ℕ) → w′ ≡ over w u xs → length xs ≡ n → 65536 ≤ length w → givenIn w′ u (amongFor u (O.Characters n)) ≡ Val.unfinished u (Val.characters xs)
+unfolding amongFor sizeFor givenIn valueIn Val.unfinished
 among-part w w′ u n xs e f h = rw f (by (leb (u + n) 65536) refl)
   where
     by : (b : Bool) → leb (u + n) 65536 ≡ b → givenIn w′ u (cond b (Gives (O.Characters n)) (Fails TooLong)) ≡ cond b (Val.gives (Val.characters xs)) (Val.fails TooLong)
@@ -151,8 +151,8 @@ module _ (c l h w : List ℕ) (a u : ℕ) (t : ValueType) where
   unfolding cellIn
   number-cell x e = e
 
-  among-number : (x : Fixed) → u ≤ 65536 → Val.gives (Val.fixed (x .value)) ≡ Val.among u (Val.fixed (x .value))
-  unfolding Val.among
+  among-number : (x : Fixed) → u ≤ 65536 → Val.gives (Val.fixed (x .value)) ≡ Val.unfinished u (Val.fixed (x .value))
+  unfolding Val.unfinished
   among-number x k = let b : leb (u + 0) 65536 ≡ true = borrow.Author.Tests.le-leb (u + 0) 65536 (omega arith) in rw b
 
   module _ (e : t ≡ FixedType) (x : Number) (f : numberCell x ≡ cellIn c [] [] FixedType a) where

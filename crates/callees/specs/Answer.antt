@@ -172,7 +172,7 @@ pub record HeldIs (h : Held) (i : ℕ) (t : ValueType) (r : Value) : Type 0 wher
 -- ---- values of variables
 abbrev pub readIn : W.Cell → ℕ → Val.Answer Val.Value
 readIn W.noValue u = Val.fails NoValue
-readIn (W.holds v) u = Val.among u v
+readIn (W.holds v) u = Val.unfinished u v
 
 -- the value of the variable at a, put above u bytes
 pub record VariableIs (c l h w : List ℕ) (a : ℕ) (t : ValueType) (u : ℕ) (w′ : List ℕ) (r : Given) : Type 0 where

@@ -22,7 +22,7 @@ denotationsFrom t a (suc n) = denotationOf (nameIn t a .denotation) ∷ denotati
 
 -- the world of which only the names are known: deck d, table t, n records
 unfoldable pub namesWorld : List ℕ → List ℕ → ℕ → World
-namesWorld d t n = record { identifiers = identifiersFrom d t 0 n; denotations = denotationsFrom t 0 n; values = []; activities = []; members = []; sentences = 0; limit = 0; used = 0; events = []; textLeft = 0; linesLeft = 0; passes = [] }
+namesWorld d t n = W.withTables (identifiersFrom d t 0 n) (denotationsFrom t 0 n) [] [] (W.newWorld 0 0 0)
 
 -- the names of the world B are those of the table
 pub record Named (d t : List ℕ) (n : ℕ) (B : World) : Type 0 where
@@ -43,7 +43,7 @@ valuesFrom (d ∷ ds) a c l h = cellAs d a c l h ∷ valuesFrom ds (suc a) c l h
 
 -- B with these values and so many steps used
 abbrev pub withValues : List W.Cell → ℕ → World → World
-withValues vs n B = record { identifiers = B .identifiers; denotations = B .denotations; values = vs; activities = B .activities; members = B .members; sentences = B .sentences; limit = B .limit; used = n; events = B .events; textLeft = B .textLeft; linesLeft = B .linesLeft; passes = B .passes }
+withValues vs n B = W.withUsed n (W.withTables (B .identifiers) (B .denotations) vs (B .activities) B)
 
 abbrev pub worldIn : World → List ℕ → List ℕ → List ℕ → ℕ → World
 worldIn B c l h n = withValues (valuesFrom (B .denotations) 0 c l h) n B

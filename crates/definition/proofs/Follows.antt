@@ -16,7 +16,7 @@ use Rattle.definition.specs.Steps.{isLeft, usedAfter}
 use Rattle.definition.specs.Limits.{valueLength, unfinishedBytes}
 use Rattle.definition.specs.Refusal.{Why, noStep, roomFull}
 use Rattle.definition.specs.Expressions.{Tree, integerOf, stringOf, bitsOf, reference, call, unary, binary, none, more}
-use Rattle.definition.specs.Program.{Type′, fixedType, characterType, Bound, by, upto, Statement, null, declare, procedure, assign, conditional, group, iterated, goto, include, activate, deactivate, return, Link, nowhere, row, Role, listed, thenPart, elsePart, Stretch, Row}
+use Rattle.definition.specs.Program.{Type′, fixedType, characterType, Bound, by, upto, Statement, null, declare, procedure, assign, conditional, group, iterated, goto, include, activate, deactivate, return, isIterated, Link, nowhere, row, Role, listed, thenPart, elsePart, Stretch, Row}
 use Rattle.definition.specs.Fixed as Fixed
 use Rattle.definition.specs.Values as Values
 use Rattle.definition.specs.Values.{Value, characters, Answer, gives, fails, convert, sizeOf}
@@ -24,7 +24,7 @@ use Rattle.definition.specs.World as W
 use Rattle.definition.specs.World.{Owner, Denotation, variableOf, entryOf, labelAt, builtinName, Address, address, unknown, Cell, Activity, inactive, rescanned, copiedOnly, Pass, World, Res, good, bad, bind, placed, ask, withUsed, charge, seenFrom, valueAt, store, Body, addressOf, orGlobal, rowOf, rowsOf}
 use Rattle.definition.specs.Evaluate as Evaluate
 use Rattle.definition.specs.Evaluate.{Parameter, Meant, aVariable, anEntry, theSubstr, noSuch, meant, meantAt, Callee, callee, parameters, parameterAt, listedIn, Wish, wishes, substrWishes, count, Call, put, readCell, plainName, listedName, evaluate}
-use Rattle.definition.specs.Flow.{isOnce, Jump, toRow, toEnd, away, Deed, passed, gave, jumps, Next, begin, again, over, End, ran, returned, went, Frame, Machine, Turn, on, ended, endIn, nextIn, upFrom, behindAs, behindOn, leadOut, firstIn, endOf, behind, onward, alternativeOf, inRow, into, targetAs, targetAt, assigned, truth, number, bounded, bounds, startAs, startIn, startAt, frameOf, numberAt, stepped, follow, done, chosen, statement, turn, continued, runOn, mayGo}
+use Rattle.definition.specs.Flow.{isOnce, Jump, toRow, toEnd, away, Deed, passed, gave, jumps, Next, begin, again, noNext, End, ran, returned, went, Frame, Machine, Turn, on, ended, endIn, nextIn, upFrom, behindAs, behindOn, leadOut, firstIn, endOf, behind, onward, alternativeOf, inRow, into, targetAs, targetAt, assigned, truth, number, bounded, bounds, startAs, startIn, startAt, frameOf, numberAt, stepped, follow, done, chosen, statement, turn, continued, runOn, mayGo}
 use Rattle.definition.specs.Calls.{Place, isRunning, storeAll, actIn, jumpLocal, jumpGlobal, jumpOut, jumpIn, bodyMachine, firstOf, valueOf, bodyRun, calls}
 use Rattle.definition.specs.Lists.{part}
 use Rattle.definition.specs.Tokens.{Piece, name, plain, unclosed, pieceAt}
@@ -202,6 +202,7 @@ module _ (a b c : ℕ) (gs : List Pass) (Short : Why → Type 0) (spare : Spare 
     Ties r s = Follows Alike Lacks r s
 
     end-follows : (s : Statement) (g : ℕ) (fs : List Frame) (up : Unit {0} → Res E Next) (down : Unit {0} → Res F Next) → Ties (up tt) (down tt) → (w : World) → Ties (endIn M s g fs up w) (endIn N s g fs down (grow w))
+    unfolding isIterated
     end-follows null g fs up down k w = k
     end-follows (declare ns) g fs up down k w = k
     end-follows (procedure ns t) g fs up down k w = goes
@@ -270,7 +271,7 @@ module _ (a b c : ℕ) (gs : List Pass) (Short : Why → Type 0) (spare : Spare 
 
     truth-follows : (x : Tree) (w : World) → Fol (truth M x w) (truth N x (grow w))
     unfolding truth
-    truth-follows x w = bind-follows _ _ (values x w) λ v y. bind-follows _ _ (ask-follows (Values.andThen (Values.asBits v) (Values.among (M .waiting))) y) λ i z. ask-follows (Values.holds i) z
+    truth-follows x w = bind-follows _ _ (values x w) λ v y. ask-follows (Values.holds (M .waiting) v) y
 
     number-follows : (x : Tree) (w : World) → Fol (number M x w) (number N x (grow w))
     unfolding number
@@ -361,7 +362,7 @@ module _ (a b c : ℕ) (gs : List Pass) (Short : Why → Type 0) (spare : Spare 
     unfolding turn
     turn-follows (begin n) fs w = bind-follows _ _ (in-row n (charge-follows w)) λ _ v. statement-follows (rowOf (M .rows) n .statement) fs n v
     turn-follows (again g) fs w = bind-follows _ _ (in-row g (stepped-follows g fs w)) λ t v. when-follows t _ _ _ _ (onward-follows fs (into-follows fs g v)) (on-behind fs g v)
-    turn-follows over fs w = goes
+    turn-follows noNext fs w = goes
 
     continued-follows : {r : Res E Turn} {s : Res F Turn} (f : Next → List Frame → World → Res E End) (g : Next → List Frame → World → Res F End) → Ties r s → ((x : Next) (fs : List Frame) (w : World) → Ties (f x fs w) (g x fs (grow w))) → Ties (continued M r f) (continued N s g)
     continued-follows f g (goes {x = on x fs} {w}) k = k x fs w
@@ -375,21 +376,21 @@ module _ (a b c : ℕ) (gs : List Pass) (Short : Why → Type 0) (spare : Spare 
     runOn-less s zero g h (begin n) fs w = lacks (shorts (rowOf (M .rows) n) noStep s)
     runOn-less s zero zero h (again n) fs w = continued-follows _ _ (turn-follows (again n) fs w) λ x gs v. lacks (shorts (rowOf (M .rows) n) noStep s)
     runOn-less s zero (suc g) h (again n) fs w = continued-follows _ _ (turn-follows (again n) fs w) λ x gs v. lacks (shorts (rowOf (M .rows) n) noStep s)
-    runOn-less s zero zero h over fs w = goes
-    runOn-less s zero (suc g) h over fs w = goes
+    runOn-less s zero zero h noNext fs w = goes
+    runOn-less s zero (suc g) h noNext fs w = goes
     runOn-less s (suc f) zero h x fs w = absurd (not-suc-le-zero h)
     runOn-less s (suc f) (suc g) h (begin n) fs w = continued-follows _ _ (turn-follows (begin n) fs w) λ x gs v. runOn-less s f g (omega arith) x gs v
     runOn-less s (suc f) (suc g) h (again n) fs w = continued-follows _ _ (turn-follows (again n) fs w) λ x gs v. runOn-less s f g (omega arith) x gs v
-    runOn-less s (suc f) (suc g) h over fs w = goes
+    runOn-less s (suc f) (suc g) h noNext fs w = goes
 
     runOn-even : (f : ℕ) (x : Next) (fs : List Frame) (w : World) → Ties (runOn M f x fs w) (runOn N f x fs (grow w))
     unfolding runOn
     runOn-even zero (begin n) fs w = halts (faults (rowOf (M .rows) n) noStep)
     runOn-even zero (again n) fs w = continued-follows _ _ (turn-follows (again n) fs w) λ x gs v. halts (faults (rowOf (M .rows) n) noStep)
-    runOn-even zero over fs w = goes
+    runOn-even zero noNext fs w = goes
     runOn-even (suc f) (begin n) fs w = continued-follows _ _ (turn-follows (begin n) fs w) λ x gs v. runOn-even f x gs v
     runOn-even (suc f) (again n) fs w = continued-follows _ _ (turn-follows (again n) fs w) λ x gs v. runOn-even f x gs v
-    runOn-even (suc f) over fs w = goes
+    runOn-even (suc f) noNext fs w = goes
 
     -- as many turns as there are steps left
     pub runOn-follows : (x : Next) (fs : List Frame) (w : World) → Ties (runOn M (w .limit - w .used) x fs w) (runOn N (w .limit + a - w .used) x fs (grow w))

@@ -15,14 +15,14 @@ use Rattle.definition.specs.Limits.{valueLength, unfinishedBytes}
 use Rattle.definition.specs.Refusal.{Why, noStep, declaredTwice}
 use Rattle.definition.specs.Fixed as Fixed
 use Rattle.definition.specs.Expressions.{Operator, Prefix, Tree, integerOf, stringOf, bitsOf, reference, call, unary, binary, none, more}
-use Rattle.definition.specs.Program.{Type′, fixedType, characterType, Bound, by, upto, Statement, null, declare, procedure, assign, conditional, group, iterated, goto, include, activate, deactivate, return, Link, nowhere, row, Role, listed, thenPart, elsePart, Stretch, Row, Declared, Fault, sound, faulty, Source}
+use Rattle.definition.specs.Program.{Type′, fixedType, characterType, Bound, by, upto, Statement, null, declare, procedure, assign, conditional, group, iterated, goto, include, activate, deactivate, return, isIterated, Link, nowhere, row, Role, listed, thenPart, elsePart, Stretch, Row, Declared, Fault, sound, faulty, Source}
 use Rattle.definition.specs.Values as Values
-use Rattle.definition.specs.Values.{Value, fixed, characters, bitValue, Answer, gives, fails, andThen, fromFixed, constant, toFixed, convert, sizeOf, limited, among, infixed, prefixed, subject, substr}
+use Rattle.definition.specs.Values.{Value, fixed, characters, bitValue, Answer, gives, fails, andThen, fromFixed, constant, toFixed, convert, sizeOf, limited, unfinished, infixed, prefixed, subject, substr}
 use Rattle.definition.specs.World as W
 use Rattle.definition.specs.World.{Owner, Identifier, Denotation, variableOf, entryOf, labelAt, builtinName, Address, address, unknown, Cell, Activity, inactive, rescanned, copiedOnly, World, Res, good, bad, bind, placed, ask, withUsed, charge, valueAt, store}
 use Rattle.definition.specs.Evaluate as Evaluate
 use Rattle.definition.specs.Evaluate.{Parameter, Meant, aVariable, anEntry, theSubstr, noSuch, meant, Callee, callee, Wish, asType, asSubject, wished, wishes, substrWishes, count, Call, put, readCell, plainName, listedName, evaluate}
-use Rattle.definition.specs.Flow.{Jump, toRow, toEnd, away, Deed, passed, gave, jumps, Next, begin, again, over, End, ran, returned, went, Frame, Machine, Turn, on, ended, endIn, nextIn, upFrom, behindAs, behindOn, leadOut, firstIn, into, targetAs, targetAt, assigned, truth, number, bounded, bounds, startAs, startIn, startAt, frameOf, numberAt, stepped, follow, done, chosen, statement, turn, continued, runOn}
+use Rattle.definition.specs.Flow.{Jump, toRow, toEnd, away, Deed, passed, gave, jumps, Next, begin, again, noNext, End, ran, returned, went, Frame, Machine, Turn, on, ended, endIn, nextIn, upFrom, behindAs, behindOn, leadOut, firstIn, into, targetAs, targetAt, assigned, truth, number, bounded, bounds, startAs, startIn, startAt, frameOf, numberAt, stepped, follow, done, chosen, statement, turn, continued, runOn}
 use Rattle.definition.specs.Calls.{Place, storeAll, actIn, jumpLocal, jumpGlobal, jumpOut, jumpIn, bodyMachine, valueOf, bodyRun, calls}
 use Rattle.definition.specs.Lists.{part}
 use Rattle.definition.specs.Tokens.{Piece, name, plain, unclosed, pieceAt}
@@ -240,13 +240,13 @@ module _ {Sound : World → Type 0} {Of : Value → Type 0} {Left : ℕ → Type
       go false e = halt h
 
   -- ---- expressions, where `run` keeps
-  among-gives : (u : ℕ) (v : Value) → Of v → Gives Of (among u v)
-  unfolding among
-  among-gives u v h = cond-has (Gives Of) (leb (u + sizeOf v) unfinishedBytes) _ _ (λ _. given h) λ _. failed
+  unfinished-gives : (u : ℕ) (v : Value) → Of v → Gives Of (unfinished u v)
+  unfolding unfinished
+  unfinished-gives u v h = cond-has (Gives Of) (leb (u + sizeOf v) unfinishedBytes) _ _ (λ _. given h) λ _. failed
 
   pub put-leaves : (u : ℕ) {x : Answer Value} {w : World} → Gives Of x → Sound w → Leaves Of (put u x w)
   unfolding put
-  put-leaves u h k = ask-leaves (then-gives h (among-gives u)) k
+  put-leaves u h k = ask-leaves (then-gives h (unfinished-gives u)) k
 
   cell-leaves : (c : Cell) (u : ℕ) {w : World} → OfCell Of c → Sound w → Leaves Of (readCell c u w)
   cell-leaves W.noValue u h k = halt k
@@ -320,6 +320,7 @@ module _ {Sound : World → Type 0} {Of : Value → Type 0} {Left : ℕ → Type
   -- ---- rows, in a machine whose parts keep; the texts that it puts out are `Ok`
   module _ {E : Type 0} (M : Machine E) (Ok : Stretch → Type 0) (texts : (n : ℕ) → Ok (W.rowOf (M .rows) n .text)) (leads : (n : ℕ) → Ok (W.rowOf (M .rows) n .lead)) (values : (x : Tree) (w : World) → Sound w → Leaves Of (M .value x w)) (outs : (s : Stretch) (w : World) → Ok s → Sound w → Leaves Any (M .out s w)) (acts : (n : ℕ) (w : World) → Sound w → Leaves (OfDeed Of) (M .act n w)) (goes : (n : ℕ) (t : List ℕ) (w : World) → Sound w → Leaves Any (M .jump n t w)) where
     end-leaves : (s : Statement) (g : ℕ) (fs : List Frame) (up : Unit {0} → Res E Next) → Leaves Any (up tt) → {w : World} → Sound w → Leaves Any (endIn M s g fs up w)
+    unfolding isIterated
     end-leaves null g fs up k h = k
     end-leaves (declare ns) g fs up k h = k
     end-leaves (procedure ns t) g fs up k h = passes h
@@ -461,7 +462,7 @@ module _ {Sound : World → Type 0} {Of : Value → Type 0} {Left : ℕ → Type
     unfolding turn
     turn-leaves (begin n) fs h = search (keeping, charge-leaves, statement-leaves)
     turn-leaves (again g) fs h = search (flow, stepped-leaves)
-    turn-leaves over fs h = leaves tt h
+    turn-leaves noNext fs h = leaves tt h
 
     continued-leaves : {r : Res E Turn} (f : Next → List Frame → World → Res E End) → Leaves (OfTurn Of) r → ((x : Next) (fs : List Frame) (w : World) → Sound w → Leaves (OfEnd Of) (f x fs w)) → Leaves (OfEnd Of) (continued M r f)
     continued-leaves f (leaves {a = on x fs} {w} e h) k = k x fs w h
@@ -472,10 +473,10 @@ module _ {Sound : World → Type 0} {Of : Value → Type 0} {Left : ℕ → Type
     unfolding runOn
     runOn-leaves zero (begin n) fs w h = halt h
     runOn-leaves zero (again g) fs w h = continued-leaves _ (turn-leaves (again g) fs h) (λ x gs v k. halt k)
-    runOn-leaves zero over fs w h = leaves tt h
+    runOn-leaves zero noNext fs w h = leaves tt h
     runOn-leaves (suc f) (begin n) fs w h = search (continued-leaves, turn-leaves, runOn-leaves f)
     runOn-leaves (suc f) (again g) fs w h = search (continued-leaves, turn-leaves, runOn-leaves f)
-    runOn-leaves (suc f) over fs w h = leaves tt h
+    runOn-leaves (suc f) noNext fs w h = leaves tt h
 
   -- ---- procedures
   stored-all : (ps : List Parameter) (vs : List Value) {w : World} → OfAll Of vs → Sound w → Sound (storeAll ps vs w)

@@ -19,7 +19,7 @@ use Rattle.definition.specs.Fixed as Fixed
 use Rattle.definition.specs.Fixed.{Result, inRange, ranged}
 use Rattle.definition.specs.Expressions.{Operator, orOp, andOp, greater, greaterEqual, equal, less, lessEqual, notGreater, notEqual, notLess, catOp, plus, minus, times, divided, Prefix, positive, negative, complement, Tree}
 use Rattle.definition.specs.Program.{Type′, fixedType, characterType}
-use Rattle.definition.specs.Values.{Value, fixed, characters, bitValue, Answer, fromFixed, decimalOn, fixedText, written, constant, isMinus, unsigned, signedBy, numberIn, toFixed, toCharacters, binary, toBits, convert, sizeOf, limited, among, bitOf, bitwise, inverted, Order, compared, comparing, arithmetic, logical, joined, infixed, prefixed, subject, piece, cutOut, lengthFrom, startFrom, asNumber, substr}
+use Rattle.definition.specs.Values.{Value, fixed, characters, bitValue, Answer, fromFixed, decimalOn, fixedText, written, constant, isMinus, unsigned, signedBy, numberIn, toFixed, toCharacters, binary, toBits, convert, sizeOf, limited, unfinished, bitOf, bitwise, inverted, Order, compared, comparing, arithmetic, logical, joined, infixed, prefixed, subject, piece, cutOut, lengthFrom, startFrom, asNumber, substr}
 use Rattle.definition.specs.World as W
 use Rattle.definition.specs.World.{Owner, Cell, World, good, valueAt}
 use Rattle.definition.specs.Evaluate.{evaluate}
@@ -142,9 +142,9 @@ pub limited-fine : (v : Value) → NumberFine v → Gives Fine (limited v)
 unfolding limited
 limited-fine v h = cond-has (Gives Fine) (leb (sizeOf v) valueLength) _ _ (λ e. given (limit-fine v h (leb-true (sizeOf v) valueLength e))) λ _. failed
 
-pub among-fine : (u : ℕ) (v : Value) → Fine v → Gives Fine (among u v)
-unfolding among
-among-fine u v h = cond-has (Gives Fine) (leb (u + sizeOf v) unfinishedBytes) _ _ (λ _. given h) λ _. failed
+pub unfinished-fine : (u : ℕ) (v : Value) → Fine v → Gives Fine (unfinished u v)
+unfolding unfinished
+unfinished-fine u v h = cond-has (Gives Fine) (leb (u + sizeOf v) unfinishedBytes) _ _ (λ _. given h) λ _. failed
 
 -- ---- operators
 bitwise-length : (f : Bool → Bool → Bool) (a b : List ℕ) → length (bitwise f a b) ≤ max (length a) (length b)
@@ -162,8 +162,8 @@ inverted-length (x ∷ xs) = ap suc (inverted-length xs)
 logical-fine : (u : ℕ) (f : Bool → Bool → Bool) (x y : Value) → Fine x → Fine y → Gives Fine (logical u f x y)
 unfolding logical
 logical-fine u f x y h k =
-    then-gives (toBits-short x h) λ a p. then-gives (among-fine (u + sizeOf y) (bitValue a) p) λ _ _.
-    then-gives (toBits-short y k) λ b q. then-gives (among-fine (u + length a) (bitValue b) q) λ _ _.
+    then-gives (toBits-short x h) λ a p. then-gives (unfinished-fine (u + sizeOf y) (bitValue a) p) λ _ _.
+    then-gives (toBits-short y k) λ b q. then-gives (unfinished-fine (u + length a) (bitValue b) q) λ _ _.
     given {a = bitValue (bitwise f a b)} (omega (arith, bitwise-length f a b))
 
 one-bit : (b : ℕ) → Fine (bitValue (b ∷ []))

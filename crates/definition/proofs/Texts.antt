@@ -15,10 +15,10 @@ use Rattle.definition.specs.Tokens as Tokens
 use Rattle.definition.specs.Tokens.{Token, word, integer, string, bits, sign, nothing, wrong, Lexeme, isWord, isSign, tokenAt, Piece, name, plain, unclosed, pieceAt, TextEnd, percentAt, atEnd, openAt, textEnd}
 use Rattle.definition.specs.Expressions.{Reading, read, refused, Named, nameOf}
 use Rattle.definition.specs.Program.{Statement, null, Link, nowhere, row, listed, thenPart, elsePart, Stretch, Row, Scope, global, inside, Declared, Source}
-use Rattle.definition.specs.Statements.{Opens, closes, opensGroup, opensBody, opensThen, Clause, clause, assignment, Declaring, declared, undeclared, declareFrom, procedureClause}
+use Rattle.definition.specs.Statements.{Opens, opensNothing, opensGroup, opensBody, opensThen, Clause, clause, assignment, Declaring, declared, undeclared, declareFrom, procedureClause}
 use Rattle.definition.specs.World.{rowOf}
 use Rattle.definition.specs.Reading as R
-use Rattle.definition.specs.Reading.{Where, inProgram, inGroup, inBody, inThen, inElse, Open, State, change, newRow, setNext, setChild, setOther, setLead, setText, linked, addIn, addTo, addRow, Mode, Turn, go, stop, finish, Else, elseTo, noElse, elseAt, elsed, completeIn, complete, Labelled, labels, opened, taken, untaken, takeRead, takeDeclared, isDeclare, isProcedure, isNone, isInside, isList, kindOf, common, inList, outer, byWord, byName, byToken, endName, endRead, endAt, isInGroup, isInBody, isFull, isEnd, tooLong, clauseFrom, texted, leadIn, notEnd, procedureEnd, begins, innerAt, depth, deepEnough, alternativeAt, leadingText, textBehind, alternative, inner, turn, readOn, readMember}
+use Rattle.definition.specs.Reading.{Where, inProgram, inGroup, inBody, inThen, inElse, Open, State, change, newRow, setNext, setChild, setOther, setLead, setText, linked, addIn, addTo, addRow, Mode, Turn, go, stop, finish, Else, elseTo, noElse, elseAt, elsed, completeIn, complete, Labelled, labels, opened, taken, untaken, takeRead, takeDeclared, isDeclare, isProcedure, isNone, isInside, isList, kindOf, common, inList, outer, byWord, byName, byToken, endName, endRead, endAt, isInGroup, isInBody, isFull, isEnd, longLabel, clauseFrom, texted, leadIn, notEnd, procedureEnd, begins, innerAt, depth, deepEnough, alternativeAt, leadingText, textBehind, alternative, inner, turn, readOn, readMember}
 use Rattle.definition.proofs.Choices.{when-has, cond-has}
 
 module _ (s : List ℕ) where
@@ -104,7 +104,7 @@ module _ (s : List ℕ) where
   complete-fine (o ∷ os) n e st h = complete-in (o .kind) (o .row) os n e _ _ (like _ refl refl h) (complete-fine os (o .row) e st h)
 
   opened-fine : (o : Opens) (n : ℕ) (ns : List Named) (e : ℕ) (st : State) → Fine st → FineTurn (opened o s n ns e st)
-  opened-fine closes n ns e st h = complete-fine (st .opened) n e st h
+  opened-fine opensNothing n ns e st h = complete-fine (st .opened) n e st h
   opened-fine opensGroup n ns e st h = going (like _ refl refl h)
   opened-fine opensBody n ns e st h = going (like _ refl refl h)
   opened-fine opensThen n ns e st h = going (like _ refl refl h)
@@ -157,7 +157,7 @@ module _ (s : List ℕ) where
   by-token (integer w) p ns t st h = untaken-fine p ns st syntax _ [] h
   by-token (string w) p ns t st h = untaken-fine p ns st syntax _ [] h
   by-token (bits w) p ns t st h = untaken-fine p ns st syntax _ [] h
-  by-token (sign w) p ns t st h = when-has FineTurn (isSign ";" (sign w)) _ _ (λ _. taken-fine p ns st (clause null closes (t .to)) [] h) λ _. untaken-fine p ns st syntax _ [] h
+  by-token (sign w) p ns t st h = when-has FineTurn (isSign ";" (sign w)) _ _ (λ _. taken-fine p ns st (clause null opensNothing (t .to)) [] h) λ _. untaken-fine p ns st syntax _ [] h
   by-token nothing p ns t st h = untaken-fine p ns st syntax _ [] h
   by-token wrong p ns t st h = untaken-fine p ns st syntax _ [] h
 
@@ -169,7 +169,7 @@ module _ (s : List ℕ) where
   end-at ns p [] st h = stopping h
   end-at ns p (o ∷ os) st h = end-read ns o os st (endName s (o .labels) p) h
 
-  too-long : (ps : List ℕ) (f : ℕ → Turn) (g : Unit {0} → Turn) → ((p : ℕ) → FineTurn (f p)) → FineTurn (g tt) → FineTurn (tooLong ps f g)
+  too-long : (ps : List ℕ) (f : ℕ → Turn) (g : Unit {0} → Turn) → ((p : ℕ) → FineTurn (f p)) → FineTurn (g tt) → FineTurn (longLabel ps f g)
   too-long [] f g h k = k
   too-long (p ∷ ps) f g h k = h p
 

@@ -1,6 +1,6 @@
--- 01: "Arguments go by value." "Local variables are static." A procedure runs its rows as `Flow` says; how many procedures may
--- still be started is the number that falls. Table, 12: "procedure entered while running, or left without RETURN"; 15: "17th
--- procedure running at once".
+-- 01: "Arguments go by value." "Local variables are static." A procedure runs its rows as `Flow` says; how many
+-- procedures may still be started is the number that falls. Table, 12: "procedure entered while running, or left
+-- without RETURN"; 15: "17th procedure running at once".
 use Prim.Native.Nat.{ℕ, zero, suc, _-_}
 use mathlib.Core.Bool.{Bool, false, cond, _&&_, _||_}
 use mathlib.Core.List.{List, [], _∷_}
@@ -9,11 +9,11 @@ use Rattle.definition.specs.Choice.{when}
 use Rattle.definition.specs.Limits.{runningProcedures}
 use Rattle.definition.specs.Refusal.{Why, wrongName, wronglyRun, wrongGoto, tooDeep}
 use Rattle.definition.specs.Expressions.{Tree}
-use Rattle.definition.specs.Program.{Type′, characterType, Statement, null, declare, procedure, assign, conditional, group, iterated, goto, include, activate, deactivate, return, Link, nowhere, row, Row}
+use Rattle.definition.specs.Program.{Type′, characterType, Statement, null, declare, procedure, assign, conditional, group, iterated, goto, include, activate, deactivate, return, ofProcedure, Link, nowhere, row, Row}
 use Rattle.definition.specs.Values.{Value, convert}
 use Rattle.definition.specs.World.{everyone, procedureAt, Denotation, variableOf, entryOf, labelAt, builtinName, Address, address, unknown, World, Res, good, bad, bind, addressOf, denotation, store, rowOf, rowsOf}
 use Rattle.definition.specs.Evaluate.{Parameter, Call, put, evaluate}
-use Rattle.definition.specs.Flow.{Jump, toRow, toEnd, Deed, passed, gave, Next, begin, over, End, ran, returned, went, Machine, runOn, mayGo}
+use Rattle.definition.specs.Flow.{Jump, toRow, toEnd, Deed, passed, gave, Next, begin, noNext, End, ran, returned, went, Machine, runOn, mayGo}
 
 -- a procedure by its member and row
 pub record Place : Type 0 where
@@ -24,26 +24,17 @@ unfoldable pub isRunning : ℕ → ℕ → List Place → Bool
 isRunning m r [] = false
 isRunning m r (p ∷ ps) = eqb (p .member) m && eqb (p .row) r || isRunning m r ps
 
+-- there are as many values as parameters
 abbrev pub storeAll : List Parameter → List Value → World → World
 storeAll [] vs w = w
 storeAll (p ∷ ps) [] w = w
 storeAll (p ∷ ps) (v ∷ vs) w = storeAll ps vs (store (p .at) v w)
 
+-- of a procedure; no other statement comes here
 abbrev pub typeOf : Statement → Type′
-typeOf null = characterType
-typeOf (declare ns) = characterType
-typeOf (procedure ns t) = t
-typeOf (assign n x) = characterType
-typeOf (conditional x) = characterType
-typeOf group = characterType
-typeOf (iterated n x bs) = characterType
-typeOf (goto n) = characterType
-typeOf (include ns) = characterType
-typeOf (activate ns) = characterType
-typeOf (deactivate ns) = characterType
-typeOf (return x) = characterType
+typeOf x = ofProcedure x (λ ns t. t) (λ _. characterType)
 
--- RETURN converts to the type of the procedure; DECLARE in a procedure does nothing
+-- RETURN converts to the type of the procedure; DECLARE in a procedure does nothing; others do not come here
 abbrev pub actIn : Statement → Type′ → ℕ → (Tree → World → Res Why Value) → World → Res Why Deed
 actIn null t u value w = good passed w
 actIn (declare ns) t u value w = good passed w
@@ -60,7 +51,8 @@ actIn (return x) t u value w = bind (value x w) λ v y. bind (put u (convert t v
 
 -- ---- GOTO in a procedure: "local names first, every global label is 13"
 abbrev pub jumpTo : List Row → ℕ → ℕ → Bool → World → Res Why Jump
-jumpTo rs n r isEnd w = when (mayGo rs n r isEnd) (λ _. good (cond isEnd (toEnd r) (toRow r)) w) (λ _. bad wrongGoto (w .used))
+jumpTo rs n r isEnd w =
+    when (mayGo rs n r isEnd) (λ _. good (cond isEnd (toEnd r) (toRow r)) w) (λ _. bad wrongGoto (w .used))
 
 abbrev pub jumpLocal : Denotation → List Row → ℕ → World → Res Why Jump
 jumpLocal (variableOf t) rs n w = bad wrongName (w .used)
@@ -91,14 +83,16 @@ bodyMachine run m r u rs = record {
   value = λ x w. evaluate run (procedureAt m r) x u w;
   waiting = u;
   out = λ s w. good tt w;
-  act = λ n w. actIn (rowOf rs n .statement) (typeOf (rowOf rs r .statement)) u (λ x v. evaluate run (procedureAt m r) x u v) w;
+  act = λ n w.
+      actIn (rowOf rs n .statement) (typeOf (rowOf rs r .statement)) u (λ x v. evaluate run (procedureAt m r) x u v) w;
   jump = λ n t w. jumpIn (addressOf t (procedureAt m r) w) t rs n w;
 }
 
 abbrev pub firstOf : Link → Next
-firstOf nowhere = over
+firstOf nowhere = noNext
 firstOf (row n) = begin n
 
+-- "left without RETURN" is 12; no GOTO leads out of a procedure, so that `went` is not met
 abbrev pub valueOf : Res Why End → Res Why Value
 valueOf (good ran w) = bad wronglyRun (w .used)
 valueOf (good (returned v) w) = good v w
@@ -107,14 +101,18 @@ valueOf (bad e n) = bad e n
 
 unfoldable pub bodyRun : Call → ℕ → ℕ → ℕ → World → Res Why Value
 bodyRun run m r u w =
-    valueOf (runOn (bodyMachine run m r u (rowsOf m w)) (w .limit - w .used) (firstOf (rowOf (rowsOf m w) r .child)) [] w)
+    valueOf
+    (runOn (bodyMachine run m r u (rowsOf m w)) (w .limit - w .used) (firstOf (rowOf (rowsOf m w) r .child)) [] w)
 
 -- n procedures may still be started; `on` are running
 unfoldable pub calls : ℕ → List Place → Call
-calls zero on c vs u w = when (isRunning (c .member) (c .row) on) (λ _. bad wronglyRun (w .used)) (λ _. bad tooDeep (w .used))
+calls zero on c vs u w =
+    when (isRunning (c .member) (c .row) on) (λ _. bad wronglyRun (w .used)) (λ _. bad tooDeep (w .used))
 calls (suc n) on c vs u w =
     when (isRunning (c .member) (c .row) on) (λ _. bad wronglyRun (w .used))
-    (λ _. bodyRun (calls n (record { member = c .member; row = c .row } ∷ on)) (c .member) (c .row) u (storeAll (c .parameters) vs w))
+    (λ _.
+    let inside = record { member = c .member; row = c .row } ∷ on in
+    bodyRun (calls n inside) (c .member) (c .row) u (storeAll (c .parameters) vs w))
 
 -- THE CALL from outside procedures
 abbrev pub callOut : Call

@@ -29,9 +29,9 @@ linePlace k = 2 + 16 * k
 -- "name (8, ..), offset (4), length (4)"
 unfoldable pub lineAt : List ℕ → ℕ → Line
 lineAt d k = record {
-  name = part 8 (linePlace k) d;
-  offset = number (part 4 (linePlace k + 8) d);
-  size = number (part 4 (linePlace k + 12) d);
+  name = part memberNameLength (linePlace k) d;
+  offset = number (part 4 (linePlace k + memberNameLength) d);
+  size = number (part 4 (linePlace k + (memberNameLength + 4)) d);
 }
 
 -- n lines from line k on

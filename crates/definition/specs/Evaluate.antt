@@ -1,5 +1,6 @@
--- 01, "Values" and the order of tests: "Operands are evaluated left to right, then converted so; an argument before the next
--- is taken. A call tests 6, 11, takes its arguments, then tests 12, 15." u is the bytes of the unfinished values that wait.
+-- 01, "Values" and the order of tests: "Operands are evaluated left to right, then converted so; an argument before the
+-- next is taken. A call tests 6, 11, takes its arguments, then tests 12, 15." u is the bytes of the unfinished values
+-- that wait.
 use Prim.Native.Nat.{ℕ, suc, _+_}
 use mathlib.Core.Bool.{Bool, cond, _||_}
 use mathlib.Core.List.{List, [], _∷_}
@@ -10,8 +11,8 @@ use Rattle.definition.specs.Text.{bytesOf}
 use Rattle.definition.specs.Lists.{same}
 use Rattle.definition.specs.Refusal.{Why, wrongName, noValue, wrongArguments}
 use Rattle.definition.specs.Expressions.{Tree, integerOf, stringOf, bitsOf, reference, call, unary, binary, none, more}
-use Rattle.definition.specs.Program.{Type′, fixedType, Statement, null, declare, procedure, assign, conditional, group, iterated, goto, include, activate, deactivate, return}
-use Rattle.definition.specs.Values.{Value, fixed, characters, bitValue, Answer, gives, fails, andThen, constant, convert, sizeOf, limited, among, infixed, prefixed, subject, substr}
+use Rattle.definition.specs.Program.{Type′, fixedType, Statement, ofProcedure}
+use Rattle.definition.specs.Values.{Value, fixed, characters, bitValue, Answer, gives, fails, andThen, constant, convert, sizeOf, limited, unfinished, infixed, prefixed, subject, substr}
 use Rattle.definition.specs.World as W
 use Rattle.definition.specs.World.{Owner, procedureAt, Body, noBody, bodyAt, Denotation, variableOf, entryOf, labelAt, builtinName, Cell, Address, address, unknown, World, Res, good, bad, bind, ask, seenFrom, addressOf, denotation, valueAt, rowOf, rowsOf}
 
@@ -57,22 +58,12 @@ parameterAt unknown w = fails wrongName
 
 unfoldable pub parameters : Owner → List (List ℕ) → World → Answer (List Parameter)
 parameters k [] w = gives []
-parameters k (n ∷ ns) w = andThen (parameterAt (addressOf n k w) w) λ p. andThen (parameters k ns w) λ ps. gives (p ∷ ps)
+parameters k (n ∷ ns) w =
+    andThen (parameterAt (addressOf n k w) w) λ p. andThen (parameters k ns w) λ ps. gives (p ∷ ps)
 
--- the parameters that the statement of a procedure lists
+-- the parameters that the statement of a procedure lists; no other statement comes here
 abbrev pub listedIn : Statement → List (List ℕ)
-listedIn null = []
-listedIn (declare ns) = []
-listedIn (procedure ns t) = ns
-listedIn (assign n x) = []
-listedIn (conditional x) = []
-listedIn group = []
-listedIn (iterated n x bs) = []
-listedIn (goto n) = []
-listedIn (include ns) = []
-listedIn (activate ns) = []
-listedIn (deactivate ns) = []
-listedIn (return x) = []
+listedIn x = ofProcedure x (λ ns t. ns) (λ _. [])
 
 -- a body that can be called: where it is, and its parameters
 pub record Callee : Type 0 where
@@ -82,7 +73,9 @@ pub record Callee : Type 0 where
 
 unfoldable pub callee : Body → World → Answer Callee
 callee noBody w = fails wrongName
-callee (bodyAt m r) w = andThen (parameters (procedureAt m r) (listedIn (rowOf (rowsOf m w) r .statement)) w) λ ps. gives (record { member = m; row = r; parameters = ps })
+callee (bodyAt m r) w =
+    andThen (parameters (procedureAt m r) (listedIn (rowOf (rowsOf m w) r .statement)) w) λ ps.
+    gives (record { member = m; row = r; parameters = ps })
 
 -- ---- arguments: each is evaluated, made what is wished for, and waits for the next
 pub data Wish : Type 0 where
@@ -100,6 +93,7 @@ wishes (p ∷ ps) = asType (p .type) ∷ wishes ps
 abbrev pub substrWishes : List Wish
 substrWishes = asSubject ∷ asType fixedType ∷ asType fixedType ∷ []
 
+-- how many arguments a list has
 unfoldable pub count : Tree → ℕ
 count (integerOf ds) = 0
 count (stringOf l) = 0
@@ -115,9 +109,9 @@ count (more a b) = suc (count b)
 abbrev pub Call : Type 0
 Call = Callee → List Value → ℕ → World → Res Why Value
 
--- a value is put among those that wait
+-- a value is put unfinished those that wait
 unfoldable pub put : ℕ → Answer Value → World → Res Why Value
-put u a w = ask (andThen a (among u)) w
+put u a w = ask (andThen a (unfinished u)) w
 
 abbrev pub readCell : Cell → ℕ → World → Res Why Value
 readCell W.noValue u w = bad noValue (w .used)
@@ -132,7 +126,8 @@ plainName run theSubstr u w = bad wrongArguments (w .used)
 plainName run noSuch u w = bad wrongName (w .used)
 
 -- a name with a list of n arguments, which `take` evaluates
-unfoldable pub listedName : Call → (List Wish → ℕ → World → Res Why (List Value)) → ℕ → Meant → ℕ → World → Res Why Value
+unfoldable pub listedName : Call → (List Wish → ℕ → World → Res Why (List Value)) → ℕ → Meant → ℕ → World
+    → Res Why Value
 listedName run take n (aVariable a t) u w = bad wrongName (w .used)
 listedName run take n (anEntry b) u w = bind (ask (callee b w) w) λ c v.
     when (eqb (length (c .parameters)) n) (λ _. bind (take (wishes (c .parameters)) u v) λ vs x. run c vs u x)
@@ -142,7 +137,8 @@ listedName run take n theSubstr u w =
     (λ _. bad wrongArguments (w .used))
 listedName run take n noSuch u w = bad wrongName (w .used)
 
--- THE VALUE of an expression, seen from the scope k
+-- THE VALUE of an expression, seen from the scope k. A list of arguments is no expression and an expression no list:
+-- where one stands for the other is not met, nor are more arguments than wishes
 unfoldable mutual
   pub evaluate : Call → Owner → Tree → ℕ → World → Res Why Value
   evaluate run k (integerOf ds) u w = ask (andThen (constant ds) λ z. gives (fixed z)) w

@@ -22,8 +22,8 @@ unfoldable pub textOf : List Event → List ℕ
 textOf [] = []
 textOf (e ∷ es) = textOf es ++ bytesIn e
 
--- "Twelve bytes a line: kind, member, two zeros, offset (4), length (4). Kind 1: inserted blank. Kind 2: copied stretch.
--- Kind 3: one replaced occurrence."
+-- "Twelve bytes a line: kind, member, two zeros, offset (4), length (4). Kind 1: inserted blank. Kind 2: copied
+-- stretch. Kind 3: one replaced occurrence."
 pub record Line : Type 0 where
   pub kind : ℕ
   pub member : ℕ

@@ -1,5 +1,6 @@
--- 01, "Numbers given back": the six numbers, the text and the lines for a deck, the sizes of the two rooms and the steps; and
--- the whole contents of the two rooms. "1, then 2, both with place 0; then" what reading and the run meet first.
+-- 01, "Numbers given back": the six numbers, the text and the lines for a deck, the sizes of the two rooms and the
+-- steps; and the whole contents of the two rooms. "1, then 2, both with place 0; then" what reading and the run meet
+-- first.
 use Prim.Native.Nat.{ℕ, _/_}
 use mathlib.Core.Bool.{Bool, cond}
 use mathlib.Core.List.{List, []}
@@ -31,8 +32,16 @@ abbrev pub refusal : Why → ℕ → ℕ → ℕ → Expansion
 refusal e m p used = record { number = numberOf e; member = m; offset = p; steps = used; text = []; lines = [] }
 
 abbrev pub finished : World → Expansion
-finished w = record { number = 0; member = 0; offset = 0; steps = w .used; text = textOf (w .events); lines = linesOf (w .events) }
+finished w = record {
+  number = 0;
+  member = 0;
+  offset = 0;
+  steps = w .used;
+  text = textOf (w .events);
+  lines = linesOf (w .events);
+}
 
+-- the main program ends with its list: no RETURN and no GOTO leads out of it
 abbrev pub result : Res Stop End → Expansion
 result (good ran w) = finished w
 result (good (returned v) w) = finished w

@@ -72,14 +72,17 @@ infixOf (suc (suc (suc (suc zero)))) t = orElse (isSign "&" t) andOp noOperator
 infixOf (suc (suc (suc (suc (suc n))))) t = orElse (isSign "|" t) orOp noOperator
 
 unfoldable pub prefixOf : Token → Maybe Prefix
-prefixOf t = orElse (isSign "+" t) positive (orElse (isSign "-" t) negative (orElse (isSign "^" t) complement noOperator))
+prefixOf t =
+    orElse (isSign "+" t) positive (orElse (isSign "-" t) negative (orElse (isSign "^" t) complement noOperator))
 
 -- ---- tokens that must follow
 unfoldable pub expectSign : String → List ℕ → ℕ → Reading ℕ
-expectSign w s at = cond (isSign w (tokenAt s at .token)) (read (tokenAt s at .to)) (refused syntax (tokenAt s at .from))
+expectSign w s at =
+    cond (isSign w (tokenAt s at .token)) (read (tokenAt s at .to)) (refused syntax (tokenAt s at .from))
 
 unfoldable pub expectWord : String → List ℕ → ℕ → Reading ℕ
-expectWord w s at = cond (isWord w (tokenAt s at .token)) (read (tokenAt s at .to)) (refused syntax (tokenAt s at .from))
+expectWord w s at =
+    cond (isWord w (tokenAt s at .token)) (read (tokenAt s at .to)) (refused syntax (tokenAt s at .from))
 
 -- a name, and the place of its token
 pub record Named : Type 0 where
@@ -89,7 +92,8 @@ pub record Named : Type 0 where
 
 -- where an identifier can follow, one over 31 bytes is refused with 4
 abbrev pub nameOf : Token → ℕ → ℕ → Reading Named
-nameOf (word w) from to = cond (leb (length w) nameLength) (read (record { spelling = w; place = from; to = to })) (refused overLimit from)
+nameOf (word w) from to =
+    cond (leb (length w) nameLength) (read (record { spelling = w; place = from; to = to })) (refused overLimit from)
 nameOf (integer w) from to = refused syntax from
 nameOf (string w) from to = refused syntax from
 nameOf (bits w) from to = refused syntax from
@@ -117,7 +121,8 @@ arguments inside s (suc f) at = then (inside at) λ a.
 unfoldable pub referenceAt : (ℕ → Reader) → List ℕ → Named → Lexeme → Reading Parsed
 referenceAt inside s n u =
     when (isSign "(" (u .token))
-    (λ _. then (arguments (inside (u .from)) s (length s) (u .to)) λ r. read (parsed (call (n .spelling) (r .tree)) (r .to)))
+    (λ _. then (arguments (inside (u .from)) s (length s) (u .to)) λ r.
+    read (parsed (call (n .spelling) (r .tree)) (r .to)))
     (λ _. read (parsed (reference (n .spelling)) (n .to)))
 
 -- 000, 3.2.1 (26): primitive-expression ::= ( expression ) | reference | constant
@@ -145,7 +150,8 @@ operand inside s (suc f) at =
     (λ _. operand inside s f (tokenAt s at .to))
     (λ _. primitive inside s (tokenAt s at .token) (tokenAt s at .from) (tokenAt s at .to))
 
--- what follows the tree t that ends at a place: operators of level l, each with what `next` reads; "Infix goes left to right"
+-- what follows the tree t that ends at a place: operators of level l, each with what `next` reads; "Infix goes left to
+-- right"
 abbrev pub chained : Maybe Operator → (Operator → Reading Parsed) → Reading Parsed → Reading Parsed
 chained (is o) go stop = go o
 chained noOperator go stop = stop
@@ -160,7 +166,8 @@ chain l next s (suc f) t at =
 -- n levels of infix operators over operands
 unfoldable pub levels : Reader → List ℕ → ℕ → Reader
 levels inner s zero at = inner at
-levels inner s (suc l) at = then (levels inner s l at) λ r. chain l (levels inner s l) s (suc (length s)) (r .tree) (r .to)
+levels inner s (suc l) at =
+    then (levels inner s l at) λ r. chain l (levels inner s l) s (suc (length s)) (r .tree) (r .to)
 
 -- THE EXPRESSION at a place, with d parentheses that may still be opened
 unfoldable pub expression : ℕ → List ℕ → ℕ → Reading Parsed

@@ -6,6 +6,8 @@ use lib.Dec.{eqb}
 use lib.IntN.{ℤ, negℤ, natAbs, _+ℤ_, _-ℤ_, _*ℤ_}
 use lib.Signed.{leZ, quotZ}
 use Rattle.definition.specs.Limits.{leastFixed, mostFixed}
+use Rattle.definition.specs.Refusal as Why
+use Rattle.definition.specs.Refusal.{numberOf}
 
 -- what arithmetic gives: a number, or why there is none
 pub data Result : Type 0 where
@@ -16,8 +18,8 @@ pub data Result : Type 0 where
 -- the number in 01's table; 0 where there is no refusal
 abbrev pub refusal : Result → ℕ
 refusal (is z) = 0
-refusal outOfRange = 9
-refusal zeroDivisor = 10
+refusal outOfRange = numberOf Why.outOfRange
+refusal zeroDivisor = numberOf Why.zeroDivisor
 
 unfoldable pub inRange : ℤ → Bool
 inRange z = leZ leastFixed z && leZ z mostFixed

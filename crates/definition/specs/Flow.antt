@@ -10,8 +10,8 @@ use Rattle.definition.specs.Choice.{when}
 use Rattle.definition.specs.Refusal.{Why, wrongName, noValue, noStep}
 use Rattle.definition.specs.Fixed as Fixed
 use Rattle.definition.specs.Expressions.{Tree}
-use Rattle.definition.specs.Program.{Type′, fixedType, characterType, Bound, by, upto, Statement, null, declare, procedure, assign, conditional, group, iterated, goto, include, activate, deactivate, return, Link, nowhere, row, Role, listed, thenPart, elsePart, Stretch, Row}
-use Rattle.definition.specs.Values.{Value, fixed, fromFixed, toFixed, convert, holds, asNumber, andThen, asBits, among}
+use Rattle.definition.specs.Program.{Type′, fixedType, characterType, Bound, by, upto, Statement, null, declare, procedure, assign, conditional, group, iterated, goto, include, activate, deactivate, return, ofProcedure, isIterated, Link, nowhere, row, Role, listed, thenPart, elsePart, Stretch, Row}
+use Rattle.definition.specs.Values.{Value, fixed, fromFixed, toFixed, convert, holds, asNumber}
 use Rattle.definition.specs.Evaluate.{put}
 use Rattle.definition.specs.World as W
 use Rattle.definition.specs.World.{Owner, Denotation, variableOf, entryOf, labelAt, builtinName, Cell, Address, address, unknown, World, Res, good, bad, bind, placed, ask, charge, seenFrom, denotation, valueAt, store, rowOf}
@@ -39,7 +39,7 @@ pub data Deed : Type 0 where
 pub data Next : Type 0 where
   begin : ℕ → Next
   again : ℕ → Next
-  over : Next
+  noNext : Next
 
 -- how rows have ended: their list was done, RETURN gave a value, GOTO led away
 pub data End : Type 0 where
@@ -47,29 +47,39 @@ pub data End : Type 0 where
   returned : Value → End
   went : Target → End
 
--- BY and TO of an iterated group that was entered, and the address of its variable; without both there is one pass
-pub data Limit : Type 0 where
-  noLimit : Limit
-  limitAt : ℤ → Limit
+-- TO of an iterated group
+pub data To : Type 0 where
+  noTo : To
+  toAt : ℤ → To
 
+-- an iterated group that was entered
 pub record Frame : Type 0 where
+  -- its row
   pub group : ℕ
+  -- the address of its variable
   pub at : ℕ
+  -- BY
   pub step : ℤ
-  pub limit : Limit
+  pub to : To
+  -- without BY and TO there is one pass and no step
   pub isOnce : Bool
 
--- what is running: its rows, the scope that its names are seen from, the place of a refusal in a row, the value of an
--- expression, the bytes of the unfinished values that wait, what is put out for a text (a blank, and the text scanned), what a statement that is no control does, and where
--- GOTO leads from a row
+-- what is running, a member or a procedure
 pub record Machine (E : Type 0) : Type 0 where
   pub rows : List Row
+  -- the scope that its names are seen from
   pub owner : Owner
+  -- a refusal in a row, with its place
   pub fault : Row → Why → E
+  -- the value of an expression
   pub value : Tree → World → Res Why Value
+  -- the bytes of the unfinished values that wait for it
   pub waiting : ℕ
+  -- what is put out for a text: a blank, and the text scanned
   pub out : Stretch → World → Res E (Unit {0})
+  -- what the statement of a row does that is no control
   pub act : ℕ → World → Res E Deed
+  -- where GOTO leads from a row to a label
   pub jump : ℕ → List ℕ → World → Res E Jump
 
 -- a turn goes on, or ends what is running
@@ -83,12 +93,12 @@ isOnce g [] = true
 isOnce g (f ∷ fs) = when (eqb (f .group) g) (λ _. f .isOnce) (λ _. isOnce g fs)
 
 -- "Each pass is tested first: it ends over TO, under TO if BY is negative, never without TO."
-abbrev pub within : Limit → ℤ → ℤ → Bool
-within noLimit step z = true
-within (limitAt t) step z = cond (nonNeg step) (leZ z t) (leZ t z)
+abbrev pub within : To → ℤ → ℤ → Bool
+within noTo step z = true
+within (toAt t) step z = cond (nonNeg step) (leZ z t) (leZ t z)
 
 abbrev pub passes : Frame → ℤ → Bool
-passes f z = within (f .limit) (f .step) z
+passes f z = within (f .to) (f .step) z
 
 pub record Started : Type 0 where
   pub frame : Frame
@@ -99,29 +109,20 @@ module _ {E : Type 0} (M : Machine E) where
   at n = rowOf (M .rows) n
 
   -- ---- behind a statement
-  -- the end of what stands in the row g: a pass of an iterated group is over, or the row itself is
+  -- the end of what stands in the row g: a procedure ends; a pass of an iterated group is over; else the row itself is
   abbrev pub endIn : Statement → ℕ → List Frame → (Unit {0} → Res E Next) → World → Res E Next
-  endIn null g fs up w = up tt
-  endIn (declare ns) g fs up w = up tt
-  endIn (procedure ns t) g fs up w = good over w
-  endIn (assign n x) g fs up w = up tt
-  endIn (conditional x) g fs up w = up tt
-  endIn group g fs up w = up tt
-  endIn (iterated n x bs) g fs up w = when (isOnce g fs) up (λ _. good (again g) w)
-  endIn (goto n) g fs up w = up tt
-  endIn (include ns) g fs up w = up tt
-  endIn (activate ns) g fs up w = up tt
-  endIn (deactivate ns) g fs up w = up tt
-  endIn (return x) g fs up w = up tt
+  endIn x g fs up w =
+      ofProcedure x (λ ns t. good noNext w)
+      (λ _. when (isIterated x) (λ _. when (isOnce g fs) up (λ _. good (again g) w)) up)
 
   -- the next of a list, or the end of what the list stands in; `up` goes on behind the parent
   abbrev pub nextIn : Link → Link → List Frame → (ℕ → World → Res E Next) → World → Res E Next
   nextIn (row m) p fs up w = good (begin m) w
-  nextIn nowhere nowhere fs up w = good over w
+  nextIn nowhere nowhere fs up w = good noNext w
   nextIn nowhere (row g) fs up w = endIn (at g .statement) g fs (λ _. up g w) w
 
   abbrev pub upFrom : Link → (ℕ → World → Res E Next) → World → Res E Next
-  upFrom nowhere up w = good over w
+  upFrom nowhere up w = good noNext w
   upFrom (row g) up w = up g w
 
   abbrev pub behindAs : Role → ℕ → List Frame → (ℕ → World → Res E Next) → World → Res E Next
@@ -130,10 +131,10 @@ module _ {E : Type 0} (M : Machine E) where
   behindAs elsePart n fs up w = upFrom (at n .parent) up w
 
   -- "After the sentence comes one blank, then its text is scanned, even if empty. No blank goes before a THEN or ELSE
-  -- alternative": behind an alternative comes what is behind its IF. A parent comes before its rows, so the row's number is
-  -- more than the turns
+  -- alternative": behind an alternative comes what is behind its IF. A parent comes before its rows, so the row's
+  -- number is more than the turns, and they do not run out
   unfoldable pub behindOn : List Frame → ℕ → ℕ → World → Res E Next
-  behindOn fs zero n w = good over w
+  behindOn fs zero n w = good noNext w
   behindOn fs (suc f) n w = behindAs (at n .role) n fs (λ g v. behindOn fs f g v) w
 
   abbrev pub behind : List Frame → ℕ → World → Res E Next
@@ -171,19 +172,23 @@ module _ {E : Type 0} (M : Machine E) where
 
   unfoldable pub assigned : List ℕ → Tree → World → Res Why (Unit {0})
   assigned n x w =
-      targetAt (seenFrom (M .owner) n w) (λ a t. bind (M .value x w) λ v y. bind (put (M .waiting) (convert t v) y) λ c z. good tt (store a c z)) w
+      targetAt (seenFrom (M .owner) n w)
+      (λ a t. bind (M .value x w) λ v y. bind (put (M .waiting) (convert t v) y) λ c z. good tt (store a c z)) w
 
   unfoldable pub truth : Tree → World → Res Why Bool
-  truth x w = bind (M .value x w) λ v y. bind (ask (andThen (asBits v) (among (M .waiting))) y) λ b z. ask (holds b) z
+  truth x w = bind (M .value x w) λ v y. ask (holds (M .waiting) v) y
 
-  -- ---- DO: "evaluates and converts start, then BY and TO as written, once each and each before the next, and then sets the
-  -- variable. BY absent is 1. The control variable is FIXED, else 6"
+  -- ---- DO: "evaluates and converts start, then BY and TO as written, once each and each before the next, and then
+  -- sets the variable. BY absent is 1. The control variable is FIXED, else 6"
   unfoldable pub number : Tree → World → Res Why ℤ
   number x w = bind (M .value x w) λ v y. ask (toFixed v) y
 
   abbrev pub bounded : Bound → Frame → World → Res Why Frame
-  bounded (by x) f w = bind (number x w) λ z y. good (record { group = f .group; at = f .at; step = z; limit = f .limit; isOnce = false }) y
-  bounded (upto x) f w = bind (number x w) λ z y. good (record { group = f .group; at = f .at; step = f .step; limit = limitAt z; isOnce = false }) y
+  bounded (by x) f w =
+      bind (number x w) λ z y. good (record { group = f .group; at = f .at; step = z; to = f .to; isOnce = false }) y
+  bounded (upto x) f w =
+      bind (number x w) λ z y.
+      good (record { group = f .group; at = f .at; step = f .step; to = toAt z; isOnce = false }) y
 
   unfoldable pub bounds : List Bound → Frame → World → Res Why Frame
   bounds [] f w = good f w
@@ -192,7 +197,7 @@ module _ {E : Type 0} (M : Machine E) where
   abbrev pub startAs : Type′ → ℕ → ℕ → Tree → List Bound → World → Res Why Started
   startAs characterType g a x bs w = bad wrongName (w .used)
   startAs fixedType g a x bs w = bind (number x w) λ z y.
-      bind (bounds bs (record { group = g; at = a; step = pos 1; limit = noLimit; isOnce = true }) y) λ f v.
+      bind (bounds bs (record { group = g; at = a; step = pos 1; to = noTo; isOnce = true }) y) λ f v.
       good (record { frame = f; begins = passes f z }) (store a (fixed z) v)
 
   abbrev pub startIn : Denotation → ℕ → ℕ → Tree → List Bound → World → Res Why Started
@@ -205,7 +210,8 @@ module _ {E : Type 0} (M : Machine E) where
   startAt (address a) g x bs w = startIn (denotation a w) a g x bs w
   startAt unknown g x bs w = bad wrongName (w .used)
 
-  -- "the variable as the body left it is stepped (9), then the step of the test is charged (18), then tested"
+  -- "the variable as the body left it is stepped (9), then the step of the test is charged (18), then tested". A group
+  -- that is tested again has its frame, and its variable has a value: no other case is met
   abbrev pub frameOf : ℕ → List Frame → (Frame → Res Why Bool) → World → Res Why Bool
   frameOf g [] f w = good false w
   frameOf g (x ∷ xs) f w = when (eqb (x .group) g) (λ _. f x) (λ _. frameOf g xs f w)
@@ -262,37 +268,24 @@ module _ {E : Type 0} (M : Machine E) where
   turn (begin n) fs w = bind (inRow n (charge w)) λ _ v. statement (at n .statement) fs n v
   turn (again g) fs w = bind (inRow g (stepped g fs w)) λ b v.
       when b (λ _. onward fs (into fs g v)) (λ _. onward fs (behind fs g v))
-  turn over fs w = good (ended ran) w
+  turn noNext fs w = good (ended ran) w
 
   abbrev pub continued : Res E Turn → (Next → List Frame → World → Res E End) → Res E End
   continued (good (on x fs) w) f = f x fs w
   continued (good (ended e) w) f = good e w
   continued (bad e u) f = bad e u
 
-  -- the steps left are enough turns, since each charges one; with none left a turn still tests what comes before its charge
+  -- the steps left are enough turns, since each charges one; with none left a turn still tests what comes before its
+  -- charge
   unfoldable pub runOn : ℕ → Next → List Frame → World → Res E End
   runOn zero (begin n) fs w = bad (M .fault (at n) noStep) (w .used)
   runOn zero (again g) fs w = continued (turn (again g) fs w) (λ x gs v. bad (M .fault (at g) noStep) (v .used))
-  runOn zero over fs w = good ran w
+  runOn zero noNext fs w = good ran w
   runOn (suc f) (begin n) fs w = continued (turn (begin n) fs w) (λ x gs v. runOn f x gs v)
   runOn (suc f) (again g) fs w = continued (turn (again g) fs w) (λ x gs v. runOn f x gs v)
-  runOn (suc f) over fs w = good ran w
+  runOn (suc f) noNext fs w = good ran w
 
 -- ---- GOTO: "It may not enter an iterated group": each iterated group around the target is around where the run stands
-unfoldable pub isIterated : Statement → Bool
-isIterated null = false
-isIterated (declare ns) = false
-isIterated (procedure ns t) = false
-isIterated (assign n x) = false
-isIterated (conditional x) = false
-isIterated group = false
-isIterated (iterated n x bs) = true
-isIterated (goto n) = false
-isIterated (include ns) = false
-isIterated (activate ns) = false
-isIterated (deactivate ns) = false
-isIterated (return x) = false
-
 -- the iterated groups from a row upwards, itself among them
 abbrev pub groupsUp : Link → (ℕ → List ℕ) → List ℕ
 groupsUp nowhere f = []

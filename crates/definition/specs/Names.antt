@@ -1,6 +1,6 @@
--- 01, "Reading": "A name is declared once per scope, except that an ENTRY declaration and a procedure may share it. Every
--- INCLUDE declares the member's names anew." Table, 4: the sentences and names in those entered; 5: declared twice.
--- "3 and 4 by place, 3 first at one place, then 5 by place."
+-- 01, "Reading": "A name is declared once per scope, except that an ENTRY declaration and a procedure may share it.
+-- Every INCLUDE declares the member's names anew." Table, 4: the sentences and names in those entered; 5: declared
+-- twice. "3 and 4 by place, 3 first at one place, then 5 by place."
 use Prim.Native.Nat.{ℕ, zero, suc, _+_, _-_}
 use mathlib.Core.Bool.{Bool, true, false, cond, _||_}
 use mathlib.Core.List.{List, [], _∷_, _++_}
@@ -10,7 +10,7 @@ use Rattle.definition.specs.Choice.{when}
 use Rattle.definition.specs.Limits.{enteredSentences, declaredNames}
 use Rattle.definition.specs.Refusal.{Why, overLimit, declaredTwice}
 use Rattle.definition.specs.Program.{Scope, global, inside, Meaning, variable, entry, body, label, endLabel, builtin, parameter, Declared, Fault, sound, faulty, Source}
-use Rattle.definition.specs.World.{Owner, everyone, procedureAt, Body, noBody, bodyAt, Denotation, variableOf, entryOf, labelAt, builtinName, Identifier, isIdentifier, Address, address, unknown, addressIn, noValue, inactive, World, denotation}
+use Rattle.definition.specs.World.{Owner, everyone, procedureAt, Body, noBody, bodyAt, Denotation, variableOf, entryOf, labelAt, builtinName, Identifier, isIdentifier, Address, address, unknown, addressIn, noValue, inactive, World, withTables, withMembers, denotation}
 
 abbrev pub ownerOf : ℕ → Scope → Owner
 ownerOf m global = everyone
@@ -35,6 +35,7 @@ pub data Joint : Type 0 where
   joint : Denotation → Joint
   twice : Joint
 
+-- an entry is declared or has a body, so that `false noBody` is not met
 abbrev pub entryTwo : Bool → Body → Body → Joint
 entryTwo true noBody (bodyAt m r) = joint (entryOf true (bodyAt m r))
 entryTwo true noBody noBody = twice
@@ -58,10 +59,12 @@ pub data Declaring : Type 0 where
   second : ℕ → Declaring
 
 abbrev pub addName : Identifier → Denotation → World → World
-addName i d w = record { identifiers = w .identifiers ++ i ∷ []; denotations = w .denotations ++ d ∷ []; values = w .values ++ noValue ∷ []; activities = w .activities ++ inactive ∷ []; members = w .members; sentences = w .sentences; limit = w .limit; used = w .used; events = w .events; textLeft = w .textLeft; linesLeft = w .linesLeft; passes = w .passes }
+addName i d w =
+    withTables (w .identifiers ++ i ∷ []) (w .denotations ++ d ∷ []) (w .values ++ noValue ∷ [])
+    (w .activities ++ inactive ∷ []) w
 
 abbrev pub setDenotation : ℕ → Denotation → World → World
-setDenotation a d w = record { identifiers = w .identifiers; denotations = set (w .denotations) a d; values = w .values; activities = w .activities; members = w .members; sentences = w .sentences; limit = w .limit; used = w .used; events = w .events; textLeft = w .textLeft; linesLeft = w .linesLeft; passes = w .passes }
+setDenotation a d w = withTables (w .identifiers) (set (w .denotations) a d) (w .values) (w .activities) w
 
 abbrev pub declaredAt : Address → Identifier → Denotation → ℕ → World → Declaring
 declaredAt unknown i d p w = fine (addName i d w)
@@ -83,13 +86,16 @@ abbrev pub onward : Declaring → (World → Declaring) → Declaring
 onward (fine w) f = f w
 onward (second p) f = second p
 
-abbrev pub declareOne : New → Identifier → List Identifier → ℕ → World → (List Identifier → World → Declaring) → Declaring
-declareOne (new d) i ps p w f = onward (declaredAt (addressIn (i .spelling) (i .owner) 0 (w .identifiers)) i d p w) (f ps)
+abbrev pub declareOne : New → Identifier → List Identifier → ℕ → World → (List Identifier → World → Declaring)
+    → Declaring
+declareOne (new d) i ps p w f =
+    onward (declaredAt (addressIn (i .spelling) (i .owner) 0 (w .identifiers)) i d p w) (f ps)
 declareOne listing i ps p w f = when (isListed i ps) (λ _. second p) (λ _. f (i ∷ ps) w)
 
 unfoldable pub declareAll : ℕ → List Identifier → List Declared → World → Declaring
 declareAll m ps [] w = fine w
-declareAll m ps (d ∷ ds) w = declareOne (newOf m (d .meaning)) (identifierOf m d) ps (d .place) w (λ qs v. declareAll m qs ds v)
+declareAll m ps (d ∷ ds) w =
+    declareOne (newOf m (d .meaning)) (identifierOf m d) ps (d .place) w (λ qs v. declareAll m qs ds v)
 
 -- ---- the limits, by place
 pub data Past : Type 0 where
@@ -135,7 +141,7 @@ pub data Entering : Type 0 where
   unreadable : Why → ℕ → Entering
 
 abbrev pub withMember : ℕ → Source → World → World
-withMember m s w = record { identifiers = w .identifiers; denotations = w .denotations; values = w .values; activities = w .activities; members = record { member = m; source = s } ∷ w .members; sentences = w .sentences + length (s .begun); limit = w .limit; used = w .used; events = w .events; textLeft = w .textLeft; linesLeft = w .linesLeft; passes = w .passes }
+withMember m s w = withMembers (record { member = m; source = s } ∷ w .members) (w .sentences + length (s .begun)) w
 
 abbrev pub enteredAs : Fault → ℕ → Source → World → Entering
 enteredAs (faulty e p) m s w = unreadable e p

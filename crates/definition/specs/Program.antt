@@ -1,7 +1,7 @@
--- 01, "Reading": what a member's program is, as rows. 000, 3.2.1, is a tree; here each sentence, alternative and procedure
--- statement is one row, in the order of their places, with links that give the tree back.
+-- 01, "Reading": what a member's program is, as rows. 000, 3.2.1, is a tree; here each sentence, alternative and
+-- procedure statement is one row, in the order of their places, with links that give the tree back.
 use Prim.Native.Nat.{ℕ}
-use mathlib.Core.Bool.{Bool}
+use mathlib.Core.Bool.{Bool, true, false}
 use mathlib.Core.List.{List}
 pub use Rattle.definition.specs.declared.ValueType.{ValueType as Type′}
 pub use Rattle.definition.specs.declared.ValueType.the-variants.{FixedType as fixedType, CharacterType as characterType}
@@ -32,6 +32,35 @@ pub data Statement : Type 0 where
   activate : List Activation → Statement
   deactivate : List (List ℕ) → Statement
   return : Tree → Statement
+
+-- ---- statements told apart from all others: a procedure, with its parameters and its type; an iterated group
+abbrev pub ofProcedure : {A : Type 0} → Statement → (List (List ℕ) → Type′ → A) → (Unit {0} → A) → A
+ofProcedure null f other = other tt
+ofProcedure (declare ns) f other = other tt
+ofProcedure (procedure ns t) f other = f ns t
+ofProcedure (assign n x) f other = other tt
+ofProcedure (conditional x) f other = other tt
+ofProcedure group f other = other tt
+ofProcedure (iterated n x bs) f other = other tt
+ofProcedure (goto n) f other = other tt
+ofProcedure (include ns) f other = other tt
+ofProcedure (activate xs) f other = other tt
+ofProcedure (deactivate ns) f other = other tt
+ofProcedure (return x) f other = other tt
+
+unfoldable pub isIterated : Statement → Bool
+isIterated null = false
+isIterated (declare ns) = false
+isIterated (procedure ns t) = false
+isIterated (assign n x) = false
+isIterated (conditional x) = false
+isIterated group = false
+isIterated (iterated n x bs) = true
+isIterated (goto n) = false
+isIterated (include ns) = false
+isIterated (activate xs) = false
+isIterated (deactivate ns) = false
+isIterated (return x) = false
 
 -- another row, or none
 pub data Link : Type 0 where
@@ -72,8 +101,8 @@ pub data Scope : Type 0 where
   global : Scope
   inside : ℕ → Scope
 
--- what a declaration makes of a name: a variable, an entry that ENTRY declares, the body of an entry, a label of a row or of
--- the END of a row, BUILTIN; or that it is listed as a parameter
+-- what a declaration makes of a name: a variable, an entry that ENTRY declares, the body of an entry, a label of a row
+-- or of the END of a row, BUILTIN; or that it is listed as a parameter
 pub data Meaning : Type 0 where
   variable : Type′ → Meaning
   entry : Meaning
@@ -94,8 +123,8 @@ pub data Fault : Type 0 where
   sound : Fault
   faulty : Why → ℕ → Fault
 
--- a member that was read: its leading text, its first row, its rows, its declarations by place; the places of its sentences,
--- one that stopped the reading among them; and what stopped it
+-- a member that was read: its leading text, its first row, its rows, its declarations by place; the places of its
+-- sentences, one that stopped the reading among them; and what stopped it
 pub record Source : Type 0 where
   pub lead : Stretch
   pub first : Link

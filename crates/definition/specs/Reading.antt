@@ -12,10 +12,10 @@ use Rattle.definition.specs.Refusal.{Why, syntax, overLimit}
 use Rattle.definition.specs.Tokens.{Token, word, integer, string, bits, sign, nothing, wrong, Lexeme, isWord, isSign, tokenAt, TextEnd, percentAt, atEnd, openAt, textEnd}
 use Rattle.definition.specs.Expressions.{Reading, read, refused, then, expectWord, Named, nameOf}
 use Rattle.definition.specs.Program.{Statement, null, Link, nowhere, row, Role, listed, thenPart, elsePart, Stretch, Row, Scope, global, inside, Meaning, label, endLabel, body, Declared, Fault, sound, faulty, Source}
-use Rattle.definition.specs.Statements.{Opens, closes, opensGroup, opensBody, opensThen, Clause, clause, assignment, ifClause, doClause, gotoClause, includeClause, activateClause, deactivateClause, returnClause, Declaring, declared, undeclared, declareFrom, procedureClause, means}
+use Rattle.definition.specs.Statements.{Opens, opensNothing, opensGroup, opensBody, opensThen, Clause, clause, assignment, ifClause, doClause, gotoClause, includeClause, activateClause, deactivateClause, returnClause, Declaring, declared, undeclared, declareFrom, procedureClause, means}
 
--- ---- what is open: the program, a group, a procedure's body, an alternative; its row, the last row of its list so far, and
--- the labels that END may name
+-- ---- what is open: the program, a group, a procedure's body, an alternative; its row, the last row of its list so
+-- far, and the labels that END may name
 pub data Where : Type 0 where
   inProgram : Where
   inGroup : Where
@@ -79,6 +79,9 @@ pub record State : Type 0 where
   pub opened : List Open
   pub scope : Scope
 
+abbrev pub state : Stretch → Link → List Row → List Declared → List Open → Scope → State
+state x first rs ds os k = record { lead = x; first = first; rows = rs; declared = ds; opened = os; scope = k }
+
 abbrev pub isInside : Scope → Bool
 isInside global = false
 isInside (inside r) = true
@@ -92,23 +95,47 @@ change n f [] = []
 change zero f (r ∷ rs) = f r ∷ rs
 change (suc n) f (r ∷ rs) = r ∷ change n f rs
 
+-- a row with other links and texts
+abbrev pub relinked : Link → Link → Link → Stretch → Stretch → Row → Row
+relinked next child other lead text r = record {
+  statement = r .statement;
+  place = r .place;
+  parent = r .parent;
+  role = r .role;
+  next = next;
+  child = child;
+  other = other;
+  lead = lead;
+  text = text;
+}
+
 abbrev pub setNext : ℕ → Row → Row
-setNext n r = record { statement = r .statement; place = r .place; parent = r .parent; role = r .role; next = row n; child = r .child; other = r .other; lead = r .lead; text = r .text }
+setNext n r = relinked (row n) (r .child) (r .other) (r .lead) (r .text) r
 
 abbrev pub setChild : ℕ → Row → Row
-setChild n r = record { statement = r .statement; place = r .place; parent = r .parent; role = r .role; next = r .next; child = row n; other = r .other; lead = r .lead; text = r .text }
+setChild n r = relinked (r .next) (row n) (r .other) (r .lead) (r .text) r
 
 abbrev pub setOther : ℕ → Row → Row
-setOther n r = record { statement = r .statement; place = r .place; parent = r .parent; role = r .role; next = r .next; child = r .child; other = row n; lead = r .lead; text = r .text }
+setOther n r = relinked (r .next) (r .child) (row n) (r .lead) (r .text) r
 
 abbrev pub setLead : Stretch → Row → Row
-setLead x r = record { statement = r .statement; place = r .place; parent = r .parent; role = r .role; next = r .next; child = r .child; other = r .other; lead = x; text = r .text }
+setLead x r = relinked (r .next) (r .child) (r .other) x (r .text) r
 
 abbrev pub setText : Stretch → Row → Row
-setText x r = record { statement = r .statement; place = r .place; parent = r .parent; role = r .role; next = r .next; child = r .child; other = r .other; lead = r .lead; text = x }
+setText x r = relinked (r .next) (r .child) (r .other) (r .lead) x r
 
 abbrev pub newRow : Statement → ℕ → Link → Role → Row
-newRow x p up k = record { statement = x; place = p; parent = up; role = k; next = nowhere; child = nowhere; other = nowhere; lead = stretch 0 0; text = stretch 0 0 }
+newRow x p up k = record {
+  statement = x;
+  place = p;
+  parent = up;
+  role = k;
+  next = nowhere;
+  child = nowhere;
+  other = nowhere;
+  lead = stretch 0 0;
+  text = stretch 0 0;
+}
 
 -- the new row n of a list: the first inside its parent, or behind the last
 abbrev pub linked : ℕ → Link → (List Row → List Row) → List Row → List Row
@@ -123,19 +150,24 @@ abbrev pub atLast : Open → ℕ → Open
 atLast o n = record { kind = o .kind; row = o .row; last = row n; labels = o .labels }
 
 abbrev pub grown : State → Link → List Row → List Open → State
-grown st f rs os = record { lead = st .lead; first = f; rows = rs; declared = st .declared; opened = os; scope = st .scope }
+grown st f rs os = state (st .lead) f rs (st .declared) os (st .scope)
 
 -- the statement x of the place p as a new row, in what is open
 abbrev pub addIn : Where → Open → List Open → Statement → ℕ → State → State
 addIn inProgram o os x p st =
     let n = length (st .rows) in
-    grown st (firstOf (st .first) (o .last) n) (linked n (o .last) (λ rs. rs) (st .rows) ++ newRow x p nowhere listed ∷ []) (atLast o n ∷ os)
+    grown st (firstOf (st .first) (o .last) n)
+    (linked n (o .last) (λ rs. rs) (st .rows) ++ newRow x p nowhere listed ∷ []) (atLast o n ∷ os)
 addIn inGroup o os x p st =
     let n = length (st .rows) in
-    grown st (st .first) (linked n (o .last) (change (o .row) (setChild n)) (st .rows) ++ newRow x p (row (o .row)) listed ∷ []) (atLast o n ∷ os)
+    grown st (st .first)
+    (linked n (o .last) (change (o .row) (setChild n)) (st .rows) ++ newRow x p (row (o .row)) listed ∷ [])
+    (atLast o n ∷ os)
 addIn inBody o os x p st =
     let n = length (st .rows) in
-    grown st (st .first) (linked n (o .last) (change (o .row) (setChild n)) (st .rows) ++ newRow x p (row (o .row)) listed ∷ []) (atLast o n ∷ os)
+    grown st (st .first)
+    (linked n (o .last) (change (o .row) (setChild n)) (st .rows) ++ newRow x p (row (o .row)) listed ∷ [])
+    (atLast o n ∷ os)
 addIn inThen o os x p st =
     let n = length (st .rows) in
     grown st (st .first) (change (o .row) (setChild n) (st .rows) ++ newRow x p (row (o .row)) thenPart ∷ []) (o ∷ os)
@@ -143,6 +175,7 @@ addIn inElse o os x p st =
     let n = length (st .rows) in
     grown st (st .first) (change (o .row) (setOther n) (st .rows) ++ newRow x p (row (o .row)) elsePart ∷ []) (o ∷ os)
 
+-- something is always open, the program at the least: here and below, `[]` is not met
 abbrev pub addTo : List Open → Statement → ℕ → State → State
 addTo [] x p st = st
 addTo (o ∷ os) x p st = addIn (o .kind) o os x p st
@@ -151,20 +184,19 @@ unfoldable pub addRow : Statement → ℕ → State → State
 addRow x p st = addTo (st .opened) x p st
 
 abbrev pub withNames : List Declared → State → State
-withNames ds st = record { lead = st .lead; first = st .first; rows = st .rows; declared = st .declared ++ ds; opened = st .opened; scope = st .scope }
+withNames ds st = state (st .lead) (st .first) (st .rows) (st .declared ++ ds) (st .opened) (st .scope)
 
 abbrev pub withOpened : List Open → Scope → State → State
-withOpened os k st = record { lead = st .lead; first = st .first; rows = st .rows; declared = st .declared; opened = os; scope = k }
+withOpened os k st = state (st .lead) (st .first) (st .rows) (st .declared) os k
 
 abbrev pub withRows : List Row → State → State
-withRows rs st = record { lead = st .lead; first = st .first; rows = rs; declared = st .declared; opened = st .opened; scope = st .scope }
+withRows rs st = state (st .lead) (st .first) rs (st .declared) (st .opened) (st .scope)
 
 abbrev pub withLead : Stretch → State → State
-withLead x st = record { lead = x; first = st .first; rows = st .rows; declared = st .declared; opened = st .opened; scope = st .scope }
+withLead x st = state x (st .first) (st .rows) (st .declared) (st .opened) (st .scope)
 
--- ---- one turn after the other
--- what comes next: the text that the program or a group begins with, the text behind the sentence of a row, the statement of
--- an alternative, or in a procedure a statement or END
+-- ---- one turn after the other. What comes next: the text that the program or a group begins with, the text behind the
+-- sentence of a row, the statement of an alternative, or in a procedure a statement or END
 pub data Mode : Type 0 where
   leadingText : Mode
   textBehind : ℕ → Mode
@@ -195,23 +227,24 @@ elseAt false s e = when (isSign "%" (tokenAt s e .token)) (λ _. elseWord s (tok
 
 -- the statement of row n ends at e. "ELSE goes with the nearest IF."
 abbrev pub elsed : Else → ℕ → List Open → State → (Unit {0} → Turn) → Turn
-elsed (elseTo q) i os st over = go alternative q (withOpened (opening inElse i [] ∷ os) (st .scope) st)
-elsed noElse i os st over = over tt
+elsed (elseTo q) i os st up = go alternative q (withOpened (opening inElse i [] ∷ os) (st .scope) st)
+elsed noElse i os st up = up tt
 
 abbrev pub behind : Scope → ℕ → Mode
 behind global n = textBehind n
 behind (inside r) n = inner
 
 abbrev pub completeIn : Where → List ℕ → ℕ → List Open → ℕ → ℕ → State → (ℕ → Turn) → Turn
-completeIn inProgram s i os n e st over = go (behind (st .scope) n) e st
-completeIn inGroup s i os n e st over = go (behind (st .scope) n) e st
-completeIn inBody s i os n e st over = go (behind (st .scope) n) e st
-completeIn inThen s i os n e st over = elsed (elseAt (isInside (st .scope)) s e) i os st (λ _. over i)
-completeIn inElse s i os n e st over = over i
+completeIn inProgram s i os n e st up = go (behind (st .scope) n) e st
+completeIn inGroup s i os n e st up = go (behind (st .scope) n) e st
+completeIn inBody s i os n e st up = go (behind (st .scope) n) e st
+completeIn inThen s i os n e st up = elsed (elseAt (isInside (st .scope)) s e) i os st (λ _. up i)
+completeIn inElse s i os n e st up = up i
 
 unfoldable pub complete : List ℕ → List Open → ℕ → ℕ → State → Turn
 complete s [] n e st = finish st
-complete s (o ∷ os) n e st = completeIn (o .kind) s (o .row) os n e (withOpened (o ∷ os) (st .scope) st) (λ i. complete s os i e st)
+complete s (o ∷ os) n e st =
+    completeIn (o .kind) s (o .row) os n e (withOpened (o ∷ os) (st .scope) st) (λ i. complete s os i e st)
 
 -- ---- labels, and the token behind them; `long` are the places of those over 31 bytes
 pub record Labelled : Type 0 where
@@ -232,7 +265,7 @@ abbrev pub addLabel : Reading Named → List Named → List ℕ → (List Named 
 addLabel (read n) ns long f = f (ns ++ n ∷ []) long
 addLabel (refused w p) ns long f = f ns (long ++ p ∷ [])
 
--- "An identifier followed by `:` is a label"
+-- "An identifier followed by `:` is a label"; f is more than the turns
 unfoldable pub labelsFrom : List ℕ → ℕ → List Named → List ℕ → ℕ → Labelled
 labelsFrom s zero ns long at = record { labels = ns; long = long; behind = tokenAt s at }
 labelsFrom s (suc f) ns long at =
@@ -250,14 +283,16 @@ spelled (n ∷ ns) = n .spelling ∷ spelled ns
 
 -- ---- a statement that was read at p, with its labels
 abbrev pub opened : Opens → List ℕ → ℕ → List Named → ℕ → State → Turn
-opened closes s n ns e st = complete s (st .opened) n e st
-opened opensGroup s n ns e st = go (cond (isInside (st .scope)) inner leadingText) e (withOpened (opening inGroup n (spelled ns) ∷ st .opened) (st .scope) st)
+opened opensNothing s n ns e st = complete s (st .opened) n e st
+opened opensGroup s n ns e st =
+    go (cond (isInside (st .scope)) inner leadingText) e
+    (withOpened (opening inGroup n (spelled ns) ∷ st .opened) (st .scope) st)
 opened opensBody s n ns e st = go inner e (withOpened (opening inBody n (spelled ns) ∷ st .opened) (inside n) st)
 opened opensThen s n ns e st = go alternative e (withOpened (opening inThen n [] ∷ st .opened) (st .scope) st)
 
 -- labels before what opens a body are entry names
 abbrev pub labelMeaning : Opens → ℕ → Meaning
-labelMeaning closes n = label n
+labelMeaning opensNothing n = label n
 labelMeaning opensGroup n = label n
 labelMeaning opensBody n = body n
 labelMeaning opensThen n = label n
@@ -265,7 +300,8 @@ labelMeaning opensThen n = label n
 unfoldable pub taken : List ℕ → ℕ → List Named → State → Clause → List Declared → Turn
 taken s p ns st c ds =
     let n = length (st .rows) in
-    opened (c .opens) s n ns (c .to) (withNames (means (st .scope) (labelMeaning (c .opens) n) ns ++ ds) (addRow (c .statement) p st))
+    opened (c .opens) s n ns (c .to)
+    (withNames (means (st .scope) (labelMeaning (c .opens) n) ns ++ ds) (addRow (c .statement) p st))
 
 -- the labels of what turns out wrong: they are names, and count as such
 abbrev pub named : List Named → State → State
@@ -310,7 +346,8 @@ common s t st take other =
 -- statements of a list alone
 unfoldable pub inList : List ℕ → ℕ → List Named → Lexeme → State → (Unit {0} → Turn) → Turn
 inList s p ns t st other =
-    when (isList (kindOf (st .opened)) && isDeclare (t .token)) (λ _. takeDeclared s p ns st (declareFrom (st .scope) s (length s) [] (t .to)))
+    when (isList (kindOf (st .opened)) && isDeclare (t .token))
+    (λ _. takeDeclared s p ns st (declareFrom (st .scope) s (length s) [] (t .to)))
     (λ _. when (isList (kindOf (st .opened)) && not (isInside (st .scope)) && not (isNone ns) && isProcedure (t .token))
     (λ _. takeDeclared s p ns st (procedureClause (inside (length (st .rows))) s (t .to)))
     other)
@@ -342,7 +379,9 @@ byToken (integer w) s p ns t st = untaken p ns st syntax (t .from) []
 byToken (string w) s p ns t st = untaken p ns st syntax (t .from) []
 byToken (bits w) s p ns t st = untaken p ns st syntax (t .from) []
 byToken (sign w) s p ns t st =
-    when (isSign ";" (sign w)) (λ _. taken s p ns st (clause null closes (t .to)) []) (λ _. untaken p ns st syntax (t .from) [])
+    when (isSign ";" (sign w))
+    (λ _. taken s p ns st (clause null opensNothing (t .to)) [])
+    (λ _. untaken p ns st syntax (t .from) [])
 byToken nothing s p ns t st = untaken p ns st syntax (t .from) []
 byToken wrong s p ns t st = untaken p ns st syntax (t .from) []
 
@@ -373,7 +412,8 @@ scopeOut inElse k = k
 
 abbrev pub endRead : List ℕ → List Named → Open → List Open → State → Reading ℕ → Turn
 endRead s ns o os st (read e) =
-    complete s os (o .row) e (withOpened os (scopeOut (o .kind) (st .scope)) (withNames (means (st .scope) (endLabel (o .row)) ns) st))
+    complete s os (o .row) e
+    (withOpened os (scopeOut (o .kind) (st .scope)) (withNames (means (st .scope) (endLabel (o .row)) ns) st))
 endRead s ns o os st (refused w q) = stop w q [] (withNames (means (st .scope) (endLabel (o .row)) ns) st)
 
 abbrev pub endAt : List ℕ → List Named → ℕ → List Open → State → Turn
@@ -388,16 +428,17 @@ isFull st = leb memberSentences (length (st .rows))
 unfoldable pub isEnd : List ℕ → Lexeme → Bool
 isEnd s t = isWord "END" (t .token) && isDecided (tokenAt s (t .to) .token)
 
-abbrev pub tooLong : List ℕ → (ℕ → Turn) → (Unit {0} → Turn) → Turn
-tooLong [] f on = on tt
-tooLong (p ∷ ps) f on = f p
+abbrev pub longLabel : List ℕ → (ℕ → Turn) → (Unit {0} → Turn) → Turn
+longLabel [] f on = on tt
+longLabel (p ∷ ps) f on = f p
 
 unfoldable pub clauseFrom : List ℕ → ℕ → Labelled → State → Turn
 clauseFrom s p L st =
     when (isInGroup (kindOf (st .opened)) && isEnd s (L .behind))
-    (λ _. tooLong (L .long) (λ q. stop overLimit q [] (named (L .labels) st)) (λ _. endAt s (L .labels) (L .behind .to) (st .opened) st))
+    (λ _. longLabel (L .long) (λ q. stop overLimit q [] (named (L .labels) st))
+    (λ _. endAt s (L .labels) (L .behind .to) (st .opened) st))
     (λ _. when (isFull st) (λ _. stop overLimit p (p ∷ []) st)
-    (λ _. tooLong (L .long) (λ q. untaken p (L .labels) st overLimit q [])
+    (λ _. longLabel (L .long) (λ q. untaken p (L .labels) st overLimit q [])
     (λ _. byToken (L .behind .token) s p (L .labels) (L .behind) st)))
 
 abbrev pub clauseAt : List ℕ → ℕ → ℕ → State → Turn
@@ -406,9 +447,11 @@ clauseAt s p at st = clauseFrom s p (labels s at) st
 -- ---- texts
 abbrev pub texted : TextEnd → List ℕ → (ℕ → State) → Turn
 texted (percentAt p) s f = clauseAt s p (p + 1) (f p)
-texted atEnd s f = cond (leb (length (f 0 .opened)) 1) (finish (f (length s))) (stop syntax (length s) [] (f (length s)))
+texted atEnd s f =
+    cond (leb (length (f 0 .opened)) 1) (finish (f (length s))) (stop syntax (length s) [] (f (length s)))
 texted (openAt p) s f = stop syntax p [] (f p)
 
+-- only the program and groups begin with a text
 abbrev pub leadIn : List Open → ℕ → ℕ → State → State
 leadIn [] at p st = st
 leadIn (o ∷ os) at p st = leadOf (o .kind) (o .row)
@@ -428,7 +471,7 @@ notEnd (refused w p) s st = stop w p [] st
 
 abbrev pub procedureEnd : List ℕ → Labelled → State → Turn
 procedureEnd s L st =
-    tooLong (L .long) (λ q. stop overLimit q [] (named (L .labels) st))
+    longLabel (L .long) (λ q. stop overLimit q [] (named (L .labels) st))
     (λ _. when (isWord "END" (L .behind .token)) (λ _. endAt s (L .labels) (L .behind .to) (st .opened) st)
     (λ _. notEnd (nameOf (L .behind .token) (L .behind .from) (L .behind .to)) s (named (L .labels) st)))
 
@@ -448,13 +491,18 @@ deepEnough p st on = when (leb (depth (st .opened)) openGroups) on (λ _. stop o
 
 abbrev pub alternativeAt : Scope → List ℕ → ℕ → Lexeme → State → Turn
 alternativeAt global s at t st =
-    when (isSign "%" (t .token)) (λ _. deepEnough (t .from) st (λ _. clauseAt s (t .from) (t .to) st)) (λ _. stop syntax (t .from) [] st)
+    when (isSign "%" (t .token))
+    (λ _. deepEnough (t .from) st (λ _. clauseAt s (t .from) (t .to) st))
+    (λ _. stop syntax (t .from) [] st)
 alternativeAt (inside r) s at t st =
-    when (begins (t .token)) (λ _. deepEnough (t .from) st (λ _. clauseAt s (t .from) at st)) (λ _. stop syntax (t .from) [] st)
+    when (begins (t .token))
+    (λ _. deepEnough (t .from) st (λ _. clauseAt s (t .from) at st))
+    (λ _. stop syntax (t .from) [] st)
 
 unfoldable pub turn : List ℕ → Mode → ℕ → State → Turn
 turn s leadingText at st = texted (textEnd (suc (length s)) s at) s (λ p. leadIn (st .opened) at p st)
-turn s (textBehind n) at st = texted (textEnd (suc (length s)) s at) s (λ p. withRows (change n (setText (stretch at p)) (st .rows)) st)
+turn s (textBehind n) at st =
+    texted (textEnd (suc (length s)) s at) s (λ p. withRows (change n (setText (stretch at p)) (st .rows)) st)
 turn s alternative at st = alternativeAt (st .scope) s at (tokenAt s at) st
 turn s inner at st = innerAt s at (tokenAt s at) st
 
@@ -464,9 +512,16 @@ places [] = []
 places (r ∷ rs) = r .place ∷ places rs
 
 abbrev pub source : State → List ℕ → Fault → Source
-source st begun f = record { lead = st .lead; first = st .first; rows = st .rows; declared = st .declared; begun = places (st .rows) ++ begun; fault = f }
+source st begun f = record {
+  lead = st .lead;
+  first = st .first;
+  rows = st .rows;
+  declared = st .declared;
+  begun = places (st .rows) ++ begun;
+  fault = f;
+}
 
--- f is more than the turns
+-- f is more than the turns, so that none are lacking where more are to come
 unfoldable pub readOn : List ℕ → ℕ → Turn → Source
 readOn s zero (go m at st) = source st [] (faulty syntax at)
 readOn s zero (stop w p begun st) = source st begun (faulty w p)
@@ -476,7 +531,7 @@ readOn s (suc f) (stop w p begun st) = source st begun (faulty w p)
 readOn s (suc f) (finish st) = source st [] sound
 
 abbrev pub start : State
-start = record { lead = stretch 0 0; first = nowhere; rows = []; declared = []; opened = opening inProgram 0 [] ∷ []; scope = global }
+start = state (stretch 0 0) nowhere [] [] (opening inProgram 0 [] ∷ []) global
 
 -- THE MEMBER whose body is s
 unfoldable pub readMember : List ℕ → Source

@@ -1,6 +1,7 @@
--- 01, "Running": members. "Text parts run in order. After the sentence comes one blank, then its text is scanned, even if
--- empty." INCLUDE, ACTIVATE, DEACTIVATE, DECLARE, and GOTO between members. A refusal gets its place here: "the `%` of the
--- innermost statement outside procedures, or the token in program text; for an inserted blank, its text's start".
+-- 01, "Running": members. "Text parts run in order. After the sentence comes one blank, then its text is scanned, even
+-- if empty." INCLUDE, ACTIVATE, DEACTIVATE, DECLARE, and GOTO between members. A refusal gets its place here: "the `%`
+-- of the innermost statement outside procedures, or the token in program text; for an inserted blank, its text's
+-- start".
 use Prim.Native.Nat.{ℕ, zero, suc, _+_, _-_}
 use mathlib.Core.Bool.{Bool, cond, _&&_}
 use mathlib.Core.List.{List, [], _∷_}
@@ -58,20 +59,34 @@ replaceHere m place t q a act g w =
     good (r .to) (withEvent (replaced m place (r .bytes)) (g (r .bytes) (r .to)) 1 v))
     (λ _. bad roomFull (w .used))
 
--- the pass of the token x at a place of member m, in the world w: l goes out for it, and the scan goes on at the place `to`
+-- the pass of the token x at a place of member m, in the world w: l goes out for it, and the scan goes on at the place
+-- `to`
 abbrev pub passOf : ℕ → ℕ → Piece → World → List ℕ → ℕ → Pass
-passOf m place x w l to = passedBy (record { member = m; place = place; piece = x; identifiers = w .identifiers; denotations = w .denotations; activities = w .activities; members = w .members; outcome = l; to = to })
+passOf m place x w l to = passedBy (record {
+  member = m;
+  place = place;
+  piece = x;
+  identifiers = w .identifiers;
+  denotations = w .denotations;
+  activities = w .activities;
+  members = w .members;
+  outcome = l;
+  to = to;
+})
 
 abbrev pub tokenHere : Active → ℕ → ℕ → List ℕ → ℕ → ℕ → (List ℕ → ℕ → Pass) → World → Res Why ℕ
-tokenHere notActive m place t p q g w = bind (copyHere m place (part (q - p) p t) (g (part (q - p) p t) q) w) λ _ v. good q v
+tokenHere notActive m place t p q g w =
+    bind (copyHere m place (part (q - p) p t) (g (part (q - p) p t) q) w) λ _ v. good q v
 tokenHere (active a act) m place t p q g w = replaceHere m place t q a act g w
 
+-- f is more than the turns
 unfoldable pub textOn : ℕ → ℕ → List ℕ → ℕ → ℕ → World → Res Stop (Unit {0})
 textOn m from t zero p w = good tt w
 textOn m from t (suc f) p w =
     when (leb (length t) p) (λ _. good tt w)
     (λ _. bind (placed (stop m (from + p)) (bind (charge w) λ _ v.
-    tokenHere (activeIn (pieceAt t p .piece) v) m (from + p) t p (pieceAt t p .to) (λ l q. passOf m (from + p) (pieceAt t p .piece) v l (from + q)) v)) λ q x.
+    tokenHere (activeIn (pieceAt t p .piece) v) m (from + p) t p (pieceAt t p .to)
+    (λ l q. passOf m (from + p) (pieceAt t p .piece) v l (from + q)) v)) λ q x.
     textOn m from t f q x)
 
 -- one blank, then the text
@@ -100,7 +115,8 @@ activateAll x (n ∷ ns) w = bind (activateName x n w) λ _ v. activateAll x ns 
 
 unfoldable pub activations : List Activation → World → Res Why (Unit {0})
 activations [] w = good tt w
-activations (a ∷ as′) w = bind (activateName (cond (a .isCopied) copiedOnly rescanned) (a .spelling) w) λ _ v. activations as′ v
+activations (a ∷ as′) w =
+    bind (activateName (cond (a .isCopied) copiedOnly rescanned) (a .spelling) w) λ _ v. activations as′ v
 
 -- ---- GOTO outside procedures; `on` are the members that are running below this one, each with the row where it stands
 abbrev pub landing : ℕ → Bool → Jump
@@ -110,7 +126,8 @@ unfoldable pub jumpAway : List Place → ℕ → ℕ → Bool → World → Res 
 jumpAway [] m r isEnd w = bad wrongGoto (w .used)
 jumpAway (p ∷ ps) m r isEnd w =
     when (eqb (p .member) m)
-    (λ _. when (mayGo (rowsOf m w) (p .row) r isEnd) (λ _. good (away (record { member = m; row = r; isEnd = isEnd })) w) (λ _. bad wrongGoto (w .used)))
+    (λ _. when (mayGo (rowsOf m w) (p .row) r isEnd)
+    (λ _. good (away (record { member = m; row = r; isEnd = isEnd })) w) (λ _. bad wrongGoto (w .used)))
     (λ _. jumpAway ps m r isEnd w)
 
 unfoldable pub jumpLabel : ℕ → List Row → List Place → ℕ → ℕ → ℕ → Bool → World → Res Why Jump
@@ -137,7 +154,7 @@ pub data Level : Type 0 where
   noLevel : Level
   level : Inner → Level
 
--- what comes out of an included member, in member m
+-- what comes out of an included member, in member m; RETURN stands in procedures alone, so that `returned` is not met
 abbrev pub cameOut : ℕ → End → World → (World → Res Stop Deed) → Res Stop Deed
 cameOut m ran w next = next w
 cameOut m (returned v) w next = next w
@@ -148,17 +165,19 @@ includeEntered (unreadable e p) inner k m n on w next = bad (stop k p e) (w .use
 includeEntered (entered v) inner k m n on w next =
     bind (inner k (record { member = m; row = n } ∷ on) v) λ x y. cameOut m x y next
 
-abbrev pub includeAt : Deck.Found → Level → List ℕ → ℕ → ℕ → ℕ → List Place → World → (World → Res Stop Deed) → Res Stop Deed
+abbrev pub includeAt : Deck.Found → Level → List ℕ → ℕ → ℕ → ℕ → List Place → World → (World → Res Stop Deed)
+    → Res Stop Deed
 includeAt Deck.none inner d p m n on w next = bad (stop m p unknownMember) (w .used)
 includeAt (Deck.line k) noLevel d p m n on w next = bad (stop m p tooDeep) (w .used)
-includeAt (Deck.line k) (level inner) d p m n on w next = includeEntered (enter k (readMember (bodyOf d k)) w) inner k m n on w next
+includeAt (Deck.line k) (level inner) d p m n on w next =
+    includeEntered (enter k (readMember (bodyOf d k)) w) inner k m n on w next
 
 unfoldable pub includeAll : Level → List ℕ → ℕ → ℕ → ℕ → List Place → List (List ℕ) → World → Res Stop Deed
 includeAll inner d p m n on [] w = good passed w
 includeAll inner d p m n on (x ∷ xs) w =
     includeAt (Deck.find x 0 (Deck.lines d)) inner d p m n on w (λ v. includeAll inner d p m n on xs v)
 
--- ---- what the statements of a member do that are no control
+-- ---- what the statements of a member do that are no control; others do not come here
 abbrev pub deed : Res Why (Unit {0}) → Res Why Deed
 deed r = bind r λ _ w. good passed w
 

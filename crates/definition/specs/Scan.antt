@@ -1,6 +1,6 @@
--- 01, "Scanning": values and arguments. "An active variable gives its value. An active entry with parameters needs `(`, after
--- blanks only, and arguments cut at outer commas. With RESCAN the value is scanned by itself; no name or argument list
--- crosses its edge. With NORESCAN it is copied." One step for each token scanned.
+-- 01, "Scanning": values and arguments. "An active variable gives its value. An active entry with parameters needs `(`,
+-- after blanks only, and arguments cut at outer commas. With RESCAN the value is scanned by itself; no name or argument
+-- list crosses its edge. With NORESCAN it is copied." One step for each token scanned.
 use Prim.Native.Nat.{ℕ, zero, suc, _+_, _-_}
 use Prim.Native.Char.{code}
 use mathlib.Core.Bool.{Bool, _&&_}
@@ -18,7 +18,8 @@ use Rattle.definition.specs.World as W
 use Rattle.definition.specs.World.{everyone, Denotation, variableOf, entryOf, labelAt, builtinName, Cell, Activity, inactive, rescanned, copiedOnly, Address, address, unknown, World, Res, good, bad, bind, ask, charge, addressOf, denotation, valueAt, activityAt}
 use Rattle.definition.specs.Evaluate.{Parameter, Callee, callee, Call, put}
 
--- ---- where an outcome goes, with the bytes that may still be put there: the text room, or the room of unfinished values
+-- ---- where an outcome goes, with the bytes that may still be put there: the text room, or the room of unfinished
+-- values
 pub data Into : Type 0 where
   toText : ℕ → Into
   toWork : ℕ → Into
@@ -62,10 +63,11 @@ activeAt (address a) w = activeAs (activityAt a w) a
 unfoldable pub activeName : List ℕ → World → Active
 activeName n w = activeAt (addressOf n everyone w) w
 
--- ---- the characters of a value, rescanned or copied
+-- ---- the characters of a value, rescanned or copied; of an inactive name there are none
 abbrev pub outcome : Activity → Scanner → Into → ℕ → List ℕ → World → Res Why (List ℕ)
 outcome inactive scan into u l w = good l w
-outcome rescanned scan into u l w = when (leb (u + length l) unfinishedBytes) (λ _. scan into l (u + length l) w) (λ _. bad tooLong (w .used))
+outcome rescanned scan into u l w =
+    when (leb (u + length l) unfinishedBytes) (λ _. scan into l (u + length l) w) (λ _. bad tooLong (w .used))
 outcome copiedOnly scan into u l w = when (fits into u 0 (length l)) (λ _. good l w) (λ _. bad (full into) (w .used))
 
 -- ---- argument lists, from behind the entry's name at p
@@ -77,15 +79,18 @@ pub data Arguments : Type 0 where
   listUpTo : List Argument → ℕ → Arguments
   noList : Arguments
 
--- "cut at outer commas, `()` being one empty argument": the argument that begins at `from`, with d parentheses open in it
+-- "cut at outer commas, `()` being one empty argument": the argument that begins at `from`, with d parentheses open in
+-- it
 unfoldable pub cutOn : ℕ → List ℕ → ℕ → ℕ → List Argument → ℕ → Arguments
 cutOn zero t d from xs p = noList
 cutOn (suc f) t d from xs p =
     when (leb (length t) p) (λ _. noList)
     (λ _. when (eqb (getD t p 0) (code "(")) (λ _. cutOn f t (suc d) from xs (p + 1))
-    (λ _. when (eqb (getD t p 0) (code ")") && eqb d 0) (λ _. listUpTo (xs ++ record { from = from; to = p } ∷ []) (p + 1))
+    (λ _. when (eqb (getD t p 0) (code ")") && eqb d 0)
+    (λ _. listUpTo (xs ++ record { from = from; to = p } ∷ []) (p + 1))
     (λ _. when (eqb (getD t p 0) (code ")")) (λ _. cutOn f t (d - 1) from xs (p + 1))
-    (λ _. when (eqb (getD t p 0) (code ",") && eqb d 0) (λ _. cutOn f t d (p + 1) (xs ++ record { from = from; to = p } ∷ []) (p + 1))
+    (λ _. when (eqb (getD t p 0) (code ",") && eqb d 0)
+    (λ _. cutOn f t d (p + 1) (xs ++ record { from = from; to = p } ∷ []) (p + 1))
     (λ _. cutOn f t d from xs (pieceAt t p .to))))))
 
 unfoldable pub listAt : List ℕ → ℕ → Arguments
@@ -93,7 +98,7 @@ listAt t p =
     let q = p + length (leading isBlank (drop p t)) in
     when (eqb (getD t q 0) (code "(")) (λ _. cutOn (length t) t 0 (q + 1) [] (q + 1)) (λ _. noList)
 
--- "each argument in turn is scanned, then converted"
+-- "each argument in turn is scanned, then converted"; there are as many as parameters
 unfoldable pub scanArguments : Scanner → List ℕ → List Parameter → List Argument → ℕ → World → Res Why (List Value)
 scanArguments scan t [] xs u w = good [] w
 scanArguments scan t (p ∷ ps) [] u w = good [] w
@@ -136,19 +141,23 @@ replaceCell (W.holds v) scan p act into u w = upTo p (outcome act scan into u (t
 
 abbrev pub replaceAs : Denotation → Call → Scanner → List ℕ → ℕ → ℕ → Activity → Into → ℕ → World → Res Why Replaced
 replaceAs (variableOf k) run scan t p a act into u w = replaceCell (valueAt a w) scan p act into u w
-replaceAs (entryOf e b) run scan t p a act into u w = bind (ask (callee b w) w) λ c v. replaceEntry run scan t p act into u c v
+replaceAs (entryOf e b) run scan t p a act into u w =
+    bind (ask (callee b w) w) λ c v. replaceEntry run scan t p act into u c v
 replaceAs (labelAt m r x) run scan t p a act into u w = bad wrongName (w .used)
 replaceAs builtinName run scan t p a act into u w = bad wrongName (w .used)
 
 -- ---- the tokens of a value or an argument, one after the other; `out` is the outcome so far
-abbrev pub copyToken : Into → List ℕ → List ℕ → ℕ → ℕ → ℕ → World → (List ℕ → ℕ → World → Res Why (List ℕ)) → Res Why (List ℕ)
+abbrev pub copyToken : Into → List ℕ → List ℕ → ℕ → ℕ → ℕ → World → (List ℕ → ℕ → World → Res Why (List ℕ))
+    → Res Why (List ℕ)
 copyToken into t out u p q w on =
     when (fits into u (length out) (q - p)) (λ _. on (out ++ part (q - p) p t) q w) (λ _. bad (full into) (w .used))
 
-abbrev pub token : Active → Replacer → Into → List ℕ → List ℕ → ℕ → ℕ → ℕ → World → (List ℕ → ℕ → World → Res Why (List ℕ)) → Res Why (List ℕ)
+abbrev pub token : Active → Replacer → Into → List ℕ → List ℕ → ℕ → ℕ → ℕ → World
+    → (List ℕ → ℕ → World → Res Why (List ℕ)) → Res Why (List ℕ)
 token notActive replace into t out u p q w on = copyToken into t out u p q w on
 token (active a act) replace into t out u p q w on =
-    bind (replace t q a act (after into (length out)) (waiting into u (length out)) w) λ r v. on (out ++ r .bytes) (r .to) v
+    bind (replace t q a act (after into (length out)) (waiting into u (length out)) w) λ r v.
+    on (out ++ r .bytes) (r .to) v
 
 abbrev pub activeIn : Piece → World → Active
 activeIn (name n) w = activeName n w
@@ -161,12 +170,14 @@ scanOn replace into t u zero out p w = good out w
 scanOn replace into t u (suc f) out p w =
     when (leb (length t) p) (λ _. good out w)
     (λ _. bind (charge w) λ _ v.
-    token (activeIn (pieceAt t p .piece) v) replace into t out u p (pieceAt t p .to) v (λ o q x. scanOn replace into t u f o q x))
+    token (activeIn (pieceAt t p .piece) v) replace into t out u p (pieceAt t p .to) v
+    (λ o q x. scanOn replace into t u f o q x))
 
 abbrev pub scanWith : Replacer → Scanner
 scanWith replace into t u w = scanOn replace into t u (suc (length t)) [] 0 w
 
--- "A replacement in program text is level 1; one met while scanning a value or an argument is one deeper": n levels are left
+-- "A replacement in program text is level 1; one met while scanning a value or an argument is one deeper": n levels are
+-- left
 unfoldable pub replacer : Call → ℕ → Replacer
 replacer run zero t p a act into u w = bad tooDeep (w .used)
 replacer run (suc n) t p a act into u w = replaceAs (denotation a w) run (scanWith (replacer run n)) t p a act into u w

@@ -13,7 +13,7 @@ use Rattle.definition.specs.Program.{Type′, fixedType, characterType, 
 
 -- what a statement opens: nothing, a group, a procedure's body, or the THEN alternative
 pub data Opens : Type 0 where
-  closes : Opens
+  opensNothing : Opens
   opensGroup : Opens
   opensBody : Opens
   opensThen : Opens
@@ -29,7 +29,7 @@ clause x o to = record { statement = x; opens = o; to = to }
 
 -- a statement that ends here, with a semicolon
 unfoldable pub ended : List ℕ → Statement → ℕ → Reading Clause
-ended s x at = then (expectSign ";" s at) λ e. read (clause x closes e)
+ended s x at = then (expectSign ";" s at) λ e. read (clause x opensNothing e)
 
 -- (17) assignment-statement, from behind `=`
 unfoldable pub assignment : List ℕ → List ℕ → ℕ → Reading Clause
@@ -41,10 +41,13 @@ thenWord true s at = expectWord "THEN" s at
 thenWord false s at = then (expectSign "%" s at) λ e. expectWord "THEN" s e
 
 unfoldable pub ifClause : Bool → List ℕ → ℕ → Reading Clause
-ifClause inBody s at = then (wholeExpression s at) λ r. then (thenWord inBody s (r .to)) λ e. read (clause (conditional (r .tree)) opensThen e)
+ifClause inBody s at =
+    then (wholeExpression s at) λ r. then (thenWord inBody s (r .to)) λ e.
+    read (clause (conditional (r .tree)) opensThen e)
 
 -- (13) do-specification: BY and TO in either order, each at most once
-unfoldable pub boundAt : String → (Tree → Bound) → List ℕ → List Bound → ℕ → (List Bound → ℕ → Reading Clause) → (Unit {0} → Reading Clause) → Reading Clause
+unfoldable pub boundAt : String → (Tree → Bound) → List ℕ → List Bound → ℕ → (List Bound → ℕ → Reading Clause)
+    → (Unit {0} → Reading Clause) → Reading Clause
 boundAt w make s bs at found absent =
     when (isWord w (tokenAt s at .token))
     (λ _. then (wholeExpression s (tokenAt s at .to)) λ r. found (bs ++ make (r .tree) ∷ []) (r .to))
@@ -71,7 +74,8 @@ unfoldable pub gotoClause : List ℕ → ℕ → Reading Clause
 gotoClause s at = then (nameAt s at) λ n. ended s (goto (n .spelling)) (n .to)
 
 -- names with commas between them, each with what `each` reads behind it; f is more than the turns
-unfoldable pub listOf : {A : Type 0} → (List ℕ → ℕ → (A → ℕ → Reading Clause) → Reading Clause) → (List A → Statement) → List ℕ → ℕ → List A → ℕ → Reading Clause
+unfoldable pub listOf : {A : Type 0} → (List ℕ → ℕ → (A → ℕ → Reading Clause) → Reading Clause) → (List A → Statement)
+    → List ℕ → ℕ → List A → ℕ → Reading Clause
 listOf each make s zero xs at = refused syntax at
 listOf each make s (suc f) xs at =
     each s at λ x e.
@@ -93,8 +97,10 @@ deactivateClause s at = listOf eachName deactivate s (length s) [] at
 -- (29), (30) activate-statement: "ACTIVATE alone means RESCAN"
 abbrev pub eachActivation : List ℕ → ℕ → (Activation → ℕ → Reading Clause) → Reading Clause
 eachActivation s at f = then (nameAt s at) λ n.
-    when (isWord "NORESCAN" (tokenAt s (n .to) .token)) (λ _. f (record { spelling = n .spelling; isCopied = true }) (tokenAt s (n .to) .to))
-    (λ _. when (isWord "RESCAN" (tokenAt s (n .to) .token)) (λ _. f (record { spelling = n .spelling; isCopied = false }) (tokenAt s (n .to) .to))
+    when (isWord "NORESCAN" (tokenAt s (n .to) .token))
+    (λ _. f (record { spelling = n .spelling; isCopied = true }) (tokenAt s (n .to) .to))
+    (λ _. when (isWord "RESCAN" (tokenAt s (n .to) .token))
+    (λ _. f (record { spelling = n .spelling; isCopied = false }) (tokenAt s (n .to) .to))
     (λ _. f (record { spelling = n .spelling; isCopied = false }) (n .to)))
 
 unfoldable pub activateClause : List ℕ → ℕ → Reading Clause
@@ -102,9 +108,12 @@ activateClause s at = listOf eachActivation activate s (length s) [] at
 
 -- (47) return-statement: "RETURN's own `(` is not part of the expression"
 unfoldable pub returnClause : List ℕ → ℕ → Reading Clause
-returnClause s at = then (expectSign "(" s at) λ e. then (wholeExpression s e) λ r. then (expectSign ")" s (r .to)) λ q. ended s (return (r .tree)) q
+returnClause s at =
+    then (expectSign "(" s at) λ e. then (wholeExpression s e) λ r. then (expectSign ")" s (r .to)) λ q.
+    ended s (return (r .tree)) q
 
--- ---- (32) to (34) and (48) to (50): declare-statement. The names that were read count even where the statement is wrong
+-- ---- (32) to (34) and (48) to (50): declare-statement. The names that were read count even where the statement is
+-- wrong
 pub data Declaring : Type 0 where
   declared : Clause → List Declared → Declaring
   undeclared : Why → ℕ → List Declared → Declaring
@@ -119,7 +128,8 @@ means k m [] = []
 means k m (n ∷ ns) = record { spelling = n .spelling; place = n .place; scope = k; meaning = m } ∷ means k m ns
 
 -- names with commas between them, in the scope k, and the parenthesis behind them; f is more than the turns
-unfoldable pub namesAt : Scope → Meaning → List ℕ → List Declared → ℕ → List Named → ℕ → (List Named → ℕ → Declaring) → Declaring
+unfoldable pub namesAt : Scope → Meaning → List ℕ → List Declared → ℕ → List Named → ℕ → (List Named → ℕ → Declaring)
+    → Declaring
 namesAt k m s ds zero ns at f = undeclared syntax at ds
 namesAt k m s ds (suc n) ns at f = thenDeclare (ds ++ means k m ns) (nameAt s at) λ x.
     when (isSign "," (tokenAt s (x .to) .token)) (λ _. namesAt k m s ds n (ns ++ x ∷ []) (tokenAt s (x .to) .to) f)
@@ -144,7 +154,8 @@ spellings [] = []
 spellings (d ∷ ds) = d .spelling ∷ spellings ds
 
 -- the names of a declaration, which end at e, with their attribute; then a comma and the next, or the end
-unfoldable pub declareNames : Scope → List ℕ → List Declared → List Named → ℕ → (List Declared → ℕ → Declaring) → Declaring
+unfoldable pub declareNames : Scope → List ℕ → List Declared → List Named → ℕ → (List Declared → ℕ → Declaring)
+    → Declaring
 declareNames k s ds ns e next =
     attribute k (tokenAt s e .token) (tokenAt s e .from) (tokenAt s e .to)
     (λ m to. next (ds ++ means k m ns) to)
@@ -154,7 +165,7 @@ declareNames k s ds ns e next =
 unfoldable pub declareNext : List ℕ → (List Declared → ℕ → Declaring) → List Declared → ℕ → Declaring
 declareNext s again ds e =
     when (isSign "," (tokenAt s e .token)) (λ _. again ds (tokenAt s e .to))
-    (λ _. thenDeclare ds (expectSign ";" s e) λ q. declared (clause (declare (spellings ds)) closes q) ds)
+    (λ _. thenDeclare ds (expectSign ";" s e) λ q. declared (clause (declare (spellings ds)) opensNothing q) ds)
 
 unfoldable pub declareFrom : Scope → List ℕ → ℕ → List Declared → ℕ → Declaring
 declareFrom k s zero ds at = undeclared syntax at ds

@@ -1,6 +1,6 @@
--- 01, "Reading": "Spaces are as in 000, 3.1.1, with `%` a delimiter. A blank is byte 32; between the tokens of a statement
--- and before `%ELSE` a line feed (10) serves as one too." 01, "Scanning": the tokens of a text.
--- The tokens of a statement are the ct-words of 000, 3.2.3, by the longest match; what one is stands here alone.
+-- 01, "Reading": "Spaces are as in 000, 3.1.1, with `%` a delimiter. A blank is byte 32; between the tokens of a
+-- statement and before `%ELSE` a line feed (10) serves as one too." 01, "Scanning": the tokens of a text. The tokens of
+-- a statement are the ct-words of 000, 3.2.3, by the longest match; what one is stands here alone.
 use Prim.Native.Nat.{ℕ, zero, suc, _+_, _-_}
 use Prim.Native.Char.{code}
 use Prim.Native.String.{String}
@@ -22,7 +22,8 @@ pub data Closed : Type 0 where
   closedAt : ℕ → Closed
   neverClosed : Closed
 
--- the place past the `*/` that closes a comment; l is what stands at the place p, and `star` says whether a `*` stands before it
+-- the place past the `*/` that closes a comment; l is what stands at the place p, and `star` says whether a `*` stands
+-- before it
 unfoldable pub commentEnd : Bool → List ℕ → ℕ → Closed
 commentEnd star [] p = neverClosed
 commentEnd star (b ∷ l) p =
@@ -144,7 +145,8 @@ lexemeOf Blank s p = lexeme wrong p p
 lexemeOf LineFeed s p = lexeme wrong p p
 lexemeOf Other s p = lexeme wrong p p
 
--- 000, 3.1.1: "Between two adjacent non-delimiters the notation variable space must be inserted": two of them touch at p
+-- 000, 3.1.1: "Between two adjacent non-delimiters the notation variable space must be inserted": two of them touch at
+-- p
 unfoldable pub isTouching : List ℕ → ℕ → Bool
 isTouching s p = isSolid (getD s (p - 1) 0) && isSolid (getD s p 0)
   where
@@ -165,8 +167,8 @@ tokenAt s e = lexemeAt s e (spaces (length s) s e)
 
 -- ---- the tokens of a text ("Scanning")
 
--- "Tokens: identifier; a run of letters, digits and `_` that starts with a digit; string; comment; any other single byte.
--- In a scan a doubled quote ends one string and begins another": so a string goes to the next quote
+-- "Tokens: identifier; a run of letters, digits and `_` that starts with a digit; string; comment; any other single
+-- byte. In a scan a doubled quote ends one string and begins another": so a string goes to the next quote
 pub data Piece : Type 0 where
   name : List ℕ → Piece
   plain : Piece
@@ -199,7 +201,8 @@ pieceOf Other s p = cut plain (p + 1)
 unfoldable pub pieceAt : List ℕ → ℕ → Cut
 pieceAt s p = pieceOf (classOf (getD s p 0)) s p
 
--- "Text ends at a `%` outside strings and comments": where a text that begins at p ends, or the token in it that is open
+-- "Text ends at a `%` outside strings and comments": where a text that begins at p ends, or the token in it that is
+-- open
 pub data TextEnd : Type 0 where
   percentAt : ℕ → TextEnd
   atEnd : TextEnd

@@ -41,7 +41,8 @@ fromFixed Fixed.zeroDivisor = fails zeroDivisor
 -- the shortest decimal digits of a number; 6 turns are enough for FIXED
 unfoldable pub decimalOn : ℕ → ℕ → List ℕ → List ℕ
 decimalOn zero n ds = ds
-decimalOn (suc f) n ds = when (ltb n 10) (λ _. (code "0" + n) ∷ ds) (λ _. decimalOn f (n / 10) ((code "0" + n % 10) ∷ ds))
+decimalOn (suc f) n ds =
+    when (ltb n 10) (λ _. (code "0" + n) ∷ ds) (λ _. decimalOn f (n / 10) ((code "0" + n % 10) ∷ ds))
 
 -- "FIXED to CHARACTER: shortest decimal, `-` in front if negative"
 unfoldable pub fixedText : ℤ → List ℕ
@@ -57,7 +58,8 @@ written base n (d ∷ ds) = written base (base * n + (d - code "0")) ds
 unfoldable pub constant : List ℕ → Answer ℤ
 constant ds = fromFixed (Fixed.ranged (pos (written 10 0 ds)))
 
--- ---- "CHARACTER to FIXED: blanks, at most one sign directly before one or more digits, blanks; empty or all blank is 0"
+-- ---- "CHARACTER to FIXED: blanks, at most one sign directly before one or more digits, blanks; empty or all blank is
+-- 0"
 abbrev pub isMinus : List ℕ → Bool
 isMinus [] = false
 isMinus (b ∷ l) = eqb b (code "-")
@@ -101,21 +103,10 @@ toBits (fixed z) = gives (binary 17 (natAbs z))
 toBits (characters l) = cond (all isBit l) (gives l) (fails noConversion)
 toBits (bitValue l) = gives l
 
-abbrev pub asBits : Value → Answer Value
-asBits v = andThen (toBits v) λ l. gives (bitValue l)
-
 -- "Assignment, argument and RETURN convert to the declared type."
 unfoldable pub convert : Type′ → Value → Answer Value
 convert fixedType v = andThen (toFixed v) λ z. gives (fixed z)
 convert characterType v = gives (characters (toCharacters v))
-
--- "IF holds when any bit is 1"
-unfoldable pub anyOne : List ℕ → Bool
-anyOne [] = false
-anyOne (b ∷ l) = eqb b (code "1") || anyOne l
-
-unfoldable pub holds : Value → Answer Bool
-holds v = andThen (toBits v) λ l. gives (anyOne l)
 
 -- ---- limits: a value is at most 512 long, and unfinished values together are at most 65,536
 abbrev pub sizeOf : Value → ℕ
@@ -126,9 +117,17 @@ sizeOf (bitValue l) = length l
 unfoldable pub limited : Value → Answer Value
 limited v = cond (leb (sizeOf v) valueLength) (gives v) (fails tooLong)
 
--- v among unfinished values of u bytes
-unfoldable pub among : ℕ → Value → Answer Value
-among u v = cond (leb (u + sizeOf v) unfinishedBytes) (gives v) (fails tooLong)
+-- v as an unfinished value, where others take u bytes
+unfoldable pub unfinished : ℕ → Value → Answer Value
+unfinished u v = cond (leb (u + sizeOf v) unfinishedBytes) (gives v) (fails tooLong)
+
+-- "IF holds when any bit is 1": the value is made BIT, where others take u bytes
+unfoldable pub anyOne : List ℕ → Bool
+anyOne [] = false
+anyOne (b ∷ l) = eqb b (code "1") || anyOne l
+
+unfoldable pub holds : ℕ → Value → Answer Bool
+holds u v = andThen (toBits v) λ l. andThen (unfinished u (bitValue l)) λ _. gives (anyOne l)
 
 -- ---- operators
 abbrev pub bitOf : Bool → ℕ
@@ -206,8 +205,8 @@ arithmetic f x y = andThen (toFixed x) λ a. andThen (toFixed y) λ b. andThen (
 -- u bytes of other unfinished values lie below the two sides
 unfoldable pub logical : ℕ → (Bool → Bool → Bool) → Value → Value → Answer Value
 logical u f x y =
-    andThen (toBits x) λ a. andThen (among (u + sizeOf y) (bitValue a)) λ _.
-    andThen (toBits y) λ b. andThen (among (u + length a) (bitValue b)) λ _.
+    andThen (toBits x) λ a. andThen (unfinished (u + sizeOf y) (bitValue a)) λ _.
+    andThen (toBits y) λ b. andThen (unfinished (u + length a) (bitValue b)) λ _.
     gives (bitValue (bitwise f a b))
 
 -- "`||` of two BIT is BIT, else CHARACTER"
@@ -240,8 +239,8 @@ prefixed positive x = andThen (toFixed x) λ z. gives (fixed z)
 prefixed negative x = andThen (toFixed x) λ z. andThen (fromFixed (Fixed.negative z)) λ y. gives (fixed y)
 prefixed complement x = andThen (toBits x) λ l. gives (bitValue (inverted l))
 
--- ---- "SUBSTR(s,i,n): places i to i+n-1, without n to the end. Needs i >= 1, n >= 0, and no place past the end; i may be
--- one past it with nothing taken. A FIXED s is first made CHARACTER; the result has the type of s."
+-- ---- "SUBSTR(s,i,n): places i to i+n-1, without n to the end. Needs i >= 1, n >= 0, and no place past the end; i may
+-- be one past it with nothing taken. A FIXED s is first made CHARACTER; the result has the type of s."
 abbrev pub subject : Value → Value
 subject (fixed z) = characters (fixedText z)
 subject (characters l) = characters l
@@ -265,12 +264,13 @@ startFrom (pos zero) f = fails substrOutside
 startFrom (pos (suc i)) f = f i
 startFrom (negsuc i) f = fails substrOutside
 
+-- of a FIXED; no other value comes here
 abbrev pub asNumber : Value → ℤ
 asNumber (fixed z) = z
 asNumber (characters l) = pos 0
 asNumber (bitValue l) = pos 0
 
--- of a value that is no FIXED, and two or three values; the second and third are FIXED
+-- of two or three values, of which the first is no FIXED and the others are; fewer do not come here
 unfoldable pub substr : List Value → Answer Value
 substr [] = fails substrOutside
 substr (s ∷ []) = fails substrOutside

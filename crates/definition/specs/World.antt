@@ -1,6 +1,6 @@
 -- 000, section 2.2: identifiers, the addresses they stand for, and what is kept by address. 01, "Reading": "Names have
--- global scope, or that of one procedure. An identifier and the address it stands for are kept apart. A name stands for a
--- variable with its type, an entry with its body, or a label with its place."
+-- global scope, or that of one procedure. An identifier and the address it stands for are kept apart. A name stands for
+-- a variable with its type, an entry with its body, or a label with its place."
 use Prim.Native.Nat.{ℕ, suc, _-_}
 use mathlib.Core.Bool.{Bool, true, false, _&&_}
 use mathlib.Core.List.{List, [], _∷_}
@@ -57,9 +57,10 @@ pub record Entered : Type 0 where
   pub member : ℕ
   pub source : Source
 
--- A GHOST, which nothing in the definition reads and the promises speak of: what the scan of program text stood at when an
--- event went out. The blank before the text of a member; or a token of that text: its place, what it is, the names at
--- that moment, what they stood for and which were active, the bytes that went out for it, and the place where the scan went on
+-- A GHOST, which nothing in the definition reads and the promises speak of: what the scan of program text stood at when
+-- an event went out. The blank before the text of a member; or a token of that text: its place, what it is, the names
+-- at that moment, what they stood for and which were active, the bytes that went out for it, and the place where the
+-- scan went on
 pub record Sight : Type 0 where
   pub member : ℕ
   pub place : ℕ
@@ -75,28 +76,109 @@ pub data Pass : Type 0 where
   began : ℕ → Stretch → Pass
   passed : Sight → Pass
 
--- all that a run changes: identifiers; by address denotations, values and activities; the members entered, the sentences in
--- them, each inclusion counted; the steps; the events so far, the bytes that the text room and the lines that the list room
--- may still take; the ghost, which has a pass for each event
+-- all that a run changes
 pub record World : Type 0 where
+  -- the tables: the names that are declared; by their addresses what they stand for, their values, their activities
   pub identifiers : List Identifier
   pub denotations : List Denotation
   pub values : List Cell
   pub activities : List Activity
+  -- the members entered, the newest first, and the sentences in them, each inclusion counted
   pub members : List Entered
   pub sentences : ℕ
+  -- the meter: the steps that there are, and those charged
   pub limit : ℕ
   pub used : ℕ
+  -- the output: the events so far, the newest first; the bytes that the text room and the lines that the list room may
+  -- still take; the ghost, which has a pass for each event
   pub events : List Event
   pub textLeft : ℕ
   pub linesLeft : ℕ
   pub passes : List Pass
 
 abbrev pub newWorld : ℕ → ℕ → ℕ → World
-newWorld limit text lines = record { identifiers = []; denotations = []; values = []; activities = []; members = []; sentences = 0; limit = limit; used = 0; events = []; textLeft = text; linesLeft = lines; passes = [] }
+newWorld limit text lines = record {
+  identifiers = [];
+  denotations = [];
+  values = [];
+  activities = [];
+  members = [];
+  sentences = 0;
+  limit = limit;
+  used = 0;
+  events = [];
+  textLeft = text;
+  linesLeft = lines;
+  passes = [];
+}
 
--- ---- what a part of the run gives: something and the world after it, or a refusal with the steps charged. A refusal is a
--- `Why` where its place is still to be said
+-- ---- what changes together, all else as it is: the tables, the members, the meter, the output
+abbrev pub withTables : List Identifier → List Denotation → List Cell → List Activity → World → World
+withTables is ds vs xs w = record {
+  identifiers = is;
+  denotations = ds;
+  values = vs;
+  activities = xs;
+  members = w .members;
+  sentences = w .sentences;
+  limit = w .limit;
+  used = w .used;
+  events = w .events;
+  textLeft = w .textLeft;
+  linesLeft = w .linesLeft;
+  passes = w .passes;
+}
+
+abbrev pub withMembers : List Entered → ℕ → World → World
+withMembers ms n w = record {
+  identifiers = w .identifiers;
+  denotations = w .denotations;
+  values = w .values;
+  activities = w .activities;
+  members = ms;
+  sentences = n;
+  limit = w .limit;
+  used = w .used;
+  events = w .events;
+  textLeft = w .textLeft;
+  linesLeft = w .linesLeft;
+  passes = w .passes;
+}
+
+abbrev pub withUsed : ℕ → World → World
+withUsed u w = record {
+  identifiers = w .identifiers;
+  denotations = w .denotations;
+  values = w .values;
+  activities = w .activities;
+  members = w .members;
+  sentences = w .sentences;
+  limit = w .limit;
+  used = u;
+  events = w .events;
+  textLeft = w .textLeft;
+  linesLeft = w .linesLeft;
+  passes = w .passes;
+}
+
+abbrev pub withOutput : List Event → ℕ → ℕ → List Pass → World → World
+withOutput es text lines gs w = record {
+  identifiers = w .identifiers;
+  denotations = w .denotations;
+  values = w .values;
+  activities = w .activities;
+  members = w .members;
+  sentences = w .sentences;
+  limit = w .limit;
+  used = w .used;
+  events = es;
+  textLeft = text;
+  linesLeft = lines;
+  passes = gs;
+}
+
+-- ---- what a part of the run gives: something and the world after it, or a refusal with the steps charged. A refusal
+-- is a `Why` where its place is still to be said
 pub data Res (E A : Type 0) : Type 0 where
   good : A → World → Res E A
   bad : E → ℕ → Res E A
@@ -115,9 +197,6 @@ ask (gives a) w = good a w
 ask (fails e) w = bad e (w .used)
 
 -- ---- the meter: "it is not counted"
-abbrev pub withUsed : ℕ → World → World
-withUsed u w = record { identifiers = w .identifiers; denotations = w .denotations; values = w .values; activities = w .activities; members = w .members; sentences = w .sentences; limit = w .limit; used = u; events = w .events; textLeft = w .textLeft; linesLeft = w .linesLeft; passes = w .passes }
-
 unfoldable pub charge : World → Res Why (Unit {0})
 charge w =
     when (isLeft (w .limit) (w .used)) (λ _. good tt (withUsed (usedAfter (w .limit) (w .used)) w))
@@ -156,21 +235,32 @@ abbrev pub activityAt : ℕ → World → Activity
 activityAt a w = getD (w .activities) a inactive
 
 abbrev pub store : ℕ → Value → World → World
-store a v w = record { identifiers = w .identifiers; denotations = w .denotations; values = set (w .values) a (holds v); activities = w .activities; members = w .members; sentences = w .sentences; limit = w .limit; used = w .used; events = w .events; textLeft = w .textLeft; linesLeft = w .linesLeft; passes = w .passes }
+store a v w = withTables (w .identifiers) (w .denotations) (set (w .values) a (holds v)) (w .activities) w
 
 abbrev pub setActivity : Activity → ℕ → World → World
-setActivity x a w = record { identifiers = w .identifiers; denotations = w .denotations; values = w .values; activities = set (w .activities) a x; members = w .members; sentences = w .sentences; limit = w .limit; used = w .used; events = w .events; textLeft = w .textLeft; linesLeft = w .linesLeft; passes = w .passes }
+setActivity x a w = withTables (w .identifiers) (w .denotations) (w .values) (set (w .activities) a x) w
 
 -- one more event, which takes some lines; its bytes take their room
 abbrev pub withEvent : Event → Pass → ℕ → World → World
-withEvent e g taken w = record { identifiers = w .identifiers; denotations = w .denotations; values = w .values; activities = w .activities; members = w .members; sentences = w .sentences; limit = w .limit; used = w .used; events = e ∷ w .events; textLeft = w .textLeft - length (bytesIn e); linesLeft = w .linesLeft - taken; passes = g ∷ w .passes }
+withEvent e g taken w =
+    withOutput (e ∷ w .events) (w .textLeft - length (bytesIn e)) (w .linesLeft - taken) (g ∷ w .passes) w
 
--- ---- the rows of a member that was entered
+-- ---- the rows of a member that was entered; past them stands a row that no link leads to
 abbrev pub noStretch : Stretch
 noStretch = record { from = 0; to = 0 }
 
 abbrev pub noRow : Row
-noRow = record { statement = null; place = 0; parent = nowhere; role = listed; next = nowhere; child = nowhere; other = nowhere; lead = noStretch; text = noStretch }
+noRow = record {
+  statement = null;
+  place = 0;
+  parent = nowhere;
+  role = listed;
+  next = nowhere;
+  child = nowhere;
+  other = nowhere;
+  lead = noStretch;
+  text = noStretch;
+}
 
 abbrev pub rowOf : List Row → ℕ → Row
 rowOf rs n = getD rs n noRow

@@ -32,7 +32,7 @@ use Rattle.flow.specs.declared.Walk.the-variants.{To as Arrives, Up}
 use Rattle.flow.specs.declared.Frame.{Frame}
 use Rattle.flow.specs.declared.Frames.{Frames}
 use Rattle.flow.specs.Walks as C
-use Rattle.flow.specs.Shown.{kindOf, roleOf, linkOf, Stands, Shown, Around, parent, outer, Framed, limitOf, FrameShown, nextFrom, walked}
+use Rattle.flow.specs.Shown.{kindOf, roleOf, linkOf, Stands, Shown, Around, parent, outer, Framed, toOf, FrameShown, nextFrom, walked}
 
 back : (b n : ℕ) → b + n - b ≡ n
 back b n = omega arith
@@ -43,9 +43,9 @@ module _ {E : Type 0} (M : D.Machine E) (b : ℕ) (F : List D.Frame) (up : ℕ �
   once-is true g = rw back
   once-is false g = rw back
 
-  end-as : (x : P.Statement) (g : ℕ) (o : Bool) → (D.isIterated x ≡ true → o ≡ D.isOnce g F)
+  end-as : (x : P.Statement) (g : ℕ) (o : Bool) → (P.isIterated x ≡ true → o ≡ D.isOnce g F)
       → D.endIn M x g F (λ _. up g w) w ≡ walked b (C.endAs (kindOf x) o (b + g)) up w
-  unfolding C.endAs D.isIterated
+  unfolding C.endAs P.isIterated
   end-as P.null g o h = rw back
   end-as (P.declare ns) g o h = rw back
   end-as (P.procedure ns t′) g o h = refl
@@ -60,7 +60,7 @@ module _ {E : Type 0} (M : D.Machine E) (b : ℕ) (F : List D.Frame) (up : ℕ �
   end-as (P.return x) g o h = rw back
 
   module _ (t : List ℕ) (s : Shown b t (M .rows)) (fs : Frames) where
-    pub end-is : (g : ℕ) → g < length (M .rows) → (D.isIterated (rowOf (M .rows) g .statement) ≡ true → C.frameIn t fs (b + g) .«is_once» ≡ D.isOnce g F)
+    pub end-is : (g : ℕ) → g < length (M .rows) → (P.isIterated (rowOf (M .rows) g .statement) ≡ true → C.frameIn t fs (b + g) .«is_once» ≡ D.isOnce g F)
         → D.endIn M (rowOf (M .rows) g .statement) g F (λ _. up g w) w ≡ walked b (C.endWalk t fs (b + g)) up w
     unfolding C.endWalk
     end-is g h o = rw (s .rows g h .kind) (end-as (rowOf (M .rows) g .statement) g (C.frameIn t fs (b + g) .«is_once») o)
@@ -94,7 +94,7 @@ module _ {E : Type 0} (M : D.Machine E) (b : ℕ) (F : List D.Frame) (up : ℕ �
     up-is n h = rw (s .rows n h .parent) (up-as (rowOf (M .rows) n .parent))
 
 -- ---- "Each pass is tested first"
-passes-as : (l : F.Result) (p : ℤ) (z : ℤ) {E : Type 0} (M : D.Machine E) → C.passesBy l (F.is p) z ≡ D.within (limitOf l) p z
+passes-as : (l : F.Result) (p : ℤ) (z : ℤ) {E : Type 0} (M : D.Machine E) → C.passesBy l (F.is p) z ≡ D.within (toOf l) p z
 unfolding C.passesBy C.isDown
 passes-as (F.is q) (pos n) z M = refl
 passes-as (F.is q) (negsuc n) z M = refl
@@ -103,7 +103,7 @@ passes-as F.zeroDivisor p z M = refl
 
 pub passes-is : {E : Type 0} (M : D.Machine E) (b : ℕ) (f : Frame) (d : D.Frame) (z : ℤ) → FrameShown b f d
     → C.passesBy (fromStored (f .limit)) (fromStored (f .step)) z ≡ D.passes d z
-passes-is M b f d z s = rw (s .step, ← s .limit) (passes-as (fromStored (f .limit)) (d .step) z M)
+passes-is M b f d z s = rw (s .step, ← s .to) (passes-as (fromStored (f .limit)) (d .step) z M)
 
 -- ---- a walk that goes up goes to the parent
 end-up : (x : Statement) (o : Bool) (g p : ℕ) → C.endAs x o g ≡ Up p → p ≡ g
@@ -198,7 +198,7 @@ module _ {E : Type 0} (M : D.Machine E) (quiet : (x : P.Stretch) (w : World) →
   behind-at : (g p : ℕ) (w : World) → p ≡ b + g → g < length (M .rows) → Framed M b t fs F g → D.behind M F (p - b) w ≡ good (nextFrom b (C.behindOn t fs (p + 1) p)) w
   behind-at g p w e h fr = let z : p - b ≡ g = omega arith in rw (z, e) (behind-is g w h fr)
 
-  pub end-arrives : (g : ℕ) (w : World) → g < length (M .rows) → Framed M b t fs F g → (D.isIterated (rowOf (M .rows) g .statement) ≡ true → C.frameIn t fs (b + g) .«is_once» ≡ D.isOnce g F)
+  pub end-arrives : (g : ℕ) (w : World) → g < length (M .rows) → Framed M b t fs F g → (P.isIterated (rowOf (M .rows) g .statement) ≡ true → C.frameIn t fs (b + g) .«is_once» ≡ D.isOnce g F)
       → D.endOf M F g w ≡ good (nextFrom b (C.arrivedAt t fs (C.endWalk t fs (b + g)))) w
   unfolding C.endWalk
   end-arrives g w h fr o = end-is M b F (λ k v. D.behind M F k v) w t s fs g h o
@@ -210,7 +210,7 @@ module _ {E : Type 0} (M : D.Machine E) (quiet : (x : P.Stretch) (w : World) →
   first-as (P.row m) g w h = rw back
   first-as P.nowhere g w h = h
 
-  pub first-arrives : (g : ℕ) (w : World) → g < length (M .rows) → Framed M b t fs F g → (D.isIterated (rowOf (M .rows) g .statement) ≡ true → C.frameIn t fs (b + g) .«is_once» ≡ D.isOnce g F)
+  pub first-arrives : (g : ℕ) (w : World) → g < length (M .rows) → Framed M b t fs F g → (P.isIterated (rowOf (M .rows) g .statement) ≡ true → C.frameIn t fs (b + g) .«is_once» ≡ D.isOnce g F)
       → D.firstIn M (rowOf (M .rows) g .child) g F w ≡ good (nextFrom b (C.arrivedAt t fs (C.firstWalk t fs (b + g)))) w
   unfolding C.firstWalk
   first-arrives g w h fr o = rw (s .rows g h .child) (first-as (rowOf (M .rows) g .child) g w (end-arrives g w h fr o))
@@ -231,14 +231,14 @@ module _ {E : Type 0} (M : D.Machine E) (b : ℕ) (t : List ℕ) (s : Shown b t 
   unfolding C.landingWalk
   landing-row-is r = rw back
 
-  pub landing-end-is : (r : ℕ) → r < length (M .rows) → (D.isIterated (rowOf (M .rows) r .statement) ≡ true → C.frameIn t fs (b + r) .«is_once» ≡ D.isOnce r F)
+  pub landing-end-is : (r : ℕ) → r < length (M .rows) → (P.isIterated (rowOf (M .rows) r .statement) ≡ true → C.frameIn t fs (b + r) .«is_once» ≡ D.isOnce r F)
       → D.follow M (D.toEnd r) F w ≡ D.onward M F (walked b (C.landingWalk t fs (b + r) true) (λ g v. D.behind M F g v) w)
   unfolding C.landingWalk
   landing-end-is r h o = ap (D.onward M F) (end-is M b F (λ g v. D.behind M F g v) w t s fs r h o)
 
 -- ---- GOTO: "It may not enter an iterated group"
-iterated-as : (x : P.Statement) → C.isIterated (kindOf x) ≡ D.isIterated x
-unfolding C.isIterated D.isIterated
+iterated-as : (x : P.Statement) → C.isIterated (kindOf x) ≡ P.isIterated x
+unfolding C.isIterated P.isIterated
 iterated-as P.null = refl
 iterated-as (P.declare ns) = refl
 iterated-as (P.procedure ns t) = refl
@@ -290,12 +290,12 @@ module _ (b : ℕ) (t : List ℕ) (rs : List P.Row) (s : Shown b t rs) where
   unfolding C.parentAt
   parent-at n h = s .rows n h .parent
 
-  iterated-at : (n : ℕ) → n < length rs → C.iteratedAt t (b + n) ≡ D.isIterated (rowOf rs n .statement)
+  iterated-at : (n : ℕ) → n < length rs → C.iteratedAt t (b + n) ≡ P.isIterated (rowOf rs n .statement)
   unfolding C.iteratedAt
   iterated-at n h = rw (s .rows n h .kind) (iterated-as (rowOf rs n .statement))
 
   -- a group is around a row
-  module _ (g : ℕ) (i : D.isIterated (rowOf rs g .statement) ≡ true) where
+  module _ (g : ℕ) (i : P.isIterated (rowOf rs g .statement) ≡ true) where
     around-none : (k : ℕ) → false ≡ C.aroundOn t (b + g) k Nowhere
     unfolding C.aroundOn
     around-none zero = refl
@@ -312,23 +312,23 @@ module _ (b : ℕ) (t : List ℕ) (rs : List P.Row) (s : Shown b t rs) where
     around-from zero k p h j l = absurd (omega arith)
     around-from (suc f) zero p h j l = absurd (omega arith)
     around-from (suc f) (suc k) p h j l =
-        in-list g p (D.isIterated (rowOf rs p .statement)) (D.groupsUp (rowOf rs p .parent) (λ q. D.groupsFrom rs f q)) (λ e. rw (eqb-true p g e) i)
+        in-list g p (P.isIterated (rowOf rs p .statement)) (D.groupsUp (rowOf rs p .parent) (λ q. D.groupsFrom rs f q)) (λ e. rw (eqb-true p g e) i)
         ∙ ap (λ (z : Bool). cond (eqb p g) true z) (around-link k (λ q. D.groupsFrom rs f q) (rowOf rs p .parent) (λ q e.
         let m : q < p = s .before p q l e in
         around-from f k q (omega arith) (omega arith) (omega arith)))
         ∙ rw (same-test b p g, parent-at p l)
 
   module _ (n : ℕ) (ln : n < length rs) (small : length rs ≤ 2048) where
-    in-around : (q : ℕ) → D.isIterated (rowOf rs q .statement) ≡ true → C.aroundOn t (b + q) 2048 (C.parentAt t (b + n)) ≡ D.isIn q (D.groupsAround rs (rowOf rs n .parent))
+    in-around : (q : ℕ) → P.isIterated (rowOf rs q .statement) ≡ true → C.aroundOn t (b + q) 2048 (C.parentAt t (b + n)) ≡ D.isIn q (D.groupsAround rs (rowOf rs n .parent))
     in-around q i = rw (parent-at n ln) (sym (around-link q i 2048 (λ g. D.groupsFrom rs (suc g) g) (rowOf rs n .parent) (λ p e.
         let m : p < n = s .before n p ln e in
         around-from q i (suc p) 2048 p (omega arith) (omega arith) (omega arith))))
 
-    stand-is : (q : ℕ) → q < length rs → C.mayStand t (b + q) (b + n) ≡ cond (D.isIterated (rowOf rs q .statement)) (D.isIn q (D.groupsAround rs (rowOf rs n .parent))) true
+    stand-is : (q : ℕ) → q < length rs → C.mayStand t (b + q) (b + n) ≡ cond (P.isIterated (rowOf rs q .statement)) (D.isIn q (D.groupsAround rs (rowOf rs n .parent))) true
     unfolding C.mayStand
-    stand-is q l = rw (iterated-at q l) (go (D.isIterated (rowOf rs q .statement)) refl)
+    stand-is q l = rw (iterated-at q l) (go (P.isIterated (rowOf rs q .statement)) refl)
       where
-        go : (o : Bool) → D.isIterated (rowOf rs q .statement) ≡ o
+        go : (o : Bool) → P.isIterated (rowOf rs q .statement) ≡ o
             → cond o (C.aroundOn t (b + q) 2048 (C.parentAt t (b + n))) true ≡ cond o (D.isIn q (D.groupsAround rs (rowOf rs n .parent))) true
         go true e = in-around q e
         go false e = refl
@@ -349,8 +349,8 @@ module _ (b : ℕ) (t : List ℕ) (rs : List P.Row) (s : Shown b t rs) where
     go-from zero k q h j l = absurd (omega arith)
     go-from (suc f) zero q h j l = absurd (omega arith)
     go-from (suc f) (suc k) q h j l =
-        are-list q (D.isIterated (rowOf rs q .statement)) (D.groupsUp (rowOf rs q .parent) (λ p. D.groupsFrom rs f p)) (D.groupsAround rs (rowOf rs n .parent))
-        ∙ ap (λ (z : Bool). cond (cond (D.isIterated (rowOf rs q .statement)) (D.isIn q (D.groupsAround rs (rowOf rs n .parent))) true) z false)
+        are-list q (P.isIterated (rowOf rs q .statement)) (D.groupsUp (rowOf rs q .parent) (λ p. D.groupsFrom rs f p)) (D.groupsAround rs (rowOf rs n .parent))
+        ∙ ap (λ (z : Bool). cond (cond (P.isIterated (rowOf rs q .statement)) (D.isIn q (D.groupsAround rs (rowOf rs n .parent))) true) z false)
         (go-link k (λ p. D.groupsFrom rs f p) (rowOf rs q .parent) (λ p e.
         let m : p < q = s .before q p l e in
         go-from f k p (omega arith) (omega arith) (omega arith)))
@@ -373,7 +373,7 @@ module _ (b : ℕ) (t : List ℕ) (rs : List P.Row) (s : Shown b t rs) where
       let l : g < p = around-before p g (omega arith) a in
       omega arith
 
-  pub around-depth : (n g : ℕ) → n < length rs → Around rs n g → D.isIterated (rowOf rs g .statement) ≡ true → rowIn t (b + g) .depth < rowIn t (b + n) .depth
+  pub around-depth : (n g : ℕ) → n < length rs → Around rs n g → P.isIterated (rowOf rs g .statement) ≡ true → rowIn t (b + g) .depth < rowIn t (b + n) .depth
   around-depth n g h (parent _ _ e) i = s .inner n g h e i
   around-depth n g h (outer _ p _ e a) i =
       let k : p < n = s .before n p h e in
@@ -403,7 +403,7 @@ frame-as xs ys k g e = rw e
 
 -- ---- a group is entered: its frame goes to its depth, and is the newest
 module _ {E : Type 0} (M : D.Machine E) (b : ℕ) (t : List ℕ) (s : Shown b t (M .rows)) (fs : Frames) (F : List D.Frame) (whole : length (fs .items) ≡ 16)
-    (g : ℕ) (lg : g < length (M .rows)) (i : D.isIterated (rowOf (M .rows) g .statement) ≡ true) (f : Frame) (d : D.Frame) (sh : FrameShown b f d) (own : d .group ≡ g) where
+    (g : ℕ) (lg : g < length (M .rows)) (i : P.isIterated (rowOf (M .rows) g .statement) ≡ true) (f : Frame) (d : D.Frame) (sh : FrameShown b f d) (own : d .group ≡ g) where
   deep : rowIn t (b + g) .depth < 16
   deep = s .shallow g lg i
 
@@ -432,14 +432,14 @@ module _ {E : Type 0} (M : D.Machine E) (b : ℕ) (t : List ℕ) (s : Shown b t 
   unfolding D.isOnce
   newest-other k h = rw (own, ne-eqb g k (λ e. absurd (omega arith)))
 
-  once-in : Framed M b t fs F g → (k : ℕ) → Around (M .rows) g k → D.isIterated (rowOf (M .rows) k .statement) ≡ true
+  once-in : Framed M b t fs F g → (k : ℕ) → Around (M .rows) g k → P.isIterated (rowOf (M .rows) k .statement) ≡ true
       → C.frameIn t (C.framesWith t fs (b + g) f) (b + k) .«is_once» ≡ D.isOnce k (d ∷ F)
   once-in fr k a j = rw (other-frame k (around-depth b t (M .rows) s g k lg a j), newest-other k (around-before b t (M .rows) s g k lg a)) (fr .once k a j)
 
   pub framed-enter : (m : ℕ) → rowOf (M .rows) m .parent ≡ P.row g → Framed M b t fs F g → Framed M b t (C.framesWith t fs (b + g) f) (d ∷ F) m
   framed-enter m e fr = record { once = λ k a j. go k a j }
     where
-      go : (k : ℕ) → Around (M .rows) m k → D.isIterated (rowOf (M .rows) k .statement) ≡ true → C.frameIn t (C.framesWith t fs (b + g) f) (b + k) .«is_once» ≡ D.isOnce k (d ∷ F)
+      go : (k : ℕ) → Around (M .rows) m k → P.isIterated (rowOf (M .rows) k .statement) ≡ true → C.frameIn t (C.framesWith t fs (b + g) f) (b + k) .«is_once» ≡ D.isOnce k (d ∷ F)
       go k (parent _ _ h) j =
           let z : k ≡ g = cc in
           rw (z, own-frame, newest-own) (sh .once)
@@ -470,7 +470,7 @@ module _ (rs : List P.Row) (k : ℕ) where
   listed-up : (f p : ℕ) → D.isIn k (D.groupsFrom rs f p) ≡ true → Within rs p k
   unfolding D.groupsFrom D.isIn
   listed-up zero p i = no _ i
-  listed-up (suc f) p i = one (λ j. outside (stands-up p (rowOf rs p .parent) (λ q. D.groupsFrom rs f q) refl (λ q l. listed-up f q l) j)) (D.isIterated (rowOf rs p .statement)) i
+  listed-up (suc f) p i = one (λ j. outside (stands-up p (rowOf rs p .parent) (λ q. D.groupsFrom rs f q) refl (λ q l. listed-up f q l) j)) (P.isIterated (rowOf rs p .statement)) i
     where
       two : (D.isIn k (D.groupsUp (rowOf rs p .parent) (λ q. D.groupsFrom rs f q)) ≡ true → Within rs p k)
           → (o : Bool) → eqb k p ≡ o → (o || D.isIn k (D.groupsUp (rowOf rs p .parent) (λ q. D.groupsFrom rs f q))) ≡ true → Within rs p k
@@ -496,16 +496,16 @@ module _ (rs : List P.Row) (k : ℕ) where
   unfolding D.isIn
   in-first l = rw (eq-eqb k k refl)
 
-  up-listed : (b : ℕ) (t : List ℕ) → Shown b t rs → D.isIterated (rowOf rs k .statement) ≡ true → (f p : ℕ) → p < f → p < length rs → Within rs p k → D.isIn k (D.groupsFrom rs f p) ≡ true
+  up-listed : (b : ℕ) (t : List ℕ) → Shown b t rs → P.isIterated (rowOf rs k .statement) ≡ true → (f p : ℕ) → p < f → p < length rs → Within rs p k → D.isIn k (D.groupsFrom rs f p) ≡ true
   unfolding D.groupsFrom
   up-listed b t s i zero p h l a = absurd (omega arith)
   up-listed b t s i (suc f) p h l (itself e) = rw (← e, i) (in-first (D.groupsUp (rowOf rs k .parent) (λ q. D.groupsFrom rs f q)))
   up-listed b t s i (suc f) p h l (outside (parent _ _ e)) =
       let m : k < p = s .before p k l e in
-      in-either p (D.isIterated (rowOf rs p .statement)) (D.groupsUp (rowOf rs p .parent) (λ q. D.groupsFrom rs f q)) (rw e (up-listed b t s i f k (omega arith) (omega arith) (itself refl)))
+      in-either p (P.isIterated (rowOf rs p .statement)) (D.groupsUp (rowOf rs p .parent) (λ q. D.groupsFrom rs f q)) (rw e (up-listed b t s i f k (omega arith) (omega arith) (itself refl)))
   up-listed b t s i (suc f) p h l (outside (outer _ q _ e a)) =
       let m : q < p = s .before p q l e in
-      in-either p (D.isIterated (rowOf rs p .statement)) (D.groupsUp (rowOf rs p .parent) (λ q. D.groupsFrom rs f q)) (rw e (up-listed b t s i f q (omega arith) (omega arith) (outside a)))
+      in-either p (P.isIterated (rowOf rs p .statement)) (D.groupsUp (rowOf rs p .parent) (λ q. D.groupsFrom rs f q)) (rw e (up-listed b t s i f q (omega arith) (omega arith) (outside a)))
 
   in-both : (xs ys : List ℕ) → D.areIn xs ys ≡ true → D.isIn k xs ≡ true → D.isIn k ys ≡ true
   unfolding D.areIn D.isIn
@@ -523,7 +523,7 @@ module _ {E : Type 0} (M : D.Machine E) (b : ℕ) (t : List ℕ) (s : Shown b t 
   here k i = stands-up (M .rows) k n (rowOf (M .rows) n .parent) (λ g. D.groupsFrom (M .rows) (suc g) g) refl (λ q j. listed-up (M .rows) k (suc q) q j) i
 
   -- at the END of a row: the row's own frame, and those of the groups around it
-  pub end-own : D.mayGo (M .rows) n r true ≡ true → D.isIterated (rowOf (M .rows) r .statement) ≡ true → C.frameIn t fs (b + r) .«is_once» ≡ D.isOnce r F
+  pub end-own : D.mayGo (M .rows) n r true ≡ true → P.isIterated (rowOf (M .rows) r .statement) ≡ true → C.frameIn t fs (b + r) .«is_once» ≡ D.isOnce r F
   unfolding D.mayGo
   end-own m i = fr .once r (here r (in-both (M .rows) r (D.groupsFrom (M .rows) (suc r) r) _ m (up-listed (M .rows) r b t s i (suc r) r (omega arith) lr (itself refl)))) i
 
@@ -532,7 +532,7 @@ module _ {E : Type 0} (M : D.Machine E) (b : ℕ) (t : List ℕ) (s : Shown b t 
   framed-end m = record { once = λ k a i. fr .once k (here k (in-both (M .rows) k (D.groupsFrom (M .rows) (suc r) r) _ m (up-listed (M .rows) k b t s i (suc r) r (omega arith) lr (outside a)))) i }
 
   -- at a row
-  around-label : (k : ℕ) → D.isIterated (rowOf (M .rows) k .statement) ≡ true → Around (M .rows) r k → D.isIn k (D.groupsAround (M .rows) (rowOf (M .rows) r .parent)) ≡ true
+  around-label : (k : ℕ) → P.isIterated (rowOf (M .rows) k .statement) ≡ true → Around (M .rows) r k → D.isIn k (D.groupsAround (M .rows) (rowOf (M .rows) r .parent)) ≡ true
   around-label k i (parent _ _ e) =
       let m : k < r = s .before r k lr e in
       rw e (up-listed (M .rows) k b t s i (suc k) k (omega arith) (omega arith) (itself refl))

@@ -63,8 +63,8 @@ pub record Shown (b : ℕ) (t : List ℕ) (rs : List P.Row) : Type 0 where
   pub rows : (n : ℕ) → n < length rs → Stands b (rowIn t (b + n)) (rowOf rs n)
   pub before : (n g : ℕ) → n < length rs → rowOf rs n .parent ≡ P.row g → g < n
   pub level : (n g : ℕ) → n < length rs → rowOf rs n .parent ≡ P.row g → rowIn t (b + g) .depth ≤ rowIn t (b + n) .depth
-  pub inner : (n g : ℕ) → n < length rs → rowOf rs n .parent ≡ P.row g → D.isIterated (rowOf rs g .statement) ≡ true → rowIn t (b + g) .depth < rowIn t (b + n) .depth
-  pub shallow : (g : ℕ) → g < length rs → D.isIterated (rowOf rs g .statement) ≡ true → rowIn t (b + g) .depth < 16
+  pub inner : (n g : ℕ) → n < length rs → rowOf rs n .parent ≡ P.row g → P.isIterated (rowOf rs g .statement) ≡ true → rowIn t (b + g) .depth < rowIn t (b + n) .depth
+  pub shallow : (g : ℕ) → g < length rs → P.isIterated (rowOf rs g .statement) ≡ true → rowIn t (b + g) .depth < 16
 
 -- the row g is around the row n
 pub data Around (rs : List P.Row) : ℕ → ℕ → Type 0 where
@@ -73,26 +73,26 @@ pub data Around (rs : List P.Row) : ℕ → ℕ → Type 0 where
 
 -- the frames of the iterated groups around a row: the newest of each is the one at its depth
 pub record Framed {E : Type 0} (M : D.Machine E) (b : ℕ) (t : List ℕ) (fs : Frames) (F : List D.Frame) (n : ℕ) : Type 0 where
-  pub once : (g : ℕ) → Around (M .rows) n g → D.isIterated (rowOf (M .rows) g .statement) ≡ true → frameIn t fs (b + g) .«is_once» ≡ D.isOnce g F
+  pub once : (g : ℕ) → Around (M .rows) n g → P.isIterated (rowOf (M .rows) g .statement) ≡ true → frameIn t fs (b + g) .«is_once» ≡ D.isOnce g F
 
 -- a frame, its numbers as stored
-abbrev pub limitOf : F.Result → D.Limit
-limitOf (F.is z) = D.limitAt z
-limitOf F.outOfRange = D.noLimit
-limitOf F.zeroDivisor = D.noLimit
+abbrev pub toOf : F.Result → D.To
+toOf (F.is z) = D.toAt z
+toOf F.outOfRange = D.noTo
+toOf F.zeroDivisor = D.noTo
 
 pub record FrameShown (b : ℕ) (f : Frame) (d : D.Frame) : Type 0 where
   pub group : f .group ≡ To (b + d .group)
   pub address : f .address ≡ d .at
   pub step : fromStored (f .step) ≡ F.is (d .step)
-  pub limit : limitOf (fromStored (f .limit)) ≡ d .limit
+  pub to : toOf (fromStored (f .limit)) ≡ d .to
   pub once : f .«is_once» ≡ d .isOnce
 
 -- ---- what a walk leads to; `up` goes on behind a row
 abbrev pub nextFrom : ℕ → Next → D.Next
 nextFrom b (Begin n) = D.begin (n - b)
 nextFrom b (Again n) = D.again (n - b)
-nextFrom b Over = D.over
+nextFrom b Over = D.noNext
 
 abbrev pub walked : {E : Type 0} → ℕ → Walk → (ℕ → World → Res E D.Next) → World → Res E D.Next
 walked b (Arrives x) up w = good (nextFrom b x) w

@@ -73,8 +73,8 @@ pub limited-out : (u n : ℕ) (v : Value) → n ≡ sizeFor v → 512 < n → Fa
 unfolding limitedFor
 limited-out u n v e h = rw (← e, lt-leb n 512 h)
 
-pub among-is : (w : List ℕ) (u : ℕ) (v : Value) → givenIn w u (amongFor u v) ≡ D.among u (valueIn w u v)
-unfolding amongFor givenIn D.among
+pub among-is : (w : List ℕ) (u : ℕ) (v : Value) → givenIn w u (amongFor u v) ≡ D.unfinished u (valueIn w u v)
+unfolding amongFor givenIn D.unfinished
 among-is w u v = rw size-is (go (leb (u + sizeFor v) 65536))
   where
     go : (t : Bool) → givenIn w u (cond t (Gives v) (Fails tooLong)) ≡ cond t (D.gives (valueIn w u v)) (D.fails tooLong)
@@ -131,7 +131,7 @@ value-none x y e = rw e
 -- a number stands for itself, wherever it is put
 pub value-number : (w : List ℕ) (u : ℕ) (x : NumberGiven) → u ≤ 65536
     → givenIn w u (numberValue x) ≡ stacked u (D.andThen (numberFor x) (λ z. D.gives (D.fixed z)))
-unfolding givenIn numberValue numberFor valueIn stacked D.among
+unfolding givenIn numberValue numberFor valueIn stacked D.unfinished
 value-number w u (isNumber n) h = rw (add-zero, le-leb u 65536 h)
 value-number w u (noNumber y) h = refl
 

@@ -72,17 +72,17 @@ bits-size w u (Bits n) l e = let f : l ≡ part n u w = cc in ap length f ∙ le
 
 -- bits that fit at two places are the same at both
 restack : (a : D.Value) (k u : ℕ) → ((l : List ℕ) → D.toBits a ≡ D.gives l → (k + length l ≤ 65536) × (u + length l ≤ 65536)) → stacked u (asBit a) ≡ stacked k (asBit a)
-unfolding stacked asBit D.among
+unfolding stacked asBit D.unfinished
 restack a k u h = go (D.toBits a) (h)
   where
     go : (t : D.Answer (List ℕ)) → ((l : List ℕ) → t ≡ D.gives l → (k + length l ≤ 65536) × (u + length l ≤ 65536))
-        → D.andThen (D.andThen t λ l. D.gives (D.bitValue l)) (D.among u) ≡ D.andThen (D.andThen t λ l. D.gives (D.bitValue l)) (D.among k)
+        → D.andThen (D.andThen t λ l. D.gives (D.bitValue l)) (D.unfinished u) ≡ D.andThen (D.andThen t λ l. D.gives (D.bitValue l)) (D.unfinished k)
     go (D.gives l) f = rw (le-leb (u + length l) 65536 (f l refl .1), le-leb (k + length l) 65536 (f l refl .0))
     go (D.fails y) f = refl
 
 -- bits that do not fit
 unstacked : (a : D.Value) (k : ℕ) (l : List ℕ) → D.toBits a ≡ D.gives l → 65536 < k + length l → stacked k (asBit a) ≡ D.fails tooLong
-unfolding stacked asBit D.among
+unfolding stacked asBit D.unfinished
 unstacked a k l e h = rw (e, lt-leb (k + length l) 65536 h)
 
 number-bits : (w : List ℕ) (u : ℕ) (x : Value) (z : Fixed) → x ≡ Number z → D.toBits (valueIn w u x) ≡ D.gives (D.binary 17 (natAbs (z .value)))
@@ -212,12 +212,12 @@ longer-most n m = go (ltb n m)
 
 logical-both : (u : ℕ) (f : Bool → Bool → Bool) (x y : D.Value) (a b : List ℕ) → D.toBits x ≡ D.gives a → D.toBits y ≡ D.gives b
     → u + D.sizeOf y + length a ≤ 65536 → u + length a + length b ≤ 65536 → D.logical u f x y ≡ D.gives (D.bitValue (D.bitwise f a b))
-unfolding D.logical D.among
+unfolding D.logical D.unfinished
 logical-both u f x y a b p q h k = rw (p, le-leb (u + D.sizeOf y + length a) 65536 h, q, le-leb (u + length a + length b) 65536 k)
 
 logical-second : (u : ℕ) (f : Bool → Bool → Bool) (x y : D.Value) (a : List ℕ) (r : Why) → D.toBits x ≡ D.gives a
     → u + D.sizeOf y + length a ≤ 65536 → D.fails r ≡ stacked (u + length a) (asBit y) → D.logical u f x y ≡ D.fails r
-unfolding D.logical D.among stacked asBit
+unfolding D.logical D.unfinished stacked asBit
 logical-second u f x y a r p h k = rw (p, le-leb (u + D.sizeOf y + length a) 65536 h) (go (D.toBits y) k)
   where
     go2 : (t : Bool) (b : List ℕ) → D.fails r ≡ cond t (D.gives (D.bitValue b)) (D.fails tooLong)
@@ -225,22 +225,22 @@ logical-second u f x y a r p h k = rw (p, le-leb (u + D.sizeOf y + length a) 655
     go2 true b e = never _ (cc)
     go2 false b e = cc
 
-    go : (t : D.Answer (List ℕ)) → D.fails r ≡ D.andThen (D.andThen t λ l. D.gives (D.bitValue l)) (D.among (u + length a))
-        → D.andThen t (λ b. D.andThen (D.among (u + length a) (D.bitValue b)) λ _. D.gives (D.bitValue (D.bitwise f a b))) ≡ D.fails r
+    go : (t : D.Answer (List ℕ)) → D.fails r ≡ D.andThen (D.andThen t λ l. D.gives (D.bitValue l)) (D.unfinished (u + length a))
+        → D.andThen t (λ b. D.andThen (D.unfinished (u + length a) (D.bitValue b)) λ _. D.gives (D.bitValue (D.bitwise f a b))) ≡ D.fails r
     go (D.gives b) e = go2 (leb (u + length a + length b) 65536) b e
     go (D.fails q) e = cc
 
 logical-first : (u : ℕ) (f : Bool → Bool → Bool) (x y : D.Value) (r : Why) → D.fails r ≡ stacked (u + D.sizeOf y) (asBit x) → D.logical u f x y ≡ D.fails r
-unfolding D.logical D.among stacked asBit
+unfolding D.logical D.unfinished stacked asBit
 logical-first u f x y r k = go (D.toBits x) k
   where
     go2 : (t : Bool) (a : List ℕ) → D.fails r ≡ cond t (D.gives (D.bitValue a)) (D.fails tooLong)
-        → D.andThen (cond t (D.gives (D.bitValue a)) (D.fails tooLong)) (λ _. D.andThen (D.toBits y) λ b. D.andThen (D.among (u + length a) (D.bitValue b)) λ _. D.gives (D.bitValue (D.bitwise f a b))) ≡ D.fails r
+        → D.andThen (cond t (D.gives (D.bitValue a)) (D.fails tooLong)) (λ _. D.andThen (D.toBits y) λ b. D.andThen (D.unfinished (u + length a) (D.bitValue b)) λ _. D.gives (D.bitValue (D.bitwise f a b))) ≡ D.fails r
     go2 true a e = never _ (cc)
     go2 false a e = cc
 
-    go : (t : D.Answer (List ℕ)) → D.fails r ≡ D.andThen (D.andThen t λ l. D.gives (D.bitValue l)) (D.among (u + D.sizeOf y))
-        → D.andThen t (λ a. D.andThen (D.among (u + D.sizeOf y) (D.bitValue a)) λ _. D.andThen (D.toBits y) λ b. D.andThen (D.among (u + length a) (D.bitValue b)) λ _. D.gives (D.bitValue (D.bitwise f a b))) ≡ D.fails r
+    go : (t : D.Answer (List ℕ)) → D.fails r ≡ D.andThen (D.andThen t λ l. D.gives (D.bitValue l)) (D.unfinished (u + D.sizeOf y))
+        → D.andThen t (λ a. D.andThen (D.unfinished (u + D.sizeOf y) (D.bitValue a)) λ _. D.andThen (D.toBits y) λ b. D.andThen (D.unfinished (u + length a) (D.bitValue b)) λ _. D.gives (D.bitValue (D.bitwise f a b))) ≡ D.fails r
     go (D.gives a) e = go2 (leb (u + D.sizeOf y + length a) 65536) a e
     go (D.fails q) e = cc
 
@@ -299,7 +299,7 @@ module _ (w : List ℕ) (u : ℕ) (o : Logic) (x y : Value) (m : ℕ) (em : m �
     pub logical-is : (second : Value) (k : ℕ) (w₃ : List ℕ) (r : ℕ) → gb ≡ Gives second → k ≡ sizeFor second
         → Wrote (D.bitwise (logicOf o) (part n u w₂) (part k (u + n) w₂)) w₂ u w₃ r
         → Gave w u (sizeFor x + sizeFor y) (stacked u (D.logical u (logicOf o) (valueIn w u x) (valueIn w (u + sizeFor x) y))) w₃ (Gives (Bits r))
-    unfolding givenIn valueIn stacked D.among
+    unfolding givenIn valueIn stacked D.unfinished
     logical-is second k w₃ r eb ek d₃ = record {
       so = λ h.
           let X = valueIn w u x in

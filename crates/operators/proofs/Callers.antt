@@ -33,7 +33,7 @@ put-is u a w = refl
 
 -- ---- what is given lies within the limit
 stacked-fits : (u : ℕ) (a : D.Answer D.Value) (v : D.Value) → D.gives v ≡ stacked u a → u + D.sizeOf v ≤ 65536
-unfolding stacked D.among
+unfolding stacked D.unfinished
 stacked-fits u (D.fails y) v e = never _ (cc)
 stacked-fits u (D.gives x) v e = go (leb (u + D.sizeOf x) 65536) refl e
   where

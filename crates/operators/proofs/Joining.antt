@@ -174,10 +174,10 @@ limited-code u n m s x y e = rw value-size (go (leb (n + m) 512) refl (leb (n + 
 
 limited-defined : (u n : ℕ) (b : Bool) (l : List ℕ) → length l ≡ n
     → stacked u (D.limited (kindOf b l)) ≡ cond (leb n 512) (cond (leb (u + n) 65536) (D.gives (kindOf b l)) (D.fails tooLong)) (D.fails tooLong)
-unfolding stacked D.limited D.among
+unfolding stacked D.limited D.unfinished
 limited-defined u n b l e = rw (← e, ← kind-size b l) (go (leb (D.sizeOf (kindOf b l)) 512))
   where
-    go : (t : Bool) → D.andThen (cond t (D.gives (kindOf b l)) (D.fails tooLong)) (D.among u)
+    go : (t : Bool) → D.andThen (cond t (D.gives (kindOf b l)) (D.fails tooLong)) (D.unfinished u)
         ≡ cond t (cond (leb (u + D.sizeOf (kindOf b l)) 65536) (D.gives (kindOf b l)) (D.fails tooLong)) (D.fails tooLong)
     go true = refl
     go false = refl

@@ -61,7 +61,7 @@ took-piece w u v c i n t w′ k g e et d ek eg = rw e (record {
       let l : length (part n (u + i) w) ≡ n = length-part n (u + i) w in
       let bytes : part n u w′ ≡ part n (u + i) w = part-written n u w w′ (part n (u + i) w) (sym l) moved (omega (arith, l, h, r .top, r .room)) in
       record {
-        is = rw (eg, ek) (among-is w′ u (sameKind v n) ∙ ap (D.among u) (piece-is w w′ u v i n h bytes));
+        is = rw (eg, ek) (among-is w′ u (sameKind v n) ∙ ap (D.unfinished u) (piece-is w w′ u v i n h bytes));
         below = below-over u u w w′ (part n (u + i) w) (omega arith) moved;
       };
 })

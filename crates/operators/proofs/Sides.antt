@@ -275,7 +275,7 @@ module _ (w : List ℕ) (u : ℕ) (c : Comparison) (x y : Value) (q : OrderGiven
 
   module _ (o : Order) (e : q ≡ isOrder o) (t : Bool) (f : t ≡ leb (u + 1) 65536) where
     pub comparing-out : t ≡ false → Gave w u (sizeFor x + sizeFor y) (stacked u (D.comparing (wantedBy c) (valueIn w u x) (valueIn w (u + sizeFor x) y))) w (Fails tooLong)
-    unfolding orderAnswer D.comparing givenIn stacked D.among
+    unfolding orderAnswer D.comparing givenIn stacked D.unfinished
     comparing-out g = record {
       so = λ d.
           let k : D.gives (orderIn o) ≡ D.compared (valueIn w u x) (valueIn w (u + sizeFor x) y) = rw (e, top-of w u x y d) at h in
@@ -285,7 +285,7 @@ module _ (w : List ℕ) (u : ℕ) (c : Comparison) (x y : Value) (q : OrderGiven
 
     pub comparing-is : (s : Bool) (b : ℕ) (w′ : List ℕ) → t ≡ true → s ≡ isWanted c o → b ≡ D.bitOf s → w′ ≡ over w (u + 0) (b ∷ [])
         → Gave w u (sizeFor x + sizeFor y) (stacked u (D.comparing (wantedBy c) (valueIn w u x) (valueIn w (u + sizeFor x) y))) w′ (Gives (Bits 1))
-    unfolding orderAnswer D.comparing givenIn valueIn stacked D.among
+    unfolding orderAnswer D.comparing givenIn valueIn stacked D.unfinished
     comparing-is s b w′ g i j m = record {
       so = λ d.
           let k : D.gives (orderIn o) ≡ D.compared (valueIn w u x) (valueIn w (u + sizeFor x) y) = rw (e, top-of w u x y d) at h in

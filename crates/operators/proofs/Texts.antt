@@ -32,7 +32,7 @@ use Rattle.operators.specs.declared.Given.the-variants.{Gives, Fails}
 use Rattle.operators.specs.declared.NumberGiven.{NumberGiven}
 use Rattle.operators.specs.declared.Truth.{Truth}
 use Rattle.operators.specs.declared.Truth.the-variants.{Is as isTruth, Fails as noTruth}
-use Rattle.operators.specs.Stands.{valueIn, givenIn, numberFor, truthFor, sizeFor, stacked, Ready, Stood, Gave, Told, Made, amongFor, numberValue, asBit, asSubject, ifFits, textPut, bitsPut, heldBy}
+use Rattle.operators.specs.Stands.{valueIn, givenIn, numberFor, truthFor, sizeFor, stacked, Ready, Stood, Gave, Told, Made, amongFor, numberValue, asBit, asSubject, ifFits, textPut, bitsPut}
 use Rattle.operators.specs.Sides.{negatedFor}
 use Rattle.operators.proofs.Room.{part-written, below-over, take-over}
 use Rattle.operators.proofs.Answers.{among-is, size-is, gave-number, made-gave}
@@ -48,7 +48,7 @@ put-out u l e = rw e
 module _ (w : List ℕ) (u : ℕ) (v : Value) (x : Fixed) (e : v ≡ Number x) (k : ℕ) (t : Bool) (f : k ≡ length (D.fixedText (x .value))) (g : t ≡ leb (u + k) 65536) where
   pub text-in : (w′ : List ℕ) (r : ℕ) → t ≡ true → Wrote (D.fixedText (x .value)) w u w′ r
       → Made w u (textPut u v) (stacked u (D.convert CharacterType (valueIn w u v))) w′ (Gives (Characters r))
-  unfolding textPut valueIn givenIn stacked D.convert D.toCharacters D.among
+  unfolding textPut valueIn givenIn stacked D.convert D.toCharacters D.unfinished
   text-in w′ r h m =
       let l = D.fixedText (x .value) in
       let b : leb (u + length l) 65536 ≡ true = rw (← f) (sym g ∙ h) in
@@ -58,7 +58,7 @@ module _ (w : List ℕ) (u : ℕ) (v : Value) (x : Fixed) (e : v ≡ Number x) (
       })
 
   pub text-out : t ≡ false → Made w u (textPut u v) (stacked u (D.convert CharacterType (valueIn w u v))) w (Fails tooLong)
-  unfolding textPut valueIn givenIn stacked D.convert D.toCharacters D.among
+  unfolding textPut valueIn givenIn stacked D.convert D.toCharacters D.unfinished
   text-out h =
       let l = D.fixedText (x .value) in
       let b : leb (u + length l) 65536 ≡ false = rw (← f) (sym g ∙ h) in
@@ -82,7 +82,7 @@ length-binary (suc k) n = ap suc (length-binary k n)
 module _ (w : List ℕ) (u : ℕ) (v : Value) (x : Fixed) (e : v ≡ Number x) (t : Bool) (g : t ≡ leb (u + 17) 65536) where
   pub bits-in : (w′ : List ℕ) → t ≡ true → w′ ≡ over w u (D.binary 17 (natAbs (x .value)))
       → Made w u (bitsPut u v) (stacked u (asBit (valueIn w u v))) w′ (Gives (Bits 17))
-  unfolding bitsPut valueIn givenIn stacked asBit D.toBits D.among
+  unfolding bitsPut valueIn givenIn stacked asBit D.toBits D.unfinished
   bits-in w′ h m =
       let l = D.binary 17 (natAbs (x .value)) in
       let z : length l ≡ 17 = length-binary 17 (natAbs (x .value)) in
@@ -93,7 +93,7 @@ module _ (w : List ℕ) (u : ℕ) (v : Value) (x : Fixed) (e : v ≡ Number x) (
       })
 
   pub bits-out : t ≡ false → Made w u (bitsPut u v) (stacked u (asBit (valueIn w u v))) w (Fails tooLong)
-  unfolding bitsPut valueIn givenIn stacked asBit D.toBits D.among
+  unfolding bitsPut valueIn givenIn stacked asBit D.toBits D.unfinished
   bits-out h =
       let l = D.binary 17 (natAbs (x .value)) in
       let b : leb (u + length l) 65536 ≡ false = rw (length-binary 17 (natAbs (x .value))) (sym g ∙ h) in
@@ -141,7 +141,7 @@ of-bits a k u w (Bits n) l e h f =
     record { kind = refl; bits = e ∙ ap (λ (t : List ℕ). D.gives t) (sym g); top = omega arith }
 
 pub bits-at : (a : D.Value) (k u : ℕ) (w : List ℕ) (x : Value) → D.gives (valueIn w u x) ≡ stacked k (asBit a) → BitsAt a k u w x
-unfolding stacked asBit D.among
+unfolding stacked asBit D.unfinished
 bits-at a k u w x e = go (D.toBits a) refl e
   where
     go2 : (l : List ℕ) (t : Bool) → D.toBits a ≡ D.gives l → leb (k + length l) 65536 ≡ t
@@ -149,7 +149,7 @@ bits-at a k u w x e = go (D.toBits a) refl e
     go2 l true f g h = of-bits a k u w x l f (leb-true (k + length l) 65536 g) (cc)
     go2 l false f g h = never _ (cc)
 
-    go : (b : D.Answer (List ℕ)) → D.toBits a ≡ b → D.gives (valueIn w u x) ≡ D.andThen (D.andThen b λ l. D.gives (D.bitValue l)) (D.among k) → BitsAt a k u w x
+    go : (b : D.Answer (List ℕ)) → D.toBits a ≡ b → D.gives (valueIn w u x) ≡ D.andThen (D.andThen b λ l. D.gives (D.bitValue l)) (D.unfinished k) → BitsAt a k u w x
     go (D.gives l) f g = go2 l (leb (k + length l) 65536) f refl g
     go (D.fails y) f g = never _ (cc)
 
@@ -168,6 +168,24 @@ module _ (w : List ℕ) (u n : ℕ) (v : Value) (k : ℕ) (g : Given) where
   unfolding asSubject valueIn stacked
   subject-bits e f = rw (e, f) (record { so = λ h. record { is = among-is w u (Bits k); below = refl } })
 
+-- ---- IF: the digits of a value that was made BIT, and was put among those that wait
+abbrev bitsHold : D.Value → D.Answer Bool
+bitsHold (D.fixed z) = D.gives false
+bitsHold (D.characters l) = D.gives (D.anyOne l)
+bitsHold (D.bitValue l) = D.gives (D.anyOne l)
+
+holds-stacked : (u : ℕ) (a : D.Value) → D.andThen (stacked u (asBit a)) bitsHold ≡ D.holds u a
+unfolding D.holds stacked asBit D.unfinished
+holds-stacked u a = made (D.toBits a)
+  where
+    fitting : (t : Bool) (l : List ℕ) → D.andThen (cond t (D.gives (D.bitValue l)) (D.fails tooLong)) bitsHold ≡ D.andThen (cond t (D.gives (D.bitValue l)) (D.fails tooLong)) (λ _. D.gives (D.anyOne l))
+    fitting true l = refl
+    fitting false l = refl
+
+    made : (b : D.Answer (List ℕ)) → D.andThen (D.andThen (D.andThen b λ l. D.gives (D.bitValue l)) (D.unfinished u)) bitsHold ≡ D.andThen b (λ l. D.andThen (D.unfinished u (D.bitValue l)) λ _. D.gives (D.anyOne l))
+    made (D.gives l) = fitting (leb (u + length l) 65536) l
+    made (D.fails e) = refl
+
 -- ---- what follows a value that was made BIT
 module _ (w : List ℕ) (u n : ℕ) (l : List ℕ) (a : D.Value) (w₁ : List ℕ) (b : Given) (m : Made w u l (stacked u (asBit a)) w₁ b) where
   found : (x : Value) → b ≡ Gives x → Ready w u n → D.gives (valueIn w₁ u x) ≡ stacked u (asBit a)
@@ -181,25 +199,25 @@ module _ (w : List ℕ) (u n : ℕ) (l : List ℕ) (a : D.Value) (w₁ : List �
   under : take u w₁ ≡ take u w
   under = below-over u u w w₁ l (omega arith) (m .wrote)
 
-  pub holds-is : (x : Value) (k : ℕ) (t : Bool) → b ≡ Gives x → k ≡ sizeFor x → t ≡ D.anyOne (part k u w₁) → Told w u n (heldBy (stacked u (asBit a))) w₁ (isTruth t)
-  unfolding heldBy truthFor D.holds D.toBits valueIn
+  pub holds-is : (x : Value) (k : ℕ) (t : Bool) → b ≡ Gives x → k ≡ sizeFor x → t ≡ D.anyOne (part k u w₁) → Told w u n (D.holds u a) w₁ (isTruth t)
+  unfolding truthFor valueIn
   holds-is x k t e f g = record {
     is = λ h.
         let q = bits-at a u u w₁ x (found x e h) in
-        rw (← found x e h) (held x k t q f g);
+        held x k t q f g ∙ ap (λ z. D.andThen z bitsHold) (found x e h) ∙ holds-stacked u a;
     below = λ h. under;
   }
     where
-      held : (x : Value) (k : ℕ) (t : Bool) → BitsAt a u u w₁ x → k ≡ sizeFor x → t ≡ D.anyOne (part k u w₁) → D.gives t ≡ D.holds (valueIn w₁ u x)
+      held : (x : Value) (k : ℕ) (t : Bool) → BitsAt a u u w₁ x → k ≡ sizeFor x → t ≡ D.anyOne (part k u w₁) → D.gives t ≡ bitsHold (valueIn w₁ u x)
       held x k t q f g = rw (q .kind, ← f, g)
 
-  pub holds-not : (y : Why) → b ≡ Fails y → Told w u n (heldBy (stacked u (asBit a))) w₁ (noTruth y)
-  unfolding heldBy truthFor
-  holds-not y e = record { is = λ h. rw (← lost y e h); below = λ h. under }
+  pub holds-not : (y : Why) → b ≡ Fails y → Told w u n (D.holds u a) w₁ (noTruth y)
+  unfolding truthFor
+  holds-not y e = record { is = λ h. ap (λ z. D.andThen z bitsHold) (lost y e h) ∙ holds-stacked u a; below = λ h. under }
 
   pub complement-is : (o : Prefix) (x : Value) (k : ℕ) (w₂ : List ℕ) → o ≡ Complement → b ≡ Gives x → k ≡ sizeFor x → w₂ ≡ over w₁ u (D.inverted (part k u w₁))
       → Gave w u n (stacked u (D.prefixed o a)) w₂ (Gives x)
-  unfolding D.prefixed stacked D.among givenIn valueIn
+  unfolding D.prefixed stacked D.unfinished givenIn valueIn
   complement-is o x k w₂ c e f g = record {
     so = λ h.
         let q = bits-at a u u w₁ x (found x e h) in
@@ -211,10 +229,10 @@ module _ (w : List ℕ) (u n : ℕ) (l : List ℕ) (a : D.Value) (w₁ : List �
   }
 
   pub complement-not : (o : Prefix) (y : Why) → o ≡ Complement → b ≡ Fails y → Gave w u n (stacked u (D.prefixed o a)) w₁ (Fails y)
-  unfolding D.prefixed stacked asBit givenIn D.among
+  unfolding D.prefixed stacked asBit givenIn D.unfinished
   complement-not o y c e = record { so = λ h. record { is = rw c (go (D.toBits a) (lost y e h)); below = under } }
     where
-      go : (t : D.Answer (List ℕ)) → D.fails y ≡ D.andThen (D.andThen t λ r. D.gives (D.bitValue r)) (D.among u) → D.fails y ≡ D.andThen (D.andThen t λ r. D.gives (D.bitValue (D.inverted r))) (D.among u)
+      go : (t : D.Answer (List ℕ)) → D.fails y ≡ D.andThen (D.andThen t λ r. D.gives (D.bitValue r)) (D.unfinished u) → D.fails y ≡ D.andThen (D.andThen t λ r. D.gives (D.bitValue (D.inverted r))) (D.unfinished u)
       go (D.gives r) f = rw length-inverted (none (leb (u + length r) 65536) r f)
         where
           none : (t : Bool) (r : List ℕ) → D.fails y ≡ cond t (D.gives (D.bitValue r)) (D.fails tooLong) → D.fails y ≡ cond t (D.gives (D.bitValue (D.inverted r))) (D.fails tooLong)

@@ -46,7 +46,7 @@ sizeFor (Bits n) = n
 
 -- what is given is put among values that wait and are u bytes long
 unfoldable pub stacked : ℕ → D.Answer D.Value → D.Answer D.Value
-stacked u a = D.andThen a (D.among u)
+stacked u a = D.andThen a (D.unfinished u)
 
 -- THE PREMISE: the work room is long enough, and n bytes from u on lie within the limit
 pub record Ready (w : List ℕ) (u n : ℕ) : Type 0 where
@@ -96,7 +96,7 @@ numberValue (isNumber x) = Gives (Number x)
 numberValue (noNumber y) = Fails y
 
 unfoldable pub asBit : D.Value → D.Answer D.Value
-asBit v = D.asBits v
+asBit v = D.andThen (D.toBits v) λ l. D.gives (D.bitValue l)
 
 unfoldable pub asSubject : D.Value → D.Answer D.Value
 asSubject v = D.gives (D.subject v)
@@ -114,7 +114,3 @@ unfoldable pub bitsPut : ℕ → Value → List ℕ
 bitsPut u (Number x) = ifFits u (D.binary 17 (natAbs (x .value)))
 bitsPut u (Characters n) = []
 bitsPut u (Bits n) = []
-
--- IF: a value made BIT, which is put among those that wait, and its truth
-unfoldable pub heldBy : D.Answer D.Value → D.Answer Bool
-heldBy a = D.andThen a D.holds

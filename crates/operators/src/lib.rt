@@ -11,7 +11,7 @@ ghost use Rattle.definition.specs.Values as D;
 ghost use Rattle.fixed.specs.Answer.{resultOf};
 ghost use Rattle.values.specs.Answers.{answerOf};
 ghost use Rattle.values.specs.Bits.{logicOf};
-ghost use Rattle.operators.specs.Stands.{valueIn, numberFor, sizeFor, stacked, Gave, Told, Made, topOf, amongFor, limitedFor, MovedDown, MovedUp, numberValue, asBit, asSubject, textPut, bitsPut, heldBy};
+ghost use Rattle.operators.specs.Stands.{valueIn, numberFor, sizeFor, stacked, Gave, Told, Made, topOf, amongFor, limitedFor, MovedDown, MovedUp, numberValue, asBit, asSubject, textPut, bitsPut};
 ghost use Rattle.operators.specs.Sides.{negatedFor, calcOf, numbersIn, pairFor, orderAnswer, numericOf, bytesOrdered, wantedBy, Raised, First, textSize, numberText, WroteFirst, bothBits, joinedValue, sameKind, Took};
 use definition::Operator;
 use definition::Prefix;
@@ -247,7 +247,7 @@ pub enum Truth {
 
 // "IF holds when any bit is 1."
 pub fn holds(work: &mut [u8], u: usize, v: Value) -> Truth
-    ensures { λ r. ⌜ Told (now (work .entry)) u (sizeFor v) (heldBy (stacked u (asBit (valueIn (now (work .entry)) u v)))) (now (work .exit)) r ⌝ }
+    ensures { λ r. ⌜ Told (now (work .entry)) u (sizeFor v) (D.holds u (valueIn (now (work .entry)) u v)) (now (work .exit)) r ⌝ }
 {
     let b = to_bits(work, u, v);
     match b {

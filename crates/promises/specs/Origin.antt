@@ -1,6 +1,6 @@
--- Demand 3, first part: "A finished expansion comes with its origin list. Every byte of the text belongs to exactly one line
--- of the list, in order: an inserted blank, a stretch copied from a named place, or the outcome of one replacement. A copied
--- stretch equals its source." 01: "Kind 2: copied stretch, at least one byte, as long as can be."
+-- Demand 3, first part: "A finished expansion comes with its origin list. Every byte of the text belongs to exactly one
+-- line of the list, in order: an inserted blank, a stretch copied from a named place, or the outcome of one
+-- replacement. A copied stretch equals its source." 01: "Kind 2: copied stretch, at least one byte, as long as can be."
 use Prim.Native.Nat.{ℕ, _+_, _≤_}
 use mathlib.Core.List.{List, [], _∷_, reverse}
 use mathlib.Core.Path.{_≡_}
@@ -10,13 +10,15 @@ use Rattle.definition.specs.Events.{Line}
 use Rattle.definition.specs.Run.{bodyOf}
 use Rattle.definition.specs.Expansion.{Expansion}
 
--- what a line of the list says of its bytes, in the deck d: a blank is one byte 32; a stretch has a byte or more, and they
--- are those of the member's body from the offset on, none past its end
+-- what a line of the list says of its bytes, in the deck d: a blank is one byte 32; a stretch has a byte or more, and
+-- they are those of the member's body from the offset on, none past its end
 pub record Origin (d : List ℕ) (l : Line) (bytes : List ℕ) : Type 0 where
   pub sized : length bytes ≡ l .size
   pub kinds : (1 ≤ l .kind) × (l .kind ≤ 3)
   pub blank : l .kind ≡ 1 → bytes ≡ 32 ∷ []
-  pub stretch : l .kind ≡ 2 → (1 ≤ l .size) × (l .offset + l .size ≤ length (bodyOf d (l .member))) × (bytes ≡ part (l .size) (l .offset) (bodyOf d (l .member)))
+  pub stretch : l .kind ≡ 2
+      → (1 ≤ l .size) × (l .offset + l .size ≤ length (bodyOf d (l .member)))
+      × (bytes ≡ part (l .size) (l .offset) (bodyOf d (l .member)))
 
 -- the lines, oldest first, cut the text: the first line has the first bytes, as many as its size, the next has the next
 abbrev pub Cuts : List ℕ → List Line → List ℕ → Type 0

@@ -1,6 +1,6 @@
--- 01, "Reading": "A body never included, replaced by any other of that length, changes nothing in the answer, text or list."
--- Whether a run includes the member k is asked of a run that is the definition's but for one thing: where it is to include k,
--- it ends at a bar.
+-- 01, "Reading": "A body never included, replaced by any other of that length, changes nothing in the answer, text or
+-- list." Whether a run includes the member k is asked of a run that is the definition's but for one thing: where it is
+-- to include k, it ends at a bar.
 use Prim.Native.Nat.{ℕ, zero, suc, _-_, _<_}
 use mathlib.Core.Bool.{Bool, true, cond}
 use mathlib.Core.List.{List, [], _∷_}
@@ -39,16 +39,20 @@ cameOutBut m ran w next = next w
 cameOutBut m (returned v) w next = next w
 cameOutBut m (went t) w next = good (jumps (cond (eqb (t .member) m) (landing (t .row) (t .isEnd)) (away t))) w
 
-abbrev pub includeEnteredBut : Entering → InnerBut → ℕ → ℕ → ℕ → List Place → World → (World → Res Halt Deed) → Res Halt Deed
+abbrev pub includeEnteredBut : Entering → InnerBut → ℕ → ℕ → ℕ → List Place → World → (World → Res Halt Deed)
+    → Res Halt Deed
 includeEnteredBut (unreadable e p) inner j m n on w next = bad (halted (stop j p e)) (w .used)
 includeEnteredBut (entered v) inner j m n on w next =
     bind (inner j (record { member = m; row = n } ∷ on) v) λ x y. cameOutBut m x y next
 
-abbrev pub includeLineBut : LevelBut → ℕ → List ℕ → ℕ → ℕ → ℕ → List Place → World → (World → Res Halt Deed) → Res Halt Deed
+abbrev pub includeLineBut : LevelBut → ℕ → List ℕ → ℕ → ℕ → ℕ → List Place → World → (World → Res Halt Deed)
+    → Res Halt Deed
 includeLineBut noLevelBut j d p m n on w next = bad (halted (stop m p tooDeep)) (w .used)
-includeLineBut (levelBut inner) j d p m n on w next = includeEnteredBut (enter j (readMember (bodyOf d j)) w) inner j m n on w next
+includeLineBut (levelBut inner) j d p m n on w next =
+    includeEnteredBut (enter j (readMember (bodyOf d j)) w) inner j m n on w next
 
-abbrev pub includeAtBut : ℕ → Deck.Found → LevelBut → List ℕ → ℕ → ℕ → ℕ → List Place → World → (World → Res Halt Deed) → Res Halt Deed
+abbrev pub includeAtBut : ℕ → Deck.Found → LevelBut → List ℕ → ℕ → ℕ → ℕ → List Place → World → (World → Res Halt Deed)
+    → Res Halt Deed
 includeAtBut k Deck.none inner d p m n on w next = bad (halted (stop m p unknownMember)) (w .used)
 includeAtBut k (Deck.line j) inner d p m n on w next =
     when (eqb j k) (λ _. bad barred (w .used)) (λ _. includeLineBut inner j d p m n on w next)
@@ -105,12 +109,18 @@ MainAtBar k (unreadable e p) d = ⊥
 MainAtBar k (entered w) d = AtBar (runBut k includeLevels d 0 [] w)
 
 abbrev pub NeverIncluded : ℕ → List ℕ → ℕ → ℕ → ℕ → Type 0
-NeverIncluded k d textRoom listRoom steps = MainAtBar k (enter 0 (readMember (bodyOf d 0)) (mainWorld textRoom listRoom steps)) d → ⊥
+NeverIncluded k d textRoom listRoom steps =
+    MainAtBar k (enter 0 (readMember (bodyOf d 0)) (mainWorld textRoom listRoom steps)) d → ⊥
 
 -- the deck d with the bytes b in place of the body of member k
 abbrev pub withBody : ℕ → List ℕ → List ℕ → List ℕ
 withBody k b d = over d (Deck.lineAt d k .offset) b
 
--- UNREAD: of a sound deck, the body of a member that is not the main program and is never included may be any of its length
+-- UNREAD: of a sound deck, the body of a member that is not the main program and is never included may be any of its
+-- length
 abbrev pub Unread : List ℕ → Type 0
-Unread d = (roomy : Bool) (k : ℕ) (b : List ℕ) (textRoom listRoom steps : ℕ) → Deck.isSound d ≡ true → 0 < k → k < Deck.count d → length b ≡ Deck.lineAt d k .size → NeverIncluded k d textRoom listRoom steps → expansion roomy (withBody k b d) textRoom listRoom steps ≡ expansion roomy d textRoom listRoom steps
+Unread d =
+    (roomy : Bool) (k : ℕ) (b : List ℕ) (textRoom listRoom steps : ℕ)
+    → Deck.isSound d ≡ true → 0 < k → k < Deck.count d → length b ≡ Deck.lineAt d k .size
+    → NeverIncluded k d textRoom listRoom steps
+    → expansion roomy (withBody k b d) textRoom listRoom steps ≡ expansion roomy d textRoom listRoom steps

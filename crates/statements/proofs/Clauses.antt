@@ -50,7 +50,6 @@ use Rattle.statements.specs.declared.Itemized.the-variants as I
 use Rattle.statements.specs.declared.Typed.{Typed}
 use Rattle.statements.specs.declared.Typed.the-variants as T
 use Rattle.statements.specs.Clauses.{otherBy, keywordBy, opensFor, clauseOf, readFor, readUpTo, thenSign, thenWord, thenExpression, boundPast, boundsPast, nameEnd, rescanPast, rescanned, itemPast, listNext, listEnd, goClause, doKind, plainFor, isInside, itemOf, itemIn, attributeBy, worded, itemizedBy, itemized, meaningIn, typeBy, typeFrom, headUpTo, headFrom}
-
 use Rattle.statements.proofs.Laws.{word-in, sign-in, sign-spelled, word-spelled}
 
 -- ---- the end of a clause
@@ -62,9 +61,9 @@ up-to-is k o c x (refused w p) = refl
 module _ (k : Statement) (c : ℕ) (s : List ℕ) where
   pub ended-is : (x : P.Statement) (at : ℕ) → readUpTo k O.Nothing c (expected (59 ∷ []) s at) ≡ readFor k c FixedType (D.ended s x at)
   unfolding D.ended
-  ended-is x at = rw (expected-is ";" (59 ∷ []) refl s at) (up-to-is k D.closes c x (expectSign ";" s at))
+  ended-is x at = rw (expected-is ";" (59 ∷ []) refl s at) (up-to-is k D.opensNothing c x (expectSign ";" s at))
 
--- ---- assignment
+  -- ---- assignment
   assign-by : (w : List ℕ) (R : Reading Parsed) → readUpTo k O.Nothing c (thenSign (59 ∷ []) s (endFor R)) ≡ readFor k c FixedType (then R λ r. D.ended s (P.assign w (r .tree)) (r .to))
   unfolding thenSign endFor readUpTo readFor
   assign-by w (read r) = ended-is (P.assign w (r .tree)) (r .to)

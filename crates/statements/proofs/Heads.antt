@@ -50,7 +50,6 @@ use Rattle.statements.specs.declared.Itemized.the-variants as I
 use Rattle.statements.specs.declared.Typed.{Typed}
 use Rattle.statements.specs.declared.Typed.the-variants as T
 use Rattle.statements.specs.Clauses.{otherBy, keywordBy, opensFor, clauseOf, readFor, readUpTo, thenSign, thenWord, thenExpression, boundPast, boundsPast, nameEnd, rescanPast, rescanned, itemPast, listNext, listEnd, goClause, doKind, plainFor, isInside, itemOf, itemIn, attributeBy, worded, itemizedBy, itemized, meaningIn, namesNext, namesRead, scopeOf, clauseIn, namesIn, Lies, Own, Ready, Declares, typeBy, typeFrom, headUpTo, headFrom, typeIn, readProcedure, spelledAs, listedBefore, parameterTwice, tallyTwice, isRead, procedureTally, Heads}
-
 use native.Mathlib.Nat.{add-suc}
 use borrow.Author.Tests.{leb-true}
 use lib.Dec.{leb, eqb}

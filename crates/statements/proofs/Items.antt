@@ -50,7 +50,6 @@ use Rattle.statements.specs.declared.Itemized.the-variants as I
 use Rattle.statements.specs.declared.Typed.{Typed}
 use Rattle.statements.specs.declared.Typed.the-variants as T
 use Rattle.statements.specs.Clauses.{otherBy, keywordBy, opensFor, clauseOf, readFor, readUpTo, thenSign, thenWord, thenExpression, boundPast, boundsPast, nameEnd, rescanPast, rescanned, itemPast, listNext, listEnd, goClause, doKind, plainFor, isInside, itemOf, itemIn, attributeBy, worded, itemizedBy, itemized, meaningIn, namesNext, namesRead, scopeOf, clauseIn, namesIn, Lies, Own, Ready, NamedIf, Declares, DeclaresIf, typeBy, typeFrom, headUpTo, headFrom}
-
 use native.Mathlib.Nat.{add-suc}
 use borrow.Author.Tests.{leb-true}
 use lib.Dec.{leb}
@@ -233,16 +232,16 @@ module _ (d s t₀ : List ℕ) (o : Owner) (x₀ : Tally) (r : Ready d s t₀ x�
         both : Entered d t₀ x₀ (bookAll (x₀ .member) (h .done ++ D.means (scopeOf o) (meaningOf g) (namesRead s (i .most) (i .names)))) u z
         both = rw (hm, j) at more
 
-        next : when v (λ _. D.declareFrom (scopeOf o) s (turns - 1) (h .done ++ D.means (scopeOf o) (meaningOf g) (namesRead s (i .most) (i .names))) (l .to)) (λ _. D.thenDeclare (h .done ++ D.means (scopeOf o) (meaningOf g) (namesRead s (i .most) (i .names))) (expectSign ";" s e) λ q. D.declared (D.clause (P.declare (D.spellings (h .done ++ D.means (scopeOf o) (meaningOf g) (namesRead s (i .most) (i .names))))) D.closes q) (h .done ++ D.means (scopeOf o) (meaningOf g) (namesRead s (i .most) (i .names)))) ≡ D.declareFrom (scopeOf o) s (length s) [] from
+        next : when v (λ _. D.declareFrom (scopeOf o) s (turns - 1) (h .done ++ D.means (scopeOf o) (meaningOf g) (namesRead s (i .most) (i .names))) (l .to)) (λ _. D.thenDeclare (h .done ++ D.means (scopeOf o) (meaningOf g) (namesRead s (i .most) (i .names))) (expectSign ";" s e) λ q. D.declared (D.clause (P.declare (D.spellings (h .done ++ D.means (scopeOf o) (meaningOf g) (namesRead s (i .most) (i .names))))) D.opensNothing q) (h .done ++ D.means (scopeOf o) (meaningOf g) (namesRead s (i .most) (i .names)))) ≡ D.declareFrom (scopeOf o) s (length s) [] from
         unfolding D.declareNext
         next = rw (c, sign-in s e l lex (44 ∷ []), sign-spelled "," (44 ∷ []) refl (tokenAt s e .token), lex .to) (rw j at turned)
 
         pub items-more : v ≡ true → Itemizing d s t₀ o x₀ from u z (l .to) (turns - 1)
         items-more f = record { done = (h .done ++ D.means (scopeOf o) (meaningOf g) (namesRead s (i .most) (i .names))); entered = both; left = rw f at next; size = size ∙ h .size }
 
-        last-by : (Q : Reading ℕ) → (q : Read) → q ≡ readFor S.Declare from FixedType (then Q λ a. read (D.clause (P.declare (D.spellings (h .done ++ D.means (scopeOf o) (meaningOf g) (namesRead s (i .most) (i .names))))) D.closes a))
-            → D.thenDeclare (h .done ++ D.means (scopeOf o) (meaningOf g) (namesRead s (i .most) (i .names))) Q (λ a. D.declared (D.clause (P.declare (D.spellings (h .done ++ D.means (scopeOf o) (meaningOf g) (namesRead s (i .most) (i .names))))) D.closes a) (h .done ++ D.means (scopeOf o) (meaningOf g) (namesRead s (i .most) (i .names)))) ≡ D.declareFrom (scopeOf o) s (length s) [] from → Declares d s t₀ x₀ o from u (record { tally = z; read = q })
-        last-by (read a) q f n = declares from (D.declared (D.clause (P.declare (D.spellings (h .done ++ D.means (scopeOf o) (meaningOf g) (namesRead s (i .most) (i .names))))) D.closes a) (h .done ++ D.means (scopeOf o) (meaningOf g) (namesRead s (i .most) (i .names)))) u (record { tally = z; read = q }) n both f
+        last-by : (Q : Reading ℕ) → (q : Read) → q ≡ readFor S.Declare from FixedType (then Q λ a. read (D.clause (P.declare (D.spellings (h .done ++ D.means (scopeOf o) (meaningOf g) (namesRead s (i .most) (i .names))))) D.opensNothing a))
+            → D.thenDeclare (h .done ++ D.means (scopeOf o) (meaningOf g) (namesRead s (i .most) (i .names))) Q (λ a. D.declared (D.clause (P.declare (D.spellings (h .done ++ D.means (scopeOf o) (meaningOf g) (namesRead s (i .most) (i .names))))) D.opensNothing a) (h .done ++ D.means (scopeOf o) (meaningOf g) (namesRead s (i .most) (i .names)))) ≡ D.declareFrom (scopeOf o) s (length s) [] from → Declares d s t₀ x₀ o from u (record { tally = z; read = q })
+        last-by (read a) q f n = declares from (D.declared (D.clause (P.declare (D.spellings (h .done ++ D.means (scopeOf o) (meaningOf g) (namesRead s (i .most) (i .names))))) D.opensNothing a) (h .done ++ D.means (scopeOf o) (meaningOf g) (namesRead s (i .most) (i .names)))) u (record { tally = z; read = q }) n both f
         last-by (refused w p) q f n = declares from (D.undeclared w p (h .done ++ D.means (scopeOf o) (meaningOf g) (namesRead s (i .most) (i .names)))) u (record { tally = z; read = q }) n both f
 
         pub items-done : v ≡ false → (a : Expected) (q : Read) → a ≡ expected (59 ∷ []) s e → q ≡ readUpTo S.Declare O.Nothing from a → Declares d s t₀ x₀ o from u (record { tally = z; read = q })

@@ -65,7 +65,7 @@ keywordBy is =
 
 -- ---- answers
 abbrev pub opensFor : D.Opens → Opens
-opensFor D.closes = O.Nothing
+opensFor D.opensNothing = O.Nothing
 opensFor D.opensGroup = O.Group
 opensFor D.opensBody = O.Body
 opensFor D.opensThen = O.Then
