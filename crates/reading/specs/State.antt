@@ -1,6 +1,6 @@
--- What the state of the reading and the room of rows stand for in the definition. Rows of the room have numbers that go on from
--- inclusion to inclusion; those of a member begin at `base`.
-use Prim.Native.Nat.{ℕ, zero, suc, _+_, _-_, _≤_, _<_}
+-- What the state of the reading and the room of rows stand for in the definition. A member has its own part of the room: its first
+-- row is row 0.
+use Prim.Native.Nat.{ℕ, zero, suc, _+_, _*_, _≤_, _<_}
 use mathlib.Core.Bool.{Bool, true, false, cond, _&&_}
 use mathlib.Core.List.{List, [], _∷_}
 use mathlib.Core.Path.{_≡_}
@@ -38,9 +38,9 @@ use Rattle.reading.specs.declared.Turned.{Turned}
 use Rattle.reading.specs.declared.Source.{Source}
 
 -- ---- rows
-abbrev pub linkOf : ℕ → Link → P.Link
-linkOf base L.Nowhere = P.nowhere
-linkOf base (L.To n) = P.row (n - base)
+abbrev pub linkOf : Link → P.Link
+linkOf L.Nowhere = P.nowhere
+linkOf (L.To n) = P.row n
 
 abbrev pub roleOf : Role → P.Role
 roleOf Rl.Listed = P.listed
@@ -51,23 +51,23 @@ abbrev pub stretchOf : Stretch → P.Stretch
 stretchOf x = record { from = x .from; to = x .to }
 
 -- THE ROW that a record of the table is, in the body s: its statement is read again
-unfoldable pub rowOf : List ℕ → ℕ → Row → P.Row
-rowOf s base x = record {
+unfoldable pub rowOf : List ℕ → Row → P.Row
+rowOf s x = record {
   statement = statementAt s (x .statement) (x .content);
   place = x .place;
-  parent = linkOf base (x .parent);
+  parent = linkOf (x .parent);
   role = roleOf (x .role);
-  next = linkOf base (x .next);
-  child = linkOf base (x .child);
-  other = linkOf base (x .other);
+  next = linkOf (x .next);
+  child = linkOf (x .child);
+  other = linkOf (x .other);
   lead = stretchOf (x .lead);
   text = stretchOf (x .text);
 }
 
 -- n rows of the room t, from row a on
-unfoldable pub rowsFrom : List ℕ → ℕ → List ℕ → ℕ → ℕ → List P.Row
-rowsFrom s base t a zero = []
-rowsFrom s base t a (suc n) = rowOf s base (rowIn t a) ∷ rowsFrom s base t (suc a) n
+unfoldable pub rowsFrom : List ℕ → List ℕ → ℕ → ℕ → List P.Row
+rowsFrom s t a zero = []
+rowsFrom s t a (suc n) = rowOf s (rowIn t a) ∷ rowsFrom s t (suc a) n
 
 -- ---- what is open, innermost first
 abbrev pub whereOf : Where → D.Where
@@ -78,12 +78,12 @@ whereOf Wh.InThen = D.inThen
 whereOf Wh.InElse = D.inElse
 
 -- an alternative has one statement, so that its last row is of no matter; END names labels of groups and bodies alone
-abbrev pub lastOf : ℕ → Where → Link → P.Link
-lastOf base Wh.InProgram l = linkOf base l
-lastOf base Wh.InGroup l = linkOf base l
-lastOf base Wh.InBody l = linkOf base l
-lastOf base Wh.InThen l = P.nowhere
-lastOf base Wh.InElse l = P.nowhere
+abbrev pub lastOf : Where → Link → P.Link
+lastOf Wh.InProgram l = linkOf l
+lastOf Wh.InGroup l = linkOf l
+lastOf Wh.InBody l = linkOf l
+lastOf Wh.InThen l = P.nowhere
+lastOf Wh.InElse l = P.nowhere
 
 abbrev pub labelsOf : List ℕ → Where → ℕ → List (List ℕ)
 labelsOf s Wh.InProgram at = []
@@ -92,46 +92,42 @@ labelsOf s Wh.InBody at = D.spelled (D.labels s at .labels)
 labelsOf s Wh.InThen at = []
 labelsOf s Wh.InElse at = []
 
-unfoldable pub openOf : List ℕ → ℕ → Open → D.Open
-openOf s base o = record { kind = whereOf (o .kind); row = o .row - base; last = lastOf base (o .kind) (o .last); labels = labelsOf s (o .kind) (o .labels) }
+unfoldable pub openOf : List ℕ → Open → D.Open
+openOf s o = record { kind = whereOf (o .kind); row = o .row; last = lastOf (o .kind) (o .last); labels = labelsOf s (o .kind) (o .labels) }
 
 abbrev pub noOpen : Open
 noOpen = record { kind = Wh.InProgram; row = 0; last = L.Nowhere; labels = 0 }
 
 -- the n first of a list of what is open, the last of them on top
-unfoldable pub openFrom : List ℕ → ℕ → List Open → ℕ → List D.Open
-openFrom s base os zero = []
-openFrom s base os (suc n) = openOf s base (getD os n noOpen) ∷ openFrom s base os n
-
-abbrev pub scopeIn : ℕ → P.Scope → P.Scope
-scopeIn base P.global = P.global
-scopeIn base (P.inside r) = P.inside (r - base)
+unfoldable pub openFrom : List ℕ → List Open → ℕ → List D.Open
+openFrom s os zero = []
+openFrom s os (suc n) = openOf s (getD os n noOpen) ∷ openFrom s os n
 
 -- ---- THE STATE: of the body s, the room of rows t, and the declarations ds so far, which the room of names has entered
 unfoldable pub stateOf : List ℕ → List ℕ → List P.Declared → State → D.State
 stateOf s t ds x = record {
   lead = stretchOf (x .lead);
-  first = linkOf (x .«base_row») (x .first);
-  rows = rowsFrom s (x .«base_row») t (x .«base_row») (x .rows - x .«base_row»);
+  first = linkOf (x .first);
+  rows = rowsFrom s t 0 (x .rows);
   declared = ds;
-  opened = openFrom s (x .«base_row») (x .opened .items) (x .opened .count);
-  scope = scopeIn (x .«base_row») (scopeOf (x .scope));
+  opened = openFrom s (x .opened .items) (x .opened .count);
+  scope = scopeOf (x .scope);
 }
 
-abbrev pub modeOf : ℕ → Mode → D.Mode
-modeOf base Md.Leading = D.leadingText
-modeOf base (Md.Behind n) = D.textBehind (n - base)
-modeOf base Md.Alternative = D.alternative
-modeOf base Md.Inner = D.inner
+abbrev pub modeOf : Mode → D.Mode
+modeOf Md.Leading = D.leadingText
+modeOf (Md.Behind n) = D.textBehind n
+modeOf Md.Alternative = D.alternative
+modeOf Md.Inner = D.inner
 
 -- THE TURN that an answer is; a sentence that stops the reading is `begun`
-abbrev pub nextOf : ℕ → Next → List ℕ → D.State → D.Turn
-nextOf base (Nx.Go m at) begun st = D.go (modeOf base m) at st
-nextOf base (Nx.Stop w p) begun st = D.stop w p begun st
-nextOf base Nx.Finish begun st = D.finish st
+abbrev pub nextOf : Next → List ℕ → D.State → D.Turn
+nextOf (Nx.Go m at) begun st = D.go (modeOf m) at st
+nextOf (Nx.Stop w p) begun st = D.stop w p begun st
+nextOf Nx.Finish begun st = D.finish st
 
 unfoldable pub turnOf : List ℕ → List ℕ → List P.Declared → List ℕ → Turned → D.Turn
-turnOf s t ds begun r = nextOf (r .state .«base_row») (r .next) begun (stateOf s t ds (r .state))
+turnOf s t ds begun r = nextOf (r .next) begun (stateOf s t ds (r .state))
 
 -- what the definition's turn declares, and the sentence that it stopped at
 abbrev pub stateIn : D.Turn → D.State
@@ -147,9 +143,9 @@ begunIn (D.finish st) = []
 -- ---- what a turn needs and does: deck d, body s, rooms of rows t and of names n
 pub record Sits (d s t n : List ℕ) (x : State) : Type 0 where
   pub ready : Ready d s n (x .tally) (x .scope)
-  pub rows : x .«base_row» ≤ x .rows
-  pub few : x .rows ≤ 2048
-  pub room : 32768 ≤ length t
+  pub few : x .entered + x .rows ≤ 2048
+  pub own : x .rows ≤ 1024
+  pub room : 16 * 1024 ≤ length t
   pub some : 0 < x .opened .count
   pub deep : x .opened .count ≤ 19
 
@@ -158,24 +154,24 @@ pub record Takes (d s t n : List ℕ) (x : State) (X : D.Turn) (t′ n′ : List
   pub turn : turnOf s t′ (stateIn X .declared) (begunIn X) r ≡ X
   pub entered : Entered d n (x .tally) (bookAll (x .tally .member) (stateIn X .declared)) n′ (r .state .tally)
   pub sits : Sits d s t′ n′ (r .state)
-  pub base : r .state .«base_row» ≡ x .«base_row»
+  pub before : r .state .entered ≡ x .entered
 
 abbrev pub fromState : List ℕ → List ℕ → State → D.State
 fromState s t x = stateOf s t [] x
 
 -- the contract of `turn`
 abbrev pub Turns : List ℕ → List ℕ → List ℕ → List ℕ → State → Mode → ℕ → List ℕ → List ℕ → Turned → Type 0
-Turns d s t n x m at t′ n′ r = Takes d s t n x (D.turn s (modeOf (x .«base_row») m) at (fromState s t x)) t′ n′ r
+Turns d s t n x m at t′ n′ r = Takes d s t n x (D.turn s (modeOf m) at (fromState s t x)) t′ n′ r
 
 -- and of `clause_at`
 abbrev pub Clauses : List ℕ → List ℕ → List ℕ → List ℕ → State → ℕ → ℕ → List ℕ → List ℕ → Turned → Type 0
 Clauses d s t n x p at t′ n′ r = Takes d s t n x (D.clauseAt s p at (fromState s t x)) t′ n′ r
 
--- THE MEMBER m of the deck, whose body is s and whose rows begin at `base`; b is the book before it
-pub record Reads (s : List ℕ) (m base : ℕ) (b : Book) (t′ : List ℕ) (c : Book) (r : Source) : Type 0 where
+-- THE MEMBER m of the deck, whose body is s; b is the book before it
+pub record Reads (s : List ℕ) (m : ℕ) (b : Book) (t′ : List ℕ) (c : Book) (r : Source) : Type 0 where
   pub lead : stretchOf (r .lead) ≡ D.readMember s .lead
-  pub first : linkOf base (r .first) ≡ D.readMember s .first
-  pub rows : rowsFrom s base t′ base (r .rows - base) ≡ D.readMember s .rows
+  pub first : linkOf (r .first) ≡ D.readMember s .first
+  pub rows : rowsFrom s t′ 0 (r .rows) ≡ D.readMember s .rows
   pub names : c ≡ bookWhole m [] (D.readMember s .declared) b
 
 -- ---- leaves

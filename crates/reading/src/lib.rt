@@ -195,8 +195,8 @@ fn top_kind(o: Opened) -> Where {
 // ---- what has been read
 
 pub struct State {
-    // the first row of the member, and the next row of the table
-    pub base_row: u16,
+    // sentences entered before this member, and the rows of the member so far
+    pub entered: u16,
     pub rows: u16,
     pub first: Link,
     pub lead: Stretch,
@@ -251,7 +251,7 @@ fn with_tally(st: State, tally: Tally) -> State {
     let opened = st.opened;
     let scope = st.scope;
     State {
-        base_row: st.base_row,
+        entered: st.entered,
         rows: st.rows,
         first,
         lead,
@@ -267,7 +267,7 @@ fn with_scope(st: State, scope: Owner) -> State {
     let opened = st.opened;
     let tally = st.tally;
     State {
-        base_row: st.base_row,
+        entered: st.entered,
         rows: st.rows,
         first,
         lead,
@@ -412,7 +412,7 @@ fn add_row(rows: &mut [u16], st: State, c: Clause, p: usize) -> State {
     let scope = st.scope;
     let tally = st.tally;
     State {
-        base_row: st.base_row,
+        entered: st.entered,
         rows: row_after(n),
         first: first_of(first, n),
         lead,
@@ -966,13 +966,10 @@ fn is_end(s: &[u8], st: State, t: Lexeme) -> bool {
 
 // "over 1,024 sentences and procedure statements in a member, 2,048 in those entered"
 fn is_full(st: State) -> bool {
-    if Sentences::ENTERED <= st.rows as usize {
+    if Sentences::ENTERED <= st.entered as usize + st.rows as usize {
         return true;
     }
-    if st.rows < st.base_row {
-        return false;
-    }
-    Sentences::IN_MEMBER <= (st.rows - st.base_row) as usize
+    Sentences::IN_MEMBER <= st.rows as usize
 }
 
 fn clause_at(
@@ -1196,7 +1193,7 @@ fn turn(
 
 // ---- the member
 
-// A member that was read: its first row and its leading text; the rows and names that there are now; what is wrong with it.
+// A member that was read: its first row and its leading text; how many rows it has; the names that there are now; what is wrong with it.
 pub struct Source {
     pub first: Link,
     pub lead: Stretch,
@@ -1218,14 +1215,14 @@ fn source_of(st: State, f: Fault) -> Source {
     }
 }
 
-fn start(member: u16, base: u16, rows: u16, names: u16) -> State {
+fn start(member: u16, base: u16, entered: u16, names: u16) -> State {
     let none = Opened {
         count: 0,
         items: [nothing_open(); 20],
     };
     State {
-        base_row: rows,
-        rows,
+        entered,
+        rows: 0,
         first: Link::Nowhere,
         lead: stretch(0, 0),
         opened: push(none, nothing_open()),
@@ -1243,18 +1240,19 @@ fn turns_for(s: &[u8]) -> usize {
     n
 }
 
-// THE MEMBER of the deck, whose rows and names go behind those that are there.
+// THE MEMBER of the deck: its rows go into its own part of the rows room, its names behind those that are there; `entered` sentences
+// were entered before it.
 pub fn read_member(
     deck: &[u8],
     rows: &mut [u16],
     names: &mut [u16],
     member: u16,
-    row_count: u16,
+    entered: u16,
     name_count: u16,
 ) -> Source {
     let s = body(deck, member);
     let base = place16(deck::offset(deck, member) as usize);
-    let mut st = start(member, base, row_count, name_count);
+    let mut st = start(member, base, entered, name_count);
     let mut mode = Mode::Leading;
     let mut at: usize = 0;
     let mut turns = turns_for(s);

@@ -16,10 +16,10 @@ use mathlib.Core.Path.{_≡_}
 use lib.ListN.{length}
 
 abbrev Inv-loop : tie.InvT-loop
-Inv-loop deck rows₀ names₀ member row-count name-count s base st₀ mode₀ at₀ turns₀ rows names st mode at turns = (turns ≤ turns₀) × (length rows ≡ length rows₀) × (length names ≡ length names₀)
+Inv-loop deck rows₀ names₀ member entered name-count s base st₀ mode₀ at₀ turns₀ rows names st mode at turns = (turns ≤ turns₀) × (length rows ≡ length rows₀) × (length names ≡ length names₀)
 
 abbrev μ-loop : tie.MeasureT-loop
-μ-loop deck rows₀ names₀ member row-count name-count s base st₀ mode₀ at₀ turns₀ rows names st mode at turns = turns
+μ-loop deck rows₀ names₀ member entered name-count s base st₀ mode₀ at₀ turns₀ rows names st mode at turns = turns
 
 body-requires : tie.Need-body-requires Inv-loop μ-loop
 body-requires c κs = search needs
