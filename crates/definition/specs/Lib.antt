@@ -24,3 +24,4 @@ pub mod Calls
 pub mod Scan
 pub mod Run
 pub mod Expansion
+pub mod Printed

@@ -1,113 +1,159 @@
-// What the program prints of an answer: the six numbers, the lines, the text and a line feed. All is put into one room first.
-use expander::Expansion;
+// What the program prints of an answer: the six numbers, the lines, the text and a line feed. All is put onto one page first; what
+// would go past its end is lost, and counted.
+ghost use mathlib.Core.Path.{_≡_};
+ghost use mathlib.Core.List.{_∷_, []};
+ghost use Prim.Native.Nat.{_+_, _*_, _%_, _≤_};
+ghost use lib.ListN.{getD, take};
+ghost use Rattle.definition.specs.Lists.{part};
+ghost use Rattle.definition.specs.Values.{decimalOn};
+ghost use Rattle.definition.specs.Printed.{decimal, lineRest, letter, originLine, originLines, printed};
+ghost use Rattle.printing.specs.Page.{Puts, far, sixLine, lineAt, linesIn, expansionIn};
 use rooms::byte;
 use rooms::copy;
 use rooms::get_u32;
+use rooms::number32;
 use rooms::put_byte;
 
-// As many bytes as an answer for a text room of 65,536 and a list room of 49,152 bytes can take, and more.
-pub const PAGE: usize = 196_608;
+// As many digits as a number can have, and bytes as a line of the list has.
+const DIGITS: usize = 10;
 
-fn next(at: usize, n: usize) -> usize {
-    if at < PAGE {
-        if n < PAGE {
-            return at + n;
-        }
-    }
-    PAGE
-}
+const LINE: usize = 12;
 
-fn put(page: &mut [u8], at: usize, b: u8) -> usize {
+// ---- a byte, a number
+
+fn put(page: &mut [u8], at: usize, b: u8) -> usize
+    requires { ⌜ at + 1 ≤ far ⌝ }
+    ensures { λ r. ⌜ Puts 1 (now (page .entry)) at (b ∷ []) (now (page .exit)) r ⌝ }
+{
     put_byte(page, at, 0, b);
-    next(at, 1)
+    at + 1
 }
 
-fn digits(n: u32) -> usize {
-    let mut k: usize = 1;
-    let mut rest = n;
-    while k < 10 {
-        if rest < 10 {
-            return k;
-        }
-        rest = rest / 10;
-        k += 1;
-    }
-    k
-}
-
-fn last_digit(n: u32) -> u8 {
+fn last_digit(n: u32) -> u8
+    ensures { λ r. ⌜ r ≡ 48 + n % 10 ⌝ }
+{
     b'0' + (n % 10) as u8
 }
 
-// A number in decimal: the place behind it.
-fn put_number(page: &mut [u8], at: usize, n: u32) -> usize {
-    let k = digits(n);
-    let mut j = k;
-    let mut rest = n;
-    while 0 < j {
-        j -= 1;
-        put_byte(page, at, j, last_digit(rest));
-        rest = rest / 10;
+// The shortest decimal of a number, of at most so many digits: the last digit goes behind the others.
+fn put_digits(page: &mut [u8], at: usize, n: u32, most: usize) -> usize
+    requires { ⌜ at + most ≤ far ⌝ }
+    ensures { λ r. ⌜ Puts most (now (page .entry)) at (decimalOn most n []) (now (page .exit)) r ⌝ }
+{
+    if most < 1 {
+        return at;
     }
-    next(at, k)
+    if n < 10 {
+        return put(page, at, last_digit(n));
+    }
+    let p = put_digits(page, at, n / 10, most - 1);
+    put(page, p, last_digit(n))
 }
 
-fn put_after_blank(page: &mut [u8], at: usize, n: u32) -> usize {
+fn put_number(page: &mut [u8], at: usize, n: u32) -> usize
+    requires { ⌜ at + 10 ≤ far ⌝ }
+    ensures { λ r. ⌜ Puts 10 (now (page .entry)) at (decimal n) (now (page .exit)) r ⌝ }
+{
+    put_digits(page, at, n, DIGITS)
+}
+
+fn put_after_blank(page: &mut [u8], at: usize, n: u32) -> usize
+    requires { ⌜ at + 11 ≤ far ⌝ }
+    ensures { λ r. ⌜ Puts 11 (now (page .entry)) at (32 ∷ decimal n) (now (page .exit)) r ⌝ }
+{
     let p = put(page, at, b' ');
     put_number(page, p, n)
 }
 
-fn put_numbers(page: &mut [u8], x: Expansion) -> usize {
-    let a = put_number(page, 0, x.number);
-    let b = put_after_blank(page, a, x.member);
-    let c = put_after_blank(page, b, x.offset);
-    let d = put_after_blank(page, c, x.steps);
-    let e = put_after_blank(page, d, x.text);
-    let f = put_after_blank(page, e, x.lines);
-    put(page, f, b'\n')
-}
+// ---- lines of numbers
 
-fn letter(kind: u8) -> u8 {
-    match kind {
-        1 => b'B',
-        2 => b'C',
-        _ => b'V',
-    }
-}
-
-// The line at a place of the list.
-fn put_line(page: &mut [u8], at: usize, list: &[u8], p: usize) -> usize {
-    let a = put(page, at, letter(byte(list, p, 0)));
-    let b = put_after_blank(page, a, byte(list, p, 1) as u32);
-    let c = put_after_blank(page, b, get_u32(list, next(p, 4)));
-    let d = put_after_blank(page, c, get_u32(list, next(p, 8)));
-    put(page, d, b'\n')
-}
-
-// The lines of the list.
-fn put_lines(page: &mut [u8], from: usize, list: &[u8], lines: u32) -> usize {
+// The rest of a line: n numbers from a place of theirs on, a blank before each, and the line feed.
+fn put_rest(page: &mut [u8], from: usize, numbers: &[u32], first: usize, n: usize) -> usize
+    requires { ⌜ from + 11 * n + 1 ≤ far ⌝ }
+    ensures { λ r. ⌜ Puts (11 * n + 1) (now (page .entry)) from (lineRest (part n first (now (numbers .entry)))) (now (page .exit)) r ⌝ }
+{
     let mut at = from;
-    let mut p: usize = 0;
+    let mut j = 0;
+    while j < n {
+        at = put_after_blank(page, at, number32(numbers, first, j));
+        j += 1;
+    }
+    put(page, at, b'\n')
+}
+
+// The six numbers.
+fn put_numbers(page: &mut [u8], numbers: &[u32]) -> usize
+    ensures { λ r. ⌜ Puts 66 (now (page .entry)) 0 (sixLine (now (numbers .entry))) (now (page .exit)) r ⌝ }
+{
+    let a = put_number(page, 0, number32(numbers, 0, 0));
+    put_rest(page, a, numbers, 1, 5)
+}
+
+// ---- the lines
+
+fn letter_of(kind: u8) -> u8
+    ensures { λ r. ⌜ r ≡ letter kind ⌝ }
+{
+    if kind == 1 {
+        return b'B';
+    }
+    if kind == 2 {
+        return b'C';
+    }
+    b'V'
+}
+
+fn wide(b: u8) -> u32
+    ensures { λ r. ⌜ r ≡ b ⌝ }
+{
+    b as u32
+}
+
+// Line k of the list.
+fn put_line(page: &mut [u8], at: usize, list: &[u8], k: u32) -> usize
+    requires { ⌜ at + 35 ≤ far ⌝ }
+    ensures { λ r. ⌜ Puts 35 (now (page .entry)) at (originLine (lineAt (now (list .entry)) k)) (now (page .exit)) r ⌝ }
+{
+    let p = LINE * (k as usize);
+    let a = put(page, at, letter_of(byte(list, p, 0)));
+    let rest = [
+        wide(byte(list, p, 1)),
+        get_u32(list, p + 4),
+        get_u32(list, p + 8),
+    ];
+    put_rest(page, a, &rest, 0, 3)
+}
+
+fn put_lines(page: &mut [u8], from: usize, list: &[u8], lines: u32) -> usize
+    requires { ⌜ from + 35 * lines ≤ far ⌝ }
+    ensures { λ r. ⌜ Puts (35 * lines) (now (page .entry)) from (originLines (linesIn (now (list .entry)) lines)) (now (page .exit)) r ⌝ }
+{
+    let mut at = from;
     let mut i: u32 = 0;
     while i < lines {
-        at = put_line(page, at, list, p);
-        p = next(p, 12);
+        at = put_line(page, at, list, i);
         i += 1;
     }
     at
 }
 
-// Puts what is printed of an answer into the page, and says how long it is.
-pub fn put_answer(page: &mut [u8], x: Expansion, text: &[u8], list: &[u8]) -> usize {
-    let a = put_numbers(page, x);
-    let b = put_lines(page, a, list, x.lines);
-    let n = x.text as usize;
+// ---- the answer
+
+// Puts what is printed of an answer onto the page, and says how long it is. The six numbers stand in 01's order.
+pub fn put_answer(page: &mut [u8], numbers: &[u32], text: &[u8], list: &[u8]) -> usize
+    ensures { λ r. ⌜ Puts (67 + 35 * getD (now (numbers .entry)) 5 0 + getD (now (numbers .entry)) 4 0) (now (page .entry)) 0 (printed (expansionIn (now (numbers .entry)) (now (text .entry)) (now (list .entry)))) (now (page .exit)) r ⌝ }
+{
+    let n = number32(numbers, 0, 4) as usize;
+    let a = put_numbers(page, numbers);
+    let b = put_lines(page, a, list, number32(numbers, 0, 5));
     copy(text, 0, n, page, b);
-    put(page, next(b, n), b'\n')
+    put(page, b + n, b'\n')
 }
 
 // The part of the page that an answer takes.
-pub fn used(page: &[u8], size: usize) -> &[u8] {
+pub fn used(page: &[u8], size: usize) -> &[u8]
+    ensures { λ r. ⌜ now r ≡ take size (now (page .entry)) ⌝ }
+{
     if page.len() < size {
         return page;
     }

@@ -1,29 +1,24 @@
--- Each turn writes one line.
+-- The first i lines stand on the page.
 use borrow.Author.Needs.{needs}
 use Rattle.printing.proofs.put_lines.Statement.{statement}
 use Rattle.printing.proofs.put_lines.Tie as tie
 use Rattle.printing.proofs.put_lines.Reads as reads
 use Rattle.printing.proofs.put_lines.Lts as lts
-use Rattle.printing.proofs.next.Reads as next-reads
 use Rattle.printing.proofs.put_line.Reads as put-line-reads
-use mathlib.Core.Path.{_≡_}
-use Prim.Native.Nat.{_≤_, _-_}
-use lib.ListN.{length}
+use Prim.Native.Nat.{_-_}
+use Rattle.printing.proofs.Laws.{Listing, listing-start, listing-room, listing-more, listing-done}
 
 abbrev Inv-loop : tie.InvT-loop
-Inv-loop page₀ from list lines at₀ p₀ i₀ page at p i = (i ≤ lines) × (length page ≡ length page₀)
+Inv-loop page₀ from list lines at₀ i₀ page at i = Listing page₀ from list lines page at i
 
 abbrev μ-loop : tie.MeasureT-loop
-μ-loop page₀ from list lines at₀ p₀ i₀ page at p i = lines - i
+μ-loop page₀ from list lines at₀ i₀ page at i = lines - i
 
 loop-holds : tie.Need-loop-holds Inv-loop μ-loop
-loop-holds c = search needs
+loop-holds c = listing-start _ _ _ _
 
 put-line-requires : tie.Need-put-line-requires Inv-loop μ-loop
-put-line-requires c κs = search needs
-
-next-requires : tie.Need-next-requires Inv-loop μ-loop
-next-requires c κs = search needs
+put-line-requires c κs = search (needs, listing-room)
 
 add-i : tie.Need-add-i Inv-loop μ-loop
 add-i c = search needs
@@ -32,13 +27,13 @@ loop-less : tie.Need-loop-less Inv-loop μ-loop
 loop-less c = search needs
 
 loop-again : tie.Need-loop-again Inv-loop μ-loop
-loop-again c = search needs
+loop-again c = search listing-more
 
 same-length : tie.Need-same-length Inv-loop μ-loop
 same-length c = search needs
 
 returns : tie.Need-returns Inv-loop μ-loop
-returns c = search needs
+returns c = search listing-done
 
 pub put-lines-spec : {M : Type 1} → statement M
 put-lines-spec =
@@ -48,7 +43,6 @@ put-lines-spec =
     μ-loop
     loop-holds
     put-line-requires
-    next-requires
     add-i
     loop-less
     loop-again
