@@ -56,7 +56,8 @@ fn answer_deck(
         work,
         steps,
     );
-    let size = put_answer(page, x, text, list);
+    let numbers = [x.number, x.member, x.offset, x.steps, x.text, x.lines];
+    let size = put_answer(page, &numbers, text, list);
     io::write_all(libc::STDOUT_FILENO, used(page, size))
 }
 
@@ -107,7 +108,7 @@ fn answer_one() -> bool {
     let mut low = [0u8; 65_536];
     let mut high = [0u8; 65_536];
     let mut work = [0u8; 65_536];
-    let mut page = [0u8; 196_608];
+    let mut page = [0u8; 262_144];
     answer_in(
         &mut deck,
         &mut text,

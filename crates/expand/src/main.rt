@@ -14,7 +14,7 @@ fn main() {
     let mut low = [0u8; 65_536];
     let mut high = [0u8; 65_536];
     let mut work = [0u8; 65_536];
-    let mut page = [0u8; 196_608];
+    let mut page = [0u8; 262_144];
     let n = io::read_full(libc::STDIN_FILENO, &mut deck);
     let x = expand(
         &deck[..n],
@@ -28,6 +28,7 @@ fn main() {
         &mut work,
         meter::Meter::STEPS,
     );
-    let size = put_answer(&mut page, x, &text, &list);
+    let numbers = [x.number, x.member, x.offset, x.steps, x.text, x.lines];
+    let size = put_answer(&mut page, &numbers, &text, &list);
     io::write_all(libc::STDOUT_FILENO, used(&page, size));
 }
