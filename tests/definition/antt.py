@@ -6,9 +6,8 @@ from dataclasses import dataclass, field
 
 TOKEN = re.compile(r'"(?:[^"\\]|\\.)*"|[(){};,]|[^\s(){};,"]+')
 OPENING, CLOSING = ('(', '{'), (')', '}')
-# Words of antt that no spec has needed so far; one that turns up is not to be taken for a name.
-UNKNOWN_WORDS = {'with', 'rewrite', 'case', 'of', 'if', 'then?', 'else?', 'do', 'open', 'import', 'instance', 'macro', 'postulate',
-                 'axiom', 'forall', '∀', 'infix', 'infixl', 'infixr', 'codata', 'class', 'where?', 'syntax?', '@', '|', '...', '\\'}
+# What is no name, though it stands where one could.
+NO_NAMES = {'|', '@', '~', '!', '?', '\\', '∀', '...', '=', ':', '→', 'in', 'where', 'let'}
 
 
 class Trouble(Exception):
@@ -415,7 +414,7 @@ class Parser:
             return Text(token, unquoted(token))
         if text.isdigit():
             return Number(token, int(text))
-        if text in ('{', '}', ')', ';', ',', '=', ':', '→', 'in', 'where') or text in UNKNOWN_WORDS or text.startswith(('λ', '.')):
+        if text in NO_NAMES or text in '{});,' or text.startswith(('λ', '.')) or '@' in text:
             raise Trouble(token, 'the translator does not know %s here' % text)
         return Name(token, text)
 

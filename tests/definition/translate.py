@@ -12,6 +12,7 @@ import os
 import sys
 from dataclasses import dataclass, field
 
+sys.dont_write_bytecode = True    # nothing is left beside the sources
 import antt
 from antt import Trouble
 from library import ALWAYS, CONDITION, CONS, Constructor, Primitive, TypeName
@@ -524,15 +525,19 @@ def wrapped(value):
     return '(%s)' % value if value.startswith('{') else value
 
 
-def main():
-    specs = sys.argv[1] if len(sys.argv) > 1 else SPECS
+def translation(specs):
+    """All of the JavaScript; a Trouble is raised where the specs say what the translator does not know."""
     sys.setrecursionlimit(20000)
+    with open(os.path.join(os.path.dirname(os.path.abspath(__file__)), 'prelude.js'), encoding='utf-8') as prelude:
+        return prelude.read() + Writer(Program(specs)).program_text()
+
+
+def main():
     try:
-        text = Writer(Program(specs)).program_text()
+        text = translation(sys.argv[1] if len(sys.argv) > 1 else SPECS)
     except Trouble as trouble:
         sys.exit('translate.py: %s' % trouble)
-    prelude = open(os.path.join(os.path.dirname(os.path.abspath(__file__)), 'prelude.js'), encoding='utf-8').read()
-    sys.stdout.write(prelude + text)
+    sys.stdout.write(text)
 
 
 if __name__ == '__main__':
