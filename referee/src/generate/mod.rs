@@ -6,6 +6,7 @@ mod damage;
 mod edges;
 mod expressions;
 mod jumps;
+mod limits;
 mod mutated;
 mod operations;
 mod pairs;
@@ -38,7 +39,7 @@ pub fn record(seed: u64, number: u64) -> Record {
 }
 
 fn made(random: &mut Random) -> Record {
-    match random.weighted(&[36, 6, 3, 3, 2, 10, 11, 4, 3, 5, 10, 2, 1, 5, 4]) {
+    match random.weighted(&[36, 6, 3, 3, 2, 10, 11, 4, 3, 5, 10, 2, 1, 5, 4, 15]) {
         0 => with_rooms(random, programs),
         1 => with_rooms(random, damaged_by_tokens),
         2 => with_rooms(random, damaged_by_bytes),
@@ -57,7 +58,8 @@ fn made(random: &mut Random) -> Record {
         11 => with_rooms(random, damaged_edge),
         12 => nonsense(random),
         13 => with_rooms(random, jumps::maze),
-        _ => ample(&operations::operations(random)),
+        14 => ample(&operations::operations(random)),
+        _ => ample(&limits::limit(random)),
     }
 }
 

@@ -1,0 +1,274 @@
+//! A body that is written up to a limit, and the clause that stands there: any kind of clause, any labels before it, any
+//! ending, right or wrong.
+
+use super::super::damage::split;
+use super::super::random::Random;
+
+/// Clauses without their first `%`; `~` is a `%` outside procedures and nothing inside.
+const CLAUSES: &[&[u8]] = &[
+    b";",
+    b"X=1;",
+    b"X=X||'A';",
+    b"DCL V FIXED;",
+    b"DCL (V,W) CHAR,Z FIXED;",
+    b"DECLARE V ENTRY;",
+    b"DCL (V,W) BUILTIN;",
+    b"DO;~END;",
+    b"DO I=1 TO 2;~;~END;",
+    b"DO I=2 BY -1 TO 1;~END;",
+    b"DO I=1;~END;",
+    b"IF 1 ~THEN ~;",
+    b"IF 0 ~THEN ~;~ELSE ~;",
+    b"IF 0 ~THEN ~X=1; /**/ ~ELSE ~X=2;",
+    b"IF 1 ~THEN ~DO;~END;~ELSE ~X=2;",
+    b"IF 1 ~THEN ~IF 0 ~THEN ~;~ELSE ~;",
+    b"P:PROC RETURNS(CHAR);RETURN(1);%END;",
+    b"P:Q:PROC(A,B)RETURNS(FIXED);DCL (A,B) FIXED;IF 1 THEN;ELSE;DO;END;RETURN(A);%E:END Q;",
+    b"PROC RETURNS(CHAR);%END;",
+    b"GOTO L1;",
+    b"GO TO L1;",
+    b"INCLUDE A;",
+    b"INCLUDE A,NOTHERE;",
+    b"ACT X;",
+    b"ACTIVATE X NORESCAN,P RESCAN;",
+    b"DEACT X,P;",
+    b"RETURN(1);",
+    b"END;",
+    b"END;",
+    b"END L1;",
+    b"ELSE ~;",
+    b"ELSE;",
+    b"ELSE=1;",
+    b"ELSE:;",
+    b"END=1;",
+    b"END:;",
+    b"THEN ~;",
+    b"X Y;",
+    b"1;",
+];
+
+/// What may come where a clause breaks off.
+const WRONG: &[&[u8]] = &[
+    b"", b"", b"", b"", b"%", b"'", b"'A", b"/*", b"/* *", b"?", b")", b"(", b"=", b":", b";",
+    b",", b" ", b"\n", b"A", b"1", b"'1'B", b"%END", b"%ELSE", b"%A:", b"%A:END", b"%THEN",
+    b" END", b" ELSE", b" A:", b"_", b"\x00", b"%END;", b"%;",
+];
+
+/// What can be open around a clause.
+#[derive(Clone, Copy, PartialEq)]
+enum Opening {
+    Group,
+    Iterated,
+    Then,
+    Else,
+    Procedure,
+}
+
+impl Opening {
+    /// The sentences that it begins.
+    fn sentences(self) -> usize {
+        if self == Opening::Else {
+            2
+        } else {
+            1
+        }
+    }
+
+    /// Whether just one statement may follow it.
+    fn is_alternative(self) -> bool {
+        matches!(self, Opening::Then | Opening::Else)
+    }
+
+    fn words(self) -> &'static [u8] {
+        match self {
+            Opening::Group => b"DO;",
+            Opening::Iterated => b"DO I=1 TO 1;",
+            Opening::Then => b"IF 1 ~THEN ",
+            Opening::Else => b"IF 0 ~THEN ~;~ELSE ",
+            Opening::Procedure => b"R:PROC RETURNS(CHAR);",
+        }
+    }
+}
+
+/// What a body has been given so far.
+pub struct Body {
+    pub bytes: Vec<u8>,
+    is_inside: bool,
+    closing: Vec<&'static [u8]>,
+}
+
+impl Body {
+    pub fn new(bytes: Vec<u8>) -> Body {
+        Body {
+            bytes,
+            is_inside: false,
+            closing: Vec::new(),
+        }
+    }
+
+    /// A body with so many sentences before the clause that comes at its end.
+    /// `depth` things are open around it, as far as the sentences reach.
+    pub fn up_to(random: &mut Random, before: usize, depth: usize) -> Body {
+        let mut body = Body::new(Vec::new());
+        let mut left = before;
+        if left > 0 && random.percent(60) {
+            body.bytes.extend_from_slice(b"%DCL X CHAR,I FIXED;");
+            left -= 1;
+        }
+        let openings = openings(random, depth, &mut left);
+        let gap = gap_among(random, &openings);
+        for (number, opening) in openings.iter().enumerate() {
+            if number == gap {
+                body.fill(random, left);
+            }
+            body.open(*opening);
+        }
+        if gap == openings.len() {
+            body.fill(random, left);
+        }
+        body.clause(random);
+        body
+    }
+
+    /// A body with so many things open around the clause that comes at its end.
+    pub fn inside(random: &mut Random, depth: usize) -> Body {
+        let mut body = Body::new(b"%DCL X CHAR,I FIXED;".to_vec());
+        for opening in openings(random, depth, &mut { usize::MAX }) {
+            body.open(opening);
+        }
+        body.clause(random);
+        body
+    }
+
+    /// Sentences that do little; only one kind of them, so that a body is not too long.
+    fn fill(&mut self, random: &mut Random, count: usize) {
+        const UNITS: &[(&[u8], usize)] = &[
+            (b"~;", 1),
+            (b"~;", 1),
+            (b"~;", 1),
+            (b"~;\n", 1),
+            (b"~DO;~END;", 1),
+            (b"~IF 0 ~THEN ~;", 2),
+            (b"~IF 1 ~THEN ~;~ELSE ~;", 3),
+        ];
+        let (unit, sentences) = *random.pick(UNITS).unwrap_or(&UNITS[0]);
+        for _ in 0..count / sentences {
+            self.put(unit);
+        }
+        for _ in 0..count % sentences {
+            self.put(b"~;");
+        }
+    }
+
+    fn open(&mut self, opening: Opening) {
+        self.put(b"~");
+        self.put(opening.words());
+        match opening {
+            Opening::Group | Opening::Iterated if self.is_inside => self.closing.push(b"END;"),
+            Opening::Group | Opening::Iterated => self.closing.push(b"%END;"),
+            Opening::Procedure => {
+                self.closing.push(b"RETURN(1);%END;");
+                self.is_inside = true;
+            }
+            Opening::Then | Opening::Else => {}
+        }
+    }
+
+    /// A clause with its labels, whole or broken off; then the body ends, or what is open is closed.
+    pub fn clause(&mut self, random: &mut Random) {
+        if random.percent(90) {
+            self.put(b"~");
+        }
+        if self.is_inside && random.percent(15) {
+            self.put(b"%");
+        }
+        let labels = labels(random);
+        self.bytes.extend(labels);
+        let clause = self.written(random.word(CLAUSES));
+        let ending = broken(random, clause);
+        self.bytes.extend(ending);
+        if random.percent(60) {
+            for closing in std::mem::take(&mut self.closing).iter().rev() {
+                self.bytes.extend_from_slice(closing);
+            }
+            self.is_inside = false;
+            for _ in 0..random.below(3) {
+                self.put(random.word(&[b"~;", b"A", b"~L1:;", b"~DCL Y CHAR;"]));
+            }
+        }
+    }
+
+    fn put(&mut self, words: &[u8]) {
+        let written = self.written(words);
+        self.bytes.extend(written);
+    }
+
+    fn written(&self, words: &[u8]) -> Vec<u8> {
+        let percent: &[u8] = if self.is_inside { b"" } else { b"%" };
+        let words: Vec<&[u8]> = words.split(|byte| *byte == b'~').collect();
+        words.join(percent)
+    }
+}
+
+/// Things to be opened, for which sentences are taken from those left.
+fn openings(random: &mut Random, depth: usize, left: &mut usize) -> Vec<Opening> {
+    let mut found: Vec<Opening> = Vec::new();
+    while found.len() < depth {
+        let in_alternative = found.last().is_some_and(|last| last.is_alternative());
+        let is_inside = found.contains(&Opening::Procedure);
+        let opening = match random.weighted(&[4, 1, 3, 2, 2]) {
+            0 => Opening::Group,
+            1 => Opening::Iterated,
+            2 => Opening::Then,
+            3 => Opening::Else,
+            _ if in_alternative || is_inside => Opening::Group,
+            _ => Opening::Procedure,
+        };
+        if *left < opening.sentences() {
+            break;
+        }
+        *left -= opening.sentences();
+        found.push(opening);
+    }
+    found
+}
+
+/// Before which of the openings sentences may stand, or behind all of them.
+fn gap_among(random: &mut Random, openings: &[Opening]) -> usize {
+    let may = |gap: &usize| *gap == 0 || !openings[*gap - 1].is_alternative();
+    let gaps: Vec<usize> = (0..=openings.len()).filter(may).collect();
+    random.pick(&gaps).copied().unwrap_or(0)
+}
+
+/// No label or several, short and long ones in any order.
+fn labels(random: &mut Random) -> Vec<u8> {
+    let mut labels = Vec::new();
+    for number in 0..random.weighted(&[50, 20, 15, 10, 5]) {
+        match random.weighted(&[8, 3, 1, 4, 2, 1]) {
+            0 => labels.extend(format!("K{number}").into_bytes()),
+            1 => labels.extend_from_slice(b"L1"),
+            2 => labels.extend_from_slice(random.word(&[b"N0", b"N1", b"END", b"ELSE", b"DO"])),
+            3 => labels.extend(b"L".repeat(32)),
+            4 => labels.extend(b"M".repeat(31)),
+            _ => labels.extend(b"N".repeat(33)),
+        }
+        labels.push(b':');
+        labels.extend_from_slice(random.word(&[b"", b"", b"", b" ", b"\n", b"/*:*/"]));
+    }
+    labels
+}
+
+/// A clause as it is, or broken off behind one of its tokens or bytes with something else there.
+fn broken(random: &mut Random, mut clause: Vec<u8>) -> Vec<u8> {
+    match random.weighted(&[45, 40, 15]) {
+        0 => return clause,
+        1 => {
+            let mut tokens = split(&clause);
+            tokens.truncate(random.below(tokens.len() + 1));
+            clause = tokens.concat();
+        }
+        _ => clause.truncate(random.below(clause.len() + 1)),
+    }
+    clause.extend_from_slice(random.word(WRONG));
+    clause
+}
