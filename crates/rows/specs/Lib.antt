@@ -1,2 +1,3 @@
 -- What the contracts of `rows` cite.
 pub mod Table
+pub mod Parts

@@ -1,9 +1,11 @@
-// The rows of the members that were read: a table of records, one for each sentence, alternative and procedure statement.
+// The rows of the members that were read: a table of records, one for each sentence, alternative and procedure statement. The rows
+// of a member are a part of it, in which they are numbered from 0 on.
 ghost use mathlib.Core.Path.{_≡_};
 ghost use mathlib.Core.List.{_∷_, []};
 ghost use Prim.Native.Nat.{_+_, _*_};
 ghost use Rattle.definition.specs.Room.{over};
 ghost use Rattle.rows.specs.Table as T;
+ghost use Rattle.rows.specs.Parts as P;
 ghost use Rattle.rows.specs.declared.Link.the-variants as Link;
 use definition::ValueType;
 use rooms::number16;
@@ -287,4 +289,58 @@ pub fn set_text(rows: &mut [u16], n: u16, x: Stretch)
     ensures { λ _. ⌜ now (rows .exit) ≡ over (now (rows .entry)) (16 * n + 12) (T.stretchNumbers x) ⌝ }
 {
     put_stretch(rows, record_place(n) + 12, x);
+}
+
+// ---- the rows of a member
+
+// Which row of the table is the first of each member, by the lines of the deck.
+pub struct Starts {
+    pub at: [u16; 32],
+}
+
+pub fn no_starts() -> Starts
+    ensures { λ r. ⌜ r ≡ P.noStarts ⌝ }
+{
+    Starts { at: [0; 32] }
+}
+
+fn start_of(x: Starts, member: u16) -> u16
+    ensures { λ r. ⌜ r ≡ P.startIn x member ⌝ }
+{
+    let k = member as usize;
+    if k < 32 {
+        return x.at[k];
+    }
+    0
+}
+
+pub fn with_start(x: Starts, member: u16, start: u16) -> Starts
+    ensures { λ r. ⌜ P.StartsAt x member start r ⌝ }
+{
+    let k = member as usize;
+    let mut all = x;
+    if k < 32 {
+        all.at[k] = start;
+        return all;
+    }
+    all
+}
+
+// Where the rows from n on begin in the table: at its end where it has none of them.
+pub fn part_place(rows: &[u16], n: u16) -> usize
+    ensures { λ r. ⌜ P.PartPlace (now (rows .entry)) n r ⌝ }
+{
+    let at = record_place(n);
+    if rows.len() < at {
+        return rows.len();
+    }
+    at
+}
+
+// The rows of a member, and what lies behind them.
+pub fn part_of(rows: &[u16], x: Starts, member: u16) -> &[u16]
+    ensures { λ r. ⌜ now r ≡ P.partIn (now (rows .entry)) x member ⌝ }
+{
+    let from = part_place(rows, start_of(x, member));
+    &rows[from..]
 }
