@@ -194,12 +194,13 @@ module _ (d s t : List ℕ) (c : ℕ) (p : Place) (list : ℕ) where
           let pa : Past s at (m .to) = reads-it (nameAt-past s at w) e in
           let li : Lies s (m .to) (tokenAt s (m .to)) = tokenAt-lies s (m .to) (pa .within) in
           let mt : m .to ≡ tokenAt s at .to = name-is s at m e .to in
-          record
-            { rest = o ∷ os
-            ; listed = rw y-to (rw mt at k)
-            ; within = let hi : tokenAt s (m .to) .to ≤ length s = li .high in rw y-to (rw mt at hi)
-            ; total = omega (arith, v)
-            ; same = sym (past-more n found (asked (o ∷ os))) ∙ ap (calledPast p list n) (sym (asked-some l (o ∷ os) found (first-is l m e i ∙ rw f))) ∙ u }
+          record {
+            rest = o ∷ os;
+            listed = rw y-to (rw mt at k);
+            within = let hi : tokenAt s (m .to) .to ≤ length s = li .high in rw y-to (rw mt at hi);
+            total = omega (arith, v);
+            same = sym (past-more n found (asked (o ∷ os))) ∙ ap (calledPast p list n) (sym (asked-some l (o ∷ os) found (first-is l m e i ∙ rw f))) ∙ u;
+          }
 
       pub counting-more : Counting n at → n < length s → b ≡ false → Counting (n + 1) (y .to)
       counting-more k o h = record { low = omega arith; is = λ ns l i. let r : Rest ns n at = k .is ns l i in more-by h ns (r .rest) (r .listed) (r .within) (r .total) (r .same) }
@@ -221,9 +222,10 @@ module _ (d rows t : List ℕ) (n : ℕ) (b : Body) where
     open-is o i = told s (x .content) l lex "(" (40 ∷ []) v o refl h i
 
     bodied-by : (r : Called) → CalleeIs d s t n p (x .content) r → CalleeOf d rows t n b r
-    bodied-by r c = record
-      { none = λ i. absurd (let z : _≡_ {A = ℕ} 0 1 = cc in omega arith)
-      ; some = λ q i. let j : p ≡ q = cc in rw (← j, ← g, ← f) c }
+    bodied-by r c = record {
+      none = λ i. absurd (let z : _≡_ {A = ℕ} 0 1 = cc in omega arith);
+      some = λ q i. let j : p ≡ q = cc in rw (← j, ← g, ← f) c;
+    }
 
     some-by : (r : Called) → CountedIs d s t n p (l .to) r → (o : Bool) → isSign "(" (tokenAt s (x .content) .token) ≡ o → o ≡ true → (list : ℕ) (ns : List (List ℕ)) → list ≡ cond o (tokenAt s (x .content) .to) (tokenAt s (x .content) .from) → HeadedBy o s ns list → x .content ≤ length s → r ≡ calledFor p list (E.parameters (ownerAt p) ns (namesWorld d t n))
     some-by r c false i j list ns y k w = true-false (sym j)

@@ -67,9 +67,10 @@ module _ (g : Running) (p : Place) where
   pub starts-one : (n : ℕ) → n ≡ g .left → 1 ≤ n → length (g .members) ≡ 16 → length (g .rows) ≡ 16 → n ≤ 16
       → Starts g p (record { left = n - 1; members = set (g .members) (n - 1) (p .member); rows = set (g .rows) (n - 1) (p .row) })
   unfolding onFrom
-  starts-one n e a x y b = record
-    { left = rw e
-    ; on = λ h k.
+  starts-one n e a x y b = record {
+    left = rw e;
+    on = λ h k.
         let f : 16 - (n - 1) ≡ suc (16 - n) = omega arith in
         let q : suc (n - 1) ≡ n = omega arith in
-        rw (f, getD-set-same (g .members) (n - 1) (p .member) 0 (omega arith), getD-set-same (g .rows) (n - 1) (p .row) 0 (omega arith), q, on-set (g .members) (g .rows) (n - 1) (p .member) (p .row) n (16 - n) (omega arith), e) }
+        rw (f, getD-set-same (g .members) (n - 1) (p .member) 0 (omega arith), getD-set-same (g .rows) (n - 1) (p .row) 0 (omega arith), q, on-set (g .members) (g .rows) (n - 1) (p .member) (p .row) n (16 - n) (omega arith), e);
+  }

@@ -170,9 +170,10 @@ module _ (c l h w : List ℕ) (a u : ℕ) (t : ValueType) where
     variable-empty g = record { is = λ _ k. rw (e, ← f .is l h, g); below = refl }
 
     pub variable-text : (n : ℕ) → x ≡ L.Bytes n → (w′ : List ℕ) → w′ ≡ over w u (part n (slot a) (half a l h)) → (r : Given) → r ≡ amongFor u (O.Characters n) → VariableIs c l h w a t u w′ r
-    variable-text n g w′ i r j = record
-      { is = λ z k. rw (e, ← f .is l h, g, j) (among-part w w′ u n (part n (slot a) (half a l h)) i (length-part n (slot a) (half a l h)) z)
-      ; below = below-over u u w w′ (part n (slot a) (half a l h)) (omega arith) i }
+    variable-text n g w′ i r j = record {
+      is = λ z k. rw (e, ← f .is l h, g, j) (among-part w w′ u n (part n (slot a) (half a l h)) i (length-part n (slot a) (half a l h)) z);
+      below = below-over u u w w′ (part n (slot a) (half a l h)) (omega arith) i;
+    }
 
 pub ruleset variables = (variable-number, variable-none, variable-empty, variable-text)
 
@@ -245,9 +246,13 @@ module _ (c l h w : List ℕ) (a u : ℕ) (v : Value) (x : Fixed) (e : v ≡ O.N
 
     number-slots : (t : ValueType) → getD ds a builtinName ≡ variableOf t → Typed t (O.Number x) → Slots ds c′ l h
     number-slots CharacterType g k = absurd k
-    number-slots FixedType g k = record
-      { few = s .few; cells = rw f₀ (rw length-over (s .cells)); low = s .low; high = s .high
-      ; short = λ j q. rw (f₀, getD-other c a j (storedOf (x .value)) (λ r. let y : variableOf FixedType ≡ variableOf CharacterType = sym g ∙ rw r at q in let z : _≡_ {A = ℕ} 0 1 = cc in omega arith)) (s .short j q) }
+    number-slots FixedType g k = record {
+      few = s .few;
+      cells = rw f₀ (rw length-over (s .cells));
+      low = s .low;
+      high = s .high;
+      short = λ j q. rw (f₀, getD-other c a j (storedOf (x .value)) (λ r. let y : variableOf FixedType ≡ variableOf CharacterType = sym g ∙ rw r at q in let z : _≡_ {A = ℕ} 0 1 = cc in omega arith)) (s .short j q);
+    }
 
   pub stored-number : ValueStored c l h w a u v c′ l h
   unfolding valueIn
@@ -320,9 +325,13 @@ module _ (c l h : List ℕ) (a : ℕ) (xs c′ l′ h′ : List ℕ) (size : len
         by false e = rw (getD-other c a j (length xs + 1) (borrow.Author.Tests.eqb-false j a e)) (s .short j q)
 
     text-slots : Slots ds c′ l′ h′
-    text-slots = record
-      { few = s .few; cells = rw (st .cell, length-over) (s .cells); low = half-length .0 (s .low); high = half-length .1 (s .high)
-      ; short = text-short }
+    text-slots = record {
+      few = s .few;
+      cells = rw (st .cell, length-over) (s .cells);
+      low = half-length .0 (s .low);
+      high = half-length .1 (s .high);
+      short = text-short;
+    }
 
 module _ (c l h w : List ℕ) (a u : ℕ) (v : Value) (n : ℕ) (e : v ≡ O.Characters n) (c′ l′ h′ : List ℕ) (st : Stored c l h a (part (n % 65536) u w) c′ l′ h′) where
   small : n ≤ 512 → n % 65536 ≡ n
@@ -359,6 +368,7 @@ param-denotes d t n p l q e = by (addressOf l (ownerAt p) (namesWorld d t n)) e
     as′ a (entryOf x y) f g = absurd (let z : _≡_ {A = ℕ} 0 1 = cc in omega arith)
     as′ a (labelAt m r x) f g = absurd (let z : _≡_ {A = ℕ} 0 1 = cc in omega arith)
     as′ a builtinName f g = absurd (let z : _≡_ {A = ℕ} 0 1 = cc in omega arith)
+
     by : (x : W.Address) → E.parameterAt x (namesWorld d t n) ≡ Val.gives q → getD (denotationsFrom t 0 n) (q .at) builtinName ≡ variableOf (q .type)
     by (W.address a) f = as′ a (getD (denotationsFrom t 0 n) a builtinName) refl f
     by W.unknown f = absurd (let z : _≡_ {A = ℕ} 0 1 = cc in omega arith)
@@ -390,9 +400,14 @@ module _ (d t : List ℕ) (n : ℕ) (y : Callee) (s : List ℕ) (k : Held) (w c�
     pub is : (ns : List (List ℕ)) (ps : List E.Parameter) → Slots ds c₀ l₀ h₀ → Names s ns (y .list) → asking ns ≡ Val.gives ps → y .count ≡ length ps → Waiting k 0 u ps → Left ps i at top c l h
 
   pub storing-start : Fits w64 (y .count) → Storing 0 (y .list) u c₀ l₀ h₀
-  storing-start f = record
-    { low = omega arith; whole = f; cells-size = refl; low-size = refl; high-size = refl
-    ; is = λ ns ps sl nm ak co wa. record { names = ns; rest = ps; slots = sl; listed = nm; asked = ak; total = rw zero-add (sym co); waiting = wa; same = refl } }
+  storing-start f = record {
+    low = omega arith;
+    whole = f;
+    cells-size = refl;
+    low-size = refl;
+    high-size = refl;
+    is = λ ns ps sl nm ak co wa. record { names = ns; rest = ps; slots = sl; listed = nm; asked = ak; total = rw zero-add (sym co); waiting = wa; same = refl };
+  }
 
   done-by : (ps qs : List E.Parameter) (i at top : ℕ) (c l h : List ℕ) → i + length qs ≡ y .count → y .count ≤ i → storeCells qs (heldFrom w k i top qs) (valuesFrom ds 0 c l h) ≡ storeCells ps (heldFrom w k 0 u ps) (valuesFrom ds 0 c₀ l₀ h₀) → valuesFrom ds 0 c l h ≡ storeCells ps (heldFrom w k 0 u ps) (valuesFrom ds 0 c₀ l₀ h₀)
   unfolding heldFrom
@@ -453,18 +468,23 @@ module _ (d t : List ℕ) (n : ℕ) (y : Callee) (s : List ℕ) (k : Held) (w c�
             let dn : getD ds (z .address) builtinName ≡ variableOf (z .«value_type») = param-denotes d t n (y .place) a q₀ (first-asked a (fi .spelled) ∙ rw f) in
             let ty : Typed (z .«value_type») v = hv .typed (wq .0) in
             let tp : top′ ≡ top + heldSize k i (z .«value_type») = top-is (wq .1) in
-            record
-              { names = ns; rest = qs
-              ; slots = vs .slots ds (z .«value_type») sl dn ty
-              ; listed = rw z-to (fi .others)
-              ; asked = in′ .0
-              ; total = omega (arith, e)
-              ; waiting = rw (tp, add-one) (wq .2)
-              ; same = rw (tp, add-one, vs .is ds (z .«value_type») sl dn ty, hv .is w top) sq }
+            record {
+              names = ns;
+              rest = qs;
+              slots = vs .slots ds (z .«value_type») sl dn ty;
+              listed = rw z-to (fi .others);
+              asked = in′ .0;
+              total = omega (arith, e);
+              waiting = rw (tp, add-one) (wq .2);
+              same = rw (tp, add-one, vs .is ds (z .«value_type») sl dn ty, hv .is w top) sq;
+            }
 
         pub storing-more : length c′ ≡ length c → length l′ ≡ length l → length h′ ≡ length h → Storing (i + 1) (z .to) top′ c′ l′ h′
-        storing-more a b e = record
-          { low = omega arith
-          ; whole = st .whole
-          ; cells-size = a ∙ st .cells-size; low-size = b ∙ st .low-size; high-size = e ∙ st .high-size
-          ; is = λ ns ps sl nm ak co wa. let r : Left ps i at top c l h = st .is ns ps sl nm ak co wa in next-by ps (r .names) (r .rest) (r .slots) (r .listed) (r .asked) (r .total) (r .waiting) (r .same) }
+        storing-more a b e = record {
+          low = omega arith;
+          whole = st .whole;
+          cells-size = a ∙ st .cells-size;
+          low-size = b ∙ st .low-size;
+          high-size = e ∙ st .high-size;
+          is = λ ns ps sl nm ak co wa. let r : Left ps i at top c l h = st .is ns ps sl nm ak co wa in next-by ps (r .names) (r .rest) (r .slots) (r .listed) (r .asked) (r .total) (r .waiting) (r .same);
+        }
