@@ -31,6 +31,8 @@ use Rattle.names.specs.declared.Body.{Body}
 use Rattle.names.specs.declared.Body.the-variants.{At}
 use Rattle.names.specs.declared.Body.the-variants as B
 use Rattle.rows.specs.Table.{rowIn}
+use Rattle.rows.specs.Parts.{partIn}
+use Rattle.rows.specs.declared.Starts.{Starts}
 use Rattle.rows.specs.declared.Row.{Row}
 use Rattle.deck.specs.Answer.{bodyIn}
 use Rattle.callees.specs.declared.ParameterAt.{ParameterAt}
@@ -213,18 +215,18 @@ module _ (d s t : List ℕ) (c : ℕ) (p : Place) (list : ℕ) where
   counting-end n at k h = record { is = λ ns l i. let r : Rest ns n at = k .is ns l i in absurd (omega (arith, h, r .total, some-listed (r .rest) at (r .listed), listed-short s ns list l i)) }
 
 -- ---- the callee of a body
-module _ (d rows t : List ℕ) (n : ℕ) (b : Body) where
-  pub callee-none : b ≡ B.Nothing → CalleeOf d rows t n b (K.Fails WrongName)
+module _ (d rows : List ℕ) (starts : Starts) (t : List ℕ) (n : ℕ) (b : Body) where
+  pub callee-none : b ≡ B.Nothing → CalleeOf d rows starts t n b (K.Fails WrongName)
   callee-none e = record { none = λ f. refl; some = λ p f. absurd (let z : _≡_ {A = ℕ} 0 1 = cc in omega arith) }
 
-  module _ (p : Place) (e : b ≡ At p) (s : List ℕ) (f : s ≡ bodyIn d (p .member)) (x : Row) (g : x ≡ rowIn rows (p .row)) (l : Lexeme) (lex : Lexed s (x .content) l) (v : Bool) (h : v ≡ isSignIn s l (40 ∷ [])) where
+  module _ (p : Place) (e : b ≡ At p) (s : List ℕ) (f : s ≡ bodyIn d (p .member)) (own : List ℕ) (u : own ≡ partIn rows starts (p .member)) (x : Row) (g : x ≡ rowIn own (p .row)) (l : Lexeme) (lex : Lexed s (x .content) l) (v : Bool) (h : v ≡ isSignIn s l (40 ∷ [])) where
     open-is : (o : Bool) → v ≡ o → isSign "(" (tokenAt s (x .content) .token) ≡ o
     open-is o i = told s (x .content) l lex "(" (40 ∷ []) v o refl h i
 
-    bodied-by : (r : Called) → CalleeIs d s t n p (x .content) r → CalleeOf d rows t n b r
+    bodied-by : (r : Called) → CalleeIs d s t n p (x .content) r → CalleeOf d rows starts t n b r
     bodied-by r c = record {
       none = λ i. absurd (let z : _≡_ {A = ℕ} 0 1 = cc in omega arith);
-      some = λ q i. let j : p ≡ q = cc in rw (← j, ← g, ← f) c;
+      some = λ q i. let j : p ≡ q = cc in rw (← j, ← u, ← g, ← f) c;
     }
 
     some-by : (r : Called) → CountedIs d s t n p (l .to) r → (o : Bool) → isSign "(" (tokenAt s (x .content) .token) ≡ o → o ≡ true → (list : ℕ) (ns : List (List ℕ)) → list ≡ cond o (tokenAt s (x .content) .to) (tokenAt s (x .content) .from) → HeadedBy o s ns list → x .content ≤ length s → r ≡ calledFor p list (E.parameters (ownerAt p) ns (namesWorld d t n))
@@ -233,7 +235,7 @@ module _ (d rows t : List ℕ) (n : ℕ) (b : Body) where
         let z : list ≡ l .to = y ∙ sym (lex .to) in
         rw z (c .is ns (rw z at k) (rw (lex .to) (tokenAt-lies s (x .content) w .high)))
 
-    pub callee-some : v ≡ true → (r : Called) → CountedIs d s t n p (l .to) r → CalleeOf d rows t n b r
+    pub callee-some : v ≡ true → (r : Called) → CountedIs d s t n p (l .to) r → CalleeOf d rows starts t n b r
     callee-some i r c = bodied-by r record { is = λ list ns k w. some-by r c (isSign "(" (tokenAt s (x .content) .token)) refl (open-is true i) list ns (k .place) (k .names) w }
 
     plain-by : (o : Bool) → o ≡ false → (list : ℕ) (ns : List (List ℕ)) → list ≡ cond o (tokenAt s (x .content) .to) (tokenAt s (x .content) .from) → HeadedBy o s ns list → K.Is (record { place = p; list = l .from; count = 0 }) ≡ calledFor p list (E.parameters (ownerAt p) ns (namesWorld d t n))
@@ -241,7 +243,7 @@ module _ (d rows t : List ℕ) (n : ℕ) (b : Body) where
     plain-by true j list ns y k = true-false j
     plain-by false j list ns y k = rw (k, y, lex .from)
 
-    pub callee-plain : v ≡ false → CalleeOf d rows t n b (K.Is (record { place = p; list = l .from; count = 0 }))
+    pub callee-plain : v ≡ false → CalleeOf d rows starts t n b (K.Is (record { place = p; list = l .from; count = 0 }))
     callee-plain i = bodied-by (K.Is (record { place = p; list = l .from; count = 0 })) record { is = λ list ns k w. plain-by (isSign "(" (tokenAt s (x .content) .token)) (open-is false i) list ns (k .place) (k .names) }
 
 -- ---- the first of a list, and the others

@@ -14,7 +14,7 @@ use Rattle.definition.specs.Calls as C
 use Rattle.definition.specs.Calls.{isRunning}
 use Rattle.names.specs.declared.Place.{Place}
 use Rattle.callees.specs.declared.Running.{Running}
-use Rattle.callees.specs.Answer.{onFrom, onOf, placeOf, Starts}
+use Rattle.callees.specs.Answer.{onFrom, onOf, placeOf, StartedIs}
 
 pub here-both : (m r : ℕ) (p : Place) → m ≡ p .member → r ≡ p .row → true ≡ (eqb m (p .member) && eqb r (p .row))
 here-both m r p e f = rw (eq-eqb m (p .member) e, eq-eqb r (p .row) f)
@@ -58,14 +58,14 @@ on-set ms rs j x y i (suc k) h =
     rw (getD-set-other ms j i x 0 (λ e. omega (arith, e)), getD-set-other rs j i y 0 (λ e. omega (arith, e)), on-set ms rs j x y (suc i) k (omega arith))
 
 module _ (g : Running) (p : Place) where
-  pub starts-none : g .left < 1 → Starts g p g
+  pub starts-none : g .left < 1 → StartedIs g p g
   starts-none h = record { left = omega arith; on = λ a b. absurd (omega (arith, h, a)) }
 
-  pub starts-past : 16 < g .left → (r : Running) → r .left ≡ g .left - 1 → Starts g p r
+  pub starts-past : 16 < g .left → (r : Running) → r .left ≡ g .left - 1 → StartedIs g p r
   starts-past h r e = record { left = e; on = λ a b. absurd (omega (arith, h, b)) }
 
   pub starts-one : (n : ℕ) → n ≡ g .left → 1 ≤ n → length (g .members) ≡ 16 → length (g .rows) ≡ 16 → n ≤ 16
-      → Starts g p (record { left = n - 1; members = set (g .members) (n - 1) (p .member); rows = set (g .rows) (n - 1) (p .row) })
+      → StartedIs g p (record { left = n - 1; members = set (g .members) (n - 1) (p .member); rows = set (g .rows) (n - 1) (p .row) })
   unfolding onFrom
   starts-one n e a x y b = record {
     left = rw e;

@@ -26,6 +26,8 @@ use Rattle.names.specs.declared.Body.{Body}
 use Rattle.names.specs.declared.Body.the-variants as B
 use Rattle.names.specs.Table.{bodyOf}
 use Rattle.rows.specs.Table.{rowIn}
+use Rattle.rows.specs.Parts.{partIn}
+use Rattle.rows.specs.declared.Starts.{Starts}
 use Rattle.fixed.specs.declared.Fixed.{Fixed}
 use Rattle.store.specs.Cells.{cellIn}
 use Rattle.operators.specs.declared.Value.{Value}
@@ -62,7 +64,7 @@ abbrev pub placeOf : Place → C.Place
 placeOf p = record { member = p .member; row = p .row }
 
 -- the procedure at p started
-pub record Starts (g : Running) (p : Place) (r : Running) : Type 0 where
+pub record StartedIs (g : Running) (p : Place) (r : Running) : Type 0 where
   pub left : r .left ≡ g .left - 1
   pub on : 0 < g .left → g .left ≤ 16 → onOf r ≡ placeOf p ∷ onOf g
 
@@ -116,10 +118,10 @@ pub record Headed (s : List ℕ) (at list : ℕ) (ns : List (List ℕ)) : Type 0
 pub record CalleeIs (d s t : List ℕ) (n : ℕ) (p : Place) (at : ℕ) (r : Called) : Type 0 where
   pub is : (list : ℕ) (ns : List (List ℕ)) → Headed s at list ns → at ≤ length s → r ≡ calledFor p list (E.parameters (ownerAt p) ns (namesWorld d t n))
 
--- the same for the body of an entry, in the deck and the table of rows
-pub record CalleeOf (d rows t : List ℕ) (n : ℕ) (b : Body) (r : Called) : Type 0 where
+-- the same for the body of an entry, in the deck and the rows of its member
+pub record CalleeOf (d rows : List ℕ) (starts : Starts) (t : List ℕ) (n : ℕ) (b : Body) (r : Called) : Type 0 where
   pub none : b ≡ B.Nothing → r ≡ K.Fails Rattle.definition.specs.declared.Why.the-variants.WrongName
-  pub some : (p : Place) → b ≡ B.At p → CalleeIs d (bodyIn d (p .member)) t n p (rowIn rows (p .row) .content) r
+  pub some : (p : Place) → b ≡ B.At p → CalleeIs d (bodyIn d (p .member)) t n p (rowIn (partIn rows starts (p .member)) (p .row) .content) r
 
 -- ---- arguments that wait
 abbrev pub heldNumber : Value → ℕ

@@ -3,6 +3,7 @@
 ghost use mathlib.Core.Path.{_≡_};
 ghost use mathlib.Core.Bool.{cond, not, _&&_};
 ghost use lib.Dec.{eqb};
+ghost use lib.ListN.{length};
 ghost use Rattle.definition.specs.Tokens.{tokenAt, isSign};
 ghost use Prim.Native.Nat.{_-_};
 ghost use Rattle.definition.specs.Lists.{part};
@@ -10,7 +11,7 @@ ghost use Rattle.definition.specs.Evaluate as E;
 ghost use Rattle.definition.specs.Calls.{isRunning};
 ghost use Rattle.names.specs.Table.{ownerOf};
 ghost use Rattle.callees.specs.Shown.{namesWorld};
-ghost use Rattle.callees.specs.Answer.{meantFor, onOf, Starts, ParameterIs, CountedIs, CalleeOf, heldNumber, HeldWith, heldAt, FixedHeld, HeldIs, VariableIs, ValueStored, AllStored};
+ghost use Rattle.callees.specs.Answer.{meantFor, onOf, StartedIs, ParameterIs, CountedIs, CalleeOf, heldNumber, HeldWith, heldAt, FixedHeld, HeldIs, VariableIs, ValueStored, AllStored};
 ghost use Rattle.callees.specs.declared.Meant.the-variants.{TheSubstr, NoSuch};
 use deck::body;
 use definition::ValueType;
@@ -31,6 +32,8 @@ use operators::Value;
 use operators::above;
 use operators::size_of;
 use rooms::is_same;
+use rows::Starts;
+use rows::part_of;
 use rows::row_at;
 use store::Length;
 use store::Number;
@@ -157,7 +160,7 @@ fn is_here(member: u16, row: u16, p: Place) -> bool
 
 // The procedure at p started.
 pub fn started(g: Running, p: Place) -> Running
-    ensures { λ r. ⌜ Starts g p r ⌝ }
+    ensures { λ r. ⌜ StartedIs g p r ⌝ }
 {
     let n = g.left;
     let mut all = g;
@@ -284,14 +287,22 @@ fn is_last(s: &[u8], at: usize) -> bool
 }
 
 // "as is an entry without a body"
-pub fn callee_of(deck: &[u8], rows: &[u16], names: &[u16], count: u16, b: Body) -> Called
-    ensures { λ r. ⌜ CalleeOf (now (deck .entry)) (now (rows .entry)) (now (names .entry)) count b r ⌝ }
+pub fn callee_of(
+    deck: &[u8],
+    rows: &[u16],
+    starts: Starts,
+    names: &[u16],
+    count: u16,
+    b: Body,
+) -> Called
+    ensures { λ r. ⌜ CalleeOf (now (deck .entry)) (now (rows .entry)) starts (now (names .entry)) count b r ⌝ }
 {
     match b {
         Body::Nothing => Called::Fails(Why::WrongName),
         Body::At(p) => {
             let s = body(deck, p.member);
-            let r = row_at(rows, p.row);
+            let part = part_of(rows, starts, p.member);
+            let r = row_at(part, p.row);
             let t = token_at(s, r.content as usize);
             if is_sign(s, t, b"(") {
                 return counted(deck, s, names, count, p, t.to);
@@ -311,7 +322,9 @@ pub struct Held {
     pub numbers: [u32; 256],
 }
 
-pub fn nothing_held() -> Held {
+pub fn nothing_held() -> Held
+    ensures { λ r. ⌜ length (r .numbers) ≡ 256 ⌝ }
+{
     Held { numbers: [0; 256] }
 }
 

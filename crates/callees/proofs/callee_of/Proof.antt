@@ -6,6 +6,7 @@ use Rattle.callees.proofs.callee_of.Reads as reads
 use Rattle.callees.proofs.callee_of.Lts as lts
 use Rattle.callees.proofs.counted.Reads as counted-reads
 use Rattle.deck.proofs.body.Reads as body-reads
+use Rattle.rows.proofs.part_of.Reads as part-of-reads
 use Rattle.rows.proofs.row_at.Reads as row-at-reads
 use Rattle.tokens.proofs.is_sign.Reads as is-sign-reads
 use Rattle.tokens.proofs.token_at.Reads as token-at-reads
@@ -19,6 +20,9 @@ enum-known-b c = search needs
 
 body-requires : tie.Need-body-requires
 body-requires c κs = search needs
+
+part-of-requires : tie.Need-part-of-requires
+part-of-requires c κs = search needs
 
 row-at-requires : tie.Need-row-at-requires
 row-at-requires c κs = search needs
@@ -54,6 +58,7 @@ callee-of-spec =
     enum-told
     enum-known-b
     body-requires
+    part-of-requires
     row-at-requires
     cast-token-at
     token-at-requires
