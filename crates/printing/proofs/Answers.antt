@@ -10,9 +10,9 @@ use native.Mathlib.Omega.{arith}
 use lib.ListN.{length, getD, take, drop, length-append, length-replicate}
 use lib.Seq.{take-append-seam, drop-append-seam}
 use Rattle.definition.specs.Limits.{programText, programList}
-use Rattle.definition.specs.Lists.{part, number, bytes}
+use Rattle.definition.specs.Lists.{part, number}
 use Rattle.definition.specs.Room.{over, zeros}
-use Rattle.definition.specs.Events.{Line, line, lineBytes, listBytes}
+use Rattle.definition.specs.Events.{Line, lineBytes, listBytes}
 use Rattle.definition.specs.Expansion.{Expansion, textRoomAfter, listRoomAfter}
 use Rattle.definition.specs.Printed.{printed}
 use Rattle.definition.proofs.Parts.{length-part, part-of-part, number-bytes}

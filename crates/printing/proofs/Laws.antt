@@ -1,21 +1,20 @@
 -- One law for each way out of a function; `then` puts one thing behind another.
 -- Assumes nothing.
 use mathlib.Core.Path.{_≡_, refl, sym, ap, subst, _∙_}
-use mathlib.Core.Bool.{Bool, true, false, cond}
+use mathlib.Core.Bool.{Bool, true, false}
 use mathlib.Core.List.{List, [], _∷_, _++_, append-assoc, append-nil}
 use Prim.Native.Nat.{ℕ, zero, suc, _+_, _*_, _-_, _/_, _%_, _<_, _≤_}
 use native.Mathlib.Nat.{add-zero, sub-zero, mod-eq-of-lt}
 use native.Mathlib.Numerals.{add-one}
 use native.Mathlib.Omega.{arith}
-use borrow.Author.Tests.{lt-ltb, le-ltb, eq-eqb, ne-eqb}
-use lib.Dec.{ltb, eqb}
+use borrow.Author.Tests.{lt-ltb, le-ltb, ne-eqb}
+use lib.Dec.{ltb}
 use lib.ListN.{length, getD, take, drop, length-append}
 use lib.Seq.{take-all}
 use Rattle.definition.specs.Choice.{when}
 use Rattle.definition.specs.Lists.{part, number}
 use Rattle.definition.specs.Room.{over}
 use Rattle.definition.specs.Values.{decimalOn}
-use Rattle.definition.specs.Events.{Line}
 use Rattle.definition.specs.Printed.{decimal, lineRest, numbersLine, letter, originLine, originLines, printed}
 use Rattle.definition.proofs.Rooms.{over-nil, over-next-at}
 use Rattle.definition.proofs.Parts.{length-part, part-more}

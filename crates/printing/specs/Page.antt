@@ -9,7 +9,7 @@ use Rattle.definition.specs.Events.{Line, line}
 use Rattle.definition.specs.Expansion.{Expansion}
 use Rattle.definition.specs.Printed.{decimal, lineRest}
 
--- xs, at most so many bytes, stands over the page p from a place on, and r is the place past it; what would go past the page's end is lost
+-- xs, at most so many bytes, stands over the page p from a place on, and r is the place past it
 pub record Puts (most : ℕ) (p : List ℕ) (at : ℕ) (xs p′ : List ℕ) (r : ℕ) : Type 0 where
   pub page : p′ ≡ over p at xs
   pub to : r ≡ at + length xs
