@@ -34,63 +34,60 @@ use Rattle.flow.specs.declared.Frames.{Frames}
 use Rattle.flow.specs.Walks as C
 use Rattle.flow.specs.Shown.{kindOf, roleOf, linkOf, Stands, Shown, Around, parent, outer, Framed, toOf, FrameShown, nextFrom, walked}
 
-back : (b n : ℕ) → b + n - b ≡ n
-back b n = omega arith
-
-module _ {E : Type 0} (M : D.Machine E) (b : ℕ) (F : List D.Frame) (up : ℕ → World → Res E D.Next) (w : World) where
+module _ {E : Type 0} (M : D.Machine E) (F : List D.Frame) (up : ℕ → World → Res E D.Next) (w : World) where
   -- ---- the end of what stands in a row
-  once-is : (o : Bool) (g : ℕ) → when o (λ _. up g w) (λ _. good (D.again g) w) ≡ walked b (cond o (Up (b + g)) (Arrives (Again (b + g)))) up w
-  once-is true g = rw back
-  once-is false g = rw back
+  once-is : (o : Bool) (g : ℕ) → when o (λ _. up g w) (λ _. good (D.again g) w) ≡ walked (cond o (Up g) (Arrives (Again g))) up w
+  once-is true g = refl
+  once-is false g = refl
 
   end-as : (x : P.Statement) (g : ℕ) (o : Bool) → (P.isIterated x ≡ true → o ≡ D.isOnce g F)
-      → D.endIn M x g F (λ _. up g w) w ≡ walked b (C.endAs (kindOf x) o (b + g)) up w
+      → D.endIn M x g F (λ _. up g w) w ≡ walked (C.endAs (kindOf x) o g) up w
   unfolding C.endAs P.isIterated
-  end-as P.null g o h = rw back
-  end-as (P.declare ns) g o h = rw back
+  end-as P.null g o h = refl
+  end-as (P.declare ns) g o h = refl
   end-as (P.procedure ns t′) g o h = refl
-  end-as (P.assign v x) g o h = rw back
-  end-as (P.conditional x) g o h = rw back
-  end-as P.group g o h = rw back
+  end-as (P.assign v x) g o h = refl
+  end-as (P.conditional x) g o h = refl
+  end-as P.group g o h = refl
   end-as (P.iterated v x bs) g o h = rw (h refl) (once-is (D.isOnce g F) g)
-  end-as (P.goto v) g o h = rw back
-  end-as (P.include ns) g o h = rw back
-  end-as (P.activate ns) g o h = rw back
-  end-as (P.deactivate ns) g o h = rw back
-  end-as (P.return x) g o h = rw back
+  end-as (P.goto v) g o h = refl
+  end-as (P.include ns) g o h = refl
+  end-as (P.activate ns) g o h = refl
+  end-as (P.deactivate ns) g o h = refl
+  end-as (P.return x) g o h = refl
 
-  module _ (t : List ℕ) (s : Shown b t (M .rows)) (fs : Frames) where
-    pub end-is : (g : ℕ) → g < length (M .rows) → (P.isIterated (rowOf (M .rows) g .statement) ≡ true → C.frameIn t fs (b + g) .«is_once» ≡ D.isOnce g F)
-        → D.endIn M (rowOf (M .rows) g .statement) g F (λ _. up g w) w ≡ walked b (C.endWalk t fs (b + g)) up w
+  module _ (t : List ℕ) (s : Shown t (M .rows)) (fs : Frames) where
+    pub end-is : (g : ℕ) → g < length (M .rows) → (P.isIterated (rowOf (M .rows) g .statement) ≡ true → C.frameIn t fs g .«is_once» ≡ D.isOnce g F)
+        → D.endIn M (rowOf (M .rows) g .statement) g F (λ _. up g w) w ≡ walked (C.endWalk t fs g) up w
     unfolding C.endWalk
-    end-is g h o = rw (s .rows g h .kind) (end-as (rowOf (M .rows) g .statement) g (C.frameIn t fs (b + g) .«is_once») o)
+    end-is g h o = rw (s .rows g h .kind) (end-as (rowOf (M .rows) g .statement) g (C.frameIn t fs g .«is_once») o)
 
     -- ---- behind a row
-    up-as : (p : P.Link) → D.upFrom M p up w ≡ walked b (C.upWalk (linkOf b p)) up w
+    up-as : (p : P.Link) → D.upFrom M p up w ≡ walked (C.upWalk (linkOf p)) up w
     unfolding C.upWalk
     up-as P.nowhere = refl
-    up-as (P.row g) = rw back
+    up-as (P.row g) = refl
 
-    next-as : (x p : P.Link) → ((g : ℕ) → p ≡ P.row g → D.endIn M (rowOf (M .rows) g .statement) g F (λ _. up g w) w ≡ walked b (C.endWalk t fs (b + g)) up w)
-        → D.nextIn M x p F up w ≡ walked b (C.nextWalk t fs (linkOf b x) (linkOf b p)) up w
+    next-as : (x p : P.Link) → ((g : ℕ) → p ≡ P.row g → D.endIn M (rowOf (M .rows) g .statement) g F (λ _. up g w) w ≡ walked (C.endWalk t fs g) up w)
+        → D.nextIn M x p F up w ≡ walked (C.nextWalk t fs (linkOf x) (linkOf p)) up w
     unfolding C.nextWalk
-    next-as (P.row m) p h = rw back
+    next-as (P.row m) p h = refl
     next-as P.nowhere P.nowhere h = refl
     next-as P.nowhere (P.row g) h = h g refl
 
-    pub next-is : (n : ℕ) → n < length (M .rows) → Framed M b t fs F n
-        → D.nextIn M (rowOf (M .rows) n .next) (rowOf (M .rows) n .parent) F up w ≡ walked b (C.nextWalk t fs (rowIn t (b + n) .next) (rowIn t (b + n) .parent)) up w
+    pub next-is : (n : ℕ) → n < length (M .rows) → Framed M t fs F n
+        → D.nextIn M (rowOf (M .rows) n .next) (rowOf (M .rows) n .parent) F up w ≡ walked (C.nextWalk t fs (rowIn t n .next) (rowIn t n .parent)) up w
     next-is n h f = rw (s .rows n h .next, s .rows n h .parent) (next-as (rowOf (M .rows) n .next) (rowOf (M .rows) n .parent) (λ g e.
         let k : g < n = s .before n g h e in
         end-is g (omega arith) (f .once g (parent n g e))))
 
     -- what the walk is in each role
     pub listed-is : (n : ℕ) → n < length (M .rows) → rowOf (M .rows) n .role ≡ P.listed
-        → C.behindWalk t fs (b + n) ≡ C.nextWalk t fs (rowIn t (b + n) .next) (rowIn t (b + n) .parent)
+        → C.behindWalk t fs n ≡ C.nextWalk t fs (rowIn t n .next) (rowIn t n .parent)
     unfolding C.behindWalk C.behindAs
     listed-is n h e = rw (s .rows n h .role, e)
 
-    pub up-is : (n : ℕ) → n < length (M .rows) → D.upFrom M (rowOf (M .rows) n .parent) up w ≡ walked b (C.upWalk (rowIn t (b + n) .parent)) up w
+    pub up-is : (n : ℕ) → n < length (M .rows) → D.upFrom M (rowOf (M .rows) n .parent) up w ≡ walked (C.upWalk (rowIn t n .parent)) up w
     up-is n h = rw (s .rows n h .parent) (up-as (rowOf (M .rows) n .parent))
 
 -- ---- "Each pass is tested first"
@@ -101,9 +98,9 @@ passes-as (F.is q) (negsuc n) z M = refl
 passes-as F.outOfRange p z M = refl
 passes-as F.zeroDivisor p z M = refl
 
-pub passes-is : {E : Type 0} (M : D.Machine E) (b : ℕ) (f : Frame) (d : D.Frame) (z : ℤ) → FrameShown b f d
+pub passes-is : {E : Type 0} (M : D.Machine E) (f : Frame) (d : D.Frame) (z : ℤ) → FrameShown f d
     → C.passesBy (fromStored (f .limit)) (fromStored (f .step)) z ≡ D.passes d z
-passes-is M b f d z s = rw (s .step, ← s .to) (passes-as (fromStored (f .limit)) (d .step) z M)
+passes-is M f d z s = rw (s .step, ← s .to) (passes-as (fromStored (f .limit)) (d .step) z M)
 
 -- ---- a walk that goes up goes to the parent
 end-up : (x : Statement) (o : Bool) (g p : ℕ) → C.endAs x o g ≡ Up p → p ≡ g
@@ -122,59 +119,51 @@ end-up Activate o g p e = cc
 end-up Deactivate o g p e = cc
 end-up Return o g p e = cc
 
-pub record Upwards (b : ℕ) (rs : List P.Row) (n p : ℕ) : Type 0 where
-  pub group : ℕ
-  pub stands : rowOf rs n .parent ≡ P.row group
-  pub is : p ≡ b + group
-
-module _ (b : ℕ) (t : List ℕ) (fs : Frames) (rs : List P.Row) (n p : ℕ) where
-  above-as : (x : P.Link) → rowOf rs n .parent ≡ x → C.upWalk (linkOf b x) ≡ Up p → Upwards b rs n p
+module _ (t : List ℕ) (fs : Frames) (rs : List P.Row) (n p : ℕ) where
+  above-as : (x : P.Link) → rowOf rs n .parent ≡ x → C.upWalk (linkOf x) ≡ Up p → rowOf rs n .parent ≡ P.row p
   unfolding C.upWalk
   above-as P.nowhere e h = let z : _≡_ {A = ℕ} 0 1 = cc in absurd (omega arith)
-  above-as (P.row g) e h = record { group = g; stands = e; is = cc }
+  above-as (P.row g) e h = let z : g ≡ p = cc in e ∙ ap P.row z
 
-  next-up-as : (y x : P.Link) → rowOf rs n .parent ≡ x → C.nextWalk t fs (linkOf b y) (linkOf b x) ≡ Up p → Upwards b rs n p
+  next-up-as : (y x : P.Link) → rowOf rs n .parent ≡ x → C.nextWalk t fs (linkOf y) (linkOf x) ≡ Up p → rowOf rs n .parent ≡ P.row p
   unfolding C.nextWalk C.endWalk
   next-up-as (P.row m) x e h = let z : _≡_ {A = ℕ} 0 1 = cc in absurd (omega arith)
   next-up-as P.nowhere P.nowhere e h = let z : _≡_ {A = ℕ} 0 1 = cc in absurd (omega arith)
-  next-up-as P.nowhere (P.row g) e h = record { group = g; stands = e; is = end-up _ _ (b + g) p h }
+  next-up-as P.nowhere (P.row g) e h = e ∙ ap P.row (sym (end-up _ _ g p h))
 
-  role-up-as : (r : P.Role) (y x : P.Link) → rowOf rs n .parent ≡ x → C.behindAs (roleOf r) t fs (linkOf b y) (linkOf b x) ≡ Up p → Upwards b rs n p
+  role-up-as : (r : P.Role) (y x : P.Link) → rowOf rs n .parent ≡ x → C.behindAs (roleOf r) t fs (linkOf y) (linkOf x) ≡ Up p → rowOf rs n .parent ≡ P.row p
   unfolding C.behindAs
   role-up-as P.listed y x e h = next-up-as y x e h
   role-up-as P.thenPart y x e h = above-as x e h
   role-up-as P.elsePart y x e h = above-as x e h
 
-  pub behind-up : Shown b t rs → n < length rs → C.behindWalk t fs (b + n) ≡ Up p → Upwards b rs n p
+  pub behind-up : Shown t rs → n < length rs → C.behindWalk t fs n ≡ Up p → rowOf rs n .parent ≡ P.row p
   unfolding C.behindWalk
   behind-up s h e = role-up-as (rowOf rs n .role) (rowOf rs n .next) (rowOf rs n .parent) refl
       (rw (s .rows n h .role, s .rows n h .next, s .rows n h .parent) at e)
 
-pub framed-up : {E : Type 0} (M : D.Machine E) (b : ℕ) (t : List ℕ) (fs : Frames) (F : List D.Frame) (n g : ℕ) → Framed M b t fs F n → rowOf (M .rows) n .parent ≡ P.row g → Framed M b t fs F g
-framed-up M b t fs F n g f e = record { once = λ k a. f .once k (outer n g k e a) }
+pub framed-up : {E : Type 0} (M : D.Machine E) (t : List ℕ) (fs : Frames) (F : List D.Frame) (n g : ℕ) → Framed M t fs F n → rowOf (M .rows) n .parent ≡ P.row g → Framed M t fs F g
+framed-up M t fs F n g f e = record { once = λ k a. f .once k (outer n g k e a) }
 
 -- ---- behind a row, where nothing is put out on the way
-module _ {E : Type 0} (M : D.Machine E) (quiet : (x : P.Stretch) (w : World) → M .out x w ≡ good tt w) (b : ℕ) (t : List ℕ) (s : Shown b t (M .rows)) (fs : Frames) (F : List D.Frame) where
+module _ {E : Type 0} (M : D.Machine E) (quiet : (x : P.Stretch) (w : World) → M .out x w ≡ good tt w) (t : List ℕ) (s : Shown t (M .rows)) (fs : Frames) (F : List D.Frame) where
   -- one turn
-  turn-as : (x : P.Role) (n : ℕ) (up : ℕ → World → Res E D.Next) (w : World) → n < length (M .rows) → Framed M b t fs F n → rowOf (M .rows) n .role ≡ x
-      → D.behindAs M x n F up w ≡ walked b (C.behindWalk t fs (b + n)) up w
+  turn-as : (x : P.Role) (n : ℕ) (up : ℕ → World → Res E D.Next) (w : World) → n < length (M .rows) → Framed M t fs F n → rowOf (M .rows) n .role ≡ x
+      → D.behindAs M x n F up w ≡ walked (C.behindWalk t fs n) up w
   unfolding C.behindWalk C.behindAs
-  turn-as P.listed n up w h f e = rw (quiet, s .rows n h .role, e) (next-is M b F up w t s fs n h f)
-  turn-as P.thenPart n up w h f e = rw (s .rows n h .role, e) (up-is M b F up w t s fs n h)
-  turn-as P.elsePart n up w h f e = rw (s .rows n h .role, e) (up-is M b F up w t s fs n h)
+  turn-as P.listed n up w h f e = rw (quiet, s .rows n h .role, e) (next-is M F up w t s fs n h f)
+  turn-as P.thenPart n up w h f e = rw (s .rows n h .role, e) (up-is M F up w t s fs n h)
+  turn-as P.elsePart n up w h f e = rw (s .rows n h .role, e) (up-is M F up w t s fs n h)
 
   -- what follows a walk
   step-as : (n k : ℕ) (w : World) (up : ℕ → World → Res E D.Next) → n < length (M .rows)
-      → ((g : ℕ) → rowOf (M .rows) n .parent ≡ P.row g → up g w ≡ good (nextFrom b (C.behindOn t fs k (b + g))) w)
-      → (x : Walk) → C.behindWalk t fs (b + n) ≡ x → walked b x up w ≡ good (nextFrom b (C.follow x (λ g. C.behindOn t fs k g))) w
+      → ((g : ℕ) → rowOf (M .rows) n .parent ≡ P.row g → up g w ≡ good (nextFrom (C.behindOn t fs k g)) w)
+      → (x : Walk) → C.behindWalk t fs n ≡ x → walked x up w ≡ good (nextFrom (C.follow x (λ g. C.behindOn t fs k g))) w
   step-as n k w up h i (Arrives x) e = refl
-  step-as n k w up h i (Up p) e =
-      let q = behind-up b t fs (M .rows) n p s h e in
-      let z : p - b ≡ q .group = omega (arith, q .is) in
-      rw (z, i (q .group) (q .stands), ← q .is)
+  step-as n k w up h i (Up p) e = i p (behind-up t fs (M .rows) n p s h e)
 
-  behind-on : (f k n : ℕ) (w : World) → n < f → n < k → n < length (M .rows) → Framed M b t fs F n
-      → D.behindOn M F f n w ≡ good (nextFrom b (C.behindOn t fs k (b + n))) w
+  behind-on : (f k n : ℕ) (w : World) → n < f → n < k → n < length (M .rows) → Framed M t fs F n
+      → D.behindOn M F f n w ≡ good (nextFrom (C.behindOn t fs k n)) w
   unfolding D.behindOn C.behindOn
   behind-on zero k n w h i l fr = absurd (omega arith)
   behind-on (suc f) zero n w h i l fr = absurd (omega arith)
@@ -182,59 +171,59 @@ module _ {E : Type 0} (M : D.Machine E) (quiet : (x : P.Stretch) (w : World) →
       turn-as (rowOf (M .rows) n .role) n (λ g v. D.behindOn M F f g v) w l fr refl
       ∙ step-as n k w (λ g v. D.behindOn M F f g v) l (λ g e.
       let lt : g < n = s .before n g l e in
-      behind-on f k g w (omega arith) (omega arith) (omega arith) (framed-up M b t fs F n g fr e)) (C.behindWalk t fs (b + n)) refl
+      behind-on f k g w (omega arith) (omega arith) (omega arith) (framed-up M t fs F n g fr e)) (C.behindWalk t fs n) refl
 
   -- THE FUNCTION `behind` of the code is the definition's
-  pub behind-is : (n : ℕ) (w : World) → n < length (M .rows) → Framed M b t fs F n → D.behind M F n w ≡ good (nextFrom b (C.behindOn t fs (b + n + 1) (b + n))) w
-  behind-is n w l fr = behind-on (suc n) (b + n + 1) n w (omega arith) (omega arith) l fr
+  pub behind-is : (n : ℕ) (w : World) → n < length (M .rows) → Framed M t fs F n → D.behind M F n w ≡ good (nextFrom (C.behindOn t fs (n + 1) n)) w
+  behind-is n w l fr = behind-on (suc n) (n + 1) n w (omega arith) (omega arith) l fr
 
   -- and so is `arrived` of the walk to a row, of the end of a group, of a group's beginning
-  arrived-as : (x : Walk) (w : World) → ((p : ℕ) → x ≡ Up p → D.behind M F (p - b) w ≡ good (nextFrom b (C.behindOn t fs (p + 1) p)) w)
-      → walked b x (λ g v. D.behind M F g v) w ≡ good (nextFrom b (C.arrivedAt t fs x)) w
+  arrived-as : (x : Walk) (w : World) → ((p : ℕ) → x ≡ Up p → D.behind M F p w ≡ good (nextFrom (C.behindOn t fs (p + 1) p)) w)
+      → walked x (λ g v. D.behind M F g v) w ≡ good (nextFrom (C.arrivedAt t fs x)) w
   unfolding C.arrivedAt
   arrived-as (Arrives x) w h = refl
   arrived-as (Up p) w h = h p refl
 
-  behind-at : (g p : ℕ) (w : World) → p ≡ b + g → g < length (M .rows) → Framed M b t fs F g → D.behind M F (p - b) w ≡ good (nextFrom b (C.behindOn t fs (p + 1) p)) w
-  behind-at g p w e h fr = let z : p - b ≡ g = omega arith in rw (z, e) (behind-is g w h fr)
+  behind-at : (g p : ℕ) (w : World) → p ≡ g → g < length (M .rows) → Framed M t fs F g → D.behind M F p w ≡ good (nextFrom (C.behindOn t fs (p + 1) p)) w
+  behind-at g p w e h fr = rw e (behind-is g w h fr)
 
-  pub end-arrives : (g : ℕ) (w : World) → g < length (M .rows) → Framed M b t fs F g → (P.isIterated (rowOf (M .rows) g .statement) ≡ true → C.frameIn t fs (b + g) .«is_once» ≡ D.isOnce g F)
-      → D.endOf M F g w ≡ good (nextFrom b (C.arrivedAt t fs (C.endWalk t fs (b + g)))) w
+  pub end-arrives : (g : ℕ) (w : World) → g < length (M .rows) → Framed M t fs F g → (P.isIterated (rowOf (M .rows) g .statement) ≡ true → C.frameIn t fs g .«is_once» ≡ D.isOnce g F)
+      → D.endOf M F g w ≡ good (nextFrom (C.arrivedAt t fs (C.endWalk t fs g))) w
   unfolding C.endWalk
-  end-arrives g w h fr o = end-is M b F (λ k v. D.behind M F k v) w t s fs g h o
-      ∙ arrived-as (C.endWalk t fs (b + g)) w (λ p e. behind-at g p w (end-up _ _ (b + g) p e) h fr)
+  end-arrives g w h fr o = end-is M F (λ k v. D.behind M F k v) w t s fs g h o
+      ∙ arrived-as (C.endWalk t fs g) w (λ p e. behind-at g p w (end-up _ _ g p e) h fr)
 
-  first-as : (x : P.Link) (g : ℕ) (w : World) → D.endOf M F g w ≡ good (nextFrom b (C.arrivedAt t fs (C.endWalk t fs (b + g)))) w
-      → D.firstIn M x g F w ≡ good (nextFrom b (C.arrivedAt t fs (C.firstAs (linkOf b x) t fs (b + g)))) w
+  first-as : (x : P.Link) (g : ℕ) (w : World) → D.endOf M F g w ≡ good (nextFrom (C.arrivedAt t fs (C.endWalk t fs g))) w
+      → D.firstIn M x g F w ≡ good (nextFrom (C.arrivedAt t fs (C.firstAs (linkOf x) t fs g))) w
   unfolding C.firstAs C.arrivedAt
-  first-as (P.row m) g w h = rw back
+  first-as (P.row m) g w h = refl
   first-as P.nowhere g w h = h
 
-  pub first-arrives : (g : ℕ) (w : World) → g < length (M .rows) → Framed M b t fs F g → (P.isIterated (rowOf (M .rows) g .statement) ≡ true → C.frameIn t fs (b + g) .«is_once» ≡ D.isOnce g F)
-      → D.firstIn M (rowOf (M .rows) g .child) g F w ≡ good (nextFrom b (C.arrivedAt t fs (C.firstWalk t fs (b + g)))) w
+  pub first-arrives : (g : ℕ) (w : World) → g < length (M .rows) → Framed M t fs F g → (P.isIterated (rowOf (M .rows) g .statement) ≡ true → C.frameIn t fs g .«is_once» ≡ D.isOnce g F)
+      → D.firstIn M (rowOf (M .rows) g .child) g F w ≡ good (nextFrom (C.arrivedAt t fs (C.firstWalk t fs g))) w
   unfolding C.firstWalk
   first-arrives g w h fr o = rw (s .rows g h .child) (first-as (rowOf (M .rows) g .child) g w (end-arrives g w h fr o))
 
 -- ---- IF, and where a GOTO lands, whatever is put out
-module _ {E : Type 0} (M : D.Machine E) (b : ℕ) (t : List ℕ) (s : Shown b t (M .rows)) (fs : Frames) (F : List D.Frame) (w : World) where
-  chosen-as : (x : P.Link) (n : ℕ) → D.chosen M x F n w ≡ D.onward M F (walked b (C.linkWalk (linkOf b x) (b + n)) (λ g v. D.behind M F g v) w)
+module _ {E : Type 0} (M : D.Machine E) (t : List ℕ) (s : Shown t (M .rows)) (fs : Frames) (F : List D.Frame) (w : World) where
+  chosen-as : (x : P.Link) (n : ℕ) → D.chosen M x F n w ≡ D.onward M F (walked (C.linkWalk (linkOf x) n) (λ g v. D.behind M F g v) w)
   unfolding C.linkWalk
-  chosen-as (P.row m) n = rw back
-  chosen-as P.nowhere n = rw back
+  chosen-as (P.row m) n = refl
+  chosen-as P.nowhere n = refl
 
-  pub chosen-is : (n : ℕ) (c : Bool) → n < length (M .rows) → D.chosen M (D.alternativeOf M c n) F n w ≡ D.onward M F (walked b (C.chosenWalk t (b + n) c) (λ g v. D.behind M F g v) w)
+  pub chosen-is : (n : ℕ) (c : Bool) → n < length (M .rows) → D.chosen M (D.alternativeOf M c n) F n w ≡ D.onward M F (walked (C.chosenWalk t n c) (λ g v. D.behind M F g v) w)
   unfolding C.chosenWalk
   chosen-is n true h = rw (s .rows n h .child) (chosen-as (rowOf (M .rows) n .child) n)
   chosen-is n false h = rw (s .rows n h .other) (chosen-as (rowOf (M .rows) n .other) n)
 
-  pub landing-row-is : (r : ℕ) → D.follow M (D.toRow r) F w ≡ D.onward M F (walked b (C.landingWalk t fs (b + r) false) (λ g v. D.behind M F g v) w)
+  pub landing-row-is : (r : ℕ) → D.follow M (D.toRow r) F w ≡ D.onward M F (walked (C.landingWalk t fs r false) (λ g v. D.behind M F g v) w)
   unfolding C.landingWalk
-  landing-row-is r = rw back
+  landing-row-is r = refl
 
-  pub landing-end-is : (r : ℕ) → r < length (M .rows) → (P.isIterated (rowOf (M .rows) r .statement) ≡ true → C.frameIn t fs (b + r) .«is_once» ≡ D.isOnce r F)
-      → D.follow M (D.toEnd r) F w ≡ D.onward M F (walked b (C.landingWalk t fs (b + r) true) (λ g v. D.behind M F g v) w)
+  pub landing-end-is : (r : ℕ) → r < length (M .rows) → (P.isIterated (rowOf (M .rows) r .statement) ≡ true → C.frameIn t fs r .«is_once» ≡ D.isOnce r F)
+      → D.follow M (D.toEnd r) F w ≡ D.onward M F (walked (C.landingWalk t fs r true) (λ g v. D.behind M F g v) w)
   unfolding C.landingWalk
-  landing-end-is r h o = ap (D.onward M F) (end-is M b F (λ g v. D.behind M F g v) w t s fs r h o)
+  landing-end-is r h o = ap (D.onward M F) (end-is M F (λ g v. D.behind M F g v) w t s fs r h o)
 
 -- ---- GOTO: "It may not enter an iterated group"
 iterated-as : (x : P.Statement) → C.isIterated (kindOf x) ≡ P.isIterated x
@@ -251,13 +240,6 @@ iterated-as (P.include ns) = refl
 iterated-as (P.activate ns) = refl
 iterated-as (P.deactivate ns) = refl
 iterated-as (P.return x) = refl
-
-same-test : (b p g : ℕ) → eqb (b + p) (b + g) ≡ eqb p g
-same-test b p g = go (eqb p g) refl
-  where
-    go : (t : Bool) → eqb p g ≡ t → eqb (b + p) (b + g) ≡ t
-    go true e = eq-eqb (b + p) (b + g) (ap (λ (k : ℕ). b + k) (eqb-true p g e))
-    go false e = ne-eqb (b + p) (b + g) (λ h. eqb-false p g e (omega arith))
 
 turned : (p g : ℕ) → eqb g p ≡ eqb p g
 turned p g = go (eqb p g) refl
@@ -285,29 +267,29 @@ are-list q true l ys = go (D.isIn q ys)
     go false = refl
 are-list q false l ys = refl
 
-module _ (b : ℕ) (t : List ℕ) (rs : List P.Row) (s : Shown b t rs) where
-  parent-at : (n : ℕ) → n < length rs → C.parentAt t (b + n) ≡ linkOf b (rowOf rs n .parent)
+module _ (t : List ℕ) (rs : List P.Row) (s : Shown t rs) where
+  parent-at : (n : ℕ) → n < length rs → C.parentAt t n ≡ linkOf (rowOf rs n .parent)
   unfolding C.parentAt
   parent-at n h = s .rows n h .parent
 
-  iterated-at : (n : ℕ) → n < length rs → C.iteratedAt t (b + n) ≡ P.isIterated (rowOf rs n .statement)
+  iterated-at : (n : ℕ) → n < length rs → C.iteratedAt t n ≡ P.isIterated (rowOf rs n .statement)
   unfolding C.iteratedAt
   iterated-at n h = rw (s .rows n h .kind) (iterated-as (rowOf rs n .statement))
 
   -- a group is around a row
   module _ (g : ℕ) (i : P.isIterated (rowOf rs g .statement) ≡ true) where
-    around-none : (k : ℕ) → false ≡ C.aroundOn t (b + g) k Nowhere
+    around-none : (k : ℕ) → false ≡ C.aroundOn t g k Nowhere
     unfolding C.aroundOn
     around-none zero = refl
     around-none (suc k) = refl
 
-    around-link : (k : ℕ) (from : ℕ → List ℕ) (x : P.Link) → ((q : ℕ) → x ≡ P.row q → D.isIn g (from q) ≡ C.aroundOn t (b + g) k (To (b + q)))
-        → D.isIn g (D.groupsUp x from) ≡ C.aroundOn t (b + g) k (linkOf b x)
+    around-link : (k : ℕ) (from : ℕ → List ℕ) (x : P.Link) → ((q : ℕ) → x ≡ P.row q → D.isIn g (from q) ≡ C.aroundOn t g k (To q))
+        → D.isIn g (D.groupsUp x from) ≡ C.aroundOn t g k (linkOf x)
     unfolding D.isIn
     around-link k from P.nowhere h = around-none k
     around-link k from (P.row q) h = h q refl
 
-    around-from : (f k p : ℕ) → p < f → p < k → p < length rs → D.isIn g (D.groupsFrom rs f p) ≡ C.aroundOn t (b + g) k (To (b + p))
+    around-from : (f k p : ℕ) → p < f → p < k → p < length rs → D.isIn g (D.groupsFrom rs f p) ≡ C.aroundOn t g k (To p)
     unfolding D.groupsFrom C.aroundOn
     around-from zero k p h j l = absurd (omega arith)
     around-from (suc f) zero p h j l = absurd (omega arith)
@@ -316,35 +298,35 @@ module _ (b : ℕ) (t : List ℕ) (rs : List P.Row) (s : Shown b t rs) where
         ∙ ap (λ (z : Bool). cond (eqb p g) true z) (around-link k (λ q. D.groupsFrom rs f q) (rowOf rs p .parent) (λ q e.
         let m : q < p = s .before p q l e in
         around-from f k q (omega arith) (omega arith) (omega arith)))
-        ∙ rw (same-test b p g, parent-at p l)
+        ∙ rw (parent-at p l)
 
   module _ (n : ℕ) (ln : n < length rs) (small : length rs ≤ 2048) where
-    in-around : (q : ℕ) → P.isIterated (rowOf rs q .statement) ≡ true → C.aroundOn t (b + q) 2048 (C.parentAt t (b + n)) ≡ D.isIn q (D.groupsAround rs (rowOf rs n .parent))
+    in-around : (q : ℕ) → P.isIterated (rowOf rs q .statement) ≡ true → C.aroundOn t q 2048 (C.parentAt t n) ≡ D.isIn q (D.groupsAround rs (rowOf rs n .parent))
     in-around q i = rw (parent-at n ln) (sym (around-link q i 2048 (λ g. D.groupsFrom rs (suc g) g) (rowOf rs n .parent) (λ p e.
         let m : p < n = s .before n p ln e in
         around-from q i (suc p) 2048 p (omega arith) (omega arith) (omega arith))))
 
-    stand-is : (q : ℕ) → q < length rs → C.mayStand t (b + q) (b + n) ≡ cond (P.isIterated (rowOf rs q .statement)) (D.isIn q (D.groupsAround rs (rowOf rs n .parent))) true
+    stand-is : (q : ℕ) → q < length rs → C.mayStand t q n ≡ cond (P.isIterated (rowOf rs q .statement)) (D.isIn q (D.groupsAround rs (rowOf rs n .parent))) true
     unfolding C.mayStand
     stand-is q l = rw (iterated-at q l) (go (P.isIterated (rowOf rs q .statement)) refl)
       where
         go : (o : Bool) → P.isIterated (rowOf rs q .statement) ≡ o
-            → cond o (C.aroundOn t (b + q) 2048 (C.parentAt t (b + n))) true ≡ cond o (D.isIn q (D.groupsAround rs (rowOf rs n .parent))) true
+            → cond o (C.aroundOn t q 2048 (C.parentAt t n)) true ≡ cond o (D.isIn q (D.groupsAround rs (rowOf rs n .parent))) true
         go true e = in-around q e
         go false e = refl
 
-    go-none : (k : ℕ) → true ≡ C.mayGoOn t (b + n) k Nowhere
+    go-none : (k : ℕ) → true ≡ C.mayGoOn t n k Nowhere
     unfolding C.mayGoOn
     go-none zero = refl
     go-none (suc k) = refl
 
-    go-link : (k : ℕ) (from : ℕ → List ℕ) (x : P.Link) → ((q : ℕ) → x ≡ P.row q → D.areIn (from q) (D.groupsAround rs (rowOf rs n .parent)) ≡ C.mayGoOn t (b + n) k (To (b + q)))
-        → D.areIn (D.groupsUp x from) (D.groupsAround rs (rowOf rs n .parent)) ≡ C.mayGoOn t (b + n) k (linkOf b x)
+    go-link : (k : ℕ) (from : ℕ → List ℕ) (x : P.Link) → ((q : ℕ) → x ≡ P.row q → D.areIn (from q) (D.groupsAround rs (rowOf rs n .parent)) ≡ C.mayGoOn t n k (To q))
+        → D.areIn (D.groupsUp x from) (D.groupsAround rs (rowOf rs n .parent)) ≡ C.mayGoOn t n k (linkOf x)
     unfolding D.areIn
     go-link k from P.nowhere h = go-none k
     go-link k from (P.row q) h = h q refl
 
-    go-from : (f k q : ℕ) → q < f → q < k → q < length rs → D.areIn (D.groupsFrom rs f q) (D.groupsAround rs (rowOf rs n .parent)) ≡ C.mayGoOn t (b + n) k (To (b + q))
+    go-from : (f k q : ℕ) → q < f → q < k → q < length rs → D.areIn (D.groupsFrom rs f q) (D.groupsAround rs (rowOf rs n .parent)) ≡ C.mayGoOn t n k (To q)
     unfolding D.groupsFrom C.mayGoOn
     go-from zero k q h j l = absurd (omega arith)
     go-from (suc f) zero q h j l = absurd (omega arith)
@@ -357,7 +339,7 @@ module _ (b : ℕ) (t : List ℕ) (rs : List P.Row) (s : Shown b t rs) where
         ∙ rw (stand-is q l, parent-at q l)
 
     -- THE FUNCTION `may_go` of the code is the definition's
-    pub may-go-is : (r : ℕ) (e : Bool) → r < length rs → D.mayGo rs n r e ≡ C.mayGoOn t (b + n) 2048 (C.labelFrom t (b + r) e)
+    pub may-go-is : (r : ℕ) (e : Bool) → r < length rs → D.mayGo rs n r e ≡ C.mayGoOn t n 2048 (C.labelFrom t r e)
     unfolding D.mayGo C.labelFrom
     may-go-is r true l = go-from (suc r) 2048 r (omega arith) (omega arith) l
     may-go-is r false l = rw (parent-at r l) (go-link 2048 (λ g. D.groupsFrom rs (suc g) g) (rowOf rs r .parent) (λ p e.
@@ -365,7 +347,7 @@ module _ (b : ℕ) (t : List ℕ) (rs : List P.Row) (s : Shown b t rs) where
         go-from (suc p) 2048 p (omega arith) (omega arith) (omega arith)))
 
 -- ---- the frames: what is around a row is before it and, if it is an iterated group, less deep
-module _ (b : ℕ) (t : List ℕ) (rs : List P.Row) (s : Shown b t rs) where
+module _ (t : List ℕ) (rs : List P.Row) (s : Shown t rs) where
   pub around-before : (n g : ℕ) → n < length rs → Around rs n g → g < n
   around-before n g h (parent _ _ e) = s .before n g h e
   around-before n g h (outer _ p _ e a) =
@@ -373,27 +355,27 @@ module _ (b : ℕ) (t : List ℕ) (rs : List P.Row) (s : Shown b t rs) where
       let l : g < p = around-before p g (omega arith) a in
       omega arith
 
-  pub around-depth : (n g : ℕ) → n < length rs → Around rs n g → P.isIterated (rowOf rs g .statement) ≡ true → rowIn t (b + g) .depth < rowIn t (b + n) .depth
+  pub around-depth : (n g : ℕ) → n < length rs → Around rs n g → P.isIterated (rowOf rs g .statement) ≡ true → rowIn t g .depth < rowIn t n .depth
   around-depth n g h (parent _ _ e) i = s .inner n g h e i
   around-depth n g h (outer _ p _ e a) i =
       let k : p < n = s .before n p h e in
-      let l : rowIn t (b + g) .depth < rowIn t (b + p) .depth = around-depth p g (omega arith) a i in
-      let m : rowIn t (b + p) .depth ≤ rowIn t (b + n) .depth = s .level n p h e in
+      let l : rowIn t g .depth < rowIn t p .depth = around-depth p g (omega arith) a i in
+      let m : rowIn t p .depth ≤ rowIn t n .depth = s .level n p h e in
       omega arith
 
 -- rows in the same place have the same groups around them
-pub framed-same : {E : Type 0} (M : D.Machine E) (b : ℕ) (t : List ℕ) (fs : Frames) (F : List D.Frame) (n m : ℕ) → rowOf (M .rows) m .parent ≡ rowOf (M .rows) n .parent → Framed M b t fs F n → Framed M b t fs F m
-framed-same M b t fs F n m e f = record { once = λ g a. f .once g (moved g a) }
+pub framed-same : {E : Type 0} (M : D.Machine E) (t : List ℕ) (fs : Frames) (F : List D.Frame) (n m : ℕ) → rowOf (M .rows) m .parent ≡ rowOf (M .rows) n .parent → Framed M t fs F n → Framed M t fs F m
+framed-same M t fs F n m e f = record { once = λ g a. f .once g (moved g a) }
   where
     moved : (g : ℕ) → Around (M .rows) m g → Around (M .rows) n g
     moved g (parent _ _ h) = parent n g (sym e ∙ h)
     moved g (outer _ p _ h a) = outer n p g (sym e ∙ h) a
 
 -- nothing is around a row of the first list
-pub framed-first : {E : Type 0} (M : D.Machine E) (b : ℕ) (t : List ℕ) (fs : Frames) (F : List D.Frame) (n : ℕ) → rowOf (M .rows) n .parent ≡ P.nowhere → Framed M b t fs F n
-framed-first M b t fs F n e = record { once = λ g a i. none g a }
+pub framed-first : {E : Type 0} (M : D.Machine E) (t : List ℕ) (fs : Frames) (F : List D.Frame) (n : ℕ) → rowOf (M .rows) n .parent ≡ P.nowhere → Framed M t fs F n
+framed-first M t fs F n e = record { once = λ g a i. none g a }
   where
-    none : (g : ℕ) → Around (M .rows) n g → C.frameIn t fs (b + g) .«is_once» ≡ D.isOnce g F
+    none : (g : ℕ) → Around (M .rows) n g → C.frameIn t fs g .«is_once» ≡ D.isOnce g F
     none g (parent _ _ h) = let z : _≡_ {A = ℕ} 0 1 = cc in absurd (omega arith)
     none g (outer _ p _ h a) = let z : _≡_ {A = ℕ} 0 1 = cc in absurd (omega arith)
 
@@ -402,27 +384,27 @@ unfolding C.frameAt
 frame-as xs ys k g e = rw e
 
 -- ---- a group is entered: its frame goes to its depth, and is the newest
-module _ {E : Type 0} (M : D.Machine E) (b : ℕ) (t : List ℕ) (s : Shown b t (M .rows)) (fs : Frames) (F : List D.Frame) (whole : length (fs .items) ≡ 16)
-    (g : ℕ) (lg : g < length (M .rows)) (i : P.isIterated (rowOf (M .rows) g .statement) ≡ true) (f : Frame) (d : D.Frame) (sh : FrameShown b f d) (own : d .group ≡ g) where
-  deep : rowIn t (b + g) .depth < 16
+module _ {E : Type 0} (M : D.Machine E) (t : List ℕ) (s : Shown t (M .rows)) (fs : Frames) (F : List D.Frame) (whole : length (fs .items) ≡ 16)
+    (g : ℕ) (lg : g < length (M .rows)) (i : P.isIterated (rowOf (M .rows) g .statement) ≡ true) (f : Frame) (d : D.Frame) (sh : FrameShown f d) (own : d .group ≡ g) where
+  deep : rowIn t g .depth < 16
   deep = s .shallow g lg i
 
-  items-are : C.framesWith t fs (b + g) f .items ≡ set (fs .items) (rowIn t (b + g) .depth) f
+  items-are : C.framesWith t fs g f .items ≡ set (fs .items) (rowIn t g .depth) f
   unfolding C.framesWith
-  items-are = rw (lt-ltb (rowIn t (b + g) .depth) 16 deep)
+  items-are = rw (lt-ltb (rowIn t g .depth) 16 deep)
 
-  own-frame : C.frameIn t (C.framesWith t fs (b + g) f) (b + g) ≡ f
+  own-frame : C.frameIn t (C.framesWith t fs g f) g ≡ f
   unfolding C.frameIn C.frameAt C.leadsTo
   own-frame =
-      let e : getD (set (fs .items) (rowIn t (b + g) .depth) f) (rowIn t (b + g) .depth) C.blankFrame ≡ f = getD-set-same (fs .items) (rowIn t (b + g) .depth) f C.blankFrame (omega (arith, deep, whole)) in
-      rw (items-are, e, lt-ltb (rowIn t (b + g) .depth) 16 deep, sh .group, own, eq-eqb (b + g) (b + g) refl)
+      let e : getD (set (fs .items) (rowIn t g .depth) f) (rowIn t g .depth) C.blankFrame ≡ f = getD-set-same (fs .items) (rowIn t g .depth) f C.blankFrame (omega (arith, deep, whole)) in
+      rw (items-are, e, lt-ltb (rowIn t g .depth) 16 deep, sh .group, own, eq-eqb g g refl)
 
-  other-frame : (k : ℕ) → rowIn t (b + k) .depth < rowIn t (b + g) .depth → C.frameIn t (C.framesWith t fs (b + g) f) (b + k) ≡ C.frameIn t fs (b + k)
+  other-frame : (k : ℕ) → rowIn t k .depth < rowIn t g .depth → C.frameIn t (C.framesWith t fs g f) k ≡ C.frameIn t fs k
   unfolding C.frameIn
   other-frame k h =
-      let e : getD (set (fs .items) (rowIn t (b + g) .depth) f) (rowIn t (b + k) .depth) C.blankFrame ≡ getD (fs .items) (rowIn t (b + k) .depth) C.blankFrame =
-      getD-set-other (fs .items) (rowIn t (b + g) .depth) (rowIn t (b + k) .depth) f C.blankFrame (λ q. absurd (omega arith)) in
-      rw items-are (frame-as (set (fs .items) (rowIn t (b + g) .depth) f) (fs .items) (rowIn t (b + k) .depth) (b + k) e)
+      let e : getD (set (fs .items) (rowIn t g .depth) f) (rowIn t k .depth) C.blankFrame ≡ getD (fs .items) (rowIn t k .depth) C.blankFrame =
+      getD-set-other (fs .items) (rowIn t g .depth) (rowIn t k .depth) f C.blankFrame (λ q. absurd (omega arith)) in
+      rw items-are (frame-as (set (fs .items) (rowIn t g .depth) f) (fs .items) (rowIn t k .depth) k e)
 
   newest-own : D.isOnce g (d ∷ F) ≡ d .isOnce
   unfolding D.isOnce
@@ -432,14 +414,14 @@ module _ {E : Type 0} (M : D.Machine E) (b : ℕ) (t : List ℕ) (s : Shown b t 
   unfolding D.isOnce
   newest-other k h = rw (own, ne-eqb g k (λ e. absurd (omega arith)))
 
-  once-in : Framed M b t fs F g → (k : ℕ) → Around (M .rows) g k → P.isIterated (rowOf (M .rows) k .statement) ≡ true
-      → C.frameIn t (C.framesWith t fs (b + g) f) (b + k) .«is_once» ≡ D.isOnce k (d ∷ F)
-  once-in fr k a j = rw (other-frame k (around-depth b t (M .rows) s g k lg a j), newest-other k (around-before b t (M .rows) s g k lg a)) (fr .once k a j)
+  once-in : Framed M t fs F g → (k : ℕ) → Around (M .rows) g k → P.isIterated (rowOf (M .rows) k .statement) ≡ true
+      → C.frameIn t (C.framesWith t fs g f) k .«is_once» ≡ D.isOnce k (d ∷ F)
+  once-in fr k a j = rw (other-frame k (around-depth t (M .rows) s g k lg a j), newest-other k (around-before t (M .rows) s g k lg a)) (fr .once k a j)
 
-  pub framed-enter : (m : ℕ) → rowOf (M .rows) m .parent ≡ P.row g → Framed M b t fs F g → Framed M b t (C.framesWith t fs (b + g) f) (d ∷ F) m
+  pub framed-enter : (m : ℕ) → rowOf (M .rows) m .parent ≡ P.row g → Framed M t fs F g → Framed M t (C.framesWith t fs g f) (d ∷ F) m
   framed-enter m e fr = record { once = λ k a j. go k a j }
     where
-      go : (k : ℕ) → Around (M .rows) m k → P.isIterated (rowOf (M .rows) k .statement) ≡ true → C.frameIn t (C.framesWith t fs (b + g) f) (b + k) .«is_once» ≡ D.isOnce k (d ∷ F)
+      go : (k : ℕ) → Around (M .rows) m k → P.isIterated (rowOf (M .rows) k .statement) ≡ true → C.frameIn t (C.framesWith t fs g f) k .«is_once» ≡ D.isOnce k (d ∷ F)
       go k (parent _ _ h) j =
           let z : k ≡ g = cc in
           rw (z, own-frame, newest-own) (sh .once)
@@ -496,16 +478,16 @@ module _ (rs : List P.Row) (k : ℕ) where
   unfolding D.isIn
   in-first l = rw (eq-eqb k k refl)
 
-  up-listed : (b : ℕ) (t : List ℕ) → Shown b t rs → P.isIterated (rowOf rs k .statement) ≡ true → (f p : ℕ) → p < f → p < length rs → Within rs p k → D.isIn k (D.groupsFrom rs f p) ≡ true
+  up-listed : (t : List ℕ) → Shown t rs → P.isIterated (rowOf rs k .statement) ≡ true → (f p : ℕ) → p < f → p < length rs → Within rs p k → D.isIn k (D.groupsFrom rs f p) ≡ true
   unfolding D.groupsFrom
-  up-listed b t s i zero p h l a = absurd (omega arith)
-  up-listed b t s i (suc f) p h l (itself e) = rw (← e, i) (in-first (D.groupsUp (rowOf rs k .parent) (λ q. D.groupsFrom rs f q)))
-  up-listed b t s i (suc f) p h l (outside (parent _ _ e)) =
+  up-listed t s i zero p h l a = absurd (omega arith)
+  up-listed t s i (suc f) p h l (itself e) = rw (← e, i) (in-first (D.groupsUp (rowOf rs k .parent) (λ q. D.groupsFrom rs f q)))
+  up-listed t s i (suc f) p h l (outside (parent _ _ e)) =
       let m : k < p = s .before p k l e in
-      in-either p (P.isIterated (rowOf rs p .statement)) (D.groupsUp (rowOf rs p .parent) (λ q. D.groupsFrom rs f q)) (rw e (up-listed b t s i f k (omega arith) (omega arith) (itself refl)))
-  up-listed b t s i (suc f) p h l (outside (outer _ q _ e a)) =
+      in-either p (P.isIterated (rowOf rs p .statement)) (D.groupsUp (rowOf rs p .parent) (λ q. D.groupsFrom rs f q)) (rw e (up-listed t s i f k (omega arith) (omega arith) (itself refl)))
+  up-listed t s i (suc f) p h l (outside (outer _ q _ e a)) =
       let m : q < p = s .before p q l e in
-      in-either p (P.isIterated (rowOf rs p .statement)) (D.groupsUp (rowOf rs p .parent) (λ q. D.groupsFrom rs f q)) (rw e (up-listed b t s i f q (omega arith) (omega arith) (outside a)))
+      in-either p (P.isIterated (rowOf rs p .statement)) (D.groupsUp (rowOf rs p .parent) (λ q. D.groupsFrom rs f q)) (rw e (up-listed t s i f q (omega arith) (omega arith) (outside a)))
 
   in-both : (xs ys : List ℕ) → D.areIn xs ys ≡ true → D.isIn k xs ≡ true → D.isIn k ys ≡ true
   unfolding D.areIn D.isIn
@@ -518,28 +500,28 @@ module _ (rs : List P.Row) (k : ℕ) where
       go rest true e h false f i = rest h i
       go rest false e h o f i = no _ h
 
-module _ {E : Type 0} (M : D.Machine E) (b : ℕ) (t : List ℕ) (s : Shown b t (M .rows)) (fs : Frames) (F : List D.Frame) (n r : ℕ) (ln : n < length (M .rows)) (lr : r < length (M .rows)) (fr : Framed M b t fs F n) where
+module _ {E : Type 0} (M : D.Machine E) (t : List ℕ) (s : Shown t (M .rows)) (fs : Frames) (F : List D.Frame) (n r : ℕ) (ln : n < length (M .rows)) (lr : r < length (M .rows)) (fr : Framed M t fs F n) where
   here : (k : ℕ) → D.isIn k (D.groupsAround (M .rows) (rowOf (M .rows) n .parent)) ≡ true → Around (M .rows) n k
   here k i = stands-up (M .rows) k n (rowOf (M .rows) n .parent) (λ g. D.groupsFrom (M .rows) (suc g) g) refl (λ q j. listed-up (M .rows) k (suc q) q j) i
 
   -- at the END of a row: the row's own frame, and those of the groups around it
-  pub end-own : D.mayGo (M .rows) n r true ≡ true → P.isIterated (rowOf (M .rows) r .statement) ≡ true → C.frameIn t fs (b + r) .«is_once» ≡ D.isOnce r F
+  pub end-own : D.mayGo (M .rows) n r true ≡ true → P.isIterated (rowOf (M .rows) r .statement) ≡ true → C.frameIn t fs r .«is_once» ≡ D.isOnce r F
   unfolding D.mayGo
-  end-own m i = fr .once r (here r (in-both (M .rows) r (D.groupsFrom (M .rows) (suc r) r) _ m (up-listed (M .rows) r b t s i (suc r) r (omega arith) lr (itself refl)))) i
+  end-own m i = fr .once r (here r (in-both (M .rows) r (D.groupsFrom (M .rows) (suc r) r) _ m (up-listed (M .rows) r t s i (suc r) r (omega arith) lr (itself refl)))) i
 
-  pub framed-end : D.mayGo (M .rows) n r true ≡ true → Framed M b t fs F r
+  pub framed-end : D.mayGo (M .rows) n r true ≡ true → Framed M t fs F r
   unfolding D.mayGo
-  framed-end m = record { once = λ k a i. fr .once k (here k (in-both (M .rows) k (D.groupsFrom (M .rows) (suc r) r) _ m (up-listed (M .rows) k b t s i (suc r) r (omega arith) lr (outside a)))) i }
+  framed-end m = record { once = λ k a i. fr .once k (here k (in-both (M .rows) k (D.groupsFrom (M .rows) (suc r) r) _ m (up-listed (M .rows) k t s i (suc r) r (omega arith) lr (outside a)))) i }
 
   -- at a row
   around-label : (k : ℕ) → P.isIterated (rowOf (M .rows) k .statement) ≡ true → Around (M .rows) r k → D.isIn k (D.groupsAround (M .rows) (rowOf (M .rows) r .parent)) ≡ true
   around-label k i (parent _ _ e) =
       let m : k < r = s .before r k lr e in
-      rw e (up-listed (M .rows) k b t s i (suc k) k (omega arith) (omega arith) (itself refl))
+      rw e (up-listed (M .rows) k t s i (suc k) k (omega arith) (omega arith) (itself refl))
   around-label k i (outer _ p _ e a) =
       let m : p < r = s .before r p lr e in
-      rw e (up-listed (M .rows) k b t s i (suc p) p (omega arith) (omega arith) (outside a))
+      rw e (up-listed (M .rows) k t s i (suc p) p (omega arith) (omega arith) (outside a))
 
-  pub framed-goto : D.mayGo (M .rows) n r false ≡ true → Framed M b t fs F r
+  pub framed-goto : D.mayGo (M .rows) n r false ≡ true → Framed M t fs F r
   unfolding D.mayGo
   framed-goto m = record { once = λ k a i. fr .once k (here k (in-both (M .rows) k (D.groupsAround (M .rows) (rowOf (M .rows) r .parent)) _ m (around-label k i a))) i }

@@ -1,5 +1,5 @@
--- What the table of rows stands for: the rows of a member begin at the record b, and their links are numbers of records.
-use Prim.Native.Nat.{ℕ, _+_, _-_, _<_, _≤_}
+-- What the rows of a member stand for; t is the part of the table that they begin.
+use Prim.Native.Nat.{ℕ, _<_, _≤_}
 use mathlib.Core.Path.{_≡_}
 use mathlib.Core.Bool.{Bool, true}
 use mathlib.Core.List.{List}
@@ -44,27 +44,27 @@ roleOf P.listed = Listed
 roleOf P.thenPart = ThenPart
 roleOf P.elsePart = ElsePart
 
-abbrev pub linkOf : ℕ → P.Link → Link
-linkOf b P.nowhere = Nowhere
-linkOf b (P.row n) = To (b + n)
+abbrev pub linkOf : P.Link → Link
+linkOf P.nowhere = Nowhere
+linkOf (P.row n) = To n
 
 -- a record stands for a row
-pub record Stands (b : ℕ) (r : Row) (d : P.Row) : Type 0 where
+pub record Stands (r : Row) (d : P.Row) : Type 0 where
   pub kind : r .statement ≡ kindOf (d .statement)
-  pub parent : r .parent ≡ linkOf b (d .parent)
+  pub parent : r .parent ≡ linkOf (d .parent)
   pub role : r .role ≡ roleOf (d .role)
-  pub next : r .next ≡ linkOf b (d .next)
-  pub child : r .child ≡ linkOf b (d .child)
-  pub other : r .other ≡ linkOf b (d .other)
+  pub next : r .next ≡ linkOf (d .next)
+  pub child : r .child ≡ linkOf (d .child)
+  pub other : r .other ≡ linkOf (d .other)
 
--- THE ABSTRACTION: the table from record b on stands for rows; "A parent comes before its rows"; what stands in an iterated
+-- THE ABSTRACTION: the table stands for rows; "A parent comes before its rows"; what stands in an iterated
 -- group is deeper than the group, and the group is not the 17th
-pub record Shown (b : ℕ) (t : List ℕ) (rs : List P.Row) : Type 0 where
-  pub rows : (n : ℕ) → n < length rs → Stands b (rowIn t (b + n)) (rowOf rs n)
+pub record Shown (t : List ℕ) (rs : List P.Row) : Type 0 where
+  pub rows : (n : ℕ) → n < length rs → Stands (rowIn t n) (rowOf rs n)
   pub before : (n g : ℕ) → n < length rs → rowOf rs n .parent ≡ P.row g → g < n
-  pub level : (n g : ℕ) → n < length rs → rowOf rs n .parent ≡ P.row g → rowIn t (b + g) .depth ≤ rowIn t (b + n) .depth
-  pub inner : (n g : ℕ) → n < length rs → rowOf rs n .parent ≡ P.row g → P.isIterated (rowOf rs g .statement) ≡ true → rowIn t (b + g) .depth < rowIn t (b + n) .depth
-  pub shallow : (g : ℕ) → g < length rs → P.isIterated (rowOf rs g .statement) ≡ true → rowIn t (b + g) .depth < 16
+  pub level : (n g : ℕ) → n < length rs → rowOf rs n .parent ≡ P.row g → rowIn t g .depth ≤ rowIn t n .depth
+  pub inner : (n g : ℕ) → n < length rs → rowOf rs n .parent ≡ P.row g → P.isIterated (rowOf rs g .statement) ≡ true → rowIn t g .depth < rowIn t n .depth
+  pub shallow : (g : ℕ) → g < length rs → P.isIterated (rowOf rs g .statement) ≡ true → rowIn t g .depth < 16
 
 -- the row g is around the row n
 pub data Around (rs : List P.Row) : ℕ → ℕ → Type 0 where
@@ -72,8 +72,8 @@ pub data Around (rs : List P.Row) : ℕ → ℕ → Type 0 where
   outer : (n p g : ℕ) → rowOf rs n .parent ≡ P.row p → Around rs p g → Around rs n g
 
 -- the frames of the iterated groups around a row: the newest of each is the one at its depth
-pub record Framed {E : Type 0} (M : D.Machine E) (b : ℕ) (t : List ℕ) (fs : Frames) (F : List D.Frame) (n : ℕ) : Type 0 where
-  pub once : (g : ℕ) → Around (M .rows) n g → P.isIterated (rowOf (M .rows) g .statement) ≡ true → frameIn t fs (b + g) .«is_once» ≡ D.isOnce g F
+pub record Framed {E : Type 0} (M : D.Machine E) (t : List ℕ) (fs : Frames) (F : List D.Frame) (n : ℕ) : Type 0 where
+  pub once : (g : ℕ) → Around (M .rows) n g → P.isIterated (rowOf (M .rows) g .statement) ≡ true → frameIn t fs g .«is_once» ≡ D.isOnce g F
 
 -- a frame, its numbers as stored
 abbrev pub toOf : F.Result → D.To
@@ -81,19 +81,19 @@ toOf (F.is z) = D.toAt z
 toOf F.outOfRange = D.noTo
 toOf F.zeroDivisor = D.noTo
 
-pub record FrameShown (b : ℕ) (f : Frame) (d : D.Frame) : Type 0 where
-  pub group : f .group ≡ To (b + d .group)
+pub record FrameShown (f : Frame) (d : D.Frame) : Type 0 where
+  pub group : f .group ≡ To (d .group)
   pub address : f .address ≡ d .at
   pub step : fromStored (f .step) ≡ F.is (d .step)
   pub to : toOf (fromStored (f .limit)) ≡ d .to
   pub once : f .«is_once» ≡ d .isOnce
 
 -- ---- what a walk leads to; `up` goes on behind a row
-abbrev pub nextFrom : ℕ → Next → D.Next
-nextFrom b (Begin n) = D.begin (n - b)
-nextFrom b (Again n) = D.again (n - b)
-nextFrom b Over = D.noNext
+abbrev pub nextFrom : Next → D.Next
+nextFrom (Begin n) = D.begin n
+nextFrom (Again n) = D.again n
+nextFrom Over = D.noNext
 
-abbrev pub walked : {E : Type 0} → ℕ → Walk → (ℕ → World → Res E D.Next) → World → Res E D.Next
-walked b (Arrives x) up w = good (nextFrom b x) w
-walked b (Up g) up w = up (g - b) w
+abbrev pub walked : {E : Type 0} → Walk → (ℕ → World → Res E D.Next) → World → Res E D.Next
+walked (Arrives x) up w = good (nextFrom x) w
+walked (Up g) up w = up g w
