@@ -58,7 +58,9 @@ use operators::substr_part;
 use operators::substr_rest;
 use operators::to_fixed;
 use rows::Link;
+use rows::Starts;
 use rows::Statement;
+use rows::part_of;
 use rows::row_at;
 use store::Number;
 use store::number_at;
@@ -73,9 +75,11 @@ use tokens::unquote;
 use values::NumberAnswer;
 use values::constant_number;
 
-// Who sees names: how many there are, from which scope they are seen, and which procedures are running.
+// Who sees names: how many there are, where the rows of each member start, from which scope names are seen, and which procedures are
+// running.
 pub struct Scene {
     pub names: u16,
+    pub starts: Starts,
     pub owner: Owner,
     pub running: Running,
 }
@@ -446,12 +450,13 @@ enum Aim {
     Fails(Why),
 }
 
-fn aim_of(deck: &[u8], rows: &[u16], names: &[u16], count: u16, x: Meant, n: usize) -> Aim {
+fn aim_of(deck: &[u8], rows: &[u16], names: &[u16], c: Scene, x: Meant, n: usize) -> Aim {
     match x {
         Meant::AVariable(_, _) => Aim::Fails(Why::WrongName),
         Meant::AnEntry(b) => {
-            let c = callee_of(deck, rows, names, count, b);
-            match c {
+            let starts = c.starts;
+            let z = callee_of(deck, rows, starts, names, c.names, b);
+            match z {
                 Called::Is(y) => {
                     if y.count == n {
                         return Aim::At(Target::Entry(y));
@@ -603,7 +608,7 @@ fn listed_name(
     m: Meter,
 ) -> Evaluated {
     let n = count_arguments(s, at);
-    let aim = aim_of(deck, rows, names, c.names, x, n);
+    let aim = aim_of(deck, rows, names, c, x, n);
     match aim {
         Aim::At(t) => {
             let taken = arguments(
@@ -657,7 +662,8 @@ fn plain_name(
 ) -> Evaluated {
     match x {
         Meant::AnEntry(b) => {
-            let y = callee_of(deck, rows, names, c.names, b);
+            let starts = c.starts;
+            let y = callee_of(deck, rows, starts, names, c.names, b);
             match y {
                 Called::Is(z) => {
                     if z.count == 0 {
@@ -1028,14 +1034,17 @@ pub fn call(
         return Evaluated::Failed(Why::TooDeep, m);
     }
     store_all(deck, names, cells, low, high, work, c.names, y, held, u);
+    let starts = c.starts;
     let inner = Scene {
         names: c.names,
+        starts,
         owner: Owner::Procedure(p),
         running: started(running, p),
     };
     run_body(
         deck,
         body(deck, p.member),
+        part_of(rows, starts, p.member),
         rows,
         names,
         cells,
@@ -1454,7 +1463,7 @@ fn summed(x: Fixed, by: Answer) -> Answer {
     }
 }
 
-// ---- bodies of procedures
+// ---- bodies of procedures; `part` is the rows of the member
 
 // What comes behind a statement of a body: another, the value of RETURN, or a refusal.
 enum Step {
@@ -1472,47 +1481,47 @@ fn with_step(frames: Frames, step: Step) -> Turned {
     Turned { frames, step }
 }
 
-fn on_behind(rows: &[u16], fs: Frames, n: u16, d: Done) -> Turned {
+fn on_behind(part: &[u16], fs: Frames, n: u16, d: Done) -> Turned {
     match d {
-        Done::Good(m) => with_step(fs, Step::On(flow::behind(rows, fs, n), m)),
+        Done::Good(m) => with_step(fs, Step::On(flow::behind(part, fs, n), m)),
         Done::Bad(w, m) => with_step(fs, Step::Bad(w, m)),
     }
 }
 
-fn on_test(rows: &[u16], fs: Frames, n: u16, t: Tested) -> Turned {
+fn on_test(part: &[u16], fs: Frames, n: u16, t: Tested) -> Turned {
     match t {
         Tested::Is(b, m) => {
-            let next = flow::arrived(rows, fs, flow::chosen(rows, n, b));
+            let next = flow::arrived(part, fs, flow::chosen(part, n, b));
             with_step(fs, Step::On(next, m))
         }
         Tested::Bad(w, m) => with_step(fs, Step::Bad(w, m)),
     }
 }
 
-fn into_group(rows: &[u16], fs: Frames, g: u16) -> Next {
-    flow::arrived(rows, fs, flow::first_in(rows, fs, g))
+fn into_group(part: &[u16], fs: Frames, g: u16) -> Next {
+    flow::arrived(part, fs, flow::first_in(part, fs, g))
 }
 
-fn on_start(rows: &[u16], fs: Frames, g: u16, x: Started) -> Turned {
+fn on_start(part: &[u16], fs: Frames, g: u16, x: Started) -> Turned {
     match x {
         Started::Is(f, begins, m) => {
             if begins {
-                let inner = flow::with_frame(rows, fs, g, f);
-                return with_step(inner, Step::On(into_group(rows, inner, g), m));
+                let inner = flow::with_frame(part, fs, g, f);
+                return with_step(inner, Step::On(into_group(part, inner, g), m));
             }
-            with_step(fs, Step::On(flow::behind(rows, fs, g), m))
+            with_step(fs, Step::On(flow::behind(part, fs, g), m))
         }
         Started::Bad(w, m) => with_step(fs, Step::Bad(w, m)),
     }
 }
 
-fn on_again(rows: &[u16], fs: Frames, g: u16, t: Tested) -> Turned {
+fn on_again(part: &[u16], fs: Frames, g: u16, t: Tested) -> Turned {
     match t {
         Tested::Is(b, m) => {
             if b {
-                return with_step(fs, Step::On(into_group(rows, fs, g), m));
+                return with_step(fs, Step::On(into_group(part, fs, g), m));
             }
-            with_step(fs, Step::On(flow::behind(rows, fs, g), m))
+            with_step(fs, Step::On(flow::behind(part, fs, g), m))
         }
         Tested::Bad(w, m) => with_step(fs, Step::Bad(w, m)),
     }
@@ -1573,20 +1582,20 @@ fn jump_label(deck: &[u8], s: &[u8], names: &[u16], c: Scene, t: Lexeme) -> Jump
 fn jump_in(
     deck: &[u8],
     s: &[u8],
-    rows: &[u16],
+    part: &[u16],
     names: &[u16],
     fs: Frames,
     n: u16,
     c: Scene,
     m: Meter,
 ) -> Turned {
-    let r = row_at(rows, n);
+    let r = row_at(part, n);
     let j = jump_label(deck, s, names, c, token_at(s, r.content as usize));
     match j {
         Jump::To(l) => {
             let p = l.place;
-            if flow::may_go(rows, n, p.row, l.is_end) {
-                let next = flow::arrived(rows, fs, flow::landing(rows, fs, l));
+            if flow::may_go(part, n, p.row, l.is_end) {
+                let next = flow::arrived(part, fs, flow::landing(part, fs, l));
                 return with_step(fs, Step::On(next, m));
             }
             with_step(fs, Step::Bad(Why::WrongGoto, m))
@@ -1599,6 +1608,7 @@ fn jump_in(
 fn body_statement(
     deck: &[u8],
     s: &[u8],
+    part: &[u16],
     rows: &[u16],
     names: &[u16],
     cells: &mut [u32],
@@ -1612,21 +1622,21 @@ fn body_statement(
     c: Scene,
     m: Meter,
 ) -> Turned {
-    let r = row_at(rows, n);
+    let r = row_at(part, n);
     let at = r.content as usize;
     let x = r.statement;
     match x {
         Statement::Assign => {
             let d = assign(deck, s, rows, names, cells, low, high, work, at, u, c, m);
-            on_behind(rows, fs, n, d)
+            on_behind(part, fs, n, d)
         }
         Statement::Conditional => {
             let t = test(deck, s, rows, names, cells, low, high, work, at, u, c, m);
-            on_test(rows, fs, n, t)
+            on_test(part, fs, n, t)
         }
         Statement::Iterated => {
             let t = start(deck, s, rows, names, cells, low, high, work, n, at, u, c, m);
-            on_start(rows, fs, n, t)
+            on_start(part, fs, n, t)
         }
         Statement::Return => {
             let open = token_at(s, at);
@@ -1644,18 +1654,18 @@ fn body_statement(
                 c,
                 m,
             );
-            let q = row_at(rows, p.row);
+            let q = row_at(part, p.row);
             let t = q.value_type;
             on_return(work, fs, u, t, v)
         }
-        Statement::Group => with_step(fs, Step::On(into_group(rows, fs, n), m)),
-        Statement::Goto => jump_in(deck, s, rows, names, fs, n, c, m),
-        Statement::Null => on_behind(rows, fs, n, Done::Good(m)),
-        Statement::Declare => on_behind(rows, fs, n, Done::Good(m)),
-        Statement::Procedure => on_behind(rows, fs, n, Done::Good(m)),
-        Statement::Include => on_behind(rows, fs, n, Done::Good(m)),
-        Statement::Activate => on_behind(rows, fs, n, Done::Good(m)),
-        Statement::Deactivate => on_behind(rows, fs, n, Done::Good(m)),
+        Statement::Group => with_step(fs, Step::On(into_group(part, fs, n), m)),
+        Statement::Goto => jump_in(deck, s, part, names, fs, n, c, m),
+        Statement::Null => on_behind(part, fs, n, Done::Good(m)),
+        Statement::Declare => on_behind(part, fs, n, Done::Good(m)),
+        Statement::Procedure => on_behind(part, fs, n, Done::Good(m)),
+        Statement::Include => on_behind(part, fs, n, Done::Good(m)),
+        Statement::Activate => on_behind(part, fs, n, Done::Good(m)),
+        Statement::Deactivate => on_behind(part, fs, n, Done::Good(m)),
     }
 }
 
@@ -1663,6 +1673,7 @@ fn body_statement(
 fn body_turn(
     deck: &[u8],
     s: &[u8],
+    part: &[u16],
     rows: &[u16],
     names: &[u16],
     cells: &mut [u32],
@@ -1684,6 +1695,7 @@ fn body_turn(
                 return body_statement(
                     deck,
                     s,
+                    part,
                     rows,
                     names,
                     cells,
@@ -1701,8 +1713,8 @@ fn body_turn(
             with_step(fs, Step::Bad(Why::NoStep, k))
         }
         Next::Again(g) => {
-            let t = stepped(cells, flow::frame_of(rows, fs, g), m);
-            on_again(rows, fs, g, t)
+            let t = stepped(cells, flow::frame_of(part, fs, g), m);
+            on_again(part, fs, g, t)
         }
         Next::Over => with_step(fs, Step::Bad(Why::WronglyRun, m)),
     }
@@ -1720,6 +1732,7 @@ pub fn turns_left(m: Meter) -> usize {
 fn run_body(
     deck: &[u8],
     s: &[u8],
+    part: &[u16],
     rows: &[u16],
     names: &[u16],
     cells: &mut [u32],
@@ -1731,7 +1744,7 @@ fn run_body(
     c: Scene,
     m0: Meter,
 ) -> Evaluated {
-    let r = row_at(rows, p.row);
+    let r = row_at(part, p.row);
     let child = r.child;
     let mut next = flow::first_of(child);
     let mut fs = flow::no_frames();
@@ -1742,6 +1755,7 @@ fn run_body(
         let t = body_turn(
             deck,
             s,
+            part,
             rows,
             names,
             cells,

@@ -111,6 +111,7 @@ use Rattle.flow.proofs.passes.Reads as passes-reads
 use Rattle.meter.proofs.Meter.charged.Reads as charged-reads
 use Rattle.operators.proofs.above.Reads as above-reads
 use Rattle.operators.proofs.size_of.Reads as size-of-reads
+use Rattle.rows.proofs.part_of.Reads as part-of-reads
 use Rattle.rows.proofs.row_at.Reads as row-at-reads
 use Rattle.store.proofs.store_number.Reads as store-number-reads
 use Rattle.tokens.proofs.is_sign.Reads as is-sign-reads
@@ -132,11 +133,11 @@ abbrev μ-arguments : Measures 8 arguments-kinds.ps ℕ
 abbrev μ-assign : Measures 8 assign-kinds.ps ℕ
 μ-assign κs a = 1000 * a .1 .1 .1 .1 .1 .1 .1 .1 .1 .1 .0 .running .left + 870
 
-abbrev μ-body-statement : Measures 8 body-statement-kinds.ps ℕ
-μ-body-statement κs a = 1000 * a .1 .1 .1 .1 .1 .1 .1 .1 .1 .1 .1 .1 .0 .running .left + 880
+abbrev μ-body-statement : Measures 9 body-statement-kinds.ps ℕ
+μ-body-statement κs a = 1000 * a .1 .1 .1 .1 .1 .1 .1 .1 .1 .1 .1 .1 .1 .0 .running .left + 880
 
-abbrev μ-body-turn : Measures 8 body-turn-kinds.ps ℕ
-μ-body-turn κs a = 1000 * a .1 .1 .1 .1 .1 .1 .1 .1 .1 .1 .1 .1 .0 .running .left + 890
+abbrev μ-body-turn : Measures 9 body-turn-kinds.ps ℕ
+μ-body-turn κs a = 1000 * a .1 .1 .1 .1 .1 .1 .1 .1 .1 .1 .1 .1 .1 .0 .running .left + 890
 
 abbrev μ-bounds : Measures 8 bounds-kinds.ps ℕ
 μ-bounds κs a = 1000 * a .1 .1 .1 .1 .1 .1 .1 .1 .1 .1 .1 .1 .0 .running .left + 865
@@ -171,8 +172,8 @@ abbrev μ-primitive : Measures 8 primitive-kinds.ps ℕ
 abbrev μ-reference : Measures 8 reference-kinds.ps ℕ
 μ-reference κs a = 1000 * a .1 .1 .1 .1 .1 .1 .1 .1 .1 .1 .1 .0 .running .left + 32 * a .1 .1 .1 .1 .1 .1 .1 .1 .1 .0 + 4
 
-abbrev μ-run-body : Measures 8 run-body-kinds.ps ℕ
-μ-run-body κs a = 1000 * a .1 .1 .1 .1 .1 .1 .1 .1 .1 .1 .0 .running .left + 900
+abbrev μ-run-body : Measures 9 run-body-kinds.ps ℕ
+μ-run-body κs a = 1000 * a .1 .1 .1 .1 .1 .1 .1 .1 .1 .1 .1 .0 .running .left + 900
 
 abbrev μ-start : Measures 8 start-kinds.ps ℕ
 μ-start κs a = 1000 * a .1 .1 .1 .1 .1 .1 .1 .1 .1 .1 .1 .0 .running .left + 870
@@ -193,28 +194,28 @@ assign-at t = and 8 assign-kinds.ps (is 8 assign-kinds.ps μ-assign t) assign.Pr
 abbrev assign-below : ℕ → In 8 assign-kinds.ps
 assign-below t = and 8 assign-kinds.ps (falls 8 assign-kinds.ps _<_ μ-assign t) assign.Pre
 
-abbrev body-statement-at : ℕ → In 8 body-statement-kinds.ps
+abbrev body-statement-at : ℕ → In 9 body-statement-kinds.ps
 body-statement-at t =
     and
-    8
+    9
     body-statement-kinds.ps
-    (is 8 body-statement-kinds.ps μ-body-statement t)
+    (is 9 body-statement-kinds.ps μ-body-statement t)
     body-statement.Pre
 
-abbrev body-statement-below : ℕ → In 8 body-statement-kinds.ps
+abbrev body-statement-below : ℕ → In 9 body-statement-kinds.ps
 body-statement-below t =
     and
-    8
+    9
     body-statement-kinds.ps
-    (falls 8 body-statement-kinds.ps _<_ μ-body-statement t)
+    (falls 9 body-statement-kinds.ps _<_ μ-body-statement t)
     body-statement.Pre
 
-abbrev body-turn-at : ℕ → In 8 body-turn-kinds.ps
-body-turn-at t = and 8 body-turn-kinds.ps (is 8 body-turn-kinds.ps μ-body-turn t) body-turn.Pre
+abbrev body-turn-at : ℕ → In 9 body-turn-kinds.ps
+body-turn-at t = and 9 body-turn-kinds.ps (is 9 body-turn-kinds.ps μ-body-turn t) body-turn.Pre
 
-abbrev body-turn-below : ℕ → In 8 body-turn-kinds.ps
+abbrev body-turn-below : ℕ → In 9 body-turn-kinds.ps
 body-turn-below t =
-    and 8 body-turn-kinds.ps (falls 8 body-turn-kinds.ps _<_ μ-body-turn t) body-turn.Pre
+    and 9 body-turn-kinds.ps (falls 9 body-turn-kinds.ps _<_ μ-body-turn t) body-turn.Pre
 
 abbrev bounds-at : ℕ → In 8 bounds-kinds.ps
 bounds-at t = and 8 bounds-kinds.ps (is 8 bounds-kinds.ps μ-bounds t) bounds.Pre
@@ -289,12 +290,12 @@ abbrev reference-below : ℕ → In 8 reference-kinds.ps
 reference-below t =
     and 8 reference-kinds.ps (falls 8 reference-kinds.ps _<_ μ-reference t) reference.Pre
 
-abbrev run-body-at : ℕ → In 8 run-body-kinds.ps
-run-body-at t = and 8 run-body-kinds.ps (is 8 run-body-kinds.ps μ-run-body t) run-body.Pre
+abbrev run-body-at : ℕ → In 9 run-body-kinds.ps
+run-body-at t = and 9 run-body-kinds.ps (is 9 run-body-kinds.ps μ-run-body t) run-body.Pre
 
-abbrev run-body-below : ℕ → In 8 run-body-kinds.ps
+abbrev run-body-below : ℕ → In 9 run-body-kinds.ps
 run-body-below t =
-    and 8 run-body-kinds.ps (falls 8 run-body-kinds.ps _<_ μ-run-body t) run-body.Pre
+    and 9 run-body-kinds.ps (falls 9 run-body-kinds.ps _<_ μ-run-body t) run-body.Pre
 
 abbrev start-at : ℕ → In 8 start-kinds.ps
 start-at t = and 8 start-kinds.ps (is 8 start-kinds.ps μ-start t) start.Pre
@@ -3923,6 +3924,8 @@ call-is-running-requires : (t : ℕ) → call-lts.Need-is-running-requires (
   started-reads.Learnt,
   body-reads.Asked,
   body-reads.Learnt,
+  part-of-reads.Asked,
+  part-of-reads.Learnt,
   run-body-below t,
   run-body.Post,
 ) (call-at t) call.Post
@@ -3937,6 +3940,8 @@ call-returns : (t : ℕ) → call-lts.Need-returns (
   started-reads.Learnt,
   body-reads.Asked,
   body-reads.Learnt,
+  part-of-reads.Asked,
+  part-of-reads.Learnt,
   run-body-below t,
   run-body.Post,
 ) (call-at t) call.Post
@@ -3951,6 +3956,8 @@ call-returns-2 : (t : ℕ) → call-lts.Need-returns-2 (
   started-reads.Learnt,
   body-reads.Asked,
   body-reads.Learnt,
+  part-of-reads.Asked,
+  part-of-reads.Learnt,
   run-body-below t,
   run-body.Post,
 ) (call-at t) call.Post
@@ -3965,6 +3972,8 @@ call-store-all-requires : (t : ℕ) → call-lts.Need-store-all-requires (
   started-reads.Learnt,
   body-reads.Asked,
   body-reads.Learnt,
+  part-of-reads.Asked,
+  part-of-reads.Learnt,
   run-body-below t,
   run-body.Post,
 ) (call-at t) call.Post
@@ -3979,6 +3988,8 @@ call-started-requires : (t : ℕ) → call-lts.Need-started-requires (
   started-reads.Learnt,
   body-reads.Asked,
   body-reads.Learnt,
+  part-of-reads.Asked,
+  part-of-reads.Learnt,
   run-body-below t,
   run-body.Post,
 ) (call-at t) call.Post
@@ -3993,10 +4004,28 @@ call-body-requires : (t : ℕ) → call-lts.Need-body-requires (
   started-reads.Learnt,
   body-reads.Asked,
   body-reads.Learnt,
+  part-of-reads.Asked,
+  part-of-reads.Learnt,
   run-body-below t,
   run-body.Post,
 ) (call-at t) call.Post
 call-body-requires t c κs = search needs
+
+call-part-of-requires : (t : ℕ) → call-lts.Need-part-of-requires (
+  is-running-reads.Asked,
+  is-running-reads.Learnt,
+  store-all-reads.Asked,
+  store-all-reads.Learnt,
+  started-reads.Asked,
+  started-reads.Learnt,
+  body-reads.Asked,
+  body-reads.Learnt,
+  part-of-reads.Asked,
+  part-of-reads.Learnt,
+  run-body-below t,
+  run-body.Post,
+) (call-at t) call.Post
+call-part-of-requires t c κs = search needs
 
 call-run-body-requires : (t : ℕ) → call-lts.Need-run-body-requires (
   is-running-reads.Asked,
@@ -4007,10 +4036,12 @@ call-run-body-requires : (t : ℕ) → call-lts.Need-run-body-requires (
   started-reads.Learnt,
   body-reads.Asked,
   body-reads.Learnt,
+  part-of-reads.Asked,
+  part-of-reads.Learnt,
   run-body-below t,
   run-body.Post,
 ) (call-at t) call.Post
-call-run-body-requires t c κs = omega (arith, (c .before .before .before .before .before .before .before .before .before .before .before .before .before .before .before .before .before .before .before .before .before .before .before .before .before .before .before .before .before .before .pre), (c .before .before .before .before .before .started .ensures .left), (c .before .before .before .before .before .before .before .before .before .before .before .before .before .before .before .before .before .if2 .left))
+call-run-body-requires t c κs = omega (arith, (c .before .before .before .before .before .before .before .before .before .before .before .before .before .before .before .before .before .before .before .before .before .before .before .before .before .before .before .before .before .before .before .before .pre), (c .before .before .before .before .before .before .started .ensures .left), (c .before .before .before .before .before .before .before .before .before .before .before .before .before .before .before .before .before .before .before .if2 .left))
 
 call-same-length : (t : ℕ) → call-lts.Need-same-length (
   is-running-reads.Asked,
@@ -4021,6 +4052,8 @@ call-same-length : (t : ℕ) → call-lts.Need-same-length (
   started-reads.Learnt,
   body-reads.Asked,
   body-reads.Learnt,
+  part-of-reads.Asked,
+  part-of-reads.Learnt,
   run-body-below t,
   run-body.Post,
 ) (call-at t) call.Post
@@ -4035,6 +4068,8 @@ call-same-length-2 : (t : ℕ) → call-lts.Need-same-length-2 (
   started-reads.Learnt,
   body-reads.Asked,
   body-reads.Learnt,
+  part-of-reads.Asked,
+  part-of-reads.Learnt,
   run-body-below t,
   run-body.Post,
 ) (call-at t) call.Post
@@ -4049,6 +4084,8 @@ call-same-length-3 : (t : ℕ) → call-lts.Need-same-length-3 (
   started-reads.Learnt,
   body-reads.Asked,
   body-reads.Learnt,
+  part-of-reads.Asked,
+  part-of-reads.Learnt,
   run-body-below t,
   run-body.Post,
 ) (call-at t) call.Post
@@ -4063,6 +4100,8 @@ call-same-length-4 : (t : ℕ) → call-lts.Need-same-length-4 (
   started-reads.Learnt,
   body-reads.Asked,
   body-reads.Learnt,
+  part-of-reads.Asked,
+  part-of-reads.Learnt,
   run-body-below t,
   run-body.Post,
 ) (call-at t) call.Post
@@ -4077,6 +4116,8 @@ call-returns-3 : (t : ℕ) → call-lts.Need-returns-3 (
   started-reads.Learnt,
   body-reads.Asked,
   body-reads.Learnt,
+  part-of-reads.Asked,
+  part-of-reads.Learnt,
   run-body-below t,
   run-body.Post,
 ) (call-at t) call.Post
@@ -6482,10 +6523,10 @@ reference-returns-2 : (t : ℕ) → reference-lts.Need-returns-2 (
 reference-returns-2 t c = search needs
 
 abbrev run-body-Inv-loop : run-body-lts.InvT-loop
-run-body-Inv-loop deck s rows names cells₀ low₀ high₀ work₀ p u c next₀ fs₀ m₀ turns₀ cells low high work next fs m turns = (turns ≤ turns₀) × (length cells ≡ length cells₀) × (length low ≡ length low₀) × (length high ≡ length high₀) × (length work ≡ length work₀)
+run-body-Inv-loop deck s part rows names cells₀ low₀ high₀ work₀ p u c next₀ fs₀ m₀ turns₀ cells low high work next fs m turns = (turns ≤ turns₀) × (length cells ≡ length cells₀) × (length low ≡ length low₀) × (length high ≡ length high₀) × (length work ≡ length work₀)
 
 abbrev run-body-μ-loop : run-body-lts.MeasureT-loop
-run-body-μ-loop deck s rows names cells₀ low₀ high₀ work₀ p u c next₀ fs₀ m₀ turns₀ cells low high work next fs m turns = turns
+run-body-μ-loop deck s part rows names cells₀ low₀ high₀ work₀ p u c next₀ fs₀ m₀ turns₀ cells low high work next fs m turns = turns
 
 run-body-row-at-requires : (t : ℕ) → run-body-lts.Need-row-at-requires (
   row-at-reads.Asked,
@@ -7623,6 +7664,8 @@ pub +arguments+assign+body-statement+body-turn+bounds+call+chain+evaluate+inside
       started-reads.Learnt,
       body-reads.Asked,
       body-reads.Learnt,
+      part-of-reads.Asked,
+      part-of-reads.Learnt,
       run-body-below t,
       run-body.Post,
     )
@@ -7634,6 +7677,7 @@ pub +arguments+assign+body-statement+body-turn+bounds+call+chain+evaluate+inside
     (call-store-all-requires t)
     (call-started-requires t)
     (call-body-requires t)
+    (call-part-of-requires t)
     (call-run-body-requires t)
     (call-same-length t)
     (call-same-length-2 t)
