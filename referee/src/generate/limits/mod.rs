@@ -171,7 +171,9 @@ const EXPRESSIONS: &[&[u8]] = &[
 
 /// Expressions with 14 to 18 parentheses, of argument lists or alone.
 fn parentheses(random: &mut Random) -> Vec<u8> {
-    let mut body = b"%DCL X CHAR,(I,N) FIXED;%P:PROC(A,B)RETURNS(FIXED);DCL (A,B) FIXED;RETURN(A);%END;".to_vec();
+    let mut body =
+        b"%DCL X CHAR,(I,N) FIXED;%P:PROC(A,B)RETURNS(FIXED);DCL (A,B) FIXED;RETURN(A);%END;"
+            .to_vec();
     let place = random.word(EXPRESSIONS);
     for byte in place {
         match byte {

@@ -43,14 +43,14 @@ pub fn names(random: &mut Random) -> Bodies {
         left -= count;
     }
     let members = bodies.len();
-    let mut bodies: Vec<Vec<u8>> = bodies
-        .into_iter()
-        .map(|body| ended(random, body))
-        .collect();
+    let mut bodies: Vec<Vec<u8>> = bodies.into_iter().map(|body| ended(random, body)).collect();
     if members > 1 {
         let list = LISTS[random.below(LISTS.len())];
         let include = match random.one_in(4) {
-            true => format!("%DCL I FIXED;%DO I=1 TO 2;%INCLUDE {};%END;", list.join(",")),
+            true => format!(
+                "%DCL I FIXED;%DO I=1 TO 2;%INCLUDE {};%END;",
+                list.join(",")
+            ),
             false => format!("%INCLUDE {};", list.join(",")),
         };
         let main = [include.as_bytes(), &bodies[0]].concat();
