@@ -2,7 +2,7 @@
 
 What it does not know it refuses with a Trouble that names the file and the line; it never guesses."""
 import re
-from dataclasses import dataclass, field
+from dataclasses import dataclass
 
 TOKEN = re.compile(r'"(?:[^"\\]|\\.)*"|[(){};,]|[^\s(){};,"]+')
 OPENING, CLOSING = ('(', '{'), (')', '}')
@@ -207,19 +207,27 @@ def type_of(rest, kind):
 def arguments_of(type_tokens):
     """The types of the explicit arguments, each a list of words, and the type of the result."""
     parts = whole_parts(type_tokens)
-    explicit = [p for p in parts[:-1] if p[0] != '{']
-    return explicit, parts[-1]
+    explicit = [argument for part in parts[:-1] for argument in arguments_in(part)]
+    return explicit, [token.text for token in parts[-1]]
+
+
+def arguments_in(part):
+    """What stands before an arrow: a type, or arguments with names, (a b : A) {c : B}."""
+    named = part[0].text in OPENING and any(t.text == ':' for _, t in top_level(part[1:closing_place(part, 0)]))
+    if named:
+        return [['named']] * len(explicit_names(part))
+    return [] if part[0].text == '{' else [[token.text for token in part]]
 
 
 def whole_parts(type_tokens):
-    """The words between the outer arrows of a type."""
+    """The tokens between the outer arrows of a type."""
     parts, depth = [[]], 0
     for token in type_tokens:
         if token.text == '→' and depth == 0:
             parts.append([])
             continue
         depth += (token.text in OPENING) - (token.text in CLOSING)
-        parts[-1].append(token.text)
+        parts[-1].append(token)
     if any(not p for p in parts):
         raise Trouble(type_tokens[0], 'an arrow with nothing beside it')
     return parts
@@ -231,13 +239,13 @@ def explicit_names(tokens):
     while at < len(tokens):
         opening = tokens[at]
         if opening.text not in OPENING:
-            raise Trouble(opening, 'a parameter of a section must stand in parentheses or braces')
+            raise Trouble(opening, 'the translator expects names with their type, in parentheses or braces')
         end = closing_place(tokens, at)
         inner = tokens[at + 1:end]
         colon = [i for i, t in top_level(inner) if t.text == ':']
         if opening.text == '(':
             if not colon:
-                raise Trouble(opening, 'a parameter of a section needs its type')
+                raise Trouble(opening, 'a name in parentheses needs its type')
             names += [t.text for t in inner[:colon[0]]]
         at = end + 1
     return names

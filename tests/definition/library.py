@@ -1,7 +1,7 @@
 """What the specs take from antt's library, as JavaScript: each name under the module that it is used from.
 
 {0}, {1} .. stand for the arguments, or in `test` and `parts` for the value that a pattern is held against."""
-from dataclasses import dataclass, field
+from dataclasses import dataclass
 
 
 @dataclass
@@ -23,6 +23,7 @@ class Primitive:
 @dataclass
 class TypeName:
     name: str
+    words: list = None    # what it stands for, if it is short for another type
 
 
 def constructors(*given):

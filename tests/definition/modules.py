@@ -5,7 +5,7 @@ from dataclasses import dataclass, field
 
 import antt
 from antt import Trouble
-from library import ALWAYS, FIXITY, LIBRARY, Constructor, TypeName
+from library import FIXITY, LIBRARY, Constructor, TypeName
 
 LETTERS = 'abcdefghijklmnop'
 
@@ -124,6 +124,7 @@ class Program:
     def add_clause(self, module, clause):
         meant = module.names.get(clause.token.text)
         if isinstance(meant, TypeName):
+            meant.words = [token.text for token in clause.right]
             return
         if not isinstance(meant, Definition) or meant.module is not module:
             raise Trouble(clause.token, 'an equation of %s, which has no type' % clause.token.text)

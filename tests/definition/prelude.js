@@ -1,6 +1,6 @@
 'use strict';
 // The primitive things of antt's library: numbers, lists, functions. Everything is a value that never changes; where
-// something is changed in place (a list put together late, a table of known results) nobody can see it.
+// something is changed in place (an array that grows, a table of known results) nobody can see it.
 
 // ---- numbers: a JavaScript number as long as it is exact, else a BigInt, so that equal numbers are `===`
 const exact = Number.MAX_SAFE_INTEGER;
@@ -47,88 +47,82 @@ function quotient(a, b) {
   return (a < 0) === (b < 0) ? size : negative(size);
 }
 
-// ---- lists: cells. `cells` are the cells from here on, kept once a place in a long list was asked for. A cell whose
-// tail is null is two lists put together, `head` and `cells`; it becomes a plain one when it is first looked into
+// ---- lists: cells with a head and a tail. A cell may know its items: those of an array, from a place on, as many as it is
+// long; then its head and tail need not be there (its tail is null). Arrays grow only behind all who know of them
 class Cell {
-  constructor(head, tail, length, cells) {
+  constructor(head, tail, length, items, from) {
     this.head = head;
     this.tail = tail;
     this.length = length;
-    this.cells = cells;
+    this.items = items;
+    this.from = from;
   }
 }
-const nil = new Cell(undefined, undefined, 0, null);
-const cons = (head, tail) => new Cell(head, tail, tail.length + 1, null);
-function append(a, b) {
-  if (a === nil) return b;
-  if (b === nil) return a;
-  return new Cell(a, null, a.length + b.length, b);
-}
-function head(list) {
-  if (list.tail === null) settle(list);
-  return list.head;
-}
-function tail(list) {
-  if (list.tail === null) settle(list);
-  return list.tail;
-}
+const SHORT = 12;    // walking so far costs less than an array
+const nil = new Cell(undefined, undefined, 0, null, 0);
+const cons = (head, tail) => new Cell(head, tail, tail.length + 1, null, 0);
+const slice = (items, from, length) => (length === 0 ? nil : new Cell(undefined, null, length, items, from));
+
+const head = (list) => (list.tail === null ? list.items[list.from] : list.head);
+const tail = (list) => (list.tail === null ? slice(list.items, list.from + 1, list.length - 1) : list.tail);
 function collect(list, into) {
-  for (let at = list; at !== nil; at = tail(at)) into.push(head(at));
-}
-function settle(list) {
-  const later = [];
   let at = list;
-  for (; at.tail === null; at = at.head) later.push(at.cells);
-  const items = [];
-  collect(at, items);
-  for (let i = later.length - 1; i > 0; i--) collect(later[i], items);
-  let result = later[0];
-  for (let i = items.length - 1; i > 0; i--) result = new Cell(items[i], result, result.length + 1, null);
-  list.head = items[0];
-  list.tail = result;
-  list.cells = null;
+  for (; at !== nil && at.items === null; at = at.tail) into.push(at.head);
+  for (let i = 0; i < at.length; i++) into.push(at.items[at.from + i]);
 }
-function onto(items, list) {
-  let result = list;
-  for (let i = items.length - 1; i >= 0; i--) result = new Cell(items[i], result, result.length + 1, null);
-  return result;
-}
-const listOf = (items) => onto(items, nil);
 function itemsOf(list) {
   const items = [];
   collect(list, items);
   return items;
 }
-function cellAt(list, n) {
-  if (list.tail === null) settle(list);
-  if (list.cells === null) {
-    if (n < 12) {
-      let at = list;
-      for (; n > 0; n--) at = tail(at);
-      if (at.tail === null) settle(at);
-      return at;
-    }
-    const cells = [];
-    for (let at = list; at !== nil; at = tail(at)) cells.push(at);
-    list.cells = cells;
+// The items of an array, which nobody else has, before a list.
+function onto(items, list) {
+  if (items.length >= SHORT && list.length <= items.length) {
+    collect(list, items);
+    return slice(items, 0, items.length);
   }
-  const cell = list.cells[n];
-  if (cell.tail === null) settle(cell);
-  return cell;
+  let result = list;
+  for (let i = items.length - 1; i >= 0; i--) result = cons(items[i], result);
+  return result;
 }
-const getD = (list, n, other) => (n < list.length ? cellAt(list, n).head : other);
-const drop = (n, list) => (n < list.length ? cellAt(list, n) : nil);
+const listOf = (items) => onto(items, nil);
+function append(a, b) {
+  if (a === nil) return b;
+  if (b === nil) return a;
+  if (a.length < SHORT || a.length < b.length) return onto(itemsOf(a), b);
+  if (a.items === null || a.from + a.length !== a.items.length) {
+    const items = itemsOf(a);
+    collect(b, items);
+    return slice(items, 0, items.length);
+  }
+  collect(b, a.items);
+  return slice(a.items, a.from, a.length + b.length);
+}
+// The list without its first n items, of which it has more.
+function behind(list, n) {
+  if (list.items === null && n >= SHORT) {
+    list.items = itemsOf(list);
+    list.from = 0;
+  }
+  if (list.items !== null && n > 0) return slice(list.items, list.from + n, list.length - n);
+  let at = list;
+  for (; n > 0; n--) at = tail(at);
+  return at;
+}
+function getD(list, n, other) {
+  if (n >= list.length) return other;
+  return list.items === null ? head(behind(list, n)) : list.items[list.from + n];
+}
+const drop = (n, list) => (n < list.length ? behind(list, n) : nil);
 function take(n, list) {
-  const items = [];
-  for (let at = list; n > 0 && at !== nil; n--, at = tail(at)) items.push(head(at));
-  return listOf(items);
+  if (n >= list.length) return list;
+  return list.items === null ? listOf(itemsOf(list).slice(0, n)) : slice(list.items, list.from, n);
 }
 function set(list, n, item) {
   if (n >= list.length) return list;
-  const items = [];
-  let at = list;
-  for (; n > 0; n--, at = tail(at)) items.push(head(at));
-  return onto(items, cons(item, tail(at)));
+  const items = itemsOf(list);
+  items[n] = item;
+  return listOf(items);
 }
 const replicate = (n, item) => listOf(new Array(n).fill(item));
 

@@ -476,7 +476,7 @@ class Writer:
         if d.arity == 0 or d.section is not None:
             return None
         arguments, result = antt.arguments_of(d.signature)
-        kinds = [' '.join(a) for a in arguments]
+        kinds = [' '.join(self.whole_type(a, d.module)) for a in arguments]
         if kinds == ['String'] and d.arity == 1:
             return 'rememberedText'
         if d in d.uses or result in (['ℕ'], ['Bool']) or len(kinds) != d.arity:
@@ -486,6 +486,11 @@ class Writer:
         if kinds == ['List ℕ', 'ℕ']:
             return 'remembered2'
         return None
+
+    def whole_type(self, words, module):
+        """A type; where a name is short for another, that."""
+        meant = module.names.get(words[0]) if len(words) == 1 else None
+        return meant.words if isinstance(meant, TypeName) and meant.words else words
 
     def program_text(self):
         lines = ['const K%d = { t: %d };' % (tag, tag) for tag in range(1, self.program.tags + 1)]

@@ -34,17 +34,27 @@ const CLAUSES: &[&[u8]] = &[
     b"DEACT X,P;",
     b"RETURN(1);",
     b"END;",
-    b"END;",
-    b"END L1;",
     b"ELSE ~;",
-    b"ELSE;",
-    b"ELSE=1;",
-    b"ELSE:;",
-    b"END=1;",
-    b"END:;",
     b"THEN ~;",
     b"X Y;",
     b"1;",
+];
+
+/// What begins as an END does, and as an ELSE does.
+const ENDS: &[&[u8]] = &[
+    b"END;", b"END;", b"END", b"END", b"END ", b"END L1;", b"END K0;", b"END R;", b"END=1;",
+    b"END:;",
+];
+const ELSES: &[&[u8]] = &[
+    b"ELSE ~;",
+    b"ELSE",
+    b"ELSE",
+    b"ELSE ",
+    b"ELSE;",
+    b"ELSE ~",
+    b"ELSE ~DO;~END;",
+    b"ELSE=1;",
+    b"ELSE:;",
 ];
 
 /// What may come where a clause breaks off.
@@ -54,7 +64,7 @@ const WRONG: &[&[u8]] = &[
     b" END", b" ELSE", b" A:", b"_", b"\x00", b"%END;", b"%;",
 ];
 
-/// What can be open around a clause.
+/// What can be open around a clause, or stand before it.
 #[derive(Clone, Copy, PartialEq)]
 enum Opening {
     Group,
@@ -62,21 +72,27 @@ enum Opening {
     Then,
     Else,
     Procedure,
+    /// An IF with its THEN alternative, behind which ELSE can stand.
+    Done,
 }
 
 impl Opening {
     /// The sentences that it begins.
     fn sentences(self) -> usize {
-        if self == Opening::Else {
-            2
-        } else {
-            1
+        match self {
+            Opening::Else | Opening::Done => 2,
+            _ => 1,
         }
     }
 
     /// Whether just one statement may follow it.
     fn is_alternative(self) -> bool {
         matches!(self, Opening::Then | Opening::Else)
+    }
+
+    /// Whether nothing may come between it and what follows.
+    fn stays(self) -> bool {
+        self.is_alternative() || self == Opening::Done
     }
 
     fn words(self) -> &'static [u8] {
@@ -86,6 +102,29 @@ impl Opening {
             Opening::Then => b"IF 1 ~THEN ",
             Opening::Else => b"IF 0 ~THEN ~;~ELSE ",
             Opening::Procedure => b"R:PROC RETURNS(CHAR);",
+            Opening::Done => b"IF 1 ~THEN ~; ",
+        }
+    }
+}
+
+/// The clause at the limit, and the place that it is made for.
+struct Plan {
+    place: Option<Opening>,
+    clause: &'static [u8],
+}
+
+impl Plan {
+    fn new(random: &mut Random) -> Plan {
+        use Opening::{Done, Group, Iterated, Procedure, Then};
+        let (places, clauses): (&[Opening], &[&[u8]]) = match random.weighted(&[30, 15, 10, 45]) {
+            0 => (&[Group, Group, Iterated, Procedure], ENDS),
+            1 => (&[Done, Done, Then], ELSES),
+            2 => (&[Group, Procedure, Done, Then], &[b""]),
+            _ => (&[], CLAUSES),
+        };
+        Plan {
+            place: random.pick(places).copied(),
+            clause: random.word(clauses),
         }
     }
 }
@@ -98,7 +137,7 @@ pub struct Body {
 }
 
 impl Body {
-    pub fn new(bytes: Vec<u8>) -> Body {
+    fn new(bytes: Vec<u8>) -> Body {
         Body {
             bytes,
             is_inside: false,
@@ -109,13 +148,14 @@ impl Body {
     /// A body with so many sentences before the clause that comes at its end.
     /// `depth` things are open around it, as far as the sentences reach.
     pub fn up_to(random: &mut Random, before: usize, depth: usize) -> Body {
+        let plan = Plan::new(random);
         let mut body = Body::new(Vec::new());
         let mut left = before;
         if left > 0 && random.percent(60) {
             body.bytes.extend_from_slice(b"%DCL X CHAR,I FIXED;");
             left -= 1;
         }
-        let openings = openings(random, depth, &mut left);
+        let openings = openings(random, depth, plan.place, &mut left);
         let gap = gap_among(random, &openings);
         for (number, opening) in openings.iter().enumerate() {
             if number == gap {
@@ -126,17 +166,18 @@ impl Body {
         if gap == openings.len() {
             body.fill(random, left);
         }
-        body.clause(random);
+        body.clause(random, &plan);
         body
     }
 
-    /// A body with so many things open around the clause that comes at its end.
-    pub fn inside(random: &mut Random, depth: usize) -> Body {
-        let mut body = Body::new(b"%DCL X CHAR,I FIXED;".to_vec());
-        for opening in openings(random, depth, &mut { usize::MAX }) {
+    /// Some bytes, so many things that are opened behind them, and a clause.
+    pub fn behind(random: &mut Random, bytes: Vec<u8>, depth: usize) -> Body {
+        let plan = Plan::new(random);
+        let mut body = Body::new(bytes);
+        for opening in openings(random, depth, plan.place, &mut { usize::MAX }) {
             body.open(opening);
         }
-        body.clause(random);
+        body.clause(random, &plan);
         body
     }
 
@@ -170,24 +211,22 @@ impl Body {
                 self.closing.push(b"RETURN(1);%END;");
                 self.is_inside = true;
             }
-            Opening::Then | Opening::Else => {}
+            Opening::Then | Opening::Else | Opening::Done => {}
         }
     }
 
-    /// A clause with its labels, whole or broken off; then the body ends, or what is open is closed.
-    pub fn clause(&mut self, random: &mut Random) {
-        if random.percent(90) {
+    /// The clause with its labels, whole or broken off; then the body ends, or what is open is closed.
+    fn clause(&mut self, random: &mut Random, plan: &Plan) {
+        let ends_procedure = self.is_inside && plan.place == Some(Opening::Procedure);
+        if random.percent(if ends_procedure { 85 } else { 8 }) {
+            self.bytes.push(b'%');
+        } else if random.percent(95) {
             self.put(b"~");
         }
-        if self.is_inside && random.percent(15) {
-            self.put(b"%");
-        }
-        let labels = labels(random);
-        self.bytes.extend(labels);
-        let clause = self.written(random.word(CLAUSES));
-        let ending = broken(random, clause);
-        self.bytes.extend(ending);
-        if random.percent(60) {
+        self.bytes.extend(labels(random));
+        let clause = self.written(plan.clause);
+        self.bytes.extend(broken(random, clause));
+        if random.percent(50) {
             for closing in std::mem::take(&mut self.closing).iter().rev() {
                 self.bytes.extend_from_slice(closing);
             }
@@ -210,19 +249,22 @@ impl Body {
     }
 }
 
-/// Things to be opened, for which sentences are taken from those left.
-fn openings(random: &mut Random, depth: usize, left: &mut usize) -> Vec<Opening> {
+/// Things to be opened, the last of them perhaps known; the sentences for them are taken from those left.
+fn openings(
+    random: &mut Random,
+    depth: usize,
+    last: Option<Opening>,
+    left: &mut usize,
+) -> Vec<Opening> {
     let mut found: Vec<Opening> = Vec::new();
-    while found.len() < depth {
-        let in_alternative = found.last().is_some_and(|last| last.is_alternative());
-        let is_inside = found.contains(&Opening::Procedure);
-        let opening = match random.weighted(&[4, 1, 3, 2, 2]) {
-            0 => Opening::Group,
-            1 => Opening::Iterated,
-            2 => Opening::Then,
-            3 => Opening::Else,
-            _ if in_alternative || is_inside => Opening::Group,
-            _ => Opening::Procedure,
+    for number in 0..depth + usize::from(last.is_some()) {
+        let wanted = last.filter(|_| number == depth);
+        let before = found.last().copied();
+        let no_procedure = found.contains(&Opening::Procedure)
+            || before.is_some_and(|before| before.is_alternative());
+        let opening = match wanted.unwrap_or_else(|| any_opening(random)) {
+            Opening::Procedure if no_procedure => Opening::Group,
+            opening => opening,
         };
         if *left < opening.sentences() {
             break;
@@ -233,9 +275,20 @@ fn openings(random: &mut Random, depth: usize, left: &mut usize) -> Vec<Opening>
     found
 }
 
+fn any_opening(random: &mut Random) -> Opening {
+    match random.weighted(&[4, 1, 3, 2, 2]) {
+        0 => Opening::Group,
+        1 => Opening::Iterated,
+        2 => Opening::Then,
+        3 => Opening::Else,
+        _ => Opening::Procedure,
+    }
+}
+
 /// Before which of the openings sentences may stand, or behind all of them.
 fn gap_among(random: &mut Random, openings: &[Opening]) -> usize {
-    let may = |gap: &usize| *gap == 0 || !openings[*gap - 1].is_alternative();
+    // Not behind a THEN or ELSE, nor between an IF and the clause that may be its ELSE.
+    let may = |gap: &usize| *gap == 0 || !openings[*gap - 1].stays();
     let gaps: Vec<usize> = (0..=openings.len()).filter(may).collect();
     random.pick(&gaps).copied().unwrap_or(0)
 }
@@ -243,8 +296,8 @@ fn gap_among(random: &mut Random, openings: &[Opening]) -> usize {
 /// No label or several, short and long ones in any order.
 fn labels(random: &mut Random) -> Vec<u8> {
     let mut labels = Vec::new();
-    for number in 0..random.weighted(&[50, 20, 15, 10, 5]) {
-        match random.weighted(&[8, 3, 1, 4, 2, 1]) {
+    for number in 0..random.weighted(&[45, 20, 18, 12, 5]) {
+        match random.weighted(&[9, 2, 1, 6, 2, 1]) {
             0 => labels.extend(format!("K{number}").into_bytes()),
             1 => labels.extend_from_slice(b"L1"),
             2 => labels.extend_from_slice(random.word(&[b"N0", b"N1", b"END", b"ELSE", b"DO"])),
@@ -260,7 +313,7 @@ fn labels(random: &mut Random) -> Vec<u8> {
 
 /// A clause as it is, or broken off behind one of its tokens or bytes with something else there.
 fn broken(random: &mut Random, mut clause: Vec<u8>) -> Vec<u8> {
-    match random.weighted(&[45, 40, 15]) {
+    match random.weighted(&[55, 33, 12]) {
         0 => return clause,
         1 => {
             let mut tokens = split(&clause);

@@ -11,7 +11,7 @@ use body::Body;
 
 /// A deck at some limit.
 pub fn limit(random: &mut Random) -> Bodies {
-    match random.weighted(&[20, 12, 25, 15, 15, 13]) {
+    match random.weighted(&[24, 12, 28, 14, 12, 10]) {
         0 => in_a_member(random),
         1 => in_those_entered(random),
         2 => names::names(random),
@@ -34,13 +34,13 @@ fn with_members(body: Vec<u8>, first: Vec<u8>, second: Vec<u8>) -> Bodies {
 
 /// A few things open around a clause.
 fn some_depth(random: &mut Random) -> usize {
-    random.weighted(&[40, 20, 15, 10, 10, 5])
+    random.weighted(&[60, 20, 10, 10])
 }
 
-/// 1,021 to 1,026 sentences before a clause.
+/// 1,020 to 1,025 sentences before a clause.
 fn in_a_member(random: &mut Random) -> Bodies {
     let depth = some_depth(random);
-    let before = random.between(1_021, 1_026);
+    let before = random.weighted(&[1, 2, 4, 6, 2, 1]) + 1_020;
     let body = Body::up_to(random, before, depth).bytes;
     if random.one_in(4) {
         return with_members(b"%INCLUDE A;".to_vec(), body, b"b".to_vec());
@@ -87,8 +87,8 @@ fn shares(random: &mut Random, list: &[&str], all: usize) -> (usize, usize, usiz
 
 /// 13 to 19 things open around a clause.
 fn deep(random: &mut Random) -> Bodies {
-    let depth = random.between(13, 19);
-    alone(Body::inside(random, depth).bytes)
+    let depth = random.between(13, 18);
+    alone(Body::behind(random, b"%DCL X CHAR,I FIXED;".to_vec(), depth).bytes)
 }
 
 /// Where a name can stand, or cannot; `~` is the name.

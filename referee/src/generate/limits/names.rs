@@ -32,7 +32,7 @@ const LISTS: &[&[&str]] = &[
 /// A deck with about 256 names.
 pub fn names(random: &mut Random) -> Bodies {
     let mut bodies = vec![String::new(); random.between(1, 3)];
-    let mut left = random.between(246, 258);
+    let mut left = random.weighted(&[1, 1, 1, 2, 4, 6, 2]) + 251;
     let mut next = 0;
     while left > 0 {
         let most = if random.one_in(3) { 8 } else { left };
@@ -101,12 +101,12 @@ fn procedure(random: &mut Random, names: &[String]) -> String {
 
 /// A body with what comes behind its names.
 fn ended(random: &mut Random, mut body: String) -> Vec<u8> {
-    if random.one_in(3) {
+    if random.one_in(4) {
         body.push_str(NEAR[random.below(NEAR.len())]);
     }
-    let mut body = Body::new(body.into_bytes());
-    if random.one_in(2) {
-        body.clause(random);
+    if random.one_in(3) {
+        return body.into_bytes();
     }
-    body.bytes
+    let depth = random.weighted(&[6, 2, 1]);
+    Body::behind(random, body.into_bytes(), depth).bytes
 }
