@@ -116,7 +116,7 @@ struct Plan {
 impl Plan {
     fn new(random: &mut Random) -> Plan {
         use Opening::{Done, Group, Iterated, Procedure, Then};
-        let (places, clauses): (&[Opening], &[&[u8]]) = match random.weighted(&[30, 15, 10, 45]) {
+        let (places, clauses): (&[Opening], &[&[u8]]) = match random.weighted(&[36, 15, 9, 40]) {
             0 => (&[Group, Group, Iterated, Procedure], ENDS),
             1 => (&[Done, Done, Then], ELSES),
             2 => (&[Group, Procedure, Done, Then], &[b""]),
@@ -224,9 +224,13 @@ impl Body {
             self.put(b"~");
         }
         self.bytes.extend(labels(random));
+        let is_open = !plan.clause.ends_with(b";");
         let clause = self.written(plan.clause);
-        self.bytes.extend(broken(random, clause));
-        if random.percent(50) {
+        match random.percent(if is_open { 80 } else { 55 }) {
+            true => self.bytes.extend(clause),
+            false => self.bytes.extend(broken(random, clause)),
+        }
+        if random.percent(if is_open { 20 } else { 50 }) {
             for closing in std::mem::take(&mut self.closing).iter().rev() {
                 self.bytes.extend_from_slice(closing);
             }
@@ -296,6 +300,12 @@ fn gap_among(random: &mut Random, openings: &[Opening]) -> usize {
 /// No label or several, short and long ones in any order.
 fn labels(random: &mut Random) -> Vec<u8> {
     let mut labels = Vec::new();
+    // Some that still count, then one that is too long.
+    if random.percent(28) {
+        labels.extend_from_slice(random.word(&[b"Z:", b"Z:Y:", b"N0:Z:", b"Z: "]));
+        labels.extend(b"L".repeat(32));
+        labels.push(b':');
+    }
     for number in 0..random.weighted(&[45, 20, 18, 12, 5]) {
         match random.weighted(&[9, 2, 1, 6, 2, 1]) {
             0 => labels.extend(format!("K{number}").into_bytes()),
@@ -311,17 +321,16 @@ fn labels(random: &mut Random) -> Vec<u8> {
     labels
 }
 
-/// A clause as it is, or broken off behind one of its tokens or bytes with something else there.
-fn broken(random: &mut Random, mut clause: Vec<u8>) -> Vec<u8> {
-    match random.weighted(&[55, 33, 12]) {
-        0 => return clause,
-        1 => {
-            let mut tokens = split(&clause);
-            tokens.truncate(random.below(tokens.len() + 1));
-            clause = tokens.concat();
-        }
-        _ => clause.truncate(random.below(clause.len() + 1)),
+/// A clause broken off behind one of its tokens or bytes, with something else there.
+fn broken(random: &mut Random, clause: Vec<u8>) -> Vec<u8> {
+    let mut kept = clause.clone();
+    if random.percent(70) {
+        let mut tokens = split(&clause);
+        tokens.truncate(random.below(tokens.len() + 1));
+        kept = tokens.concat();
+    } else {
+        kept.truncate(random.below(clause.len() + 1));
     }
-    clause.extend_from_slice(random.word(WRONG));
-    clause
+    kept.extend_from_slice(random.word(WRONG));
+    kept
 }

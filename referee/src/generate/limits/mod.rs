@@ -11,7 +11,7 @@ use body::Body;
 
 /// A deck at some limit.
 pub fn limit(random: &mut Random) -> Bodies {
-    match random.weighted(&[24, 12, 28, 14, 12, 10]) {
+    match random.weighted(&[22, 12, 34, 12, 11, 9]) {
         0 => in_a_member(random),
         1 => in_those_entered(random),
         2 => names::names(random),
@@ -40,7 +40,7 @@ fn some_depth(random: &mut Random) -> usize {
 /// 1,020 to 1,025 sentences before a clause.
 fn in_a_member(random: &mut Random) -> Bodies {
     let depth = some_depth(random);
-    let before = random.weighted(&[1, 2, 4, 6, 2, 1]) + 1_020;
+    let before = random.weighted(&[1, 1, 4, 4, 10, 3]) + 1_020;
     let body = Body::up_to(random, before, depth).bytes;
     if random.one_in(4) {
         return with_members(b"%INCLUDE A;".to_vec(), body, b"b".to_vec());

@@ -19,11 +19,11 @@ const NEAR: &[&str] = &[
 
 /// The members to be included, by their names.
 const LISTS: &[&[&str]] = &[
+    &[],
     &["A"],
     &["A", "A"],
     &["A", "B"],
     &["B", "A"],
-    &["B", "B"],
     &["A", "B", "A"],
     &["A", "A", "B"],
     &["B", "A", "A"],
@@ -32,7 +32,7 @@ const LISTS: &[&[&str]] = &[
 /// A deck with about 256 names.
 pub fn names(random: &mut Random) -> Bodies {
     let mut bodies = vec![String::new(); random.between(1, 3)];
-    let mut left = random.weighted(&[1, 1, 1, 2, 4, 6, 2]) + 251;
+    let mut left = random.weighted(&[1, 1, 4, 7, 2]) + 253;
     let mut next = 0;
     while left > 0 {
         let most = if random.one_in(3) { 8 } else { left };
@@ -42,21 +42,25 @@ pub fn names(random: &mut Random) -> Bodies {
         next += count;
         left -= count;
     }
-    let members = bodies.len();
-    let mut bodies: Vec<Vec<u8>> = bodies.into_iter().map(|body| ended(random, body)).collect();
-    if members > 1 {
-        let list = LISTS[random.below(LISTS.len())];
-        let include = match random.one_in(4) {
+    let list = inclusions(random, bodies.len() - 1);
+    let last = last_read(&list);
+    let mut bodies: Vec<Vec<u8>> = bodies.into_iter().map(String::into_bytes).collect();
+    bodies.resize(3, b"%;".to_vec());
+    for (member, body) in bodies.iter_mut().enumerate() {
+        if random.percent(if member == last { 90 } else { 10 }) {
+            *body = ended(random, std::mem::take(body));
+        }
+    }
+    if !list.is_empty() {
+        let include = match random.one_in(6) {
             true => format!(
                 "%DCL I FIXED;%DO I=1 TO 2;%INCLUDE {};%END;",
                 list.join(",")
             ),
             false => format!("%INCLUDE {};", list.join(",")),
         };
-        let main = [include.as_bytes(), &bodies[0]].concat();
-        bodies[0] = main;
+        bodies[0].splice(..0, include.into_bytes());
     }
-    bodies.resize(3, b"%;".to_vec());
     Bodies {
         names: vec![b"MAIN".to_vec(), b"A".to_vec(), b"B".to_vec()],
         bodies,
@@ -99,14 +103,32 @@ fn procedure(random: &mut Random, names: &[String]) -> String {
     }
 }
 
-/// A body with what comes behind its names.
-fn ended(random: &mut Random, mut body: String) -> Vec<u8> {
-    if random.one_in(4) {
-        body.push_str(NEAR[random.below(NEAR.len())]);
+/// Members to be included, so many different ones among them.
+fn inclusions(random: &mut Random, members: usize) -> Vec<&'static str> {
+    let fits = |list: &&&[&str]| {
+        list.contains(&"A") == (members > 0) && (members < 2 || list.contains(&"B"))
+    };
+    let lists: Vec<&[&str]> = LISTS.iter().filter(fits).copied().collect();
+    random
+        .pick(&lists)
+        .map(|list| list.to_vec())
+        .unwrap_or_default()
+}
+
+/// The member that is read last, as far as it is read for the first time; 0 is the main program.
+fn last_read(list: &[&str]) -> usize {
+    match (list.contains(&"A"), list.contains(&"B"), list.first()) {
+        (true, true, Some(&"B")) | (true, false, _) => 1,
+        (_, true, _) => 2,
+        _ => 0,
     }
-    if random.one_in(3) {
-        return body.into_bytes();
+}
+
+/// A body with what comes behind its names.
+fn ended(random: &mut Random, mut body: Vec<u8>) -> Vec<u8> {
+    if random.one_in(6) {
+        body.extend_from_slice(NEAR[random.below(NEAR.len())].as_bytes());
     }
     let depth = random.weighted(&[6, 2, 1]);
-    Body::behind(random, body.into_bytes(), depth).bytes
+    Body::behind(random, body, depth).bytes
 }
