@@ -6,20 +6,16 @@ const fs = require('fs');
 const path = require('path');
 const { Worker, isMainThread, workerData } = require('worker_threads');
 
-// What is taken from the definition. Where it says itself what the program prints, that is taken.
+// What is taken from the definition: the expansion of a deck, and what the program prints of it.
 const EXPANSION = 'Expansion.expansion';
 const PRINTED = 'Printed.printed';
 // The definition goes as deep as a deck is long in a few places.
 const STACK_MEGABYTES = 512;
-const KINDS = ['?', 'B', 'C', 'V'];
 
-function printedBy(definition, x) {
-  if (definition.definitions[PRINTED]) return Buffer.from(definition.itemsOf(definition.definitions[PRINTED](x)));
-  const lines = definition.itemsOf(x.lines).reverse();
-  const text = definition.itemsOf(x.text);
-  const numbers = [x.number, x.member, x.offset, x.steps, text.length, lines.length];
-  const shown = lines.map((l) => `${KINDS[l.kind]} ${l.member} ${l.offset} ${l.size}`);
-  return Buffer.concat([Buffer.from([numbers.join(' '), ...shown, ''].join('\n')), Buffer.from(text), Buffer.from('\n')]);
+// A definition that is taken, by its name.
+function taken(definition, name) {
+  if (!definition.definitions[name]) throw new Error(`the specs define no ${name}`);
+  return definition.definitions[name];
 }
 
 function write(bytes) {
@@ -33,14 +29,15 @@ function write(bytes) {
 }
 
 function answerAll(definition, input) {
-  const expansion = definition.definitions[EXPANSION];
-  if (!expansion) throw new Error(`the specs define no ${EXPANSION}`);
+  const expansion = taken(definition, EXPANSION);
+  const printed = taken(definition, PRINTED);
   for (let at = 0; at < input.length; ) {
     if (at + 16 > input.length) throw new Error('a record is cut short');
     const [textRoom, listRoom, steps, size] = [0, 4, 8, 12].map((k) => input.readUInt32LE(at + k));
     const deck = input.subarray(at + 16, at + 16 + size);
     if (deck.length < size) throw new Error('a record is cut short');
-    write(printedBy(definition, expansion(true, definition.listOf([...deck]), textRoom, listRoom, steps)));
+    const answer = expansion(true, definition.listOf([...deck]), textRoom, listRoom, steps);
+    write(Buffer.from(definition.itemsOf(printed(answer))));
     at += 16 + size;
   }
 }
