@@ -827,7 +827,8 @@ pub fn replace(
         }
         Denotation::EntryName(e) => {
             let b = e.body;
-            let y = callee_of(deck, rows, names, c.names, b);
+            let starts = c.starts;
+            let y = callee_of(deck, rows, starts, names, c.names, b);
             match y {
                 Called::Is(z) => {
                     replace_entry(

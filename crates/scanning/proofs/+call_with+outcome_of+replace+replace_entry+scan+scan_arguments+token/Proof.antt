@@ -739,7 +739,7 @@ replace-replace-entry-requires : (t : ℕ) → replace-lts.Need-replace-entry-re
   replace-entry-below t,
   replace-entry.Post,
 ) (replace-at t) replace.Post
-replace-replace-entry-requires t c κs = omega (arith, (c .before .before .before .before .before .before .before .before .before .before .before .before .before .before .before .before .before .before .before .before .before .before .before .pre), (c .before .before .before .before .before .before .before .before .before .before .before .before .before .if1 .left))
+replace-replace-entry-requires t c κs = omega (arith, (c .before .before .before .before .before .before .before .before .before .before .before .before .before .before .before .before .before .before .before .before .before .before .before .before .pre), (c .before .before .before .before .before .before .before .before .before .before .before .before .before .before .if1 .left))
 
 replace-enum-known-y-2 : (t : ℕ) → replace-lts.Need-enum-known-y-2 (
   name-at-reads.Asked,
