@@ -1,34 +1,18 @@
 -- What the state of the reading and the room of rows stand for in the definition. A member has its own part of the room: its first
 -- row is row 0.
 use Prim.Native.Nat.{ℕ, zero, suc, _+_, _*_, _≤_, _<_}
-use mathlib.Core.Bool.{Bool, true, false, cond, _&&_}
 use mathlib.Core.List.{List, [], _∷_}
 use mathlib.Core.Path.{_≡_}
-use lib.ListN.{length, getD}
-use Rattle.definition.specs.Text.{bytesOf}
-use Rattle.definition.specs.Tokens as Tk
-use Rattle.definition.specs.Tokens.{tokenAt}
+use lib.ListN.{length}
 use Rattle.definition.specs.Program as P
 use Rattle.definition.specs.Reading as D
-use Rattle.tokens.specs.Answer.{isWordIn}
-use Rattle.tokens.specs.declared.Lexeme.{Lexeme}
-use Rattle.tokens.specs.declared.Ending.{Ending}
-use Rattle.tokens.specs.declared.Ending.the-variants as E
 use Rattle.rows.specs.Table.{rowIn}
-use Rattle.rows.specs.declared.Link.{Link}
-use Rattle.rows.specs.declared.Link.the-variants as L
-use Rattle.rows.specs.declared.Role.{Role}
-use Rattle.rows.specs.declared.Role.the-variants as Rl
 use Rattle.rows.specs.declared.Stretch.{Stretch}
 use Rattle.rows.specs.declared.Row.{Row}
-use Rattle.entering.specs.declared.Mark.{Mark}
-use Rattle.entering.specs.declared.Mark.the-variants.{Unmarked, Marked}
 use Rattle.entering.specs.Book.{Book, bookWhole, Entered, bookAll}
 use Rattle.statements.specs.Clauses.{scopeOf, Ready}
 use Rattle.statements.specs.Again.{statementAt}
-use Rattle.reading.specs.declared.Where.{Where}
-use Rattle.reading.specs.declared.Where.the-variants as Wh
-use Rattle.reading.specs.declared.Open.{Open}
+use Rattle.openings.specs.Open.{linkOf, roleOf, openFrom}
 use Rattle.reading.specs.declared.State.{State}
 use Rattle.reading.specs.declared.Mode.{Mode}
 use Rattle.reading.specs.declared.Mode.the-variants as Md
@@ -38,15 +22,6 @@ use Rattle.reading.specs.declared.Turned.{Turned}
 use Rattle.reading.specs.declared.Source.{Source}
 
 -- ---- rows
-abbrev pub linkOf : Link → P.Link
-linkOf L.Nowhere = P.nowhere
-linkOf (L.To n) = P.row n
-
-abbrev pub roleOf : Role → P.Role
-roleOf Rl.Listed = P.listed
-roleOf Rl.ThenPart = P.thenPart
-roleOf Rl.ElsePart = P.elsePart
-
 abbrev pub stretchOf : Stretch → P.Stretch
 stretchOf x = record { from = x .from; to = x .to }
 
@@ -68,40 +43,6 @@ rowOf s x = record {
 unfoldable pub rowsFrom : List ℕ → List ℕ → ℕ → ℕ → List P.Row
 rowsFrom s t a zero = []
 rowsFrom s t a (suc n) = rowOf s (rowIn t a) ∷ rowsFrom s t (suc a) n
-
--- ---- what is open, innermost first
-abbrev pub whereOf : Where → D.Where
-whereOf Wh.InProgram = D.inProgram
-whereOf Wh.InGroup = D.inGroup
-whereOf Wh.InBody = D.inBody
-whereOf Wh.InThen = D.inThen
-whereOf Wh.InElse = D.inElse
-
--- an alternative has one statement, so that its last row is of no matter; END names labels of groups and bodies alone
-abbrev pub lastOf : Where → Link → P.Link
-lastOf Wh.InProgram l = linkOf l
-lastOf Wh.InGroup l = linkOf l
-lastOf Wh.InBody l = linkOf l
-lastOf Wh.InThen l = P.nowhere
-lastOf Wh.InElse l = P.nowhere
-
-abbrev pub labelsOf : List ℕ → Where → ℕ → List (List ℕ)
-labelsOf s Wh.InProgram at = []
-labelsOf s Wh.InGroup at = D.spelled (D.labels s at .labels)
-labelsOf s Wh.InBody at = D.spelled (D.labels s at .labels)
-labelsOf s Wh.InThen at = []
-labelsOf s Wh.InElse at = []
-
-unfoldable pub openOf : List ℕ → Open → D.Open
-openOf s o = record { kind = whereOf (o .kind); row = o .row; last = lastOf (o .kind) (o .last); labels = labelsOf s (o .kind) (o .labels) }
-
-abbrev pub noOpen : Open
-noOpen = record { kind = Wh.InProgram; row = 0; last = L.Nowhere; labels = 0 }
-
--- the n first of a list of what is open, the last of them on top
-unfoldable pub openFrom : List ℕ → List Open → ℕ → List D.Open
-openFrom s os zero = []
-openFrom s os (suc n) = openOf s (getD os n noOpen) ∷ openFrom s os n
 
 -- ---- THE STATE: of the body s, the room of rows t, and the declarations ds so far, which the room of names has entered
 unfoldable pub stateOf : List ℕ → List ℕ → List P.Declared → State → D.State
@@ -173,25 +114,3 @@ pub record Reads (s : List ℕ) (m : ℕ) (b : Book) (t′ : List ℕ) (c : Book
   pub first : linkOf (r .first) ≡ D.readMember s .first
   pub rows : rowsFrom s t′ 0 (r .rows) ≡ D.readMember s .rows
   pub names : c ≡ bookWhole m [] (D.readMember s .declared) b
-
--- ---- leaves
-abbrev pub countsFor : Where → ℕ
-countsFor k = D.counts (whereOf k)
-
-abbrev pub elseFor : D.Else → Mark
-elseFor (D.elseTo q) = Marked q
-elseFor D.noElse = Unmarked
-
--- where a text ends
-abbrev pub endFor : List ℕ → Ending → ℕ
-endFor s (E.Percent p) = p
-endFor s E.AtEnd = length s
-endFor s (E.OpenAt p) = p
-
--- the place past a label
-unfoldable pub labelPast : List ℕ → ℕ → Mark
-labelPast s at = cond (D.isName (tokenAt s at .token) && Tk.isSign ":" (tokenAt s (tokenAt s at .to) .token)) (Marked (tokenAt s (tokenAt s at .to) .to)) Unmarked
-
--- ELSE, as the lexeme t says
-unfoldable pub elseWordIn : List ℕ → Lexeme → Mark
-elseWordIn s t = cond (isWordIn s t (bytesOf "ELSE") && D.isDecided (tokenAt s (t .to) .token)) (Marked (t .to)) Unmarked

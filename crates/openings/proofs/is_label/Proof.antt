@@ -1,11 +1,11 @@
 -- The turns left get fewer.
 use borrow.Author.Needs.{needs}
-use Rattle.reading.proofs.is_label.Statement.{statement}
-use Rattle.reading.proofs.is_label.Tie as tie
-use Rattle.reading.proofs.is_label.Reads as reads
-use Rattle.reading.proofs.is_label.Lts as lts
-use Rattle.reading.proofs.is_spelled_alike.Reads as is-spelled-alike-reads
-use Rattle.reading.proofs.label_at.Reads as label-at-reads
+use Rattle.openings.proofs.is_label.Statement.{statement}
+use Rattle.openings.proofs.is_label.Tie as tie
+use Rattle.openings.proofs.is_label.Reads as reads
+use Rattle.openings.proofs.is_label.Lts as lts
+use Rattle.openings.proofs.is_spelled_alike.Reads as is-spelled-alike-reads
+use Rattle.openings.proofs.label_at.Reads as label-at-reads
 use Rattle.tokens.proofs.token_at.Reads as token-at-reads
 use Prim.Native.Nat.{_≤_}
 

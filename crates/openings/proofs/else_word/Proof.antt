@@ -1,12 +1,12 @@
 -- The word is there and decided.
 use borrow.Author.Needs.{needs}
-use Rattle.reading.proofs.else_word.Statement.{statement}
-use Rattle.reading.proofs.else_word.Tie as tie
-use Rattle.reading.proofs.else_word.Reads as reads
-use Rattle.reading.proofs.else_word.Lts as lts
-use Rattle.reading.proofs.is_decided.Reads as is-decided-reads
+use Rattle.openings.proofs.else_word.Statement.{statement}
+use Rattle.openings.proofs.else_word.Tie as tie
+use Rattle.openings.proofs.else_word.Reads as reads
+use Rattle.openings.proofs.else_word.Lts as lts
+use Rattle.openings.proofs.is_decided.Reads as is-decided-reads
 use Rattle.tokens.proofs.is_word.Reads as is-word-reads
-use Rattle.reading.proofs.Laws.{else-decided, else-open, no-else-word}
+use Rattle.openings.proofs.Laws.{else-decided, else-open, no-else-word}
 
 slice-aggregate-is-word : tie.Need-slice-aggregate-is-word
 slice-aggregate-is-word c = search needs

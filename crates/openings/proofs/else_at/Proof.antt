@@ -1,14 +1,14 @@
 -- Outside procedures behind `%`.
 use borrow.Author.Needs.{needs}
-use Rattle.reading.proofs.else_at.Statement.{statement}
-use Rattle.reading.proofs.else_at.Tie as tie
-use Rattle.reading.proofs.else_at.Reads as reads
-use Rattle.reading.proofs.else_at.Lts as lts
-use Rattle.reading.proofs.else_word.Reads as else-word-reads
-use Rattle.reading.proofs.is_inside.Reads as is-inside-reads
+use Rattle.openings.proofs.else_at.Statement.{statement}
+use Rattle.openings.proofs.else_at.Tie as tie
+use Rattle.openings.proofs.else_at.Reads as reads
+use Rattle.openings.proofs.else_at.Lts as lts
+use Rattle.openings.proofs.else_word.Reads as else-word-reads
+use Rattle.openings.proofs.is_inside.Reads as is-inside-reads
 use Rattle.tokens.proofs.is_sign.Reads as is-sign-reads
 use Rattle.tokens.proofs.token_at.Reads as token-at-reads
-use Rattle.reading.proofs.Laws.{else-inside, else-percent, else-none}
+use Rattle.openings.proofs.Laws.{else-inside, else-percent, else-none}
 
 token-at-requires : tie.Need-token-at-requires
 token-at-requires c κs = search needs

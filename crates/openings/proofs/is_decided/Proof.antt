@@ -1,12 +1,12 @@
 -- A word that is no label and no target.
 use borrow.Author.Needs.{needs}
-use Rattle.reading.proofs.is_decided.Statement.{statement}
-use Rattle.reading.proofs.is_decided.Tie as tie
-use Rattle.reading.proofs.is_decided.Reads as reads
-use Rattle.reading.proofs.is_decided.Lts as lts
+use Rattle.openings.proofs.is_decided.Statement.{statement}
+use Rattle.openings.proofs.is_decided.Tie as tie
+use Rattle.openings.proofs.is_decided.Reads as reads
+use Rattle.openings.proofs.is_decided.Lts as lts
 use Rattle.tokens.proofs.is_sign.Reads as is-sign-reads
 use Rattle.tokens.proofs.token_at.Reads as token-at-reads
-use Rattle.reading.proofs.Laws.{decided-equals, decided-rest}
+use Rattle.openings.proofs.Laws.{decided-equals, decided-rest}
 
 token-at-requires : tie.Need-token-at-requires
 token-at-requires c κs = search needs

@@ -1,11 +1,11 @@
 -- The turns left get fewer.
 use borrow.Author.Needs.{needs}
-use Rattle.reading.proofs.labels_at.Statement.{statement}
-use Rattle.reading.proofs.labels_at.Tie as tie
-use Rattle.reading.proofs.labels_at.Reads as reads
-use Rattle.reading.proofs.labels_at.Lts as lts
-use Rattle.reading.proofs.label_at.Reads as label-at-reads
-use Rattle.reading.proofs.long_label.Reads as long-label-reads
+use Rattle.openings.proofs.labels_at.Statement.{statement}
+use Rattle.openings.proofs.labels_at.Tie as tie
+use Rattle.openings.proofs.labels_at.Reads as reads
+use Rattle.openings.proofs.labels_at.Lts as lts
+use Rattle.openings.proofs.label_at.Reads as label-at-reads
+use Rattle.openings.proofs.long_label.Reads as long-label-reads
 use Prim.Native.Nat.{_≤_, _-_}
 use lib.ListN.{length}
 

@@ -1,11 +1,11 @@
 -- The turns left get fewer.
 use borrow.Author.Needs.{needs}
-use Rattle.reading.proofs.depth.Statement.{statement}
-use Rattle.reading.proofs.depth.Tie as tie
-use Rattle.reading.proofs.depth.Reads as reads
-use Rattle.reading.proofs.depth.Lts as lts
-use Rattle.reading.proofs.counts.Reads as counts-reads
-use Rattle.reading.proofs.sum20.Reads as sum20-reads
+use Rattle.openings.proofs.depth.Statement.{statement}
+use Rattle.openings.proofs.depth.Tie as tie
+use Rattle.openings.proofs.depth.Reads as reads
+use Rattle.openings.proofs.depth.Lts as lts
+use Rattle.openings.proofs.counts.Reads as counts-reads
+use Rattle.openings.proofs.sum20.Reads as sum20-reads
 use Prim.Native.Nat.{_≤_, _-_}
 
 abbrev Inv-loop : tie.InvT-loop

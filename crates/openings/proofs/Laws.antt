@@ -21,7 +21,7 @@ use Rattle.names.specs.declared.Owner.{Owner}
 use Rattle.entering.specs.declared.Mark.{Mark}
 use Rattle.entering.specs.declared.Mark.the-variants.{Unmarked, Marked}
 use Rattle.statements.specs.Clauses.{isInside}
-use Rattle.reading.specs.State.{endFor, elseFor, elseWordIn, labelPast}
+use Rattle.openings.specs.Open.{endFor, elseFor, elseWordIn, labelPast}
 
 -- ---- END and ELSE are decided
 module _ (s : List ℕ) (at : ℕ) (l : Lexeme) (lex : Lexed s at l) (a : Bool) (ha : a ≡ isSignIn s l (61 ∷ [])) where

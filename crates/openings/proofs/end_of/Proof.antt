@@ -1,10 +1,10 @@
 -- By the case.
 use borrow.Author.Needs.{needs}
-use Rattle.reading.proofs.end_of.Statement.{statement}
-use Rattle.reading.proofs.end_of.Tie as tie
-use Rattle.reading.proofs.end_of.Reads as reads
-use Rattle.reading.proofs.end_of.Lts as lts
-use Rattle.reading.proofs.Laws.{end-end}
+use Rattle.openings.proofs.end_of.Statement.{statement}
+use Rattle.openings.proofs.end_of.Tie as tie
+use Rattle.openings.proofs.end_of.Reads as reads
+use Rattle.openings.proofs.end_of.Lts as lts
+use Rattle.openings.proofs.Laws.{end-end}
 
 enum-known-e : tie.Need-enum-known-e
 enum-known-e c = search needs

@@ -1,13 +1,13 @@
 -- A word and a colon.
 use borrow.Author.Needs.{needs}
-use Rattle.reading.proofs.label_at.Statement.{statement}
-use Rattle.reading.proofs.label_at.Tie as tie
-use Rattle.reading.proofs.label_at.Reads as reads
-use Rattle.reading.proofs.label_at.Lts as lts
+use Rattle.openings.proofs.label_at.Statement.{statement}
+use Rattle.openings.proofs.label_at.Tie as tie
+use Rattle.openings.proofs.label_at.Reads as reads
+use Rattle.openings.proofs.label_at.Lts as lts
 use Rattle.tokens.proofs.is_sign.Reads as is-sign-reads
 use Rattle.tokens.proofs.is_word_kind.Reads as is-word-kind-reads
 use Rattle.tokens.proofs.token_at.Reads as token-at-reads
-use Rattle.reading.proofs.Laws.{a-label, not-label, no-label}
+use Rattle.openings.proofs.Laws.{a-label, not-label, no-label}
 
 token-at-requires : tie.Need-token-at-requires
 token-at-requires c κs = search needs

@@ -1,0 +1,2 @@
+-- What the contracts of `openings` cite.
+pub mod Open
