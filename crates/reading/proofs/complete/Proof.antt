@@ -5,12 +5,12 @@ use Rattle.reading.proofs.complete.Tie as tie
 use Rattle.reading.proofs.complete.Reads as reads
 use Rattle.reading.proofs.complete.Lts as lts
 use Rattle.reading.proofs.behind.Reads as behind-reads
-use Rattle.reading.proofs.done_in.Reads as done-in-reads
+use Rattle.openings.proofs.done_in.Reads as done-in-reads
 use Rattle.reading.proofs.go.Reads as go-reads
-use Rattle.reading.proofs.opening.Reads as opening-reads
-use Rattle.reading.proofs.pop.Reads as pop-reads
-use Rattle.reading.proofs.push.Reads as push-reads
-use Rattle.reading.proofs.top.Reads as top-reads
+use Rattle.openings.proofs.opening.Reads as opening-reads
+use Rattle.openings.proofs.pop.Reads as pop-reads
+use Rattle.openings.proofs.push.Reads as push-reads
+use Rattle.openings.proofs.top.Reads as top-reads
 use Rattle.reading.proofs.with_opened.Reads as with-opened-reads
 use Prim.Native.Nat.{_≤_}
 

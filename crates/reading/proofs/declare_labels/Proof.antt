@@ -5,7 +5,7 @@ use Rattle.reading.proofs.declare_labels.Tie as tie
 use Rattle.reading.proofs.declare_labels.Reads as reads
 use Rattle.reading.proofs.declare_labels.Lts as lts
 use Rattle.reading.proofs.declare_label.Reads as declare-label-reads
-use Rattle.reading.proofs.label_at.Reads as label-at-reads
+use Rattle.openings.proofs.label_at.Reads as label-at-reads
 use Rattle.reading.proofs.with_tally.Reads as with-tally-reads
 use Prim.Native.Nat.{_≤_}
 use mathlib.Core.Path.{_≡_}

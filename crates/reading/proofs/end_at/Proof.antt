@@ -6,11 +6,11 @@ use Rattle.reading.proofs.end_at.Reads as reads
 use Rattle.reading.proofs.end_at.Lts as lts
 use Rattle.reading.proofs.complete.Reads as complete-reads
 use Rattle.reading.proofs.declare_labels.Reads as declare-labels-reads
-use Rattle.reading.proofs.end_name.Reads as end-name-reads
-use Rattle.reading.proofs.pop.Reads as pop-reads
-use Rattle.reading.proofs.scope_out.Reads as scope-out-reads
+use Rattle.openings.proofs.end_name.Reads as end-name-reads
+use Rattle.openings.proofs.pop.Reads as pop-reads
+use Rattle.openings.proofs.scope_out.Reads as scope-out-reads
 use Rattle.reading.proofs.stop.Reads as stop-reads
-use Rattle.reading.proofs.top.Reads as top-reads
+use Rattle.openings.proofs.top.Reads as top-reads
 use Rattle.reading.proofs.with_opened.Reads as with-opened-reads
 use Rattle.reading.proofs.with_scope.Reads as with-scope-reads
 
