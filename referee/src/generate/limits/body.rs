@@ -57,6 +57,31 @@ const ELSES: &[&[u8]] = &[
     b"ELSE:;",
 ];
 
+/// Declarations, most of them of several names and wrong somewhere.
+const DECLARES: &[&[u8]] = &[
+    b"DCL V FIXED;",
+    b"DCL (V,W) CHAR,Z FIXED;",
+    b"DCL V CHAR,(W,Z) ENTRY;",
+    b"DCL (V,N0,W) CHAR;",
+    b"DCL (V,W,Z",
+    b"DCL (V,W,",
+    b"DCL (V,W)",
+    b"DCL (V,W) FOO;",
+    b"DCL V",
+    b"DCL V,W FIXED;",
+    b"DCL V FIXED,W",
+    b"DCL V FIXED,W CHAR",
+    b"DCL V FIXED W;",
+    b"DCL (V,LLLLLLLLLLLLLLLLLLLLLLLLLLLLLLLL,W) CHAR;",
+    b"DCL V CHAR,LLLLLLLLLLLLLLLLLLLLLLLLLLLLLLLL FIXED;",
+    b"P:PROC(A,B",
+    b"P:Q:PROC RETURNS(",
+    b"P:PROC(V,V)RETURNS(CHAR);DCL V CHAR;%END;",
+    b"P:PROC(V,W)RETURNS(CHAR);V:DCL W CHAR,U FIXED",
+    b"P:PROC RETURNS(CHAR);V:W:DCL (U,T) BUILTIN;S:DO;%",
+    b"P:PROC RETURNS(CHAR);V:DO;W:END;U:RETURN(1);%T:S:END",
+];
+
 /// What may come where a clause breaks off.
 const WRONG: &[&[u8]] = &[
     b"", b"", b"", b"", b"%", b"'", b"'A", b"/*", b"/* *", b"?", b")", b"(", b"=", b":", b";",
@@ -116,10 +141,12 @@ struct Plan {
 impl Plan {
     fn new(random: &mut Random) -> Plan {
         use Opening::{Done, Group, Iterated, Procedure, Then};
-        let (places, clauses): (&[Opening], &[&[u8]]) = match random.weighted(&[36, 15, 9, 40]) {
+        let (places, clauses): (&[Opening], &[&[u8]]) = match random.weighted(&[34, 14, 8, 14, 30])
+        {
             0 => (&[Group, Group, Iterated, Procedure], ENDS),
             1 => (&[Done, Done, Then], ELSES),
             2 => (&[Group, Procedure, Done, Then], &[b""]),
+            3 => (&[], DECLARES),
             _ => (&[], CLAUSES),
         };
         Plan {
