@@ -39,7 +39,7 @@ pub fn record(seed: u64, number: u64) -> Record {
 }
 
 fn made(random: &mut Random) -> Record {
-    match random.weighted(&[36, 6, 3, 3, 2, 10, 11, 4, 3, 5, 10, 2, 1, 5, 4, 20]) {
+    match random.weighted(&[50, 6, 3, 3, 2, 10, 11, 4, 3, 5, 10, 2, 1, 5, 4, 20]) {
         0 => with_rooms(random, programs),
         1 => with_rooms(random, damaged_by_tokens),
         2 => with_rooms(random, damaged_by_bytes),
