@@ -143,9 +143,15 @@ impl Plan {
         use Opening::{Done, Group, Iterated, Procedure, Then};
         let (places, clauses): (&[Opening], &[&[u8]]) = match random.weighted(&[34, 14, 8, 14, 30])
         {
-            0 => (&[Group, Group, Iterated, Procedure], ENDS),
+            0 => (
+                &[Group, Group, Iterated, Procedure, Procedure, Procedure],
+                ENDS,
+            ),
             1 => (&[Done, Done, Then], ELSES),
-            2 => (&[Group, Procedure, Done, Then], &[b""]),
+            2 => (
+                &[Group, Procedure, Procedure, Done, Then],
+                &[b"", b"", b"A", b";"],
+            ),
             3 => (&[], DECLARES),
             _ => (&[], CLAUSES),
         };
