@@ -71,7 +71,7 @@ module _ (s : List ℕ) (e : ℕ) (o : Owner) (t : Lexeme) (lex : Lexed s e t) (
     else-none g = rw (← hi, h, told s e t lex "%" (37 ∷ []) v false refl hv g)
 
 -- ---- labels
-name-kind : (t : Tk.Token) → isWordKind (kindOf t) ≡ D.isName t
+pub name-kind : (t : Tk.Token) → isWordKind (kindOf t) ≡ D.isName t
 name-kind (Tk.word x) = refl
 name-kind (Tk.integer x) = refl
 name-kind (Tk.string x) = refl

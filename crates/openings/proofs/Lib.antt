@@ -1,2 +1,6 @@
 -- Laws that belong to no one function.
 pub mod Laws
+pub mod Stacked
+pub mod Labelling
+pub mod Words
+pub mod Ends

@@ -1,8 +1,18 @@
 // What is open while a member is read, and how a sentence begins and ends: labels, the word that begins a statement, ELSE and END.
 // Nothing is lent here to be written.
 ghost use mathlib.Core.Path.{_≡_};
+ghost use mathlib.Core.Bool.{_&&_};
+ghost use mathlib.Core.List.{[]};
+ghost use Prim.Native.Nat.{_-_};
+ghost use lib.Dec.{ltb};
+ghost use lib.ListN.{getD};
+ghost use Rattle.definition.specs.Lists.{part, same, isOneOf};
 ghost use Rattle.definition.specs.Tokens.{tokenAt};
+ghost use Rattle.definition.specs.Expressions.{nameAt};
 ghost use Rattle.definition.specs.Reading as D;
+ghost use Rattle.tokens.specs.Answer.{spelling};
+ghost use Rattle.expressions.specs.Check.{expectFor};
+ghost use Rattle.entering.specs.Book as B;
 ghost use Rattle.statements.specs.Clauses as C;
 ghost use Rattle.openings.specs.Open as T;
 use definition::Why;
@@ -53,7 +63,9 @@ pub struct Opened {
     pub items: [Open; 20],
 }
 
-pub fn nothing_open() -> Open {
+pub fn nothing_open() -> Open
+    ensures { λ r. ⌜ r ≡ T.noOpen ⌝ }
+{
     Open {
         kind: Where::InProgram,
         row: 0,
@@ -62,7 +74,9 @@ pub fn nothing_open() -> Open {
     }
 }
 
-pub fn opening(kind: Where, row: u16, labels: usize) -> Open {
+pub fn opening(kind: Where, row: u16, labels: usize) -> Open
+    ensures { λ r. ⌜ T.Opening kind row labels r ⌝ }
+{
     Open {
         kind,
         row,
@@ -71,53 +85,75 @@ pub fn opening(kind: Where, row: u16, labels: usize) -> Open {
     }
 }
 
-pub fn top(o: Opened) -> Open {
-    let n = o.count;
-    if 0 < n {
-        if n <= 20 {
-            return o.items[n - 1];
-        }
+fn open_at(o: Opened, i: usize) -> Open
+    ensures { λ r. ⌜ T.OpenAt o i r ⌝ }
+{
+    if i < 20 {
+        return o.items[i];
     }
     nothing_open()
 }
 
-pub fn push(o: Opened, x: Open) -> Opened {
+pub fn top(o: Opened) -> Open
+    ensures { λ r. ⌜ r ≡ T.topIn (o .items) (o .count) ⌝ }
+{
     let n = o.count;
-    let mut all = o;
+    if 0 < n {
+        return open_at(o, n - 1);
+    }
+    nothing_open()
+}
+
+pub fn push(o: Opened, x: Open) -> Opened
+    ensures { λ r. ⌜ T.Pushed o x r ⌝ }
+{
+    let n = o.count;
     if n < 20 {
+        let mut all = o;
         all.items[n] = x;
         all.count = n + 1;
+        return all;
     }
-    all
+    o
 }
 
-pub fn pop(o: Opened) -> Opened {
+pub fn pop(o: Opened) -> Opened
+    ensures { λ r. ⌜ T.Popped o r ⌝ }
+{
     let n = o.count;
-    let mut all = o;
     if 0 < n {
+        let mut all = o;
         all.count = n - 1;
+        return all;
     }
-    all
+    o
 }
 
-pub fn top_kind(o: Opened) -> Where {
+pub fn top_kind(o: Opened) -> Where
+    ensures { λ r. ⌜ T.TopKind o r ⌝ }
+{
     let x = top(o);
     x.kind
 }
 
-// The top of what is open, whose last row is now n.
-pub fn at_last(o: Opened, n: u16) -> Opened {
-    let x = top(o);
+// What is open with n as its last row so far.
+fn with_last(x: Open, n: u16) -> Open
+    ensures { λ r. ⌜ T.WithLast x n r ⌝ }
+{
     let kind = x.kind;
-    push(
-        pop(o),
-        Open {
-            kind,
-            row: x.row,
-            last: Link::To(n),
-            labels: x.labels,
-        },
-    )
+    Open {
+        kind,
+        row: x.row,
+        last: Link::To(n),
+        labels: x.labels,
+    }
+}
+
+// The top of what is open, whose last row is now n.
+pub fn at_last(o: Opened, n: u16) -> Opened
+    ensures { λ r. ⌜ T.AtLast o n r ⌝ }
+{
+    push(pop(o), with_last(top(o), n))
 }
 
 fn counts(k: Where) -> usize
@@ -133,22 +169,24 @@ fn counts(k: Where) -> usize
 }
 
 // The groups and alternatives that are open.
-pub fn depth(o: Opened) -> usize {
+pub fn depth(o: Opened) -> usize
+    ensures { λ r. ⌜ T.Deep o r ⌝ }
+{
     let mut n: usize = 0;
     let mut i: usize = 0;
-    while i < 20 {
-        if i < o.count {
-            let x = o.items[i];
-            let kind = x.kind;
-            n = sum20(n, counts(kind));
-        }
+    while i < o.count {
+        let x = open_at(o, i);
+        let kind = x.kind;
+        n = sum20(n, counts(kind));
         i += 1;
     }
     n
 }
 
 // A sum that stays below what 20 things can be.
-fn sum20(n: usize, k: usize) -> usize {
+fn sum20(n: usize, k: usize) -> usize
+    ensures { λ r. ⌜ T.Sum20 n k r ⌝ }
+{
     if n < 20 {
         if k < 20 {
             return n + k;
@@ -157,7 +195,7 @@ fn sum20(n: usize, k: usize) -> usize {
     20
 }
 
-pub fn is_in_group(k: Where) -> bool
+fn is_in_group(k: Where) -> bool
     ensures { λ r. ⌜ r ≡ D.isInGroup (T.whereOf k) ⌝ }
 {
     match k {
@@ -182,7 +220,7 @@ pub fn is_in_body(k: Where) -> bool
 }
 
 // Whether sentences of a list stand there, and not an alternative.
-pub fn is_list(k: Where) -> bool
+fn is_list(k: Where) -> bool
     ensures { λ r. ⌜ r ≡ D.isList (T.whereOf k) ⌝ }
 {
     match k {
@@ -194,7 +232,9 @@ pub fn is_list(k: Where) -> bool
     }
 }
 
-pub fn parent_in(o: Open) -> Link {
+pub fn parent_in(o: Open) -> Link
+    ensures { λ r. ⌜ T.linkOf r ≡ T.parentIn (T.whereOf (o .kind)) (o .row) ⌝ }
+{
     let kind = o.kind;
     match kind {
         Where::InProgram => Link::Nowhere,
@@ -205,7 +245,9 @@ pub fn parent_in(o: Open) -> Link {
     }
 }
 
-pub fn role_in(k: Where) -> Role {
+pub fn role_in(k: Where) -> Role
+    ensures { λ r. ⌜ T.roleOf r ≡ T.roleIn (T.whereOf k) ⌝ }
+{
     match k {
         Where::InProgram => Role::Listed,
         Where::InGroup => Role::Listed,
@@ -215,14 +257,33 @@ pub fn role_in(k: Where) -> Role {
     }
 }
 
-pub fn first_of(first: Link, n: u16) -> Link {
-    match first {
+fn first_behind(first: Link, last: Link, n: u16) -> Link
+    ensures { λ r. ⌜ T.linkOf r ≡ D.firstOf (T.linkOf first) (T.linkOf last) n ⌝ }
+{
+    match last {
         Link::Nowhere => Link::To(n),
-        Link::To(f) => Link::To(f),
+        Link::To(_) => first,
     }
 }
 
-pub fn scope_out(k: Where, scope: Owner) -> Owner {
+// The first row of the program, where n is new in what is open.
+pub fn first_in(first: Link, o: Open, n: u16) -> Link
+    ensures { λ r. ⌜ T.linkOf r ≡ T.firstIn (T.whereOf (o .kind)) (T.linkOf first) (T.lastOf (o .kind) (o .last)) n ⌝ }
+{
+    let kind = o.kind;
+    let last = o.last;
+    match kind {
+        Where::InProgram => first_behind(first, last, n),
+        Where::InGroup => first,
+        Where::InBody => first,
+        Where::InThen => first,
+        Where::InElse => first,
+    }
+}
+
+pub fn scope_out(k: Where, scope: Owner) -> Owner
+    ensures { λ r. ⌜ T.ScopeOut k scope r ⌝ }
+{
     match k {
         Where::InProgram => scope,
         Where::InGroup => scope,
@@ -267,7 +328,9 @@ pub fn label_at(s: &[u8], at: usize) -> Mark
     Mark::Unmarked
 }
 
-fn long_label(s: &[u8], at: usize, long: Mark) -> Mark {
+fn long_label(s: &[u8], at: usize, long: Mark) -> Mark
+    ensures { λ r. ⌜ r ≡ T.longAfter long (nameAt (now (s .entry)) at) ⌝ }
+{
     match long {
         Mark::Marked(p) => Mark::Marked(p),
         Mark::Unmarked => {
@@ -281,7 +344,9 @@ fn long_label(s: &[u8], at: usize, long: Mark) -> Mark {
 }
 
 // "An identifier followed by `:` is a label."
-pub fn labels_at(s: &[u8], from: usize) -> Labels {
+pub fn labels_at(s: &[u8], from: usize) -> Labels
+    ensures { λ r. ⌜ T.LabelsAt (now (s .entry)) from r ⌝ }
+{
     let mut at = from;
     let mut count: usize = 0;
     let mut long = Mark::Unmarked;
@@ -309,23 +374,46 @@ pub fn labels_at(s: &[u8], from: usize) -> Labels {
     }
 }
 
-pub fn span(t: Lexeme) -> usize {
-    if t.to < t.from {
+fn length_of(from: usize, to: usize) -> usize
+    ensures { λ r. ⌜ r ≡ to - from ⌝ }
+{
+    if to < from {
         return 0;
     }
-    t.to - t.from
+    to - from
 }
 
-fn is_spelled_alike(s: &[u8], a: Lexeme, b: Lexeme) -> bool {
-    let n = span(a);
-    if n == span(b) {
-        return is_same(s, a.from, s, b.from, n);
+pub fn span(t: Lexeme) -> usize
+    ensures { λ r. ⌜ r ≡ t .to - t .from ⌝ }
+{
+    length_of(t.from, t.to)
+}
+
+fn is_spelled_alike(s: &[u8], t: Lexeme, from: usize, to: usize) -> bool
+    ensures { λ r. ⌜ r ≡ same (spelling (now (s .entry)) t) (part (to - from) from (now (s .entry))) ⌝ }
+{
+    let n = length_of(from, to);
+    if span(t) == n {
+        return is_same(s, t.from, s, from, n);
     }
     false
 }
 
+// Whether the name at a place is spelled as t; a word that is too long is no name.
+fn is_named_alike(s: &[u8], at: usize, t: Lexeme) -> bool
+    ensures { λ r. ⌜ r ≡ T.namesAs (spelling (now (s .entry)) t) (nameAt (now (s .entry)) at) ⌝ }
+{
+    let n = name_at(s, at);
+    match n {
+        NamedAt::Is(from, to) => is_spelled_alike(s, t, from, to),
+        NamedAt::Refused(_, _) => false,
+    }
+}
+
 // Whether a token is spelled as one of the labels from a place on.
-fn is_label(s: &[u8], from: usize, t: Lexeme) -> bool {
+fn is_label(s: &[u8], from: usize, t: Lexeme) -> bool
+    ensures { λ r. ⌜ r ≡ isOneOf (spelling (now (s .entry)) t) (T.labelled (now (s .entry)) from) ⌝ }
+{
     let mut at = from;
     let mut turns = s.len();
     while 0 < turns {
@@ -333,7 +421,7 @@ fn is_label(s: &[u8], from: usize, t: Lexeme) -> bool {
         let found = label_at(s, at);
         match found {
             Mark::Marked(e) => {
-                if is_spelled_alike(s, token_at(s, at), t) {
+                if is_named_alike(s, at, t) {
                     return true;
                 }
                 at = e;
@@ -349,7 +437,9 @@ fn is_label(s: &[u8], from: usize, t: Lexeme) -> bool {
 // ---- which statement begins with a word
 
 // Whether a word begins the statement k here, so that it is no name.
-fn may_stand(k: Keyword, kind: Where, scope: Owner, labels: usize) -> bool {
+fn may_stand(k: Keyword, kind: Where, scope: Owner, labels: usize) -> bool
+    ensures { λ r. ⌜ r ≡ T.mayStand k (D.isList (T.whereOf kind)) (C.isInside scope) (ltb 0 labels) ⌝ }
+{
     match k {
         Keyword::If => true,
         Keyword::Do => true,
@@ -374,7 +464,9 @@ fn may_stand(k: Keyword, kind: Where, scope: Owner, labels: usize) -> bool {
 }
 
 // Which statement begins with the word t, if one does here.
-pub fn keyword_here(s: &[u8], kind: Where, scope: Owner, t: Lexeme, labels: usize) -> Keyword {
+pub fn keyword_here(s: &[u8], kind: Where, scope: Owner, t: Lexeme, labels: usize) -> Keyword
+    ensures { λ r. ⌜ r ≡ T.keywordAt (now (s .entry)) (T.whereOf kind) (C.isInside scope) t labels ⌝ }
+{
     let u = token_at(s, t.to);
     if is_sign(s, u, b"=") {
         return Keyword::Other;
@@ -387,7 +479,9 @@ pub fn keyword_here(s: &[u8], kind: Where, scope: Owner, t: Lexeme, labels: usiz
 }
 
 // Labels before what opens a body are entry names.
-pub fn label_meaning(k: Keyword, n: u16) -> Meaning {
+pub fn label_meaning(k: Keyword, n: u16) -> Meaning
+    ensures { λ r. ⌜ B.meaningOf r ≡ D.labelMeaning (T.opensBy k) n ⌝ }
+{
     match k {
         Keyword::Procedure => Meaning::BodyAt(n),
         Keyword::If => Meaning::LabelAt(n),
@@ -404,7 +498,9 @@ pub fn label_meaning(k: Keyword, n: u16) -> Meaning {
 }
 
 // A word that begins no statement here is not wrong, but the token behind it is, unless it is `=`.
-pub fn other_clause(s: &[u8], t: Lexeme, from: usize) -> Read {
+pub fn other_clause(s: &[u8], t: Lexeme, from: usize) -> Read
+    ensures { λ r. ⌜ r ≡ T.otherFor (now (s .entry)) from (t .to) ⌝ }
+{
     let u = token_at(s, t.to);
     if is_sign(s, u, b"=") {
         return assignment(s, from, u.to);
@@ -412,7 +508,9 @@ pub fn other_clause(s: &[u8], t: Lexeme, from: usize) -> Read {
     Read::Refused(Why::Syntax, u.from)
 }
 
-pub fn null_clause(t: Lexeme) -> Read {
+pub fn null_clause(t: Lexeme) -> Read
+    ensures { λ r. ⌜ r ≡ T.nullFor (t .from) (t .to) ⌝ }
+{
     Read::Is(Clause {
         statement: Statement::Null,
         opens: Opens::Nothing,
@@ -423,7 +521,9 @@ pub fn null_clause(t: Lexeme) -> Read {
 }
 
 // Whether a token can begin a statement.
-pub fn begins(s: &[u8], t: Lexeme) -> bool {
+pub fn begins(s: &[u8], t: Lexeme) -> bool
+    ensures { λ r. ⌜ r ≡ T.beginsIn (now (s .entry)) t ⌝ }
+{
     let kind = t.kind;
     if is_word_kind(kind) {
         return true;
@@ -434,7 +534,7 @@ pub fn begins(s: &[u8], t: Lexeme) -> bool {
 // ---- ELSE and END
 
 // ELSE and END are words that may turn out to be a target or a label, by the token behind them.
-pub fn is_decided(s: &[u8], at: usize) -> bool
+fn is_decided(s: &[u8], at: usize) -> bool
     ensures { λ r. ⌜ r ≡ D.isDecided (tokenAt (now (s .entry)) at .token) ⌝ }
 {
     let t = token_at(s, at);
@@ -456,7 +556,7 @@ fn else_word(s: &[u8], t: Lexeme) -> Mark
 }
 
 // ELSE, if it stands next: the place past it.
-pub fn else_at(s: &[u8], scope: Owner, e: usize) -> Mark
+fn else_at(s: &[u8], scope: Owner, e: usize) -> Mark
     ensures { λ r. ⌜ r ≡ T.elseFor (D.elseAt (C.isInside scope) (now (s .entry)) e) ⌝ }
 {
     let t = token_at(s, e);
@@ -476,7 +576,9 @@ pub enum Done {
     On,
 }
 
-pub fn done_in(s: &[u8], o: Open, scope: Owner, e: usize) -> Done {
+pub fn done_in(s: &[u8], o: Open, scope: Owner, e: usize) -> Done
+    ensures { λ r. ⌜ T.Completes (now (s .entry)) o scope e r ⌝ }
+{
     let kind = o.kind;
     match kind {
         Where::InProgram => Done::On,
@@ -493,7 +595,9 @@ pub fn done_in(s: &[u8], o: Open, scope: Owner, e: usize) -> Done {
     }
 }
 
-pub fn is_end(s: &[u8], kind: Where, t: Lexeme) -> bool {
+pub fn is_end(s: &[u8], kind: Where, t: Lexeme) -> bool
+    ensures { λ r. ⌜ r ≡ (D.isInGroup (T.whereOf kind) && T.isEndIn (now (s .entry)) t) ⌝ }
+{
     if is_in_group(kind) {
         if is_word(s, t, b"END") {
             return is_decided(s, t.to);
@@ -502,23 +606,34 @@ pub fn is_end(s: &[u8], kind: Where, t: Lexeme) -> bool {
     false
 }
 
+fn may_name(s: &[u8], labels: usize, t: Lexeme) -> bool
+    ensures { λ r. ⌜ r ≡ T.mayNameIn (now (s .entry)) t (T.labelled (now (s .entry)) labels) ⌝ }
+{
+    let kind = t.kind;
+    if is_word_kind(kind) {
+        return is_label(s, labels, t);
+    }
+    false
+}
+
 // "A name after END must be a label of what it ends": the place past the semicolon.
-pub fn end_name(s: &[u8], labels: usize, at: usize) -> Expected {
+pub fn end_name(s: &[u8], labels: usize, at: usize) -> Expected
+    ensures { λ r. ⌜ r ≡ expectFor (D.endName (now (s .entry)) (T.labelled (now (s .entry)) labels) at) ⌝ }
+{
     let t = token_at(s, at);
     if is_sign(s, t, b";") {
         return Expected::Past(t.to);
     }
-    let kind = t.kind;
-    if is_word_kind(kind) {
-        if is_label(s, labels, t) {
-            return expressions::expect_sign(s, t.to, b";");
-        }
+    if may_name(s, labels, t) {
+        return expressions::expect_sign(s, t.to, b";");
     }
     Expected::Refused(Why::Syntax, t.from)
 }
 
 // Where the statement of an alternative begins, behind its `%`, or that none can.
-pub fn alternative_from(s: &[u8], scope: Owner, t: Lexeme, at: usize) -> Mark {
+pub fn alternative_from(s: &[u8], scope: Owner, t: Lexeme, at: usize) -> Mark
+    ensures { λ r. ⌜ T.AlternativeFrom (now (s .entry)) scope t at r ⌝ }
+{
     if is_inside(scope) {
         if begins(s, t) {
             return Mark::Marked(at);
@@ -544,7 +659,9 @@ pub fn end_of(s: &[u8], e: Ending) -> usize
     }
 }
 
-pub fn place_after(s: &[u8], p: usize) -> usize {
+pub fn place_after(s: &[u8], p: usize) -> usize
+    ensures { λ r. ⌜ T.PlaceAfter (now (s .entry)) p r ⌝ }
+{
     if p < s.len() {
         return p + 1;
     }

@@ -27,7 +27,7 @@ use openings::depth;
 use openings::done_in;
 use openings::end_name;
 use openings::end_of;
-use openings::first_of;
+use openings::first_in;
 use openings::is_end;
 use openings::is_in_body;
 use openings::is_inside;
@@ -243,7 +243,7 @@ fn add_row(rows: &mut [u16], st: State, c: Clause, p: usize) -> State {
     State {
         entered: st.entered,
         rows: row_after(n),
-        first: first_of(first, n),
+        first: first_in(first, o, n),
         lead,
         opened: at_last(opened, n),
         scope,
