@@ -38,9 +38,14 @@ use reading::read_member;
 use rows::Link;
 use rows::Role;
 use rows::Row;
+use rows::Starts;
 use rows::Statement;
 use rows::Stretch;
+use rows::no_starts;
+use rows::part_of;
+use rows::part_place;
 use rows::row_at;
+use rows::with_start;
 use scanning::Active;
 use scanning::Dest;
 use scanning::Replaced;
@@ -61,6 +66,12 @@ pub struct Progress {
     pub out: Out,
     pub rows: u16,
     pub names: u16,
+}
+
+// The member that runs, and where the rows of each member start.
+pub struct Here {
+    pub member: u16,
+    pub starts: Starts,
 }
 
 // A refusal with its place.
@@ -101,12 +112,20 @@ fn bad(g: Progress, why: Why, member: u16, place: usize) -> Ran {
 }
 
 // Outside procedures every name is seen that is global.
-fn scene(g: Progress) -> Scene {
+fn scene(here: Here, g: Progress) -> Scene {
+    let starts = here.starts;
     Scene {
         names: g.names,
+        starts,
         owner: Owner::Everyone,
         running: none_running(),
     }
+}
+
+// The rows of the member that runs.
+fn part_here(rows: &[u16], here: Here) -> &[u16] {
+    let starts = here.starts;
+    part_of(rows, starts, here.member)
 }
 
 // ---- program text
@@ -241,13 +260,13 @@ fn replace_here(
     to: usize,
     a: Address,
     act: Activity,
-    member: u16,
+    here: Here,
     g: Progress,
 ) -> Passed {
     let o = g.out;
     let place = plus(x.from, p);
     if o.free < 1 {
-        return pass_to(bad(g, Why::RoomFull, member, place), to);
+        return pass_to(bad(g, Why::RoomFull, here.member, place), to);
     }
     let d = Dest {
         to_work: false,
@@ -272,10 +291,10 @@ fn replace_here(
         d,
         0,
         Levels::REPLACEMENTS,
-        scene(g),
+        scene(here, g),
         m,
     );
-    replacement_out(text, list, g, member, place, 0, r)
+    replacement_out(text, list, g, here.member, place, 0, r)
 }
 
 // One token of a text, at p.
@@ -292,7 +311,7 @@ fn token_here(
     list: &mut [u8],
     x: Src,
     p: usize,
-    member: u16,
+    here: Here,
     g0: Progress,
 ) -> Passed {
     let place = plus(x.from, p);
@@ -301,13 +320,13 @@ fn token_here(
     let m = paid.meter;
     let g = with_meter(g0, m);
     if !paid.paid {
-        return pass_to(bad(g, Why::NoStep, member, place), p);
+        return pass_to(bad(g, Why::NoStep, here.member, place), p);
     }
     let y = piece_of(s, work, x, p);
     let active = active_in(deck, s, work, names, g.names, x, p, y);
     match active {
         Active::NotActive => {
-            let r = token_out(s, text, list, g, member, place, plus(x.from, y.to));
+            let r = token_out(s, text, list, g, here.member, place, plus(x.from, y.to));
             pass_to(r, y.to)
         }
         Active::IsActive(a, act) => {
@@ -327,7 +346,7 @@ fn token_here(
                 y.to,
                 a,
                 act,
-                member,
+                here,
                 g,
             )
         }
@@ -347,7 +366,7 @@ fn text_on(
     text: &mut [u8],
     list: &mut [u8],
     x: Src,
-    member: u16,
+    here: Here,
     g0: Progress,
 ) -> Ran {
     let size = span(x.from, x.to);
@@ -372,7 +391,7 @@ fn text_on(
             list,
             x,
             p,
-            member,
+            here,
             g,
         );
         match t {
@@ -401,7 +420,7 @@ fn text_out(
     text: &mut [u8],
     list: &mut [u8],
     x: Stretch,
-    member: u16,
+    here: Here,
     g: Progress,
 ) -> Ran {
     let from = x.from as usize;
@@ -410,7 +429,7 @@ fn text_out(
         from,
         to: x.to as usize,
     };
-    let b = blank_out(text, list, g, member, from);
+    let b = blank_out(text, list, g, here.member, from);
     match b {
         Ran::Good(h) => text_on(
             deck,
@@ -424,7 +443,7 @@ fn text_out(
             text,
             list,
             src,
-            member,
+            here,
             h,
         ),
         Ran::Bad(stop, h) => Ran::Bad(stop, h),
@@ -444,7 +463,7 @@ fn lead_out(
     text: &mut [u8],
     list: &mut [u8],
     x: Stretch,
-    member: u16,
+    here: Here,
     g: Progress,
 ) -> Ran {
     if x.from < x.to {
@@ -460,7 +479,7 @@ fn lead_out(
             text,
             list,
             x,
-            member,
+            here,
             g,
         );
     }
@@ -488,6 +507,7 @@ fn is_listed(r: Row) -> bool {
 fn text_behind(
     deck: &[u8],
     s: &[u8],
+    part: &[u16],
     rows: &[u16],
     names: &[u16],
     cells: &mut [u32],
@@ -497,10 +517,10 @@ fn text_behind(
     text: &mut [u8],
     list: &mut [u8],
     n: u16,
-    member: u16,
+    here: Here,
     g: Progress,
 ) -> Ran {
-    let r = row_at(rows, n);
+    let r = row_at(part, n);
     if is_listed(r) {
         return text_out(
             deck,
@@ -514,7 +534,7 @@ fn text_behind(
             text,
             list,
             r.text,
-            member,
+            here,
             g,
         );
     }
@@ -525,6 +545,7 @@ fn text_behind(
 fn follow(
     deck: &[u8],
     s: &[u8],
+    part: &[u16],
     rows: &[u16],
     names: &[u16],
     cells: &mut [u32],
@@ -535,7 +556,7 @@ fn follow(
     list: &mut [u8],
     fs: Frames,
     first: Walk,
-    member: u16,
+    here: Here,
     g0: Progress,
 ) -> Onward {
     let mut w = first;
@@ -551,6 +572,7 @@ fn follow(
                 let r = text_behind(
                     deck,
                     s,
+                    part,
                     rows,
                     names,
                     cells,
@@ -560,13 +582,13 @@ fn follow(
                     text,
                     list,
                     n,
-                    member,
+                    here,
                     g,
                 );
                 match r {
                     Ran::Good(h) => {
                         g = h;
-                        w = flow::walk_behind(rows, fs, n);
+                        w = flow::walk_behind(part, fs, n);
                     }
                     Ran::Bad(stop, h) => {
                         return Onward::Bad(stop, h);
@@ -798,12 +820,13 @@ enum Jump {
     Bad(Why),
 }
 
-fn jump_away(rows: &[u16], below: Below, l: Label) -> Jump {
+// The label stands in a member below, whose rows are `part`.
+fn jump_away(part: &[u16], below: Below, l: Label) -> Jump {
     let p = l.place;
     let from = row_below(below, p.member);
     match from {
         Link::To(n) => {
-            if flow::may_go(rows, n, p.row, l.is_end) {
+            if flow::may_go(part, n, p.row, l.is_end) {
                 return Jump::Away(l);
             }
             Jump::Bad(Why::WrongGoto)
@@ -812,18 +835,20 @@ fn jump_away(rows: &[u16], below: Below, l: Label) -> Jump {
     }
 }
 
-fn jump_label(rows: &[u16], below: Below, here: u16, n: u16, l: Label) -> Jump {
+fn jump_label(rows: &[u16], below: Below, here: Here, n: u16, l: Label) -> Jump {
     let p = l.place;
-    if p.member == here {
-        if flow::may_go(rows, n, p.row, l.is_end) {
+    let starts = here.starts;
+    let part = part_of(rows, starts, p.member);
+    if p.member == here.member {
+        if flow::may_go(part, n, p.row, l.is_end) {
             return Jump::Here(l);
         }
         return Jump::Bad(Why::WrongGoto);
     }
-    jump_away(rows, below, l)
+    jump_away(part, below, l)
 }
 
-// The GOTO of row n in the member `here`: kind first, then 13.
+// The GOTO of row n, whose label stands at a place: kind first, then 13.
 fn jump_from(
     deck: &[u8],
     s: &[u8],
@@ -831,11 +856,11 @@ fn jump_from(
     names: &[u16],
     count: u16,
     below: Below,
-    here: u16,
+    here: Here,
     n: u16,
+    at: usize,
 ) -> Jump {
-    let r = row_at(rows, n);
-    let t = token_at(s, r.content as usize);
+    let t = token_at(s, at);
     let found = find(
         deck,
         names,
@@ -890,7 +915,7 @@ fn on_done(fs: Frames, n: u16, d: Done, g: Progress, member: u16, place: usize) 
 }
 
 fn on_test(
-    rows: &[u16],
+    part: &[u16],
     fs: Frames,
     n: u16,
     t: Tested,
@@ -899,14 +924,14 @@ fn on_test(
     place: usize,
 ) -> Turned {
     match t {
-        Tested::Is(b, m) => with_step(fs, Step::On(flow::chosen(rows, n, b), with_meter(g, m))),
+        Tested::Is(b, m) => with_step(fs, Step::On(flow::chosen(part, n, b), with_meter(g, m))),
         Tested::Bad(w, m) => refused(fs, with_meter(g, m), w, member, place),
     }
 }
 
-fn on_jump(rows: &[u16], fs: Frames, j: Jump, g: Progress, member: u16, place: usize) -> Turned {
+fn on_jump(part: &[u16], fs: Frames, j: Jump, g: Progress, member: u16, place: usize) -> Turned {
     match j {
-        Jump::Here(l) => with_step(fs, Step::On(flow::landing(rows, fs, l), g)),
+        Jump::Here(l) => with_step(fs, Step::On(flow::landing(part, fs, l), g)),
         Jump::Away(l) => with_step(fs, Step::Went(l, g)),
         Jump::Bad(w) => refused(fs, g, w, member, place),
     }
@@ -930,6 +955,7 @@ fn on_activated(
 fn into(
     deck: &[u8],
     s: &[u8],
+    part: &[u16],
     rows: &[u16],
     names: &[u16],
     cells: &mut [u32],
@@ -940,10 +966,10 @@ fn into(
     list: &mut [u8],
     fs: Frames,
     n: u16,
-    member: u16,
+    here: Here,
     g: Progress,
 ) -> Turned {
-    let r = row_at(rows, n);
+    let r = row_at(part, n);
     let x = lead_out(
         deck,
         s,
@@ -956,11 +982,11 @@ fn into(
         text,
         list,
         r.lead,
-        member,
+        here,
         g,
     );
     match x {
-        Ran::Good(h) => with_step(fs, Step::On(flow::first_in(rows, fs, n), h)),
+        Ran::Good(h) => with_step(fs, Step::On(flow::first_in(part, fs, n), h)),
         Ran::Bad(stop, h) => with_step(fs, Step::Bad(stop, h)),
     }
 }
@@ -969,6 +995,7 @@ fn into(
 fn into_started(
     deck: &[u8],
     s: &[u8],
+    part: &[u16],
     rows: &[u16],
     names: &[u16],
     cells: &mut [u32],
@@ -980,7 +1007,7 @@ fn into_started(
     fs: Frames,
     n: u16,
     x: Started,
-    member: u16,
+    here: Here,
     place: usize,
     g: Progress,
 ) -> Turned {
@@ -988,10 +1015,11 @@ fn into_started(
         Started::Is(f, begins, m) => {
             let h = with_meter(g, m);
             if begins {
-                let inner = flow::with_frame(rows, fs, n, f);
+                let inner = flow::with_frame(part, fs, n, f);
                 return into(
                     deck,
                     s,
+                    part,
                     rows,
                     names,
                     cells,
@@ -1002,13 +1030,13 @@ fn into_started(
                     list,
                     inner,
                     n,
-                    member,
+                    here,
                     h,
                 );
             }
             with_step(fs, Step::On(Walk::Up(n), h))
         }
-        Started::Bad(w, m) => refused(fs, with_meter(g, m), w, member, place),
+        Started::Bad(w, m) => refused(fs, with_meter(g, m), w, here.member, place),
     }
 }
 
@@ -1016,6 +1044,7 @@ fn into_started(
 fn into_again(
     deck: &[u8],
     s: &[u8],
+    part: &[u16],
     rows: &[u16],
     names: &[u16],
     cells: &mut [u32],
@@ -1026,12 +1055,12 @@ fn into_again(
     list: &mut [u8],
     fs: Frames,
     n: u16,
-    member: u16,
+    here: Here,
     g: Progress,
 ) -> Turned {
-    let r = row_at(rows, n);
+    let r = row_at(part, n);
     let m0 = g.meter;
-    let t = stepped(cells, flow::frame_of(rows, fs, n), m0);
+    let t = stepped(cells, flow::frame_of(part, fs, n), m0);
     match t {
         Tested::Is(b, m) => {
             let h = with_meter(g, m);
@@ -1039,6 +1068,7 @@ fn into_again(
                 return into(
                     deck,
                     s,
+                    part,
                     rows,
                     names,
                     cells,
@@ -1049,13 +1079,13 @@ fn into_again(
                     list,
                     fs,
                     n,
-                    member,
+                    here,
                     h,
                 );
             }
             with_step(fs, Step::On(Walk::Up(n), h))
         }
-        Tested::Bad(w, m) => refused(fs, with_meter(g, m), w, member, r.place as usize),
+        Tested::Bad(w, m) => refused(fs, with_meter(g, m), w, here.member, r.place as usize),
     }
 }
 
@@ -1063,6 +1093,7 @@ fn into_again(
 fn statement(
     deck: &[u8],
     s: &[u8],
+    part: &[u16],
     rows: &[u16],
     names: &mut [u16],
     cells: &mut [u32],
@@ -1074,11 +1105,12 @@ fn statement(
     fs: Frames,
     n: u16,
     below: Below,
-    member: u16,
+    here: Here,
     g: Progress,
 ) -> Turned {
-    let r = row_at(rows, n);
+    let r = row_at(part, n);
     let at = r.content as usize;
+    let member = here.member;
     let place = r.place as usize;
     let m = g.meter;
     let x = r.statement;
@@ -1095,7 +1127,7 @@ fn statement(
                 work,
                 at,
                 0,
-                scene(g),
+                scene(here, g),
                 m,
             );
             on_done(fs, n, d, g, member, place)
@@ -1112,10 +1144,10 @@ fn statement(
                 work,
                 at,
                 0,
-                scene(g),
+                scene(here, g),
                 m,
             );
-            on_test(rows, fs, n, t, g, member, place)
+            on_test(part, fs, n, t, g, member, place)
         }
         Statement::Iterated => {
             let y = start(
@@ -1130,12 +1162,13 @@ fn statement(
                 n,
                 at,
                 0,
-                scene(g),
+                scene(here, g),
                 m,
             );
             into_started(
                 deck,
                 s,
+                part,
                 rows,
                 names,
                 cells,
@@ -1147,7 +1180,7 @@ fn statement(
                 fs,
                 n,
                 y,
-                member,
+                here,
                 place,
                 g,
             )
@@ -1155,6 +1188,7 @@ fn statement(
         Statement::Group => into(
             deck,
             s,
+            part,
             rows,
             names,
             cells,
@@ -1165,12 +1199,12 @@ fn statement(
             list,
             fs,
             n,
-            member,
+            here,
             g,
         ),
         Statement::Goto => {
-            let j = jump_from(deck, s, rows, names, g.names, below, member, n);
-            on_jump(rows, fs, j, g, member, place)
+            let j = jump_from(deck, s, rows, names, g.names, below, here, n, at);
+            on_jump(part, fs, j, g, member, place)
         }
         Statement::Declare => {
             let b = activate_all(
@@ -1224,19 +1258,63 @@ enum Ended {
     Bad(Stop, Progress),
 }
 
-// What an INCLUDE gives: it is passed, or a GOTO came out of a member.
-fn on_ended(rows: &[u16], fs: Frames, n: u16, e: Ended, member: u16) -> Turned {
-    match e {
-        Ended::Ran(g) => with_step(fs, Step::On(Walk::Up(n), g)),
-        Ended::Went(l, g) => {
-            let p = l.place;
-            if p.member == member {
-                return with_step(fs, Step::On(flow::landing(rows, fs, l), g));
-            }
-            with_step(fs, Step::Went(l, g))
-        }
-        Ended::Bad(stop, g) => with_step(fs, Step::Bad(stop, g)),
+// How they have ended, and where the rows of each member start since.
+struct Left {
+    ended: Ended,
+    starts: Starts,
+}
+
+fn left_at(here: Here, ended: Ended) -> Left {
+    let starts = here.starts;
+    Left { ended, starts }
+}
+
+// The member that runs, when others may have been entered.
+fn since(here: Here, starts: Starts) -> Here {
+    Here {
+        member: here.member,
+        starts,
     }
+}
+
+// A turn of a member, and where the rows of each member start since.
+struct Begun {
+    turned: Turned,
+    starts: Starts,
+}
+
+fn turned_at(here: Here, turned: Turned) -> Begun {
+    let starts = here.starts;
+    Begun { turned, starts }
+}
+
+// A GOTO that came out of a member: to a label here, or on.
+fn went_to(rows: &[u16], fs: Frames, here: Here, l: Label, g: Progress) -> Turned {
+    let p = l.place;
+    if p.member == here.member {
+        return with_step(fs, Step::On(flow::landing(part_here(rows, here), fs, l), g));
+    }
+    with_step(fs, Step::Went(l, g))
+}
+
+// What an INCLUDE gives: it is passed, or a GOTO came out of a member.
+fn on_ended(rows: &[u16], fs: Frames, n: u16, before: Here, x: Left) -> Begun {
+    let starts = x.starts;
+    let here = since(before, starts);
+    let e = x.ended;
+    match e {
+        Ended::Ran(g) => turned_at(here, with_step(fs, Step::On(Walk::Up(n), g))),
+        Ended::Went(l, g) => turned_at(here, went_to(rows, fs, here, l, g)),
+        Ended::Bad(stop, g) => turned_at(here, with_step(fs, Step::Bad(stop, g))),
+    }
+}
+
+// All rows, with those of a member; 01 allows 2,048.
+fn rows_with(n: u16, more: u16) -> u16 {
+    if 65_535 - n < more {
+        return 65_535;
+    }
+    n + more
 }
 
 fn with_source(g: Progress, x: Source) -> Progress {
@@ -1245,8 +1323,22 @@ fn with_source(g: Progress, x: Source) -> Progress {
     Progress {
         meter,
         out,
-        rows: x.rows,
+        rows: rows_with(g.rows, x.rows),
         names: x.names,
+    }
+}
+
+fn in_member(here: Here, k: u16) -> Here {
+    let starts = here.starts;
+    Here { member: k, starts }
+}
+
+// The member starts at row n of the table. Where it was entered before, its rows are the same again.
+fn entered(here: Here, n: u16) -> Here {
+    let starts = here.starts;
+    Here {
+        member: here.member,
+        starts: with_start(starts, here.member, n),
     }
 }
 
@@ -1254,6 +1346,10 @@ fn with_source(g: Progress, x: Source) -> Progress {
 fn member_named(deck: &[u8], here: u16, t: Lexeme) -> deck::Found {
     let base = deck::offset(deck, here) as usize;
     deck::find(deck, plus(base, t.from), span(t.from, t.to))
+}
+
+fn stopped(g: Progress, why: Why, member: u16, place: usize) -> Ended {
+    Ended::Bad(Stop { why, member, place }, g)
 }
 
 // The member of the deck that a name of INCLUDE means is entered and run: 14, 15, then the member.
@@ -1270,30 +1366,16 @@ fn include_one(
     t: Lexeme,
     place: usize,
     below: Below,
-    here: u16,
+    here: Here,
     left: usize,
     g: Progress,
-) -> Ended {
-    let found = member_named(deck, here, t);
+) -> Left {
+    let found = member_named(deck, here.member, t);
     match found {
-        deck::Found::Nothing => Ended::Bad(
-            Stop {
-                why: Why::UnknownMember,
-                member: here,
-                place,
-            },
-            g,
-        ),
+        deck::Found::Nothing => left_at(here, stopped(g, Why::UnknownMember, here.member, place)),
         deck::Found::Line(k) => {
             if left < 1 {
-                return Ended::Bad(
-                    Stop {
-                        why: Why::TooDeep,
-                        member: here,
-                        place,
-                    },
-                    g,
-                );
+                return left_at(here, stopped(g, Why::TooDeep, here.member, place));
             }
             enter_and_run(
                 deck,
@@ -1305,7 +1387,7 @@ fn include_one(
                 work,
                 text,
                 list,
-                k,
+                in_member(here, k),
                 below,
                 left - 1,
                 g,
@@ -1327,21 +1409,22 @@ fn include_all(
     list: &mut [u8],
     n: u16,
     below: Below,
-    here: u16,
+    before: Here,
     left: usize,
     g0: Progress,
-) -> Ended {
-    let s = body(deck, here);
-    let r = row_at(rows, n);
+) -> Left {
+    let s = body(deck, before.member);
+    let r = row_at(part_here(rows, before), n);
     let place = r.place as usize;
-    let inner = with_below(below, here, n);
+    let inner = with_below(below, before.member, n);
+    let mut here = before;
     let mut at = r.content as usize;
     let mut g = g0;
     let mut turns = s.len();
     while 0 < turns {
         turns -= 1;
         let t = token_at(s, at);
-        let e = include_one(
+        let x = include_one(
             deck,
             rows,
             names,
@@ -1358,25 +1441,28 @@ fn include_all(
             left,
             g,
         );
+        let starts = x.starts;
+        here = since(here, starts);
+        let e = x.ended;
         match e {
             Ended::Ran(h) => {
                 g = h;
             }
-            Ended::Went(l, h) => {
-                return Ended::Went(l, h);
+            Ended::Went(_, _) => {
+                return x;
             }
-            Ended::Bad(stop, h) => {
-                return Ended::Bad(stop, h);
+            Ended::Bad(_, _) => {
+                return x;
             }
         }
         let comma = token_at(s, t.to);
         if is_sign(s, comma, b",") {
             at = comma.to;
         } else {
-            return Ended::Ran(g);
+            return left_at(here, Ended::Ran(g));
         }
     }
-    Ended::Ran(g)
+    left_at(here, Ended::Ran(g))
 }
 
 fn is_include(r: Row) -> bool {
@@ -1412,17 +1498,18 @@ fn begin(
     fs: Frames,
     n: u16,
     below: Below,
-    member: u16,
+    here: Here,
     left: usize,
     g0: Progress,
-) -> Turned {
-    let r = row_at(rows, n);
+) -> Begun {
+    let r = row_at(part_here(rows, here), n);
     let before = g0.meter;
     let paid = before.charged();
     let m = paid.meter;
     let g = with_meter(g0, m);
     if !paid.paid {
-        return refused(fs, g, Why::NoStep, member, r.place as usize);
+        let t = refused(fs, g, Why::NoStep, here.member, r.place as usize);
+        return turned_at(here, t);
     }
     if is_include(r) {
         let e = include_all(
@@ -1437,15 +1524,16 @@ fn begin(
             list,
             n,
             below,
-            member,
+            here,
             left,
             g,
         );
-        return on_ended(rows, fs, n, e, member);
+        return on_ended(rows, fs, n, here, e);
     }
-    statement(
+    let t = statement(
         deck,
         s,
+        part_here(rows, here),
         rows,
         names,
         cells,
@@ -1457,9 +1545,10 @@ fn begin(
         fs,
         n,
         below,
-        member,
+        here,
         g,
-    )
+    );
+    turned_at(here, t)
 }
 
 // One turn of a member: a statement begins, or an iterated group is tested again.
@@ -1477,10 +1566,10 @@ fn turn(
     fs: Frames,
     next: Next,
     below: Below,
-    member: u16,
+    here: Here,
     left: usize,
     g: Progress,
-) -> Turned {
+) -> Begun {
     match next {
         Next::Begin(n) => {
             begin(
@@ -1497,15 +1586,16 @@ fn turn(
                 fs,
                 n,
                 below,
-                member,
+                here,
                 left,
                 g,
             )
         }
         Next::Again(n) => {
-            into_again(
+            let t = into_again(
                 deck,
                 s,
+                part_here(rows, here),
                 rows,
                 names,
                 cells,
@@ -1516,11 +1606,12 @@ fn turn(
                 list,
                 fs,
                 n,
-                member,
+                here,
                 g,
-            )
+            );
+            turned_at(here, t)
         }
-        Next::Over => with_step(fs, Step::On(Walk::To(Next::Over), g)),
+        Next::Over => turned_at(here, with_step(fs, Step::On(Walk::To(Next::Over), g))),
     }
 }
 
@@ -1543,13 +1634,14 @@ fn settle(
     list: &mut [u8],
     fs: Frames,
     step: Step,
-    member: u16,
+    here: Here,
 ) -> After {
     match step {
         Step::On(w, g) => {
             let o = follow(
                 deck,
                 s,
+                part_here(rows, here),
                 rows,
                 names,
                 cells,
@@ -1560,7 +1652,7 @@ fn settle(
                 list,
                 fs,
                 w,
-                member,
+                here,
                 g,
             );
             match o {
@@ -1594,20 +1686,21 @@ fn run_rows(
     list: &mut [u8],
     first: Next,
     below: Below,
-    member: u16,
+    start: Here,
     left: usize,
     g0: Progress,
-) -> Ended {
-    let s = body(deck, member);
+) -> Left {
+    let s = body(deck, start.member);
     let mut next = first;
     let mut fs = flow::no_frames();
+    let mut here = start;
     let mut g = g0;
     let m0 = g0.meter;
     let mut turns = turns_left(m0);
     while 0 < turns {
         turns -= 1;
         if is_over(next) {
-            return Ended::Ran(g);
+            return left_at(here, Ended::Ran(g));
         }
         let t = turn(
             deck,
@@ -1623,12 +1716,15 @@ fn run_rows(
             fs,
             next,
             below,
-            member,
+            here,
             left,
             g,
         );
-        let step = t.step;
-        fs = t.frames;
+        let starts = t.starts;
+        here = since(here, starts);
+        let x = t.turned;
+        let step = x.step;
+        fs = x.frames;
         let a = settle(
             deck,
             s,
@@ -1642,19 +1738,19 @@ fn run_rows(
             list,
             fs,
             step,
-            member,
+            here,
         );
         match a {
-            After::On(x, h) => {
-                next = x;
+            After::On(y, h) => {
+                next = y;
                 g = h;
             }
             After::End(e) => {
-                return e;
+                return left_at(here, e);
             }
         }
     }
-    Ended::Ran(g)
+    left_at(here, Ended::Ran(g))
 }
 
 // A member that was entered: its leading text, then its rows.
@@ -1670,11 +1766,11 @@ fn run_source(
     list: &mut [u8],
     x: Source,
     below: Below,
-    member: u16,
+    here: Here,
     left: usize,
     g: Progress,
-) -> Ended {
-    let s = body(deck, member);
+) -> Left {
+    let s = body(deck, here.member);
     let first = x.first;
     let l = lead_out(
         deck,
@@ -1688,7 +1784,7 @@ fn run_source(
         text,
         list,
         x.lead,
-        member,
+        here,
         g,
     );
     match l {
@@ -1705,16 +1801,22 @@ fn run_source(
                 list,
                 flow::first_of(first),
                 below,
-                member,
+                here,
                 left,
                 h,
             )
         }
-        Ran::Bad(stop, h) => Ended::Bad(stop, h),
+        Ran::Bad(stop, h) => left_at(here, Ended::Bad(stop, h)),
     }
 }
 
-// Member k is read, its names are declared, and it is run.
+// Member k is read behind the rows that there are.
+fn read_behind(deck: &[u8], rows: &mut [u16], names: &mut [u16], k: u16, g: Progress) -> Source {
+    let from = part_place(rows, g.rows);
+    read_member(deck, &mut rows[from..], names, k, g.rows, g.names)
+}
+
+// The member is read, its names are declared, and it is run.
 fn enter_and_run(
     deck: &[u8],
     rows: &mut [u16],
@@ -1725,12 +1827,12 @@ fn enter_and_run(
     work: &mut [u8],
     text: &mut [u8],
     list: &mut [u8],
-    k: u16,
+    here: Here,
     below: Below,
     left: usize,
     g: Progress,
-) -> Ended {
-    let x = read_member(deck, rows, names, k, g.rows, g.names);
+) -> Left {
+    let x = read_behind(deck, rows, names, here.member, g);
     let fault = x.fault;
     match fault {
         Fault::Sound => {
@@ -1746,19 +1848,12 @@ fn enter_and_run(
                 list,
                 x,
                 below,
-                k,
+                entered(here, g.rows),
                 left,
                 with_source(g, x),
             )
         }
-        Fault::Faulty(why, place) => Ended::Bad(
-            Stop {
-                why,
-                member: k,
-                place,
-            },
-            g,
-        ),
+        Fault::Faulty(why, place) => left_at(here, stopped(g, why, here.member, place)),
     }
 }
 
@@ -1781,7 +1876,11 @@ pub fn run(
         rows: 0,
         names: 0,
     };
-    let e = enter_and_run(
+    let main = Here {
+        member: 0,
+        starts: no_starts(),
+    };
+    let x = enter_and_run(
         deck,
         rows,
         names,
@@ -1791,11 +1890,12 @@ pub fn run(
         work,
         text,
         list,
-        0,
+        main,
         none_below(),
         Levels::INCLUDES,
         g,
     );
+    let e = x.ended;
     match e {
         Ended::Ran(h) => Ran::Good(h),
         Ended::Went(_, h) => Ran::Good(h),

@@ -29,17 +29,24 @@ use Rattle.evaluating.proofs.turns_left.Reads as turns-left-reads
 use Rattle.flow.proofs.first_of.Reads as first-of-reads
 use Rattle.flow.proofs.no_frames.Reads as no-frames-reads
 use Rattle.meter.proofs.Meter.charged.Reads as charged-reads
-use Rattle.reading.proofs.read_member.Reads as read-member-reads
 use Rattle.rows.proofs.row_at.Reads as row-at-reads
+use Rattle.running.proofs.entered.Reads as entered-reads
+use Rattle.running.proofs.in_member.Reads as in-member-reads
 use Rattle.running.proofs.into_again.Reads as into-again-reads
 use Rattle.running.proofs.is_include.Reads as is-include-reads
 use Rattle.running.proofs.is_over.Reads as is-over-reads
 use Rattle.running.proofs.lead_out.Reads as lead-out-reads
+use Rattle.running.proofs.left_at.Reads as left-at-reads
 use Rattle.running.proofs.member_named.Reads as member-named-reads
 use Rattle.running.proofs.on_ended.Reads as on-ended-reads
+use Rattle.running.proofs.part_here.Reads as part-here-reads
+use Rattle.running.proofs.read_behind.Reads as read-behind-reads
 use Rattle.running.proofs.refused.Reads as refused-reads
 use Rattle.running.proofs.settle.Reads as settle-reads
+use Rattle.running.proofs.since.Reads as since-reads
 use Rattle.running.proofs.statement.Reads as statement-reads
+use Rattle.running.proofs.stopped.Reads as stopped-reads
+use Rattle.running.proofs.turned_at.Reads as turned-at-reads
 use Rattle.running.proofs.with_below.Reads as with-below-reads
 use Rattle.running.proofs.with_meter.Reads as with-meter-reads
 use Rattle.running.proofs.with_source.Reads as with-source-reads
@@ -133,7 +140,9 @@ turn-at t = and 10 turn-kinds.ps (is 10 turn-kinds.ps μ-turn t) turn.Pre
 abbrev turn-below : ℕ → In 10 turn-kinds.ps
 turn-below t = and 10 turn-kinds.ps (falls 10 turn-kinds.ps _<_ μ-turn t) turn.Pre
 
-begin-row-at-requires : (t : ℕ) → begin-lts.Need-row-at-requires (
+begin-part-here-requires : (t : ℕ) → begin-lts.Need-part-here-requires (
+  part-here-reads.Asked,
+  part-here-reads.Learnt,
   row-at-reads.Asked,
   row-at-reads.Learnt,
   charged-reads.Asked,
@@ -142,6 +151,32 @@ begin-row-at-requires : (t : ℕ) → begin-lts.Need-row-at-requires (
   with-meter-reads.Learnt,
   refused-reads.Asked,
   refused-reads.Learnt,
+  turned-at-reads.Asked,
+  turned-at-reads.Learnt,
+  is-include-reads.Asked,
+  is-include-reads.Learnt,
+  include-all-below t,
+  include-all.Post,
+  on-ended-reads.Asked,
+  on-ended-reads.Learnt,
+  statement-reads.Asked,
+  statement-reads.Learnt,
+) (begin-at t) begin.Post
+begin-part-here-requires t c κs = search needs
+
+begin-row-at-requires : (t : ℕ) → begin-lts.Need-row-at-requires (
+  part-here-reads.Asked,
+  part-here-reads.Learnt,
+  row-at-reads.Asked,
+  row-at-reads.Learnt,
+  charged-reads.Asked,
+  charged-reads.Learnt,
+  with-meter-reads.Asked,
+  with-meter-reads.Learnt,
+  refused-reads.Asked,
+  refused-reads.Learnt,
+  turned-at-reads.Asked,
+  turned-at-reads.Learnt,
   is-include-reads.Asked,
   is-include-reads.Learnt,
   include-all-below t,
@@ -154,6 +189,8 @@ begin-row-at-requires : (t : ℕ) → begin-lts.Need-row-at-requires (
 begin-row-at-requires t c κs = search needs
 
 begin-charged-requires : (t : ℕ) → begin-lts.Need-charged-requires (
+  part-here-reads.Asked,
+  part-here-reads.Learnt,
   row-at-reads.Asked,
   row-at-reads.Learnt,
   charged-reads.Asked,
@@ -162,6 +199,8 @@ begin-charged-requires : (t : ℕ) → begin-lts.Need-charged-requires (
   with-meter-reads.Learnt,
   refused-reads.Asked,
   refused-reads.Learnt,
+  turned-at-reads.Asked,
+  turned-at-reads.Learnt,
   is-include-reads.Asked,
   is-include-reads.Learnt,
   include-all-below t,
@@ -174,6 +213,8 @@ begin-charged-requires : (t : ℕ) → begin-lts.Need-charged-requires (
 begin-charged-requires t c κs = search needs
 
 begin-with-meter-requires : (t : ℕ) → begin-lts.Need-with-meter-requires (
+  part-here-reads.Asked,
+  part-here-reads.Learnt,
   row-at-reads.Asked,
   row-at-reads.Learnt,
   charged-reads.Asked,
@@ -182,6 +223,8 @@ begin-with-meter-requires : (t : ℕ) → begin-lts.Need-with-meter-requires (
   with-meter-reads.Learnt,
   refused-reads.Asked,
   refused-reads.Learnt,
+  turned-at-reads.Asked,
+  turned-at-reads.Learnt,
   is-include-reads.Asked,
   is-include-reads.Learnt,
   include-all-below t,
@@ -194,6 +237,8 @@ begin-with-meter-requires : (t : ℕ) → begin-lts.Need-with-meter-requires (
 begin-with-meter-requires t c κs = search needs
 
 begin-cast-refused : (t : ℕ) → begin-lts.Need-cast-refused (
+  part-here-reads.Asked,
+  part-here-reads.Learnt,
   row-at-reads.Asked,
   row-at-reads.Learnt,
   charged-reads.Asked,
@@ -202,6 +247,8 @@ begin-cast-refused : (t : ℕ) → begin-lts.Need-cast-refused (
   with-meter-reads.Learnt,
   refused-reads.Asked,
   refused-reads.Learnt,
+  turned-at-reads.Asked,
+  turned-at-reads.Learnt,
   is-include-reads.Asked,
   is-include-reads.Learnt,
   include-all-below t,
@@ -214,6 +261,8 @@ begin-cast-refused : (t : ℕ) → begin-lts.Need-cast-refused (
 begin-cast-refused t c = search needs
 
 begin-refused-requires : (t : ℕ) → begin-lts.Need-refused-requires (
+  part-here-reads.Asked,
+  part-here-reads.Learnt,
   row-at-reads.Asked,
   row-at-reads.Learnt,
   charged-reads.Asked,
@@ -222,6 +271,8 @@ begin-refused-requires : (t : ℕ) → begin-lts.Need-refused-requires (
   with-meter-reads.Learnt,
   refused-reads.Asked,
   refused-reads.Learnt,
+  turned-at-reads.Asked,
+  turned-at-reads.Learnt,
   is-include-reads.Asked,
   is-include-reads.Learnt,
   include-all-below t,
@@ -233,7 +284,9 @@ begin-refused-requires : (t : ℕ) → begin-lts.Need-refused-requires (
 ) (begin-at t) begin.Post
 begin-refused-requires t c κs = search needs
 
-begin-same-length : (t : ℕ) → begin-lts.Need-same-length (
+begin-turned-at-requires : (t : ℕ) → begin-lts.Need-turned-at-requires (
+  part-here-reads.Asked,
+  part-here-reads.Learnt,
   row-at-reads.Asked,
   row-at-reads.Learnt,
   charged-reads.Asked,
@@ -242,6 +295,32 @@ begin-same-length : (t : ℕ) → begin-lts.Need-same-length (
   with-meter-reads.Learnt,
   refused-reads.Asked,
   refused-reads.Learnt,
+  turned-at-reads.Asked,
+  turned-at-reads.Learnt,
+  is-include-reads.Asked,
+  is-include-reads.Learnt,
+  include-all-below t,
+  include-all.Post,
+  on-ended-reads.Asked,
+  on-ended-reads.Learnt,
+  statement-reads.Asked,
+  statement-reads.Learnt,
+) (begin-at t) begin.Post
+begin-turned-at-requires t c κs = search needs
+
+begin-same-length : (t : ℕ) → begin-lts.Need-same-length (
+  part-here-reads.Asked,
+  part-here-reads.Learnt,
+  row-at-reads.Asked,
+  row-at-reads.Learnt,
+  charged-reads.Asked,
+  charged-reads.Learnt,
+  with-meter-reads.Asked,
+  with-meter-reads.Learnt,
+  refused-reads.Asked,
+  refused-reads.Learnt,
+  turned-at-reads.Asked,
+  turned-at-reads.Learnt,
   is-include-reads.Asked,
   is-include-reads.Learnt,
   include-all-below t,
@@ -254,6 +333,8 @@ begin-same-length : (t : ℕ) → begin-lts.Need-same-length (
 begin-same-length t c = search needs
 
 begin-returns : (t : ℕ) → begin-lts.Need-returns (
+  part-here-reads.Asked,
+  part-here-reads.Learnt,
   row-at-reads.Asked,
   row-at-reads.Learnt,
   charged-reads.Asked,
@@ -262,6 +343,8 @@ begin-returns : (t : ℕ) → begin-lts.Need-returns (
   with-meter-reads.Learnt,
   refused-reads.Asked,
   refused-reads.Learnt,
+  turned-at-reads.Asked,
+  turned-at-reads.Learnt,
   is-include-reads.Asked,
   is-include-reads.Learnt,
   include-all-below t,
@@ -274,6 +357,8 @@ begin-returns : (t : ℕ) → begin-lts.Need-returns (
 begin-returns t c = search needs
 
 begin-is-include-requires : (t : ℕ) → begin-lts.Need-is-include-requires (
+  part-here-reads.Asked,
+  part-here-reads.Learnt,
   row-at-reads.Asked,
   row-at-reads.Learnt,
   charged-reads.Asked,
@@ -282,6 +367,8 @@ begin-is-include-requires : (t : ℕ) → begin-lts.Need-is-include-requires (
   with-meter-reads.Learnt,
   refused-reads.Asked,
   refused-reads.Learnt,
+  turned-at-reads.Asked,
+  turned-at-reads.Learnt,
   is-include-reads.Asked,
   is-include-reads.Learnt,
   include-all-below t,
@@ -294,6 +381,8 @@ begin-is-include-requires : (t : ℕ) → begin-lts.Need-is-include-requires (
 begin-is-include-requires t c κs = search needs
 
 begin-include-all-requires : (t : ℕ) → begin-lts.Need-include-all-requires (
+  part-here-reads.Asked,
+  part-here-reads.Learnt,
   row-at-reads.Asked,
   row-at-reads.Learnt,
   charged-reads.Asked,
@@ -302,6 +391,8 @@ begin-include-all-requires : (t : ℕ) → begin-lts.Need-include-all-requires (
   with-meter-reads.Learnt,
   refused-reads.Asked,
   refused-reads.Learnt,
+  turned-at-reads.Asked,
+  turned-at-reads.Learnt,
   is-include-reads.Asked,
   is-include-reads.Learnt,
   include-all-below t,
@@ -311,9 +402,11 @@ begin-include-all-requires : (t : ℕ) → begin-lts.Need-include-all-requires (
   statement-reads.Asked,
   statement-reads.Learnt,
 ) (begin-at t) begin.Post
-begin-include-all-requires t c κs = omega (arith, (c .before .before .before .before .before .before .before .before .before .before .before .before .before .before .before .before .before .before .before .before .before .before .before .before .before .before .before .before .pre))
+begin-include-all-requires t c κs = omega (arith, (c .before .before .before .before .before .before .before .before .before .before .before .before .before .before .before .before .before .before .before .before .before .before .before .before .before .before .before .before .before .pre))
 
 begin-on-ended-requires : (t : ℕ) → begin-lts.Need-on-ended-requires (
+  part-here-reads.Asked,
+  part-here-reads.Learnt,
   row-at-reads.Asked,
   row-at-reads.Learnt,
   charged-reads.Asked,
@@ -322,6 +415,8 @@ begin-on-ended-requires : (t : ℕ) → begin-lts.Need-on-ended-requires (
   with-meter-reads.Learnt,
   refused-reads.Asked,
   refused-reads.Learnt,
+  turned-at-reads.Asked,
+  turned-at-reads.Learnt,
   is-include-reads.Asked,
   is-include-reads.Learnt,
   include-all-below t,
@@ -334,6 +429,8 @@ begin-on-ended-requires : (t : ℕ) → begin-lts.Need-on-ended-requires (
 begin-on-ended-requires t c κs = search needs
 
 begin-same-length-2 : (t : ℕ) → begin-lts.Need-same-length-2 (
+  part-here-reads.Asked,
+  part-here-reads.Learnt,
   row-at-reads.Asked,
   row-at-reads.Learnt,
   charged-reads.Asked,
@@ -342,6 +439,8 @@ begin-same-length-2 : (t : ℕ) → begin-lts.Need-same-length-2 (
   with-meter-reads.Learnt,
   refused-reads.Asked,
   refused-reads.Learnt,
+  turned-at-reads.Asked,
+  turned-at-reads.Learnt,
   is-include-reads.Asked,
   is-include-reads.Learnt,
   include-all-below t,
@@ -354,6 +453,8 @@ begin-same-length-2 : (t : ℕ) → begin-lts.Need-same-length-2 (
 begin-same-length-2 t c = search needs
 
 begin-same-length-3 : (t : ℕ) → begin-lts.Need-same-length-3 (
+  part-here-reads.Asked,
+  part-here-reads.Learnt,
   row-at-reads.Asked,
   row-at-reads.Learnt,
   charged-reads.Asked,
@@ -362,6 +463,8 @@ begin-same-length-3 : (t : ℕ) → begin-lts.Need-same-length-3 (
   with-meter-reads.Learnt,
   refused-reads.Asked,
   refused-reads.Learnt,
+  turned-at-reads.Asked,
+  turned-at-reads.Learnt,
   is-include-reads.Asked,
   is-include-reads.Learnt,
   include-all-below t,
@@ -374,6 +477,8 @@ begin-same-length-3 : (t : ℕ) → begin-lts.Need-same-length-3 (
 begin-same-length-3 t c = search needs
 
 begin-same-length-4 : (t : ℕ) → begin-lts.Need-same-length-4 (
+  part-here-reads.Asked,
+  part-here-reads.Learnt,
   row-at-reads.Asked,
   row-at-reads.Learnt,
   charged-reads.Asked,
@@ -382,6 +487,8 @@ begin-same-length-4 : (t : ℕ) → begin-lts.Need-same-length-4 (
   with-meter-reads.Learnt,
   refused-reads.Asked,
   refused-reads.Learnt,
+  turned-at-reads.Asked,
+  turned-at-reads.Learnt,
   is-include-reads.Asked,
   is-include-reads.Learnt,
   include-all-below t,
@@ -394,6 +501,8 @@ begin-same-length-4 : (t : ℕ) → begin-lts.Need-same-length-4 (
 begin-same-length-4 t c = search needs
 
 begin-same-length-5 : (t : ℕ) → begin-lts.Need-same-length-5 (
+  part-here-reads.Asked,
+  part-here-reads.Learnt,
   row-at-reads.Asked,
   row-at-reads.Learnt,
   charged-reads.Asked,
@@ -402,6 +511,8 @@ begin-same-length-5 : (t : ℕ) → begin-lts.Need-same-length-5 (
   with-meter-reads.Learnt,
   refused-reads.Asked,
   refused-reads.Learnt,
+  turned-at-reads.Asked,
+  turned-at-reads.Learnt,
   is-include-reads.Asked,
   is-include-reads.Learnt,
   include-all-below t,
@@ -414,6 +525,8 @@ begin-same-length-5 : (t : ℕ) → begin-lts.Need-same-length-5 (
 begin-same-length-5 t c = search needs
 
 begin-same-length-6 : (t : ℕ) → begin-lts.Need-same-length-6 (
+  part-here-reads.Asked,
+  part-here-reads.Learnt,
   row-at-reads.Asked,
   row-at-reads.Learnt,
   charged-reads.Asked,
@@ -422,6 +535,8 @@ begin-same-length-6 : (t : ℕ) → begin-lts.Need-same-length-6 (
   with-meter-reads.Learnt,
   refused-reads.Asked,
   refused-reads.Learnt,
+  turned-at-reads.Asked,
+  turned-at-reads.Learnt,
   is-include-reads.Asked,
   is-include-reads.Learnt,
   include-all-below t,
@@ -434,6 +549,8 @@ begin-same-length-6 : (t : ℕ) → begin-lts.Need-same-length-6 (
 begin-same-length-6 t c = search needs
 
 begin-same-length-7 : (t : ℕ) → begin-lts.Need-same-length-7 (
+  part-here-reads.Asked,
+  part-here-reads.Learnt,
   row-at-reads.Asked,
   row-at-reads.Learnt,
   charged-reads.Asked,
@@ -442,6 +559,8 @@ begin-same-length-7 : (t : ℕ) → begin-lts.Need-same-length-7 (
   with-meter-reads.Learnt,
   refused-reads.Asked,
   refused-reads.Learnt,
+  turned-at-reads.Asked,
+  turned-at-reads.Learnt,
   is-include-reads.Asked,
   is-include-reads.Learnt,
   include-all-below t,
@@ -454,6 +573,8 @@ begin-same-length-7 : (t : ℕ) → begin-lts.Need-same-length-7 (
 begin-same-length-7 t c = search needs
 
 begin-same-length-8 : (t : ℕ) → begin-lts.Need-same-length-8 (
+  part-here-reads.Asked,
+  part-here-reads.Learnt,
   row-at-reads.Asked,
   row-at-reads.Learnt,
   charged-reads.Asked,
@@ -462,6 +583,8 @@ begin-same-length-8 : (t : ℕ) → begin-lts.Need-same-length-8 (
   with-meter-reads.Learnt,
   refused-reads.Asked,
   refused-reads.Learnt,
+  turned-at-reads.Asked,
+  turned-at-reads.Learnt,
   is-include-reads.Asked,
   is-include-reads.Learnt,
   include-all-below t,
@@ -474,6 +597,8 @@ begin-same-length-8 : (t : ℕ) → begin-lts.Need-same-length-8 (
 begin-same-length-8 t c = search needs
 
 begin-same-length-9 : (t : ℕ) → begin-lts.Need-same-length-9 (
+  part-here-reads.Asked,
+  part-here-reads.Learnt,
   row-at-reads.Asked,
   row-at-reads.Learnt,
   charged-reads.Asked,
@@ -482,6 +607,8 @@ begin-same-length-9 : (t : ℕ) → begin-lts.Need-same-length-9 (
   with-meter-reads.Learnt,
   refused-reads.Asked,
   refused-reads.Learnt,
+  turned-at-reads.Asked,
+  turned-at-reads.Learnt,
   is-include-reads.Asked,
   is-include-reads.Learnt,
   include-all-below t,
@@ -494,6 +621,8 @@ begin-same-length-9 : (t : ℕ) → begin-lts.Need-same-length-9 (
 begin-same-length-9 t c = search needs
 
 begin-returns-2 : (t : ℕ) → begin-lts.Need-returns-2 (
+  part-here-reads.Asked,
+  part-here-reads.Learnt,
   row-at-reads.Asked,
   row-at-reads.Learnt,
   charged-reads.Asked,
@@ -502,6 +631,8 @@ begin-returns-2 : (t : ℕ) → begin-lts.Need-returns-2 (
   with-meter-reads.Learnt,
   refused-reads.Asked,
   refused-reads.Learnt,
+  turned-at-reads.Asked,
+  turned-at-reads.Learnt,
   is-include-reads.Asked,
   is-include-reads.Learnt,
   include-all-below t,
@@ -513,7 +644,9 @@ begin-returns-2 : (t : ℕ) → begin-lts.Need-returns-2 (
 ) (begin-at t) begin.Post
 begin-returns-2 t c = search needs
 
-begin-statement-requires : (t : ℕ) → begin-lts.Need-statement-requires (
+begin-part-here-requires-2 : (t : ℕ) → begin-lts.Need-part-here-requires-2 (
+  part-here-reads.Asked,
+  part-here-reads.Learnt,
   row-at-reads.Asked,
   row-at-reads.Learnt,
   charged-reads.Asked,
@@ -522,6 +655,32 @@ begin-statement-requires : (t : ℕ) → begin-lts.Need-statement-requires (
   with-meter-reads.Learnt,
   refused-reads.Asked,
   refused-reads.Learnt,
+  turned-at-reads.Asked,
+  turned-at-reads.Learnt,
+  is-include-reads.Asked,
+  is-include-reads.Learnt,
+  include-all-below t,
+  include-all.Post,
+  on-ended-reads.Asked,
+  on-ended-reads.Learnt,
+  statement-reads.Asked,
+  statement-reads.Learnt,
+) (begin-at t) begin.Post
+begin-part-here-requires-2 t c κs = search needs
+
+begin-statement-requires : (t : ℕ) → begin-lts.Need-statement-requires (
+  part-here-reads.Asked,
+  part-here-reads.Learnt,
+  row-at-reads.Asked,
+  row-at-reads.Learnt,
+  charged-reads.Asked,
+  charged-reads.Learnt,
+  with-meter-reads.Asked,
+  with-meter-reads.Learnt,
+  refused-reads.Asked,
+  refused-reads.Learnt,
+  turned-at-reads.Asked,
+  turned-at-reads.Learnt,
   is-include-reads.Asked,
   is-include-reads.Learnt,
   include-all-below t,
@@ -533,7 +692,9 @@ begin-statement-requires : (t : ℕ) → begin-lts.Need-statement-requires (
 ) (begin-at t) begin.Post
 begin-statement-requires t c κs = search needs
 
-begin-same-length-10 : (t : ℕ) → begin-lts.Need-same-length-10 (
+begin-turned-at-requires-2 : (t : ℕ) → begin-lts.Need-turned-at-requires-2 (
+  part-here-reads.Asked,
+  part-here-reads.Learnt,
   row-at-reads.Asked,
   row-at-reads.Learnt,
   charged-reads.Asked,
@@ -542,6 +703,32 @@ begin-same-length-10 : (t : ℕ) → begin-lts.Need-same-length-10 (
   with-meter-reads.Learnt,
   refused-reads.Asked,
   refused-reads.Learnt,
+  turned-at-reads.Asked,
+  turned-at-reads.Learnt,
+  is-include-reads.Asked,
+  is-include-reads.Learnt,
+  include-all-below t,
+  include-all.Post,
+  on-ended-reads.Asked,
+  on-ended-reads.Learnt,
+  statement-reads.Asked,
+  statement-reads.Learnt,
+) (begin-at t) begin.Post
+begin-turned-at-requires-2 t c κs = search needs
+
+begin-same-length-10 : (t : ℕ) → begin-lts.Need-same-length-10 (
+  part-here-reads.Asked,
+  part-here-reads.Learnt,
+  row-at-reads.Asked,
+  row-at-reads.Learnt,
+  charged-reads.Asked,
+  charged-reads.Learnt,
+  with-meter-reads.Asked,
+  with-meter-reads.Learnt,
+  refused-reads.Asked,
+  refused-reads.Learnt,
+  turned-at-reads.Asked,
+  turned-at-reads.Learnt,
   is-include-reads.Asked,
   is-include-reads.Learnt,
   include-all-below t,
@@ -554,6 +741,8 @@ begin-same-length-10 : (t : ℕ) → begin-lts.Need-same-length-10 (
 begin-same-length-10 t c = search needs
 
 begin-same-length-11 : (t : ℕ) → begin-lts.Need-same-length-11 (
+  part-here-reads.Asked,
+  part-here-reads.Learnt,
   row-at-reads.Asked,
   row-at-reads.Learnt,
   charged-reads.Asked,
@@ -562,6 +751,8 @@ begin-same-length-11 : (t : ℕ) → begin-lts.Need-same-length-11 (
   with-meter-reads.Learnt,
   refused-reads.Asked,
   refused-reads.Learnt,
+  turned-at-reads.Asked,
+  turned-at-reads.Learnt,
   is-include-reads.Asked,
   is-include-reads.Learnt,
   include-all-below t,
@@ -574,6 +765,8 @@ begin-same-length-11 : (t : ℕ) → begin-lts.Need-same-length-11 (
 begin-same-length-11 t c = search needs
 
 begin-same-length-12 : (t : ℕ) → begin-lts.Need-same-length-12 (
+  part-here-reads.Asked,
+  part-here-reads.Learnt,
   row-at-reads.Asked,
   row-at-reads.Learnt,
   charged-reads.Asked,
@@ -582,6 +775,8 @@ begin-same-length-12 : (t : ℕ) → begin-lts.Need-same-length-12 (
   with-meter-reads.Learnt,
   refused-reads.Asked,
   refused-reads.Learnt,
+  turned-at-reads.Asked,
+  turned-at-reads.Learnt,
   is-include-reads.Asked,
   is-include-reads.Learnt,
   include-all-below t,
@@ -594,6 +789,8 @@ begin-same-length-12 : (t : ℕ) → begin-lts.Need-same-length-12 (
 begin-same-length-12 t c = search needs
 
 begin-same-length-13 : (t : ℕ) → begin-lts.Need-same-length-13 (
+  part-here-reads.Asked,
+  part-here-reads.Learnt,
   row-at-reads.Asked,
   row-at-reads.Learnt,
   charged-reads.Asked,
@@ -602,6 +799,8 @@ begin-same-length-13 : (t : ℕ) → begin-lts.Need-same-length-13 (
   with-meter-reads.Learnt,
   refused-reads.Asked,
   refused-reads.Learnt,
+  turned-at-reads.Asked,
+  turned-at-reads.Learnt,
   is-include-reads.Asked,
   is-include-reads.Learnt,
   include-all-below t,
@@ -614,6 +813,8 @@ begin-same-length-13 : (t : ℕ) → begin-lts.Need-same-length-13 (
 begin-same-length-13 t c = search needs
 
 begin-same-length-14 : (t : ℕ) → begin-lts.Need-same-length-14 (
+  part-here-reads.Asked,
+  part-here-reads.Learnt,
   row-at-reads.Asked,
   row-at-reads.Learnt,
   charged-reads.Asked,
@@ -622,6 +823,8 @@ begin-same-length-14 : (t : ℕ) → begin-lts.Need-same-length-14 (
   with-meter-reads.Learnt,
   refused-reads.Asked,
   refused-reads.Learnt,
+  turned-at-reads.Asked,
+  turned-at-reads.Learnt,
   is-include-reads.Asked,
   is-include-reads.Learnt,
   include-all-below t,
@@ -634,6 +837,8 @@ begin-same-length-14 : (t : ℕ) → begin-lts.Need-same-length-14 (
 begin-same-length-14 t c = search needs
 
 begin-same-length-15 : (t : ℕ) → begin-lts.Need-same-length-15 (
+  part-here-reads.Asked,
+  part-here-reads.Learnt,
   row-at-reads.Asked,
   row-at-reads.Learnt,
   charged-reads.Asked,
@@ -642,6 +847,8 @@ begin-same-length-15 : (t : ℕ) → begin-lts.Need-same-length-15 (
   with-meter-reads.Learnt,
   refused-reads.Asked,
   refused-reads.Learnt,
+  turned-at-reads.Asked,
+  turned-at-reads.Learnt,
   is-include-reads.Asked,
   is-include-reads.Learnt,
   include-all-below t,
@@ -654,6 +861,8 @@ begin-same-length-15 : (t : ℕ) → begin-lts.Need-same-length-15 (
 begin-same-length-15 t c = search needs
 
 begin-same-length-16 : (t : ℕ) → begin-lts.Need-same-length-16 (
+  part-here-reads.Asked,
+  part-here-reads.Learnt,
   row-at-reads.Asked,
   row-at-reads.Learnt,
   charged-reads.Asked,
@@ -662,6 +871,8 @@ begin-same-length-16 : (t : ℕ) → begin-lts.Need-same-length-16 (
   with-meter-reads.Learnt,
   refused-reads.Asked,
   refused-reads.Learnt,
+  turned-at-reads.Asked,
+  turned-at-reads.Learnt,
   is-include-reads.Asked,
   is-include-reads.Learnt,
   include-all-below t,
@@ -674,6 +885,8 @@ begin-same-length-16 : (t : ℕ) → begin-lts.Need-same-length-16 (
 begin-same-length-16 t c = search needs
 
 begin-same-length-17 : (t : ℕ) → begin-lts.Need-same-length-17 (
+  part-here-reads.Asked,
+  part-here-reads.Learnt,
   row-at-reads.Asked,
   row-at-reads.Learnt,
   charged-reads.Asked,
@@ -682,6 +895,8 @@ begin-same-length-17 : (t : ℕ) → begin-lts.Need-same-length-17 (
   with-meter-reads.Learnt,
   refused-reads.Asked,
   refused-reads.Learnt,
+  turned-at-reads.Asked,
+  turned-at-reads.Learnt,
   is-include-reads.Asked,
   is-include-reads.Learnt,
   include-all-below t,
@@ -694,6 +909,8 @@ begin-same-length-17 : (t : ℕ) → begin-lts.Need-same-length-17 (
 begin-same-length-17 t c = search needs
 
 begin-returns-3 : (t : ℕ) → begin-lts.Need-returns-3 (
+  part-here-reads.Asked,
+  part-here-reads.Learnt,
   row-at-reads.Asked,
   row-at-reads.Learnt,
   charged-reads.Asked,
@@ -702,6 +919,8 @@ begin-returns-3 : (t : ℕ) → begin-lts.Need-returns-3 (
   with-meter-reads.Learnt,
   refused-reads.Asked,
   refused-reads.Learnt,
+  turned-at-reads.Asked,
+  turned-at-reads.Learnt,
   is-include-reads.Asked,
   is-include-reads.Learnt,
   include-all-below t,
@@ -713,185 +932,337 @@ begin-returns-3 : (t : ℕ) → begin-lts.Need-returns-3 (
 ) (begin-at t) begin.Post
 begin-returns-3 t c = search needs
 
-enter-and-run-read-member-requires : (t : ℕ) → enter-and-run-lts.Need-read-member-requires (
-  read-member-reads.Asked,
-  read-member-reads.Learnt,
+enter-and-run-read-behind-requires : (t : ℕ) → enter-and-run-lts.Need-read-behind-requires (
+  read-behind-reads.Asked,
+  read-behind-reads.Learnt,
+  entered-reads.Asked,
+  entered-reads.Learnt,
   with-source-reads.Asked,
   with-source-reads.Learnt,
   run-source-below t,
   run-source.Post,
+  stopped-reads.Asked,
+  stopped-reads.Learnt,
+  left-at-reads.Asked,
+  left-at-reads.Learnt,
 ) (enter-and-run-at t) enter-and-run.Post
-enter-and-run-read-member-requires t c κs = search needs
+enter-and-run-read-behind-requires t c κs = search needs
 
 enter-and-run-enum-told : (t : ℕ) → enter-and-run-lts.Need-enum-told (
-  read-member-reads.Asked,
-  read-member-reads.Learnt,
+  read-behind-reads.Asked,
+  read-behind-reads.Learnt,
+  entered-reads.Asked,
+  entered-reads.Learnt,
   with-source-reads.Asked,
   with-source-reads.Learnt,
   run-source-below t,
   run-source.Post,
+  stopped-reads.Asked,
+  stopped-reads.Learnt,
+  left-at-reads.Asked,
+  left-at-reads.Learnt,
 ) (enter-and-run-at t) enter-and-run.Post
 enter-and-run-enum-told t c = search needs
 
-enter-and-run-with-source-requires : (t : ℕ) → enter-and-run-lts.Need-with-source-requires (
-  read-member-reads.Asked,
-  read-member-reads.Learnt,
+enter-and-run-entered-requires : (t : ℕ) → enter-and-run-lts.Need-entered-requires (
+  read-behind-reads.Asked,
+  read-behind-reads.Learnt,
+  entered-reads.Asked,
+  entered-reads.Learnt,
   with-source-reads.Asked,
   with-source-reads.Learnt,
   run-source-below t,
   run-source.Post,
+  stopped-reads.Asked,
+  stopped-reads.Learnt,
+  left-at-reads.Asked,
+  left-at-reads.Learnt,
+) (enter-and-run-at t) enter-and-run.Post
+enter-and-run-entered-requires t c κs = search needs
+
+enter-and-run-with-source-requires : (t : ℕ) → enter-and-run-lts.Need-with-source-requires (
+  read-behind-reads.Asked,
+  read-behind-reads.Learnt,
+  entered-reads.Asked,
+  entered-reads.Learnt,
+  with-source-reads.Asked,
+  with-source-reads.Learnt,
+  run-source-below t,
+  run-source.Post,
+  stopped-reads.Asked,
+  stopped-reads.Learnt,
+  left-at-reads.Asked,
+  left-at-reads.Learnt,
 ) (enter-and-run-at t) enter-and-run.Post
 enter-and-run-with-source-requires t c κs = search needs
 
 enter-and-run-run-source-requires : (t : ℕ) → enter-and-run-lts.Need-run-source-requires (
-  read-member-reads.Asked,
-  read-member-reads.Learnt,
+  read-behind-reads.Asked,
+  read-behind-reads.Learnt,
+  entered-reads.Asked,
+  entered-reads.Learnt,
   with-source-reads.Asked,
   with-source-reads.Learnt,
   run-source-below t,
   run-source.Post,
+  stopped-reads.Asked,
+  stopped-reads.Learnt,
+  left-at-reads.Asked,
+  left-at-reads.Learnt,
 ) (enter-and-run-at t) enter-and-run.Post
-enter-and-run-run-source-requires t c κs = omega (arith, (c .before .before .before .before .before .before .before .before .before .before .before .before .before .before .before .before .before .before .before .before .before .before .before .before .before .before .before .pre))
+enter-and-run-run-source-requires t c κs = omega (arith, (c .before .before .before .before .before .before .before .before .before .before .before .before .before .before .before .before .before .before .before .before .before .before .before .before .before .before .before .before .pre))
 
 enter-and-run-enum-known-fault : (t : ℕ) → enter-and-run-lts.Need-enum-known-fault (
-  read-member-reads.Asked,
-  read-member-reads.Learnt,
+  read-behind-reads.Asked,
+  read-behind-reads.Learnt,
+  entered-reads.Asked,
+  entered-reads.Learnt,
   with-source-reads.Asked,
   with-source-reads.Learnt,
   run-source-below t,
   run-source.Post,
+  stopped-reads.Asked,
+  stopped-reads.Learnt,
+  left-at-reads.Asked,
+  left-at-reads.Learnt,
 ) (enter-and-run-at t) enter-and-run.Post
 enter-and-run-enum-known-fault t c = search needs
 
-enter-and-run-same-length : (t : ℕ) → enter-and-run-lts.Need-same-length (
-  read-member-reads.Asked,
-  read-member-reads.Learnt,
+enter-and-run-stopped-requires : (t : ℕ) → enter-and-run-lts.Need-stopped-requires (
+  read-behind-reads.Asked,
+  read-behind-reads.Learnt,
+  entered-reads.Asked,
+  entered-reads.Learnt,
   with-source-reads.Asked,
   with-source-reads.Learnt,
   run-source-below t,
   run-source.Post,
+  stopped-reads.Asked,
+  stopped-reads.Learnt,
+  left-at-reads.Asked,
+  left-at-reads.Learnt,
 ) (enter-and-run-at t) enter-and-run.Post
-enter-and-run-same-length t c = (c .before .before .before .before .before .before .before .before .before .before .before .before .before .before .before .before .run-source .kept .1 .0) ∙ (c .before .before .before .before .before .before .before .before .before .before .before .before .before .before .before .before .before .before .before .before .before .before .before .before .before .before .before .before .before .before .before .before .read-member .kept .1 .0)
+enter-and-run-stopped-requires t c κs = search needs
+
+enter-and-run-left-at-requires : (t : ℕ) → enter-and-run-lts.Need-left-at-requires (
+  read-behind-reads.Asked,
+  read-behind-reads.Learnt,
+  entered-reads.Asked,
+  entered-reads.Learnt,
+  with-source-reads.Asked,
+  with-source-reads.Learnt,
+  run-source-below t,
+  run-source.Post,
+  stopped-reads.Asked,
+  stopped-reads.Learnt,
+  left-at-reads.Asked,
+  left-at-reads.Learnt,
+) (enter-and-run-at t) enter-and-run.Post
+enter-and-run-left-at-requires t c κs = search needs
+
+enter-and-run-same-length : (t : ℕ) → enter-and-run-lts.Need-same-length (
+  read-behind-reads.Asked,
+  read-behind-reads.Learnt,
+  entered-reads.Asked,
+  entered-reads.Learnt,
+  with-source-reads.Asked,
+  with-source-reads.Learnt,
+  run-source-below t,
+  run-source.Post,
+  stopped-reads.Asked,
+  stopped-reads.Learnt,
+  left-at-reads.Asked,
+  left-at-reads.Learnt,
+) (enter-and-run-at t) enter-and-run.Post
+enter-and-run-same-length t c = (c .before .before .before .before .before .before .before .before .before .before .before .before .before .before .before .before .run-source .kept .1 .0) ∙ (c .before .before .before .before .before .before .before .before .before .before .before .before .before .before .before .before .before .before .before .before .before .before .before .before .before .before .before .before .before .before .before .before .before .read-behind .kept .1 .0)
 
 enter-and-run-same-length-2 : (t : ℕ) → enter-and-run-lts.Need-same-length-2 (
-  read-member-reads.Asked,
-  read-member-reads.Learnt,
+  read-behind-reads.Asked,
+  read-behind-reads.Learnt,
+  entered-reads.Asked,
+  entered-reads.Learnt,
   with-source-reads.Asked,
   with-source-reads.Learnt,
   run-source-below t,
   run-source.Post,
+  stopped-reads.Asked,
+  stopped-reads.Learnt,
+  left-at-reads.Asked,
+  left-at-reads.Learnt,
 ) (enter-and-run-at t) enter-and-run.Post
-enter-and-run-same-length-2 t c = (c .before .before .before .before .before .before .before .before .before .before .before .before .before .before .before .before .run-source .kept .1 .1 .0) ∙ (c .before .before .before .before .before .before .before .before .before .before .before .before .before .before .before .before .before .before .before .before .before .before .before .before .before .before .before .before .before .before .before .before .read-member .kept .1 .1 .0)
+enter-and-run-same-length-2 t c = (c .before .before .before .before .before .before .before .before .before .before .before .before .before .before .before .before .run-source .kept .1 .1 .0) ∙ (c .before .before .before .before .before .before .before .before .before .before .before .before .before .before .before .before .before .before .before .before .before .before .before .before .before .before .before .before .before .before .before .before .before .read-behind .kept .1 .1 .0)
 
 enter-and-run-same-length-3 : (t : ℕ) → enter-and-run-lts.Need-same-length-3 (
-  read-member-reads.Asked,
-  read-member-reads.Learnt,
+  read-behind-reads.Asked,
+  read-behind-reads.Learnt,
+  entered-reads.Asked,
+  entered-reads.Learnt,
   with-source-reads.Asked,
   with-source-reads.Learnt,
   run-source-below t,
   run-source.Post,
+  stopped-reads.Asked,
+  stopped-reads.Learnt,
+  left-at-reads.Asked,
+  left-at-reads.Learnt,
 ) (enter-and-run-at t) enter-and-run.Post
 enter-and-run-same-length-3 t c = search needs
 
 enter-and-run-same-length-4 : (t : ℕ) → enter-and-run-lts.Need-same-length-4 (
-  read-member-reads.Asked,
-  read-member-reads.Learnt,
+  read-behind-reads.Asked,
+  read-behind-reads.Learnt,
+  entered-reads.Asked,
+  entered-reads.Learnt,
   with-source-reads.Asked,
   with-source-reads.Learnt,
   run-source-below t,
   run-source.Post,
+  stopped-reads.Asked,
+  stopped-reads.Learnt,
+  left-at-reads.Asked,
+  left-at-reads.Learnt,
 ) (enter-and-run-at t) enter-and-run.Post
 enter-and-run-same-length-4 t c = search needs
 
 enter-and-run-same-length-5 : (t : ℕ) → enter-and-run-lts.Need-same-length-5 (
-  read-member-reads.Asked,
-  read-member-reads.Learnt,
+  read-behind-reads.Asked,
+  read-behind-reads.Learnt,
+  entered-reads.Asked,
+  entered-reads.Learnt,
   with-source-reads.Asked,
   with-source-reads.Learnt,
   run-source-below t,
   run-source.Post,
+  stopped-reads.Asked,
+  stopped-reads.Learnt,
+  left-at-reads.Asked,
+  left-at-reads.Learnt,
 ) (enter-and-run-at t) enter-and-run.Post
 enter-and-run-same-length-5 t c = search needs
 
 enter-and-run-same-length-6 : (t : ℕ) → enter-and-run-lts.Need-same-length-6 (
-  read-member-reads.Asked,
-  read-member-reads.Learnt,
+  read-behind-reads.Asked,
+  read-behind-reads.Learnt,
+  entered-reads.Asked,
+  entered-reads.Learnt,
   with-source-reads.Asked,
   with-source-reads.Learnt,
   run-source-below t,
   run-source.Post,
+  stopped-reads.Asked,
+  stopped-reads.Learnt,
+  left-at-reads.Asked,
+  left-at-reads.Learnt,
 ) (enter-and-run-at t) enter-and-run.Post
 enter-and-run-same-length-6 t c = search needs
 
 enter-and-run-same-length-7 : (t : ℕ) → enter-and-run-lts.Need-same-length-7 (
-  read-member-reads.Asked,
-  read-member-reads.Learnt,
+  read-behind-reads.Asked,
+  read-behind-reads.Learnt,
+  entered-reads.Asked,
+  entered-reads.Learnt,
   with-source-reads.Asked,
   with-source-reads.Learnt,
   run-source-below t,
   run-source.Post,
+  stopped-reads.Asked,
+  stopped-reads.Learnt,
+  left-at-reads.Asked,
+  left-at-reads.Learnt,
 ) (enter-and-run-at t) enter-and-run.Post
 enter-and-run-same-length-7 t c = search needs
 
 enter-and-run-same-length-8 : (t : ℕ) → enter-and-run-lts.Need-same-length-8 (
-  read-member-reads.Asked,
-  read-member-reads.Learnt,
+  read-behind-reads.Asked,
+  read-behind-reads.Learnt,
+  entered-reads.Asked,
+  entered-reads.Learnt,
   with-source-reads.Asked,
   with-source-reads.Learnt,
   run-source-below t,
   run-source.Post,
+  stopped-reads.Asked,
+  stopped-reads.Learnt,
+  left-at-reads.Asked,
+  left-at-reads.Learnt,
 ) (enter-and-run-at t) enter-and-run.Post
 enter-and-run-same-length-8 t c = search needs
 
 enter-and-run-returns : (t : ℕ) → enter-and-run-lts.Need-returns (
-  read-member-reads.Asked,
-  read-member-reads.Learnt,
+  read-behind-reads.Asked,
+  read-behind-reads.Learnt,
+  entered-reads.Asked,
+  entered-reads.Learnt,
   with-source-reads.Asked,
   with-source-reads.Learnt,
   run-source-below t,
   run-source.Post,
+  stopped-reads.Asked,
+  stopped-reads.Learnt,
+  left-at-reads.Asked,
+  left-at-reads.Learnt,
 ) (enter-and-run-at t) enter-and-run.Post
 enter-and-run-returns t c = search needs
 
 enter-and-run-same-length-9 : (t : ℕ) → enter-and-run-lts.Need-same-length-9 (
-  read-member-reads.Asked,
-  read-member-reads.Learnt,
+  read-behind-reads.Asked,
+  read-behind-reads.Learnt,
+  entered-reads.Asked,
+  entered-reads.Learnt,
   with-source-reads.Asked,
   with-source-reads.Learnt,
   run-source-below t,
   run-source.Post,
+  stopped-reads.Asked,
+  stopped-reads.Learnt,
+  left-at-reads.Asked,
+  left-at-reads.Learnt,
 ) (enter-and-run-at t) enter-and-run.Post
 enter-and-run-same-length-9 t c = search needs
 
 enter-and-run-same-length-10 : (t : ℕ) → enter-and-run-lts.Need-same-length-10 (
-  read-member-reads.Asked,
-  read-member-reads.Learnt,
+  read-behind-reads.Asked,
+  read-behind-reads.Learnt,
+  entered-reads.Asked,
+  entered-reads.Learnt,
   with-source-reads.Asked,
   with-source-reads.Learnt,
   run-source-below t,
   run-source.Post,
+  stopped-reads.Asked,
+  stopped-reads.Learnt,
+  left-at-reads.Asked,
+  left-at-reads.Learnt,
 ) (enter-and-run-at t) enter-and-run.Post
 enter-and-run-same-length-10 t c = search needs
 
 enter-and-run-returns-2 : (t : ℕ) → enter-and-run-lts.Need-returns-2 (
-  read-member-reads.Asked,
-  read-member-reads.Learnt,
+  read-behind-reads.Asked,
+  read-behind-reads.Learnt,
+  entered-reads.Asked,
+  entered-reads.Learnt,
   with-source-reads.Asked,
   with-source-reads.Learnt,
   run-source-below t,
   run-source.Post,
+  stopped-reads.Asked,
+  stopped-reads.Learnt,
+  left-at-reads.Asked,
+  left-at-reads.Learnt,
 ) (enter-and-run-at t) enter-and-run.Post
 enter-and-run-returns-2 t c = search needs
 
 abbrev include-all-Inv-loop : include-all-lts.InvT-loop
-include-all-Inv-loop deck rows₀ names₀ cells₀ low₀ high₀ work₀ text₀ list₀ n here left s place inner at₀ g₀ turns₀ t30 rows names cells low high work text list at g turns = (turns ≤ turns₀) × (length rows ≡ length rows₀) × (length names ≡ length names₀) × (length cells ≡ length cells₀) × (length low ≡ length low₀) × (length high ≡ length high₀) × (length work ≡ length work₀) × (length text ≡ length text₀) × (length list ≡ length list₀)
+include-all-Inv-loop deck rows₀ names₀ cells₀ low₀ high₀ work₀ text₀ list₀ n left s place inner here₀ at₀ g₀ turns₀ t29 rows names cells low high work text list here at g turns = (turns ≤ turns₀) × (length rows ≡ length rows₀) × (length names ≡ length names₀) × (length cells ≡ length cells₀) × (length low ≡ length low₀) × (length high ≡ length high₀) × (length work ≡ length work₀) × (length text ≡ length text₀) × (length list ≡ length list₀)
 
 abbrev include-all-μ-loop : include-all-lts.MeasureT-loop
-include-all-μ-loop deck rows₀ names₀ cells₀ low₀ high₀ work₀ text₀ list₀ n here left s place inner at₀ g₀ turns₀ t30 rows names cells low high work text list at g turns = turns
+include-all-μ-loop deck rows₀ names₀ cells₀ low₀ high₀ work₀ text₀ list₀ n left s place inner here₀ at₀ g₀ turns₀ t29 rows names cells low high work text list here at g turns = turns
 
 include-all-body-requires : (t : ℕ) → include-all-lts.Need-body-requires (
   body-reads.Asked,
   body-reads.Learnt,
+  part-here-reads.Asked,
+  part-here-reads.Learnt,
   row-at-reads.Asked,
   row-at-reads.Learnt,
   with-below-reads.Asked,
@@ -900,14 +1271,42 @@ include-all-body-requires : (t : ℕ) → include-all-lts.Need-body-requires (
   token-at-reads.Learnt,
   include-one-below t,
   include-one.Post,
+  since-reads.Asked,
+  since-reads.Learnt,
   is-sign-reads.Asked,
   is-sign-reads.Learnt,
+  left-at-reads.Asked,
+  left-at-reads.Learnt,
 ) (include-all-at t) include-all.Post include-all-Inv-loop include-all-μ-loop
 include-all-body-requires t c κs = search needs
+
+include-all-part-here-requires : (t : ℕ) → include-all-lts.Need-part-here-requires (
+  body-reads.Asked,
+  body-reads.Learnt,
+  part-here-reads.Asked,
+  part-here-reads.Learnt,
+  row-at-reads.Asked,
+  row-at-reads.Learnt,
+  with-below-reads.Asked,
+  with-below-reads.Learnt,
+  token-at-reads.Asked,
+  token-at-reads.Learnt,
+  include-one-below t,
+  include-one.Post,
+  since-reads.Asked,
+  since-reads.Learnt,
+  is-sign-reads.Asked,
+  is-sign-reads.Learnt,
+  left-at-reads.Asked,
+  left-at-reads.Learnt,
+) (include-all-at t) include-all.Post include-all-Inv-loop include-all-μ-loop
+include-all-part-here-requires t c κs = search needs
 
 include-all-row-at-requires : (t : ℕ) → include-all-lts.Need-row-at-requires (
   body-reads.Asked,
   body-reads.Learnt,
+  part-here-reads.Asked,
+  part-here-reads.Learnt,
   row-at-reads.Asked,
   row-at-reads.Learnt,
   with-below-reads.Asked,
@@ -916,14 +1315,20 @@ include-all-row-at-requires : (t : ℕ) → include-all-lts.Need-row-at-requires
   token-at-reads.Learnt,
   include-one-below t,
   include-one.Post,
+  since-reads.Asked,
+  since-reads.Learnt,
   is-sign-reads.Asked,
   is-sign-reads.Learnt,
+  left-at-reads.Asked,
+  left-at-reads.Learnt,
 ) (include-all-at t) include-all.Post include-all-Inv-loop include-all-μ-loop
 include-all-row-at-requires t c κs = search needs
 
 include-all-cast-place : (t : ℕ) → include-all-lts.Need-cast-place (
   body-reads.Asked,
   body-reads.Learnt,
+  part-here-reads.Asked,
+  part-here-reads.Learnt,
   row-at-reads.Asked,
   row-at-reads.Learnt,
   with-below-reads.Asked,
@@ -932,14 +1337,20 @@ include-all-cast-place : (t : ℕ) → include-all-lts.Need-cast-place (
   token-at-reads.Learnt,
   include-one-below t,
   include-one.Post,
+  since-reads.Asked,
+  since-reads.Learnt,
   is-sign-reads.Asked,
   is-sign-reads.Learnt,
+  left-at-reads.Asked,
+  left-at-reads.Learnt,
 ) (include-all-at t) include-all.Post include-all-Inv-loop include-all-μ-loop
 include-all-cast-place t c = search needs
 
 include-all-with-below-requires : (t : ℕ) → include-all-lts.Need-with-below-requires (
   body-reads.Asked,
   body-reads.Learnt,
+  part-here-reads.Asked,
+  part-here-reads.Learnt,
   row-at-reads.Asked,
   row-at-reads.Learnt,
   with-below-reads.Asked,
@@ -948,14 +1359,20 @@ include-all-with-below-requires : (t : ℕ) → include-all-lts.Need-with-below-
   token-at-reads.Learnt,
   include-one-below t,
   include-one.Post,
+  since-reads.Asked,
+  since-reads.Learnt,
   is-sign-reads.Asked,
   is-sign-reads.Learnt,
+  left-at-reads.Asked,
+  left-at-reads.Learnt,
 ) (include-all-at t) include-all.Post include-all-Inv-loop include-all-μ-loop
 include-all-with-below-requires t c κs = search needs
 
 include-all-cast-at : (t : ℕ) → include-all-lts.Need-cast-at (
   body-reads.Asked,
   body-reads.Learnt,
+  part-here-reads.Asked,
+  part-here-reads.Learnt,
   row-at-reads.Asked,
   row-at-reads.Learnt,
   with-below-reads.Asked,
@@ -964,14 +1381,20 @@ include-all-cast-at : (t : ℕ) → include-all-lts.Need-cast-at (
   token-at-reads.Learnt,
   include-one-below t,
   include-one.Post,
+  since-reads.Asked,
+  since-reads.Learnt,
   is-sign-reads.Asked,
   is-sign-reads.Learnt,
+  left-at-reads.Asked,
+  left-at-reads.Learnt,
 ) (include-all-at t) include-all.Post include-all-Inv-loop include-all-μ-loop
 include-all-cast-at t c = search needs
 
 include-all-loop-holds : (t : ℕ) → include-all-lts.Need-loop-holds (
   body-reads.Asked,
   body-reads.Learnt,
+  part-here-reads.Asked,
+  part-here-reads.Learnt,
   row-at-reads.Asked,
   row-at-reads.Learnt,
   with-below-reads.Asked,
@@ -980,14 +1403,20 @@ include-all-loop-holds : (t : ℕ) → include-all-lts.Need-loop-holds (
   token-at-reads.Learnt,
   include-one-below t,
   include-one.Post,
+  since-reads.Asked,
+  since-reads.Learnt,
   is-sign-reads.Asked,
   is-sign-reads.Learnt,
+  left-at-reads.Asked,
+  left-at-reads.Learnt,
 ) (include-all-at t) include-all.Post include-all-Inv-loop include-all-μ-loop
 include-all-loop-holds t c = search needs
 
 include-all-sub-turns : (t : ℕ) → include-all-lts.Need-sub-turns (
   body-reads.Asked,
   body-reads.Learnt,
+  part-here-reads.Asked,
+  part-here-reads.Learnt,
   row-at-reads.Asked,
   row-at-reads.Learnt,
   with-below-reads.Asked,
@@ -996,14 +1425,20 @@ include-all-sub-turns : (t : ℕ) → include-all-lts.Need-sub-turns (
   token-at-reads.Learnt,
   include-one-below t,
   include-one.Post,
+  since-reads.Asked,
+  since-reads.Learnt,
   is-sign-reads.Asked,
   is-sign-reads.Learnt,
+  left-at-reads.Asked,
+  left-at-reads.Learnt,
 ) (include-all-at t) include-all.Post include-all-Inv-loop include-all-μ-loop
 include-all-sub-turns t c = search needs
 
 include-all-token-at-requires : (t : ℕ) → include-all-lts.Need-token-at-requires (
   body-reads.Asked,
   body-reads.Learnt,
+  part-here-reads.Asked,
+  part-here-reads.Learnt,
   row-at-reads.Asked,
   row-at-reads.Learnt,
   with-below-reads.Asked,
@@ -1012,14 +1447,20 @@ include-all-token-at-requires : (t : ℕ) → include-all-lts.Need-token-at-requ
   token-at-reads.Learnt,
   include-one-below t,
   include-one.Post,
+  since-reads.Asked,
+  since-reads.Learnt,
   is-sign-reads.Asked,
   is-sign-reads.Learnt,
+  left-at-reads.Asked,
+  left-at-reads.Learnt,
 ) (include-all-at t) include-all.Post include-all-Inv-loop include-all-μ-loop
 include-all-token-at-requires t c κs = search needs
 
 include-all-include-one-requires : (t : ℕ) → include-all-lts.Need-include-one-requires (
   body-reads.Asked,
   body-reads.Learnt,
+  part-here-reads.Asked,
+  part-here-reads.Learnt,
   row-at-reads.Asked,
   row-at-reads.Learnt,
   with-below-reads.Asked,
@@ -1028,14 +1469,42 @@ include-all-include-one-requires : (t : ℕ) → include-all-lts.Need-include-on
   token-at-reads.Learnt,
   include-one-below t,
   include-one.Post,
+  since-reads.Asked,
+  since-reads.Learnt,
   is-sign-reads.Asked,
   is-sign-reads.Learnt,
+  left-at-reads.Asked,
+  left-at-reads.Learnt,
 ) (include-all-at t) include-all.Post include-all-Inv-loop include-all-μ-loop
-include-all-include-one-requires t c κs = omega (arith, (c .before .before .before .before .before .before .before .before .before .before .before .before .before .before .before .before .before .before .before .before .before .before .before .before .before .before .pre))
+include-all-include-one-requires t c κs = omega (arith, (c .before .before .before .before .before .before .before .before .before .before .before .before .before .before .before .before .before .before .before .before .before .before .before .before .before .before .before .pre))
+
+include-all-since-requires : (t : ℕ) → include-all-lts.Need-since-requires (
+  body-reads.Asked,
+  body-reads.Learnt,
+  part-here-reads.Asked,
+  part-here-reads.Learnt,
+  row-at-reads.Asked,
+  row-at-reads.Learnt,
+  with-below-reads.Asked,
+  with-below-reads.Learnt,
+  token-at-reads.Asked,
+  token-at-reads.Learnt,
+  include-one-below t,
+  include-one.Post,
+  since-reads.Asked,
+  since-reads.Learnt,
+  is-sign-reads.Asked,
+  is-sign-reads.Learnt,
+  left-at-reads.Asked,
+  left-at-reads.Learnt,
+) (include-all-at t) include-all.Post include-all-Inv-loop include-all-μ-loop
+include-all-since-requires t c κs = search needs
 
 include-all-enum-known-e : (t : ℕ) → include-all-lts.Need-enum-known-e (
   body-reads.Asked,
   body-reads.Learnt,
+  part-here-reads.Asked,
+  part-here-reads.Learnt,
   row-at-reads.Asked,
   row-at-reads.Learnt,
   with-below-reads.Asked,
@@ -1044,14 +1513,20 @@ include-all-enum-known-e : (t : ℕ) → include-all-lts.Need-enum-known-e (
   token-at-reads.Learnt,
   include-one-below t,
   include-one.Post,
+  since-reads.Asked,
+  since-reads.Learnt,
   is-sign-reads.Asked,
   is-sign-reads.Learnt,
+  left-at-reads.Asked,
+  left-at-reads.Learnt,
 ) (include-all-at t) include-all.Post include-all-Inv-loop include-all-μ-loop
 include-all-enum-known-e t c = search needs
 
-include-all-enum-known-e-2 : (t : ℕ) → include-all-lts.Need-enum-known-e-2 (
+include-all-enum-told : (t : ℕ) → include-all-lts.Need-enum-told (
   body-reads.Asked,
   body-reads.Learnt,
+  part-here-reads.Asked,
+  part-here-reads.Learnt,
   row-at-reads.Asked,
   row-at-reads.Learnt,
   with-below-reads.Asked,
@@ -1060,14 +1535,20 @@ include-all-enum-known-e-2 : (t : ℕ) → include-all-lts.Need-enum-known-e-2 (
   token-at-reads.Learnt,
   include-one-below t,
   include-one.Post,
+  since-reads.Asked,
+  since-reads.Learnt,
   is-sign-reads.Asked,
   is-sign-reads.Learnt,
+  left-at-reads.Asked,
+  left-at-reads.Learnt,
 ) (include-all-at t) include-all.Post include-all-Inv-loop include-all-μ-loop
-include-all-enum-known-e-2 t c = search needs
+include-all-enum-told t c = search needs
 
 include-all-same-length : (t : ℕ) → include-all-lts.Need-same-length (
   body-reads.Asked,
   body-reads.Learnt,
+  part-here-reads.Asked,
+  part-here-reads.Learnt,
   row-at-reads.Asked,
   row-at-reads.Learnt,
   with-below-reads.Asked,
@@ -1076,14 +1557,20 @@ include-all-same-length : (t : ℕ) → include-all-lts.Need-same-length (
   token-at-reads.Learnt,
   include-one-below t,
   include-one.Post,
+  since-reads.Asked,
+  since-reads.Learnt,
   is-sign-reads.Asked,
   is-sign-reads.Learnt,
+  left-at-reads.Asked,
+  left-at-reads.Learnt,
 ) (include-all-at t) include-all.Post include-all-Inv-loop include-all-μ-loop
-include-all-same-length t c = (c .before .before .before .before .before .before .before .before .before .before .before .before .before .before .before .before .before .before .before .include-one .kept .1 .0) ∙ (c .before .before .before .before .before .before .before .before .before .before .before .before .before .before .before .before .before .before .before .before .before .before .before .before .before .before .before .before .before .before .loop .inv .1)
+include-all-same-length t c = (c .before .before .before .before .before .before .before .before .before .before .before .before .before .before .before .before .before .before .before .before .include-one .kept .1 .0) ∙ (c .before .before .before .before .before .before .before .before .before .before .before .before .before .before .before .before .before .before .before .before .before .before .before .before .before .before .before .before .before .before .before .loop .inv .1)
 
 include-all-same-length-2 : (t : ℕ) → include-all-lts.Need-same-length-2 (
   body-reads.Asked,
   body-reads.Learnt,
+  part-here-reads.Asked,
+  part-here-reads.Learnt,
   row-at-reads.Asked,
   row-at-reads.Learnt,
   with-below-reads.Asked,
@@ -1092,14 +1579,20 @@ include-all-same-length-2 : (t : ℕ) → include-all-lts.Need-same-length-2 (
   token-at-reads.Learnt,
   include-one-below t,
   include-one.Post,
+  since-reads.Asked,
+  since-reads.Learnt,
   is-sign-reads.Asked,
   is-sign-reads.Learnt,
+  left-at-reads.Asked,
+  left-at-reads.Learnt,
 ) (include-all-at t) include-all.Post include-all-Inv-loop include-all-μ-loop
-include-all-same-length-2 t c = (c .before .before .before .before .before .before .before .before .before .before .before .before .before .before .before .before .before .before .before .include-one .kept .1 .1 .0) ∙ (c .before .before .before .before .before .before .before .before .before .before .before .before .before .before .before .before .before .before .before .before .before .before .before .before .before .before .before .before .before .before .loop .inv .2)
+include-all-same-length-2 t c = (c .before .before .before .before .before .before .before .before .before .before .before .before .before .before .before .before .before .before .before .before .include-one .kept .1 .1 .0) ∙ (c .before .before .before .before .before .before .before .before .before .before .before .before .before .before .before .before .before .before .before .before .before .before .before .before .before .before .before .before .before .before .before .loop .inv .2)
 
 include-all-same-length-3 : (t : ℕ) → include-all-lts.Need-same-length-3 (
   body-reads.Asked,
   body-reads.Learnt,
+  part-here-reads.Asked,
+  part-here-reads.Learnt,
   row-at-reads.Asked,
   row-at-reads.Learnt,
   with-below-reads.Asked,
@@ -1108,14 +1601,20 @@ include-all-same-length-3 : (t : ℕ) → include-all-lts.Need-same-length-3 (
   token-at-reads.Learnt,
   include-one-below t,
   include-one.Post,
+  since-reads.Asked,
+  since-reads.Learnt,
   is-sign-reads.Asked,
   is-sign-reads.Learnt,
+  left-at-reads.Asked,
+  left-at-reads.Learnt,
 ) (include-all-at t) include-all.Post include-all-Inv-loop include-all-μ-loop
-include-all-same-length-3 t c = (c .before .before .before .before .before .before .before .before .before .before .before .before .before .before .before .before .before .before .before .include-one .kept .1 .1 .1 .0) ∙ (c .before .before .before .before .before .before .before .before .before .before .before .before .before .before .before .before .before .before .before .before .before .before .before .before .before .before .before .before .before .before .loop .inv .3)
+include-all-same-length-3 t c = (c .before .before .before .before .before .before .before .before .before .before .before .before .before .before .before .before .before .before .before .before .include-one .kept .1 .1 .1 .0) ∙ (c .before .before .before .before .before .before .before .before .before .before .before .before .before .before .before .before .before .before .before .before .before .before .before .before .before .before .before .before .before .before .before .loop .inv .3)
 
 include-all-same-length-4 : (t : ℕ) → include-all-lts.Need-same-length-4 (
   body-reads.Asked,
   body-reads.Learnt,
+  part-here-reads.Asked,
+  part-here-reads.Learnt,
   row-at-reads.Asked,
   row-at-reads.Learnt,
   with-below-reads.Asked,
@@ -1124,14 +1623,20 @@ include-all-same-length-4 : (t : ℕ) → include-all-lts.Need-same-length-4 (
   token-at-reads.Learnt,
   include-one-below t,
   include-one.Post,
+  since-reads.Asked,
+  since-reads.Learnt,
   is-sign-reads.Asked,
   is-sign-reads.Learnt,
+  left-at-reads.Asked,
+  left-at-reads.Learnt,
 ) (include-all-at t) include-all.Post include-all-Inv-loop include-all-μ-loop
-include-all-same-length-4 t c = (c .before .before .before .before .before .before .before .before .before .before .before .before .before .before .before .before .before .before .before .include-one .kept .1 .1 .1 .1 .0) ∙ (c .before .before .before .before .before .before .before .before .before .before .before .before .before .before .before .before .before .before .before .before .before .before .before .before .before .before .before .before .before .before .loop .inv .4)
+include-all-same-length-4 t c = (c .before .before .before .before .before .before .before .before .before .before .before .before .before .before .before .before .before .before .before .before .include-one .kept .1 .1 .1 .1 .0) ∙ (c .before .before .before .before .before .before .before .before .before .before .before .before .before .before .before .before .before .before .before .before .before .before .before .before .before .before .before .before .before .before .before .loop .inv .4)
 
 include-all-same-length-5 : (t : ℕ) → include-all-lts.Need-same-length-5 (
   body-reads.Asked,
   body-reads.Learnt,
+  part-here-reads.Asked,
+  part-here-reads.Learnt,
   row-at-reads.Asked,
   row-at-reads.Learnt,
   with-below-reads.Asked,
@@ -1140,14 +1645,20 @@ include-all-same-length-5 : (t : ℕ) → include-all-lts.Need-same-length-5 (
   token-at-reads.Learnt,
   include-one-below t,
   include-one.Post,
+  since-reads.Asked,
+  since-reads.Learnt,
   is-sign-reads.Asked,
   is-sign-reads.Learnt,
+  left-at-reads.Asked,
+  left-at-reads.Learnt,
 ) (include-all-at t) include-all.Post include-all-Inv-loop include-all-μ-loop
-include-all-same-length-5 t c = (c .before .before .before .before .before .before .before .before .before .before .before .before .before .before .before .before .before .before .before .include-one .kept .1 .1 .1 .1 .1 .0) ∙ (c .before .before .before .before .before .before .before .before .before .before .before .before .before .before .before .before .before .before .before .before .before .before .before .before .before .before .before .before .before .before .loop .inv .5)
+include-all-same-length-5 t c = (c .before .before .before .before .before .before .before .before .before .before .before .before .before .before .before .before .before .before .before .before .include-one .kept .1 .1 .1 .1 .1 .0) ∙ (c .before .before .before .before .before .before .before .before .before .before .before .before .before .before .before .before .before .before .before .before .before .before .before .before .before .before .before .before .before .before .before .loop .inv .5)
 
 include-all-same-length-6 : (t : ℕ) → include-all-lts.Need-same-length-6 (
   body-reads.Asked,
   body-reads.Learnt,
+  part-here-reads.Asked,
+  part-here-reads.Learnt,
   row-at-reads.Asked,
   row-at-reads.Learnt,
   with-below-reads.Asked,
@@ -1156,14 +1667,20 @@ include-all-same-length-6 : (t : ℕ) → include-all-lts.Need-same-length-6 (
   token-at-reads.Learnt,
   include-one-below t,
   include-one.Post,
+  since-reads.Asked,
+  since-reads.Learnt,
   is-sign-reads.Asked,
   is-sign-reads.Learnt,
+  left-at-reads.Asked,
+  left-at-reads.Learnt,
 ) (include-all-at t) include-all.Post include-all-Inv-loop include-all-μ-loop
-include-all-same-length-6 t c = (c .before .before .before .before .before .before .before .before .before .before .before .before .before .before .before .before .before .before .before .include-one .kept .1 .1 .1 .1 .1 .1 .0) ∙ (c .before .before .before .before .before .before .before .before .before .before .before .before .before .before .before .before .before .before .before .before .before .before .before .before .before .before .before .before .before .before .loop .inv .6)
+include-all-same-length-6 t c = (c .before .before .before .before .before .before .before .before .before .before .before .before .before .before .before .before .before .before .before .before .include-one .kept .1 .1 .1 .1 .1 .1 .0) ∙ (c .before .before .before .before .before .before .before .before .before .before .before .before .before .before .before .before .before .before .before .before .before .before .before .before .before .before .before .before .before .before .before .loop .inv .6)
 
 include-all-same-length-7 : (t : ℕ) → include-all-lts.Need-same-length-7 (
   body-reads.Asked,
   body-reads.Learnt,
+  part-here-reads.Asked,
+  part-here-reads.Learnt,
   row-at-reads.Asked,
   row-at-reads.Learnt,
   with-below-reads.Asked,
@@ -1172,14 +1689,20 @@ include-all-same-length-7 : (t : ℕ) → include-all-lts.Need-same-length-7 (
   token-at-reads.Learnt,
   include-one-below t,
   include-one.Post,
+  since-reads.Asked,
+  since-reads.Learnt,
   is-sign-reads.Asked,
   is-sign-reads.Learnt,
+  left-at-reads.Asked,
+  left-at-reads.Learnt,
 ) (include-all-at t) include-all.Post include-all-Inv-loop include-all-μ-loop
-include-all-same-length-7 t c = (c .before .before .before .before .before .before .before .before .before .before .before .before .before .before .before .before .before .before .before .include-one .kept .1 .1 .1 .1 .1 .1 .1 .0) ∙ (c .before .before .before .before .before .before .before .before .before .before .before .before .before .before .before .before .before .before .before .before .before .before .before .before .before .before .before .before .before .before .loop .inv .7)
+include-all-same-length-7 t c = (c .before .before .before .before .before .before .before .before .before .before .before .before .before .before .before .before .before .before .before .before .include-one .kept .1 .1 .1 .1 .1 .1 .1 .0) ∙ (c .before .before .before .before .before .before .before .before .before .before .before .before .before .before .before .before .before .before .before .before .before .before .before .before .before .before .before .before .before .before .before .loop .inv .7)
 
 include-all-same-length-8 : (t : ℕ) → include-all-lts.Need-same-length-8 (
   body-reads.Asked,
   body-reads.Learnt,
+  part-here-reads.Asked,
+  part-here-reads.Learnt,
   row-at-reads.Asked,
   row-at-reads.Learnt,
   with-below-reads.Asked,
@@ -1188,14 +1711,20 @@ include-all-same-length-8 : (t : ℕ) → include-all-lts.Need-same-length-8 (
   token-at-reads.Learnt,
   include-one-below t,
   include-one.Post,
+  since-reads.Asked,
+  since-reads.Learnt,
   is-sign-reads.Asked,
   is-sign-reads.Learnt,
+  left-at-reads.Asked,
+  left-at-reads.Learnt,
 ) (include-all-at t) include-all.Post include-all-Inv-loop include-all-μ-loop
-include-all-same-length-8 t c = (c .before .before .before .before .before .before .before .before .before .before .before .before .before .before .before .before .before .before .before .include-one .kept .1 .1 .1 .1 .1 .1 .1 .1 .0) ∙ (c .before .before .before .before .before .before .before .before .before .before .before .before .before .before .before .before .before .before .before .before .before .before .before .before .before .before .before .before .before .before .loop .inv .8)
+include-all-same-length-8 t c = (c .before .before .before .before .before .before .before .before .before .before .before .before .before .before .before .before .before .before .before .before .include-one .kept .1 .1 .1 .1 .1 .1 .1 .1 .0) ∙ (c .before .before .before .before .before .before .before .before .before .before .before .before .before .before .before .before .before .before .before .before .before .before .before .before .before .before .before .before .before .before .before .loop .inv .8)
 
 include-all-returns : (t : ℕ) → include-all-lts.Need-returns (
   body-reads.Asked,
   body-reads.Learnt,
+  part-here-reads.Asked,
+  part-here-reads.Learnt,
   row-at-reads.Asked,
   row-at-reads.Learnt,
   with-below-reads.Asked,
@@ -1204,14 +1733,20 @@ include-all-returns : (t : ℕ) → include-all-lts.Need-returns (
   token-at-reads.Learnt,
   include-one-below t,
   include-one.Post,
+  since-reads.Asked,
+  since-reads.Learnt,
   is-sign-reads.Asked,
   is-sign-reads.Learnt,
+  left-at-reads.Asked,
+  left-at-reads.Learnt,
 ) (include-all-at t) include-all.Post include-all-Inv-loop include-all-μ-loop
 include-all-returns t c = search needs
 
-include-all-enum-known-e-3 : (t : ℕ) → include-all-lts.Need-enum-known-e-3 (
+include-all-enum-told-2 : (t : ℕ) → include-all-lts.Need-enum-told-2 (
   body-reads.Asked,
   body-reads.Learnt,
+  part-here-reads.Asked,
+  part-here-reads.Learnt,
   row-at-reads.Asked,
   row-at-reads.Learnt,
   with-below-reads.Asked,
@@ -1220,14 +1755,20 @@ include-all-enum-known-e-3 : (t : ℕ) → include-all-lts.Need-enum-known-e-3 (
   token-at-reads.Learnt,
   include-one-below t,
   include-one.Post,
+  since-reads.Asked,
+  since-reads.Learnt,
   is-sign-reads.Asked,
   is-sign-reads.Learnt,
+  left-at-reads.Asked,
+  left-at-reads.Learnt,
 ) (include-all-at t) include-all.Post include-all-Inv-loop include-all-μ-loop
-include-all-enum-known-e-3 t c = search needs
+include-all-enum-told-2 t c = search needs
 
 include-all-same-length-9 : (t : ℕ) → include-all-lts.Need-same-length-9 (
   body-reads.Asked,
   body-reads.Learnt,
+  part-here-reads.Asked,
+  part-here-reads.Learnt,
   row-at-reads.Asked,
   row-at-reads.Learnt,
   with-below-reads.Asked,
@@ -1236,14 +1777,20 @@ include-all-same-length-9 : (t : ℕ) → include-all-lts.Need-same-length-9 (
   token-at-reads.Learnt,
   include-one-below t,
   include-one.Post,
+  since-reads.Asked,
+  since-reads.Learnt,
   is-sign-reads.Asked,
   is-sign-reads.Learnt,
+  left-at-reads.Asked,
+  left-at-reads.Learnt,
 ) (include-all-at t) include-all.Post include-all-Inv-loop include-all-μ-loop
-include-all-same-length-9 t c = (c .before .before .before .before .before .before .before .before .before .before .before .before .before .before .before .before .before .before .before .include-one .kept .1 .0) ∙ (c .before .before .before .before .before .before .before .before .before .before .before .before .before .before .before .before .before .before .before .before .before .before .before .before .before .before .before .before .before .before .loop .inv .1)
+include-all-same-length-9 t c = (c .before .before .before .before .before .before .before .before .before .before .before .before .before .before .before .before .before .before .before .before .include-one .kept .1 .0) ∙ (c .before .before .before .before .before .before .before .before .before .before .before .before .before .before .before .before .before .before .before .before .before .before .before .before .before .before .before .before .before .before .before .loop .inv .1)
 
 include-all-same-length-10 : (t : ℕ) → include-all-lts.Need-same-length-10 (
   body-reads.Asked,
   body-reads.Learnt,
+  part-here-reads.Asked,
+  part-here-reads.Learnt,
   row-at-reads.Asked,
   row-at-reads.Learnt,
   with-below-reads.Asked,
@@ -1252,14 +1799,20 @@ include-all-same-length-10 : (t : ℕ) → include-all-lts.Need-same-length-10 (
   token-at-reads.Learnt,
   include-one-below t,
   include-one.Post,
+  since-reads.Asked,
+  since-reads.Learnt,
   is-sign-reads.Asked,
   is-sign-reads.Learnt,
+  left-at-reads.Asked,
+  left-at-reads.Learnt,
 ) (include-all-at t) include-all.Post include-all-Inv-loop include-all-μ-loop
-include-all-same-length-10 t c = (c .before .before .before .before .before .before .before .before .before .before .before .before .before .before .before .before .before .before .before .include-one .kept .1 .1 .0) ∙ (c .before .before .before .before .before .before .before .before .before .before .before .before .before .before .before .before .before .before .before .before .before .before .before .before .before .before .before .before .before .before .loop .inv .2)
+include-all-same-length-10 t c = (c .before .before .before .before .before .before .before .before .before .before .before .before .before .before .before .before .before .before .before .before .include-one .kept .1 .1 .0) ∙ (c .before .before .before .before .before .before .before .before .before .before .before .before .before .before .before .before .before .before .before .before .before .before .before .before .before .before .before .before .before .before .before .loop .inv .2)
 
 include-all-same-length-11 : (t : ℕ) → include-all-lts.Need-same-length-11 (
   body-reads.Asked,
   body-reads.Learnt,
+  part-here-reads.Asked,
+  part-here-reads.Learnt,
   row-at-reads.Asked,
   row-at-reads.Learnt,
   with-below-reads.Asked,
@@ -1268,14 +1821,20 @@ include-all-same-length-11 : (t : ℕ) → include-all-lts.Need-same-length-11 (
   token-at-reads.Learnt,
   include-one-below t,
   include-one.Post,
+  since-reads.Asked,
+  since-reads.Learnt,
   is-sign-reads.Asked,
   is-sign-reads.Learnt,
+  left-at-reads.Asked,
+  left-at-reads.Learnt,
 ) (include-all-at t) include-all.Post include-all-Inv-loop include-all-μ-loop
-include-all-same-length-11 t c = (c .before .before .before .before .before .before .before .before .before .before .before .before .before .before .before .before .before .before .before .include-one .kept .1 .1 .1 .0) ∙ (c .before .before .before .before .before .before .before .before .before .before .before .before .before .before .before .before .before .before .before .before .before .before .before .before .before .before .before .before .before .before .loop .inv .3)
+include-all-same-length-11 t c = (c .before .before .before .before .before .before .before .before .before .before .before .before .before .before .before .before .before .before .before .before .include-one .kept .1 .1 .1 .0) ∙ (c .before .before .before .before .before .before .before .before .before .before .before .before .before .before .before .before .before .before .before .before .before .before .before .before .before .before .before .before .before .before .before .loop .inv .3)
 
 include-all-same-length-12 : (t : ℕ) → include-all-lts.Need-same-length-12 (
   body-reads.Asked,
   body-reads.Learnt,
+  part-here-reads.Asked,
+  part-here-reads.Learnt,
   row-at-reads.Asked,
   row-at-reads.Learnt,
   with-below-reads.Asked,
@@ -1284,14 +1843,20 @@ include-all-same-length-12 : (t : ℕ) → include-all-lts.Need-same-length-12 (
   token-at-reads.Learnt,
   include-one-below t,
   include-one.Post,
+  since-reads.Asked,
+  since-reads.Learnt,
   is-sign-reads.Asked,
   is-sign-reads.Learnt,
+  left-at-reads.Asked,
+  left-at-reads.Learnt,
 ) (include-all-at t) include-all.Post include-all-Inv-loop include-all-μ-loop
-include-all-same-length-12 t c = (c .before .before .before .before .before .before .before .before .before .before .before .before .before .before .before .before .before .before .before .include-one .kept .1 .1 .1 .1 .0) ∙ (c .before .before .before .before .before .before .before .before .before .before .before .before .before .before .before .before .before .before .before .before .before .before .before .before .before .before .before .before .before .before .loop .inv .4)
+include-all-same-length-12 t c = (c .before .before .before .before .before .before .before .before .before .before .before .before .before .before .before .before .before .before .before .before .include-one .kept .1 .1 .1 .1 .0) ∙ (c .before .before .before .before .before .before .before .before .before .before .before .before .before .before .before .before .before .before .before .before .before .before .before .before .before .before .before .before .before .before .before .loop .inv .4)
 
 include-all-same-length-13 : (t : ℕ) → include-all-lts.Need-same-length-13 (
   body-reads.Asked,
   body-reads.Learnt,
+  part-here-reads.Asked,
+  part-here-reads.Learnt,
   row-at-reads.Asked,
   row-at-reads.Learnt,
   with-below-reads.Asked,
@@ -1300,14 +1865,20 @@ include-all-same-length-13 : (t : ℕ) → include-all-lts.Need-same-length-13 (
   token-at-reads.Learnt,
   include-one-below t,
   include-one.Post,
+  since-reads.Asked,
+  since-reads.Learnt,
   is-sign-reads.Asked,
   is-sign-reads.Learnt,
+  left-at-reads.Asked,
+  left-at-reads.Learnt,
 ) (include-all-at t) include-all.Post include-all-Inv-loop include-all-μ-loop
-include-all-same-length-13 t c = (c .before .before .before .before .before .before .before .before .before .before .before .before .before .before .before .before .before .before .before .include-one .kept .1 .1 .1 .1 .1 .0) ∙ (c .before .before .before .before .before .before .before .before .before .before .before .before .before .before .before .before .before .before .before .before .before .before .before .before .before .before .before .before .before .before .loop .inv .5)
+include-all-same-length-13 t c = (c .before .before .before .before .before .before .before .before .before .before .before .before .before .before .before .before .before .before .before .before .include-one .kept .1 .1 .1 .1 .1 .0) ∙ (c .before .before .before .before .before .before .before .before .before .before .before .before .before .before .before .before .before .before .before .before .before .before .before .before .before .before .before .before .before .before .before .loop .inv .5)
 
 include-all-same-length-14 : (t : ℕ) → include-all-lts.Need-same-length-14 (
   body-reads.Asked,
   body-reads.Learnt,
+  part-here-reads.Asked,
+  part-here-reads.Learnt,
   row-at-reads.Asked,
   row-at-reads.Learnt,
   with-below-reads.Asked,
@@ -1316,14 +1887,20 @@ include-all-same-length-14 : (t : ℕ) → include-all-lts.Need-same-length-14 (
   token-at-reads.Learnt,
   include-one-below t,
   include-one.Post,
+  since-reads.Asked,
+  since-reads.Learnt,
   is-sign-reads.Asked,
   is-sign-reads.Learnt,
+  left-at-reads.Asked,
+  left-at-reads.Learnt,
 ) (include-all-at t) include-all.Post include-all-Inv-loop include-all-μ-loop
-include-all-same-length-14 t c = (c .before .before .before .before .before .before .before .before .before .before .before .before .before .before .before .before .before .before .before .include-one .kept .1 .1 .1 .1 .1 .1 .0) ∙ (c .before .before .before .before .before .before .before .before .before .before .before .before .before .before .before .before .before .before .before .before .before .before .before .before .before .before .before .before .before .before .loop .inv .6)
+include-all-same-length-14 t c = (c .before .before .before .before .before .before .before .before .before .before .before .before .before .before .before .before .before .before .before .before .include-one .kept .1 .1 .1 .1 .1 .1 .0) ∙ (c .before .before .before .before .before .before .before .before .before .before .before .before .before .before .before .before .before .before .before .before .before .before .before .before .before .before .before .before .before .before .before .loop .inv .6)
 
 include-all-same-length-15 : (t : ℕ) → include-all-lts.Need-same-length-15 (
   body-reads.Asked,
   body-reads.Learnt,
+  part-here-reads.Asked,
+  part-here-reads.Learnt,
   row-at-reads.Asked,
   row-at-reads.Learnt,
   with-below-reads.Asked,
@@ -1332,14 +1909,20 @@ include-all-same-length-15 : (t : ℕ) → include-all-lts.Need-same-length-15 (
   token-at-reads.Learnt,
   include-one-below t,
   include-one.Post,
+  since-reads.Asked,
+  since-reads.Learnt,
   is-sign-reads.Asked,
   is-sign-reads.Learnt,
+  left-at-reads.Asked,
+  left-at-reads.Learnt,
 ) (include-all-at t) include-all.Post include-all-Inv-loop include-all-μ-loop
-include-all-same-length-15 t c = (c .before .before .before .before .before .before .before .before .before .before .before .before .before .before .before .before .before .before .before .include-one .kept .1 .1 .1 .1 .1 .1 .1 .0) ∙ (c .before .before .before .before .before .before .before .before .before .before .before .before .before .before .before .before .before .before .before .before .before .before .before .before .before .before .before .before .before .before .loop .inv .7)
+include-all-same-length-15 t c = (c .before .before .before .before .before .before .before .before .before .before .before .before .before .before .before .before .before .before .before .before .include-one .kept .1 .1 .1 .1 .1 .1 .1 .0) ∙ (c .before .before .before .before .before .before .before .before .before .before .before .before .before .before .before .before .before .before .before .before .before .before .before .before .before .before .before .before .before .before .before .loop .inv .7)
 
 include-all-same-length-16 : (t : ℕ) → include-all-lts.Need-same-length-16 (
   body-reads.Asked,
   body-reads.Learnt,
+  part-here-reads.Asked,
+  part-here-reads.Learnt,
   row-at-reads.Asked,
   row-at-reads.Learnt,
   with-below-reads.Asked,
@@ -1348,14 +1931,20 @@ include-all-same-length-16 : (t : ℕ) → include-all-lts.Need-same-length-16 (
   token-at-reads.Learnt,
   include-one-below t,
   include-one.Post,
+  since-reads.Asked,
+  since-reads.Learnt,
   is-sign-reads.Asked,
   is-sign-reads.Learnt,
+  left-at-reads.Asked,
+  left-at-reads.Learnt,
 ) (include-all-at t) include-all.Post include-all-Inv-loop include-all-μ-loop
-include-all-same-length-16 t c = (c .before .before .before .before .before .before .before .before .before .before .before .before .before .before .before .before .before .before .before .include-one .kept .1 .1 .1 .1 .1 .1 .1 .1 .0) ∙ (c .before .before .before .before .before .before .before .before .before .before .before .before .before .before .before .before .before .before .before .before .before .before .before .before .before .before .before .before .before .before .loop .inv .8)
+include-all-same-length-16 t c = (c .before .before .before .before .before .before .before .before .before .before .before .before .before .before .before .before .before .before .before .before .include-one .kept .1 .1 .1 .1 .1 .1 .1 .1 .0) ∙ (c .before .before .before .before .before .before .before .before .before .before .before .before .before .before .before .before .before .before .before .before .before .before .before .before .before .before .before .before .before .before .before .loop .inv .8)
 
 include-all-returns-2 : (t : ℕ) → include-all-lts.Need-returns-2 (
   body-reads.Asked,
   body-reads.Learnt,
+  part-here-reads.Asked,
+  part-here-reads.Learnt,
   row-at-reads.Asked,
   row-at-reads.Learnt,
   with-below-reads.Asked,
@@ -1364,14 +1953,20 @@ include-all-returns-2 : (t : ℕ) → include-all-lts.Need-returns-2 (
   token-at-reads.Learnt,
   include-one-below t,
   include-one.Post,
+  since-reads.Asked,
+  since-reads.Learnt,
   is-sign-reads.Asked,
   is-sign-reads.Learnt,
+  left-at-reads.Asked,
+  left-at-reads.Learnt,
 ) (include-all-at t) include-all.Post include-all-Inv-loop include-all-μ-loop
 include-all-returns-2 t c = search needs
 
 include-all-token-at-requires-2 : (t : ℕ) → include-all-lts.Need-token-at-requires-2 (
   body-reads.Asked,
   body-reads.Learnt,
+  part-here-reads.Asked,
+  part-here-reads.Learnt,
   row-at-reads.Asked,
   row-at-reads.Learnt,
   with-below-reads.Asked,
@@ -1380,14 +1975,20 @@ include-all-token-at-requires-2 : (t : ℕ) → include-all-lts.Need-token-at-re
   token-at-reads.Learnt,
   include-one-below t,
   include-one.Post,
+  since-reads.Asked,
+  since-reads.Learnt,
   is-sign-reads.Asked,
   is-sign-reads.Learnt,
+  left-at-reads.Asked,
+  left-at-reads.Learnt,
 ) (include-all-at t) include-all.Post include-all-Inv-loop include-all-μ-loop
 include-all-token-at-requires-2 t c κs = search needs
 
 include-all-slice-aggregate-is-sign : (t : ℕ) → include-all-lts.Need-slice-aggregate-is-sign (
   body-reads.Asked,
   body-reads.Learnt,
+  part-here-reads.Asked,
+  part-here-reads.Learnt,
   row-at-reads.Asked,
   row-at-reads.Learnt,
   with-below-reads.Asked,
@@ -1396,14 +1997,20 @@ include-all-slice-aggregate-is-sign : (t : ℕ) → include-all-lts.Need-slice-a
   token-at-reads.Learnt,
   include-one-below t,
   include-one.Post,
+  since-reads.Asked,
+  since-reads.Learnt,
   is-sign-reads.Asked,
   is-sign-reads.Learnt,
+  left-at-reads.Asked,
+  left-at-reads.Learnt,
 ) (include-all-at t) include-all.Post include-all-Inv-loop include-all-μ-loop
 include-all-slice-aggregate-is-sign t c = search needs
 
 include-all-is-sign-requires : (t : ℕ) → include-all-lts.Need-is-sign-requires (
   body-reads.Asked,
   body-reads.Learnt,
+  part-here-reads.Asked,
+  part-here-reads.Learnt,
   row-at-reads.Asked,
   row-at-reads.Learnt,
   with-below-reads.Asked,
@@ -1412,14 +2019,20 @@ include-all-is-sign-requires : (t : ℕ) → include-all-lts.Need-is-sign-requir
   token-at-reads.Learnt,
   include-one-below t,
   include-one.Post,
+  since-reads.Asked,
+  since-reads.Learnt,
   is-sign-reads.Asked,
   is-sign-reads.Learnt,
+  left-at-reads.Asked,
+  left-at-reads.Learnt,
 ) (include-all-at t) include-all.Post include-all-Inv-loop include-all-μ-loop
 include-all-is-sign-requires t c κs = search needs
 
 include-all-loop-less : (t : ℕ) → include-all-lts.Need-loop-less (
   body-reads.Asked,
   body-reads.Learnt,
+  part-here-reads.Asked,
+  part-here-reads.Learnt,
   row-at-reads.Asked,
   row-at-reads.Learnt,
   with-below-reads.Asked,
@@ -1428,14 +2041,20 @@ include-all-loop-less : (t : ℕ) → include-all-lts.Need-loop-less (
   token-at-reads.Learnt,
   include-one-below t,
   include-one.Post,
+  since-reads.Asked,
+  since-reads.Learnt,
   is-sign-reads.Asked,
   is-sign-reads.Learnt,
+  left-at-reads.Asked,
+  left-at-reads.Learnt,
 ) (include-all-at t) include-all.Post include-all-Inv-loop include-all-μ-loop
-include-all-loop-less t c = omega (arith, (c .before .before .before .before .before .before .before .before .before .before .before .before .before .before .before .before .before .before .before .before .before .before .before .before .before .before .before .before .before .before .before .before .before .loop-test .taken))
+include-all-loop-less t c = omega (arith, (c .before .before .before .before .before .before .before .before .before .before .before .before .before .before .before .before .before .before .before .before .before .before .before .before .before .before .before .before .before .before .before .before .before .before .before .loop-test .taken))
 
 include-all-loop-again : (t : ℕ) → include-all-lts.Need-loop-again (
   body-reads.Asked,
   body-reads.Learnt,
+  part-here-reads.Asked,
+  part-here-reads.Learnt,
   row-at-reads.Asked,
   row-at-reads.Learnt,
   with-below-reads.Asked,
@@ -1444,14 +2063,42 @@ include-all-loop-again : (t : ℕ) → include-all-lts.Need-loop-again (
   token-at-reads.Learnt,
   include-one-below t,
   include-one.Post,
+  since-reads.Asked,
+  since-reads.Learnt,
   is-sign-reads.Asked,
   is-sign-reads.Learnt,
+  left-at-reads.Asked,
+  left-at-reads.Learnt,
 ) (include-all-at t) include-all.Post include-all-Inv-loop include-all-μ-loop
-include-all-loop-again t c = (omega (arith, (c .before .before .before .before .before .before .before .before .before .before .before .before .before .before .before .before .before .before .before .before .before .before .before .before .before .before .before .before .before .before .before .before .before .before .loop .inv .0), (c .before .before .before .before .before .before .before .before .before .before .before .before .before .before .before .before .before .before .before .before .before .before .before .before .before .before .before .before .before .before .before .before .before .loop-test .taken)), (c .before .before .before .before .before .before .before .before .before .before .before .before .before .before .before .before .before .before .before .before .before .before .before .include-one .kept .1 .0) ∙ (c .before .before .before .before .before .before .before .before .before .before .before .before .before .before .before .before .before .before .before .before .before .before .before .before .before .before .before .before .before .before .before .before .before .before .loop .inv .1), (c .before .before .before .before .before .before .before .before .before .before .before .before .before .before .before .before .before .before .before .before .before .before .before .include-one .kept .1 .1 .0) ∙ (c .before .before .before .before .before .before .before .before .before .before .before .before .before .before .before .before .before .before .before .before .before .before .before .before .before .before .before .before .before .before .before .before .before .before .loop .inv .2), (c .before .before .before .before .before .before .before .before .before .before .before .before .before .before .before .before .before .before .before .before .before .before .before .include-one .kept .1 .1 .1 .0) ∙ (c .before .before .before .before .before .before .before .before .before .before .before .before .before .before .before .before .before .before .before .before .before .before .before .before .before .before .before .before .before .before .before .before .before .before .loop .inv .3), (c .before .before .before .before .before .before .before .before .before .before .before .before .before .before .before .before .before .before .before .before .before .before .before .include-one .kept .1 .1 .1 .1 .0) ∙ (c .before .before .before .before .before .before .before .before .before .before .before .before .before .before .before .before .before .before .before .before .before .before .before .before .before .before .before .before .before .before .before .before .before .before .loop .inv .4), (c .before .before .before .before .before .before .before .before .before .before .before .before .before .before .before .before .before .before .before .before .before .before .before .include-one .kept .1 .1 .1 .1 .1 .0) ∙ (c .before .before .before .before .before .before .before .before .before .before .before .before .before .before .before .before .before .before .before .before .before .before .before .before .before .before .before .before .before .before .before .before .before .before .loop .inv .5), (c .before .before .before .before .before .before .before .before .before .before .before .before .before .before .before .before .before .before .before .before .before .before .before .include-one .kept .1 .1 .1 .1 .1 .1 .0) ∙ (c .before .before .before .before .before .before .before .before .before .before .before .before .before .before .before .before .before .before .before .before .before .before .before .before .before .before .before .before .before .before .before .before .before .before .loop .inv .6), (c .before .before .before .before .before .before .before .before .before .before .before .before .before .before .before .before .before .before .before .before .before .before .before .include-one .kept .1 .1 .1 .1 .1 .1 .1 .0) ∙ (c .before .before .before .before .before .before .before .before .before .before .before .before .before .before .before .before .before .before .before .before .before .before .before .before .before .before .before .before .before .before .before .before .before .before .loop .inv .7), (c .before .before .before .before .before .before .before .before .before .before .before .before .before .before .before .before .before .before .before .before .before .before .before .include-one .kept .1 .1 .1 .1 .1 .1 .1 .1 .0) ∙ (c .before .before .before .before .before .before .before .before .before .before .before .before .before .before .before .before .before .before .before .before .before .before .before .before .before .before .before .before .before .before .before .before .before .before .loop .inv .8))
+include-all-loop-again t c = (omega (arith, (c .before .before .before .before .before .before .before .before .before .before .before .before .before .before .before .before .before .before .before .before .before .before .before .before .before .before .before .before .before .before .before .before .before .before .before .before .loop .inv .0), (c .before .before .before .before .before .before .before .before .before .before .before .before .before .before .before .before .before .before .before .before .before .before .before .before .before .before .before .before .before .before .before .before .before .before .before .loop-test .taken)), (c .before .before .before .before .before .before .before .before .before .before .before .before .before .before .before .before .before .before .before .before .before .before .before .before .before .include-one .kept .1 .0) ∙ (c .before .before .before .before .before .before .before .before .before .before .before .before .before .before .before .before .before .before .before .before .before .before .before .before .before .before .before .before .before .before .before .before .before .before .before .before .loop .inv .1), (c .before .before .before .before .before .before .before .before .before .before .before .before .before .before .before .before .before .before .before .before .before .before .before .before .before .include-one .kept .1 .1 .0) ∙ (c .before .before .before .before .before .before .before .before .before .before .before .before .before .before .before .before .before .before .before .before .before .before .before .before .before .before .before .before .before .before .before .before .before .before .before .before .loop .inv .2), (c .before .before .before .before .before .before .before .before .before .before .before .before .before .before .before .before .before .before .before .before .before .before .before .before .before .include-one .kept .1 .1 .1 .0) ∙ (c .before .before .before .before .before .before .before .before .before .before .before .before .before .before .before .before .before .before .before .before .before .before .before .before .before .before .before .before .before .before .before .before .before .before .before .before .loop .inv .3), (c .before .before .before .before .before .before .before .before .before .before .before .before .before .before .before .before .before .before .before .before .before .before .before .before .before .include-one .kept .1 .1 .1 .1 .0) ∙ (c .before .before .before .before .before .before .before .before .before .before .before .before .before .before .before .before .before .before .before .before .before .before .before .before .before .before .before .before .before .before .before .before .before .before .before .before .loop .inv .4), (c .before .before .before .before .before .before .before .before .before .before .before .before .before .before .before .before .before .before .before .before .before .before .before .before .before .include-one .kept .1 .1 .1 .1 .1 .0) ∙ (c .before .before .before .before .before .before .before .before .before .before .before .before .before .before .before .before .before .before .before .before .before .before .before .before .before .before .before .before .before .before .before .before .before .before .before .before .loop .inv .5), (c .before .before .before .before .before .before .before .before .before .before .before .before .before .before .before .before .before .before .before .before .before .before .before .before .before .include-one .kept .1 .1 .1 .1 .1 .1 .0) ∙ (c .before .before .before .before .before .before .before .before .before .before .before .before .before .before .before .before .before .before .before .before .before .before .before .before .before .before .before .before .before .before .before .before .before .before .before .before .loop .inv .6), (c .before .before .before .before .before .before .before .before .before .before .before .before .before .before .before .before .before .before .before .before .before .before .before .before .before .include-one .kept .1 .1 .1 .1 .1 .1 .1 .0) ∙ (c .before .before .before .before .before .before .before .before .before .before .before .before .before .before .before .before .before .before .before .before .before .before .before .before .before .before .before .before .before .before .before .before .before .before .before .before .loop .inv .7), (c .before .before .before .before .before .before .before .before .before .before .before .before .before .before .before .before .before .before .before .before .before .before .before .before .before .include-one .kept .1 .1 .1 .1 .1 .1 .1 .1 .0) ∙ (c .before .before .before .before .before .before .before .before .before .before .before .before .before .before .before .before .before .before .before .before .before .before .before .before .before .before .before .before .before .before .before .before .before .before .before .before .loop .inv .8))
+
+include-all-left-at-requires : (t : ℕ) → include-all-lts.Need-left-at-requires (
+  body-reads.Asked,
+  body-reads.Learnt,
+  part-here-reads.Asked,
+  part-here-reads.Learnt,
+  row-at-reads.Asked,
+  row-at-reads.Learnt,
+  with-below-reads.Asked,
+  with-below-reads.Learnt,
+  token-at-reads.Asked,
+  token-at-reads.Learnt,
+  include-one-below t,
+  include-one.Post,
+  since-reads.Asked,
+  since-reads.Learnt,
+  is-sign-reads.Asked,
+  is-sign-reads.Learnt,
+  left-at-reads.Asked,
+  left-at-reads.Learnt,
+) (include-all-at t) include-all.Post include-all-Inv-loop include-all-μ-loop
+include-all-left-at-requires t c κs = search needs
 
 include-all-same-length-17 : (t : ℕ) → include-all-lts.Need-same-length-17 (
   body-reads.Asked,
   body-reads.Learnt,
+  part-here-reads.Asked,
+  part-here-reads.Learnt,
   row-at-reads.Asked,
   row-at-reads.Learnt,
   with-below-reads.Asked,
@@ -1460,14 +2107,20 @@ include-all-same-length-17 : (t : ℕ) → include-all-lts.Need-same-length-17 (
   token-at-reads.Learnt,
   include-one-below t,
   include-one.Post,
+  since-reads.Asked,
+  since-reads.Learnt,
   is-sign-reads.Asked,
   is-sign-reads.Learnt,
+  left-at-reads.Asked,
+  left-at-reads.Learnt,
 ) (include-all-at t) include-all.Post include-all-Inv-loop include-all-μ-loop
-include-all-same-length-17 t c = (c .before .before .before .before .before .before .before .before .before .before .before .before .before .before .before .before .before .before .before .before .before .before .before .include-one .kept .1 .0) ∙ (c .before .before .before .before .before .before .before .before .before .before .before .before .before .before .before .before .before .before .before .before .before .before .before .before .before .before .before .before .before .before .before .before .before .before .loop .inv .1)
+include-all-same-length-17 t c = (c .before .before .before .before .before .before .before .before .before .before .before .before .before .before .before .before .before .before .before .before .before .before .before .before .before .before .include-one .kept .1 .0) ∙ (c .before .before .before .before .before .before .before .before .before .before .before .before .before .before .before .before .before .before .before .before .before .before .before .before .before .before .before .before .before .before .before .before .before .before .before .before .before .loop .inv .1)
 
 include-all-same-length-18 : (t : ℕ) → include-all-lts.Need-same-length-18 (
   body-reads.Asked,
   body-reads.Learnt,
+  part-here-reads.Asked,
+  part-here-reads.Learnt,
   row-at-reads.Asked,
   row-at-reads.Learnt,
   with-below-reads.Asked,
@@ -1476,14 +2129,20 @@ include-all-same-length-18 : (t : ℕ) → include-all-lts.Need-same-length-18 (
   token-at-reads.Learnt,
   include-one-below t,
   include-one.Post,
+  since-reads.Asked,
+  since-reads.Learnt,
   is-sign-reads.Asked,
   is-sign-reads.Learnt,
+  left-at-reads.Asked,
+  left-at-reads.Learnt,
 ) (include-all-at t) include-all.Post include-all-Inv-loop include-all-μ-loop
-include-all-same-length-18 t c = (c .before .before .before .before .before .before .before .before .before .before .before .before .before .before .before .before .before .before .before .before .before .before .before .include-one .kept .1 .1 .0) ∙ (c .before .before .before .before .before .before .before .before .before .before .before .before .before .before .before .before .before .before .before .before .before .before .before .before .before .before .before .before .before .before .before .before .before .before .loop .inv .2)
+include-all-same-length-18 t c = (c .before .before .before .before .before .before .before .before .before .before .before .before .before .before .before .before .before .before .before .before .before .before .before .before .before .before .include-one .kept .1 .1 .0) ∙ (c .before .before .before .before .before .before .before .before .before .before .before .before .before .before .before .before .before .before .before .before .before .before .before .before .before .before .before .before .before .before .before .before .before .before .before .before .before .loop .inv .2)
 
 include-all-same-length-19 : (t : ℕ) → include-all-lts.Need-same-length-19 (
   body-reads.Asked,
   body-reads.Learnt,
+  part-here-reads.Asked,
+  part-here-reads.Learnt,
   row-at-reads.Asked,
   row-at-reads.Learnt,
   with-below-reads.Asked,
@@ -1492,14 +2151,20 @@ include-all-same-length-19 : (t : ℕ) → include-all-lts.Need-same-length-19 (
   token-at-reads.Learnt,
   include-one-below t,
   include-one.Post,
+  since-reads.Asked,
+  since-reads.Learnt,
   is-sign-reads.Asked,
   is-sign-reads.Learnt,
+  left-at-reads.Asked,
+  left-at-reads.Learnt,
 ) (include-all-at t) include-all.Post include-all-Inv-loop include-all-μ-loop
-include-all-same-length-19 t c = (c .before .before .before .before .before .before .before .before .before .before .before .before .before .before .before .before .before .before .before .before .before .before .before .include-one .kept .1 .1 .1 .0) ∙ (c .before .before .before .before .before .before .before .before .before .before .before .before .before .before .before .before .before .before .before .before .before .before .before .before .before .before .before .before .before .before .before .before .before .before .loop .inv .3)
+include-all-same-length-19 t c = (c .before .before .before .before .before .before .before .before .before .before .before .before .before .before .before .before .before .before .before .before .before .before .before .before .before .before .include-one .kept .1 .1 .1 .0) ∙ (c .before .before .before .before .before .before .before .before .before .before .before .before .before .before .before .before .before .before .before .before .before .before .before .before .before .before .before .before .before .before .before .before .before .before .before .before .before .loop .inv .3)
 
 include-all-same-length-20 : (t : ℕ) → include-all-lts.Need-same-length-20 (
   body-reads.Asked,
   body-reads.Learnt,
+  part-here-reads.Asked,
+  part-here-reads.Learnt,
   row-at-reads.Asked,
   row-at-reads.Learnt,
   with-below-reads.Asked,
@@ -1508,14 +2173,20 @@ include-all-same-length-20 : (t : ℕ) → include-all-lts.Need-same-length-20 (
   token-at-reads.Learnt,
   include-one-below t,
   include-one.Post,
+  since-reads.Asked,
+  since-reads.Learnt,
   is-sign-reads.Asked,
   is-sign-reads.Learnt,
+  left-at-reads.Asked,
+  left-at-reads.Learnt,
 ) (include-all-at t) include-all.Post include-all-Inv-loop include-all-μ-loop
-include-all-same-length-20 t c = (c .before .before .before .before .before .before .before .before .before .before .before .before .before .before .before .before .before .before .before .before .before .before .before .include-one .kept .1 .1 .1 .1 .0) ∙ (c .before .before .before .before .before .before .before .before .before .before .before .before .before .before .before .before .before .before .before .before .before .before .before .before .before .before .before .before .before .before .before .before .before .before .loop .inv .4)
+include-all-same-length-20 t c = (c .before .before .before .before .before .before .before .before .before .before .before .before .before .before .before .before .before .before .before .before .before .before .before .before .before .before .include-one .kept .1 .1 .1 .1 .0) ∙ (c .before .before .before .before .before .before .before .before .before .before .before .before .before .before .before .before .before .before .before .before .before .before .before .before .before .before .before .before .before .before .before .before .before .before .before .before .before .loop .inv .4)
 
 include-all-same-length-21 : (t : ℕ) → include-all-lts.Need-same-length-21 (
   body-reads.Asked,
   body-reads.Learnt,
+  part-here-reads.Asked,
+  part-here-reads.Learnt,
   row-at-reads.Asked,
   row-at-reads.Learnt,
   with-below-reads.Asked,
@@ -1524,14 +2195,20 @@ include-all-same-length-21 : (t : ℕ) → include-all-lts.Need-same-length-21 (
   token-at-reads.Learnt,
   include-one-below t,
   include-one.Post,
+  since-reads.Asked,
+  since-reads.Learnt,
   is-sign-reads.Asked,
   is-sign-reads.Learnt,
+  left-at-reads.Asked,
+  left-at-reads.Learnt,
 ) (include-all-at t) include-all.Post include-all-Inv-loop include-all-μ-loop
-include-all-same-length-21 t c = (c .before .before .before .before .before .before .before .before .before .before .before .before .before .before .before .before .before .before .before .before .before .before .before .include-one .kept .1 .1 .1 .1 .1 .0) ∙ (c .before .before .before .before .before .before .before .before .before .before .before .before .before .before .before .before .before .before .before .before .before .before .before .before .before .before .before .before .before .before .before .before .before .before .loop .inv .5)
+include-all-same-length-21 t c = (c .before .before .before .before .before .before .before .before .before .before .before .before .before .before .before .before .before .before .before .before .before .before .before .before .before .before .include-one .kept .1 .1 .1 .1 .1 .0) ∙ (c .before .before .before .before .before .before .before .before .before .before .before .before .before .before .before .before .before .before .before .before .before .before .before .before .before .before .before .before .before .before .before .before .before .before .before .before .before .loop .inv .5)
 
 include-all-same-length-22 : (t : ℕ) → include-all-lts.Need-same-length-22 (
   body-reads.Asked,
   body-reads.Learnt,
+  part-here-reads.Asked,
+  part-here-reads.Learnt,
   row-at-reads.Asked,
   row-at-reads.Learnt,
   with-below-reads.Asked,
@@ -1540,14 +2217,20 @@ include-all-same-length-22 : (t : ℕ) → include-all-lts.Need-same-length-22 (
   token-at-reads.Learnt,
   include-one-below t,
   include-one.Post,
+  since-reads.Asked,
+  since-reads.Learnt,
   is-sign-reads.Asked,
   is-sign-reads.Learnt,
+  left-at-reads.Asked,
+  left-at-reads.Learnt,
 ) (include-all-at t) include-all.Post include-all-Inv-loop include-all-μ-loop
-include-all-same-length-22 t c = (c .before .before .before .before .before .before .before .before .before .before .before .before .before .before .before .before .before .before .before .before .before .before .before .include-one .kept .1 .1 .1 .1 .1 .1 .0) ∙ (c .before .before .before .before .before .before .before .before .before .before .before .before .before .before .before .before .before .before .before .before .before .before .before .before .before .before .before .before .before .before .before .before .before .before .loop .inv .6)
+include-all-same-length-22 t c = (c .before .before .before .before .before .before .before .before .before .before .before .before .before .before .before .before .before .before .before .before .before .before .before .before .before .before .include-one .kept .1 .1 .1 .1 .1 .1 .0) ∙ (c .before .before .before .before .before .before .before .before .before .before .before .before .before .before .before .before .before .before .before .before .before .before .before .before .before .before .before .before .before .before .before .before .before .before .before .before .before .loop .inv .6)
 
 include-all-same-length-23 : (t : ℕ) → include-all-lts.Need-same-length-23 (
   body-reads.Asked,
   body-reads.Learnt,
+  part-here-reads.Asked,
+  part-here-reads.Learnt,
   row-at-reads.Asked,
   row-at-reads.Learnt,
   with-below-reads.Asked,
@@ -1556,14 +2239,20 @@ include-all-same-length-23 : (t : ℕ) → include-all-lts.Need-same-length-23 (
   token-at-reads.Learnt,
   include-one-below t,
   include-one.Post,
+  since-reads.Asked,
+  since-reads.Learnt,
   is-sign-reads.Asked,
   is-sign-reads.Learnt,
+  left-at-reads.Asked,
+  left-at-reads.Learnt,
 ) (include-all-at t) include-all.Post include-all-Inv-loop include-all-μ-loop
-include-all-same-length-23 t c = (c .before .before .before .before .before .before .before .before .before .before .before .before .before .before .before .before .before .before .before .before .before .before .before .include-one .kept .1 .1 .1 .1 .1 .1 .1 .0) ∙ (c .before .before .before .before .before .before .before .before .before .before .before .before .before .before .before .before .before .before .before .before .before .before .before .before .before .before .before .before .before .before .before .before .before .before .loop .inv .7)
+include-all-same-length-23 t c = (c .before .before .before .before .before .before .before .before .before .before .before .before .before .before .before .before .before .before .before .before .before .before .before .before .before .before .include-one .kept .1 .1 .1 .1 .1 .1 .1 .0) ∙ (c .before .before .before .before .before .before .before .before .before .before .before .before .before .before .before .before .before .before .before .before .before .before .before .before .before .before .before .before .before .before .before .before .before .before .before .before .before .loop .inv .7)
 
 include-all-same-length-24 : (t : ℕ) → include-all-lts.Need-same-length-24 (
   body-reads.Asked,
   body-reads.Learnt,
+  part-here-reads.Asked,
+  part-here-reads.Learnt,
   row-at-reads.Asked,
   row-at-reads.Learnt,
   with-below-reads.Asked,
@@ -1572,14 +2261,20 @@ include-all-same-length-24 : (t : ℕ) → include-all-lts.Need-same-length-24 (
   token-at-reads.Learnt,
   include-one-below t,
   include-one.Post,
+  since-reads.Asked,
+  since-reads.Learnt,
   is-sign-reads.Asked,
   is-sign-reads.Learnt,
+  left-at-reads.Asked,
+  left-at-reads.Learnt,
 ) (include-all-at t) include-all.Post include-all-Inv-loop include-all-μ-loop
-include-all-same-length-24 t c = (c .before .before .before .before .before .before .before .before .before .before .before .before .before .before .before .before .before .before .before .before .before .before .before .include-one .kept .1 .1 .1 .1 .1 .1 .1 .1 .0) ∙ (c .before .before .before .before .before .before .before .before .before .before .before .before .before .before .before .before .before .before .before .before .before .before .before .before .before .before .before .before .before .before .before .before .before .before .loop .inv .8)
+include-all-same-length-24 t c = (c .before .before .before .before .before .before .before .before .before .before .before .before .before .before .before .before .before .before .before .before .before .before .before .before .before .before .include-one .kept .1 .1 .1 .1 .1 .1 .1 .1 .0) ∙ (c .before .before .before .before .before .before .before .before .before .before .before .before .before .before .before .before .before .before .before .before .before .before .before .before .before .before .before .before .before .before .before .before .before .before .before .before .before .loop .inv .8)
 
 include-all-returns-3 : (t : ℕ) → include-all-lts.Need-returns-3 (
   body-reads.Asked,
   body-reads.Learnt,
+  part-here-reads.Asked,
+  part-here-reads.Learnt,
   row-at-reads.Asked,
   row-at-reads.Learnt,
   with-below-reads.Asked,
@@ -1588,14 +2283,42 @@ include-all-returns-3 : (t : ℕ) → include-all-lts.Need-returns-3 (
   token-at-reads.Learnt,
   include-one-below t,
   include-one.Post,
+  since-reads.Asked,
+  since-reads.Learnt,
   is-sign-reads.Asked,
   is-sign-reads.Learnt,
+  left-at-reads.Asked,
+  left-at-reads.Learnt,
 ) (include-all-at t) include-all.Post include-all-Inv-loop include-all-μ-loop
 include-all-returns-3 t c = search needs
+
+include-all-left-at-requires-2 : (t : ℕ) → include-all-lts.Need-left-at-requires-2 (
+  body-reads.Asked,
+  body-reads.Learnt,
+  part-here-reads.Asked,
+  part-here-reads.Learnt,
+  row-at-reads.Asked,
+  row-at-reads.Learnt,
+  with-below-reads.Asked,
+  with-below-reads.Learnt,
+  token-at-reads.Asked,
+  token-at-reads.Learnt,
+  include-one-below t,
+  include-one.Post,
+  since-reads.Asked,
+  since-reads.Learnt,
+  is-sign-reads.Asked,
+  is-sign-reads.Learnt,
+  left-at-reads.Asked,
+  left-at-reads.Learnt,
+) (include-all-at t) include-all.Post include-all-Inv-loop include-all-μ-loop
+include-all-left-at-requires-2 t c κs = search needs
 
 include-all-same-length-25 : (t : ℕ) → include-all-lts.Need-same-length-25 (
   body-reads.Asked,
   body-reads.Learnt,
+  part-here-reads.Asked,
+  part-here-reads.Learnt,
   row-at-reads.Asked,
   row-at-reads.Learnt,
   with-below-reads.Asked,
@@ -1604,14 +2327,20 @@ include-all-same-length-25 : (t : ℕ) → include-all-lts.Need-same-length-25 (
   token-at-reads.Learnt,
   include-one-below t,
   include-one.Post,
+  since-reads.Asked,
+  since-reads.Learnt,
   is-sign-reads.Asked,
   is-sign-reads.Learnt,
+  left-at-reads.Asked,
+  left-at-reads.Learnt,
 ) (include-all-at t) include-all.Post include-all-Inv-loop include-all-μ-loop
 include-all-same-length-25 t c = search needs
 
 include-all-same-length-26 : (t : ℕ) → include-all-lts.Need-same-length-26 (
   body-reads.Asked,
   body-reads.Learnt,
+  part-here-reads.Asked,
+  part-here-reads.Learnt,
   row-at-reads.Asked,
   row-at-reads.Learnt,
   with-below-reads.Asked,
@@ -1620,14 +2349,20 @@ include-all-same-length-26 : (t : ℕ) → include-all-lts.Need-same-length-26 (
   token-at-reads.Learnt,
   include-one-below t,
   include-one.Post,
+  since-reads.Asked,
+  since-reads.Learnt,
   is-sign-reads.Asked,
   is-sign-reads.Learnt,
+  left-at-reads.Asked,
+  left-at-reads.Learnt,
 ) (include-all-at t) include-all.Post include-all-Inv-loop include-all-μ-loop
 include-all-same-length-26 t c = search needs
 
 include-all-same-length-27 : (t : ℕ) → include-all-lts.Need-same-length-27 (
   body-reads.Asked,
   body-reads.Learnt,
+  part-here-reads.Asked,
+  part-here-reads.Learnt,
   row-at-reads.Asked,
   row-at-reads.Learnt,
   with-below-reads.Asked,
@@ -1636,14 +2371,20 @@ include-all-same-length-27 : (t : ℕ) → include-all-lts.Need-same-length-27 (
   token-at-reads.Learnt,
   include-one-below t,
   include-one.Post,
+  since-reads.Asked,
+  since-reads.Learnt,
   is-sign-reads.Asked,
   is-sign-reads.Learnt,
+  left-at-reads.Asked,
+  left-at-reads.Learnt,
 ) (include-all-at t) include-all.Post include-all-Inv-loop include-all-μ-loop
 include-all-same-length-27 t c = search needs
 
 include-all-same-length-28 : (t : ℕ) → include-all-lts.Need-same-length-28 (
   body-reads.Asked,
   body-reads.Learnt,
+  part-here-reads.Asked,
+  part-here-reads.Learnt,
   row-at-reads.Asked,
   row-at-reads.Learnt,
   with-below-reads.Asked,
@@ -1652,14 +2393,20 @@ include-all-same-length-28 : (t : ℕ) → include-all-lts.Need-same-length-28 (
   token-at-reads.Learnt,
   include-one-below t,
   include-one.Post,
+  since-reads.Asked,
+  since-reads.Learnt,
   is-sign-reads.Asked,
   is-sign-reads.Learnt,
+  left-at-reads.Asked,
+  left-at-reads.Learnt,
 ) (include-all-at t) include-all.Post include-all-Inv-loop include-all-μ-loop
 include-all-same-length-28 t c = search needs
 
 include-all-same-length-29 : (t : ℕ) → include-all-lts.Need-same-length-29 (
   body-reads.Asked,
   body-reads.Learnt,
+  part-here-reads.Asked,
+  part-here-reads.Learnt,
   row-at-reads.Asked,
   row-at-reads.Learnt,
   with-below-reads.Asked,
@@ -1668,14 +2415,20 @@ include-all-same-length-29 : (t : ℕ) → include-all-lts.Need-same-length-29 (
   token-at-reads.Learnt,
   include-one-below t,
   include-one.Post,
+  since-reads.Asked,
+  since-reads.Learnt,
   is-sign-reads.Asked,
   is-sign-reads.Learnt,
+  left-at-reads.Asked,
+  left-at-reads.Learnt,
 ) (include-all-at t) include-all.Post include-all-Inv-loop include-all-μ-loop
 include-all-same-length-29 t c = search needs
 
 include-all-same-length-30 : (t : ℕ) → include-all-lts.Need-same-length-30 (
   body-reads.Asked,
   body-reads.Learnt,
+  part-here-reads.Asked,
+  part-here-reads.Learnt,
   row-at-reads.Asked,
   row-at-reads.Learnt,
   with-below-reads.Asked,
@@ -1684,14 +2437,20 @@ include-all-same-length-30 : (t : ℕ) → include-all-lts.Need-same-length-30 (
   token-at-reads.Learnt,
   include-one-below t,
   include-one.Post,
+  since-reads.Asked,
+  since-reads.Learnt,
   is-sign-reads.Asked,
   is-sign-reads.Learnt,
+  left-at-reads.Asked,
+  left-at-reads.Learnt,
 ) (include-all-at t) include-all.Post include-all-Inv-loop include-all-μ-loop
 include-all-same-length-30 t c = search needs
 
 include-all-same-length-31 : (t : ℕ) → include-all-lts.Need-same-length-31 (
   body-reads.Asked,
   body-reads.Learnt,
+  part-here-reads.Asked,
+  part-here-reads.Learnt,
   row-at-reads.Asked,
   row-at-reads.Learnt,
   with-below-reads.Asked,
@@ -1700,14 +2459,20 @@ include-all-same-length-31 : (t : ℕ) → include-all-lts.Need-same-length-31 (
   token-at-reads.Learnt,
   include-one-below t,
   include-one.Post,
+  since-reads.Asked,
+  since-reads.Learnt,
   is-sign-reads.Asked,
   is-sign-reads.Learnt,
+  left-at-reads.Asked,
+  left-at-reads.Learnt,
 ) (include-all-at t) include-all.Post include-all-Inv-loop include-all-μ-loop
 include-all-same-length-31 t c = search needs
 
 include-all-same-length-32 : (t : ℕ) → include-all-lts.Need-same-length-32 (
   body-reads.Asked,
   body-reads.Learnt,
+  part-here-reads.Asked,
+  part-here-reads.Learnt,
   row-at-reads.Asked,
   row-at-reads.Learnt,
   with-below-reads.Asked,
@@ -1716,14 +2481,20 @@ include-all-same-length-32 : (t : ℕ) → include-all-lts.Need-same-length-32 (
   token-at-reads.Learnt,
   include-one-below t,
   include-one.Post,
+  since-reads.Asked,
+  since-reads.Learnt,
   is-sign-reads.Asked,
   is-sign-reads.Learnt,
+  left-at-reads.Asked,
+  left-at-reads.Learnt,
 ) (include-all-at t) include-all.Post include-all-Inv-loop include-all-μ-loop
 include-all-same-length-32 t c = search needs
 
 include-all-returns-4 : (t : ℕ) → include-all-lts.Need-returns-4 (
   body-reads.Asked,
   body-reads.Learnt,
+  part-here-reads.Asked,
+  part-here-reads.Learnt,
   row-at-reads.Asked,
   row-at-reads.Learnt,
   with-below-reads.Asked,
@@ -1732,14 +2503,24 @@ include-all-returns-4 : (t : ℕ) → include-all-lts.Need-returns-4 (
   token-at-reads.Learnt,
   include-one-below t,
   include-one.Post,
+  since-reads.Asked,
+  since-reads.Learnt,
   is-sign-reads.Asked,
   is-sign-reads.Learnt,
+  left-at-reads.Asked,
+  left-at-reads.Learnt,
 ) (include-all-at t) include-all.Post include-all-Inv-loop include-all-μ-loop
 include-all-returns-4 t c = search needs
 
 include-one-member-named-requires : (t : ℕ) → include-one-lts.Need-member-named-requires (
   member-named-reads.Asked,
   member-named-reads.Learnt,
+  stopped-reads.Asked,
+  stopped-reads.Learnt,
+  left-at-reads.Asked,
+  left-at-reads.Learnt,
+  in-member-reads.Asked,
+  in-member-reads.Learnt,
   enter-and-run-below t,
   enter-and-run.Post,
 ) (include-one-at t) include-one.Post
@@ -1748,38 +2529,138 @@ include-one-member-named-requires t c κs = search needs
 include-one-enum-told : (t : ℕ) → include-one-lts.Need-enum-told (
   member-named-reads.Asked,
   member-named-reads.Learnt,
+  stopped-reads.Asked,
+  stopped-reads.Learnt,
+  left-at-reads.Asked,
+  left-at-reads.Learnt,
+  in-member-reads.Asked,
+  in-member-reads.Learnt,
   enter-and-run-below t,
   enter-and-run.Post,
 ) (include-one-at t) include-one.Post
 include-one-enum-told t c = search needs
 
+include-one-stopped-requires : (t : ℕ) → include-one-lts.Need-stopped-requires (
+  member-named-reads.Asked,
+  member-named-reads.Learnt,
+  stopped-reads.Asked,
+  stopped-reads.Learnt,
+  left-at-reads.Asked,
+  left-at-reads.Learnt,
+  in-member-reads.Asked,
+  in-member-reads.Learnt,
+  enter-and-run-below t,
+  enter-and-run.Post,
+) (include-one-at t) include-one.Post
+include-one-stopped-requires t c κs = search needs
+
+include-one-left-at-requires : (t : ℕ) → include-one-lts.Need-left-at-requires (
+  member-named-reads.Asked,
+  member-named-reads.Learnt,
+  stopped-reads.Asked,
+  stopped-reads.Learnt,
+  left-at-reads.Asked,
+  left-at-reads.Learnt,
+  in-member-reads.Asked,
+  in-member-reads.Learnt,
+  enter-and-run-below t,
+  enter-and-run.Post,
+) (include-one-at t) include-one.Post
+include-one-left-at-requires t c κs = search needs
+
 include-one-enum-known-found : (t : ℕ) → include-one-lts.Need-enum-known-found (
   member-named-reads.Asked,
   member-named-reads.Learnt,
+  stopped-reads.Asked,
+  stopped-reads.Learnt,
+  left-at-reads.Asked,
+  left-at-reads.Learnt,
+  in-member-reads.Asked,
+  in-member-reads.Learnt,
   enter-and-run-below t,
   enter-and-run.Post,
 ) (include-one-at t) include-one.Post
 include-one-enum-known-found t c = search needs
 
+include-one-stopped-requires-2 : (t : ℕ) → include-one-lts.Need-stopped-requires-2 (
+  member-named-reads.Asked,
+  member-named-reads.Learnt,
+  stopped-reads.Asked,
+  stopped-reads.Learnt,
+  left-at-reads.Asked,
+  left-at-reads.Learnt,
+  in-member-reads.Asked,
+  in-member-reads.Learnt,
+  enter-and-run-below t,
+  enter-and-run.Post,
+) (include-one-at t) include-one.Post
+include-one-stopped-requires-2 t c κs = search needs
+
+include-one-left-at-requires-2 : (t : ℕ) → include-one-lts.Need-left-at-requires-2 (
+  member-named-reads.Asked,
+  member-named-reads.Learnt,
+  stopped-reads.Asked,
+  stopped-reads.Learnt,
+  left-at-reads.Asked,
+  left-at-reads.Learnt,
+  in-member-reads.Asked,
+  in-member-reads.Learnt,
+  enter-and-run-below t,
+  enter-and-run.Post,
+) (include-one-at t) include-one.Post
+include-one-left-at-requires-2 t c κs = search needs
+
 include-one-returns : (t : ℕ) → include-one-lts.Need-returns (
   member-named-reads.Asked,
   member-named-reads.Learnt,
+  stopped-reads.Asked,
+  stopped-reads.Learnt,
+  left-at-reads.Asked,
+  left-at-reads.Learnt,
+  in-member-reads.Asked,
+  in-member-reads.Learnt,
   enter-and-run-below t,
   enter-and-run.Post,
 ) (include-one-at t) include-one.Post
 include-one-returns t c = search needs
 
-include-one-enter-and-run-requires : (t : ℕ) → include-one-lts.Need-enter-and-run-requires (
+include-one-in-member-requires : (t : ℕ) → include-one-lts.Need-in-member-requires (
   member-named-reads.Asked,
   member-named-reads.Learnt,
+  stopped-reads.Asked,
+  stopped-reads.Learnt,
+  left-at-reads.Asked,
+  left-at-reads.Learnt,
+  in-member-reads.Asked,
+  in-member-reads.Learnt,
   enter-and-run-below t,
   enter-and-run.Post,
 ) (include-one-at t) include-one.Post
-include-one-enter-and-run-requires t c κs = omega (arith, (c .before .before .before .before .before .before .before .before .before .before .before .before .before .before .before .before .before .before .before .before .before .before .pre), (c .before .before .before .before .before .before .before .before .if1 .left))
+include-one-in-member-requires t c κs = search needs
+
+include-one-enter-and-run-requires : (t : ℕ) → include-one-lts.Need-enter-and-run-requires (
+  member-named-reads.Asked,
+  member-named-reads.Learnt,
+  stopped-reads.Asked,
+  stopped-reads.Learnt,
+  left-at-reads.Asked,
+  left-at-reads.Learnt,
+  in-member-reads.Asked,
+  in-member-reads.Learnt,
+  enter-and-run-below t,
+  enter-and-run.Post,
+) (include-one-at t) include-one.Post
+include-one-enter-and-run-requires t c κs = omega (arith, (c .before .before .before .before .before .before .before .before .before .before .before .before .before .before .before .before .before .before .before .before .before .before .before .pre), (c .before .before .before .before .before .before .before .before .before .if1 .left))
 
 include-one-returns-2 : (t : ℕ) → include-one-lts.Need-returns-2 (
   member-named-reads.Asked,
   member-named-reads.Learnt,
+  stopped-reads.Asked,
+  stopped-reads.Learnt,
+  left-at-reads.Asked,
+  left-at-reads.Learnt,
+  in-member-reads.Asked,
+  in-member-reads.Learnt,
   enter-and-run-below t,
   enter-and-run.Post,
 ) (include-one-at t) include-one.Post
@@ -1788,6 +2669,12 @@ include-one-returns-2 t c = search needs
 include-one-same-length : (t : ℕ) → include-one-lts.Need-same-length (
   member-named-reads.Asked,
   member-named-reads.Learnt,
+  stopped-reads.Asked,
+  stopped-reads.Learnt,
+  left-at-reads.Asked,
+  left-at-reads.Learnt,
+  in-member-reads.Asked,
+  in-member-reads.Learnt,
   enter-and-run-below t,
   enter-and-run.Post,
 ) (include-one-at t) include-one.Post
@@ -1796,6 +2683,12 @@ include-one-same-length t c = search needs
 include-one-same-length-2 : (t : ℕ) → include-one-lts.Need-same-length-2 (
   member-named-reads.Asked,
   member-named-reads.Learnt,
+  stopped-reads.Asked,
+  stopped-reads.Learnt,
+  left-at-reads.Asked,
+  left-at-reads.Learnt,
+  in-member-reads.Asked,
+  in-member-reads.Learnt,
   enter-and-run-below t,
   enter-and-run.Post,
 ) (include-one-at t) include-one.Post
@@ -1804,6 +2697,12 @@ include-one-same-length-2 t c = search needs
 include-one-same-length-3 : (t : ℕ) → include-one-lts.Need-same-length-3 (
   member-named-reads.Asked,
   member-named-reads.Learnt,
+  stopped-reads.Asked,
+  stopped-reads.Learnt,
+  left-at-reads.Asked,
+  left-at-reads.Learnt,
+  in-member-reads.Asked,
+  in-member-reads.Learnt,
   enter-and-run-below t,
   enter-and-run.Post,
 ) (include-one-at t) include-one.Post
@@ -1812,6 +2711,12 @@ include-one-same-length-3 t c = search needs
 include-one-same-length-4 : (t : ℕ) → include-one-lts.Need-same-length-4 (
   member-named-reads.Asked,
   member-named-reads.Learnt,
+  stopped-reads.Asked,
+  stopped-reads.Learnt,
+  left-at-reads.Asked,
+  left-at-reads.Learnt,
+  in-member-reads.Asked,
+  in-member-reads.Learnt,
   enter-and-run-below t,
   enter-and-run.Post,
 ) (include-one-at t) include-one.Post
@@ -1820,6 +2725,12 @@ include-one-same-length-4 t c = search needs
 include-one-same-length-5 : (t : ℕ) → include-one-lts.Need-same-length-5 (
   member-named-reads.Asked,
   member-named-reads.Learnt,
+  stopped-reads.Asked,
+  stopped-reads.Learnt,
+  left-at-reads.Asked,
+  left-at-reads.Learnt,
+  in-member-reads.Asked,
+  in-member-reads.Learnt,
   enter-and-run-below t,
   enter-and-run.Post,
 ) (include-one-at t) include-one.Post
@@ -1828,6 +2739,12 @@ include-one-same-length-5 t c = search needs
 include-one-same-length-6 : (t : ℕ) → include-one-lts.Need-same-length-6 (
   member-named-reads.Asked,
   member-named-reads.Learnt,
+  stopped-reads.Asked,
+  stopped-reads.Learnt,
+  left-at-reads.Asked,
+  left-at-reads.Learnt,
+  in-member-reads.Asked,
+  in-member-reads.Learnt,
   enter-and-run-below t,
   enter-and-run.Post,
 ) (include-one-at t) include-one.Post
@@ -1836,6 +2753,12 @@ include-one-same-length-6 t c = search needs
 include-one-same-length-7 : (t : ℕ) → include-one-lts.Need-same-length-7 (
   member-named-reads.Asked,
   member-named-reads.Learnt,
+  stopped-reads.Asked,
+  stopped-reads.Learnt,
+  left-at-reads.Asked,
+  left-at-reads.Learnt,
+  in-member-reads.Asked,
+  in-member-reads.Learnt,
   enter-and-run-below t,
   enter-and-run.Post,
 ) (include-one-at t) include-one.Post
@@ -1844,6 +2767,12 @@ include-one-same-length-7 t c = search needs
 include-one-same-length-8 : (t : ℕ) → include-one-lts.Need-same-length-8 (
   member-named-reads.Asked,
   member-named-reads.Learnt,
+  stopped-reads.Asked,
+  stopped-reads.Learnt,
+  left-at-reads.Asked,
+  left-at-reads.Learnt,
+  in-member-reads.Asked,
+  in-member-reads.Learnt,
   enter-and-run-below t,
   enter-and-run.Post,
 ) (include-one-at t) include-one.Post
@@ -1852,16 +2781,22 @@ include-one-same-length-8 t c = search needs
 include-one-returns-3 : (t : ℕ) → include-one-lts.Need-returns-3 (
   member-named-reads.Asked,
   member-named-reads.Learnt,
+  stopped-reads.Asked,
+  stopped-reads.Learnt,
+  left-at-reads.Asked,
+  left-at-reads.Learnt,
+  in-member-reads.Asked,
+  in-member-reads.Learnt,
   enter-and-run-below t,
   enter-and-run.Post,
 ) (include-one-at t) include-one.Post
 include-one-returns-3 t c = search needs
 
 abbrev run-rows-Inv-loop : run-rows-lts.InvT-loop
-run-rows-Inv-loop deck rows₀ names₀ cells₀ low₀ high₀ work₀ text₀ list₀ below member left s next₀ fs₀ g₀ turns₀ rows names cells low high work text list next fs g turns = (turns ≤ turns₀) × (length rows ≡ length rows₀) × (length names ≡ length names₀) × (length cells ≡ length cells₀) × (length low ≡ length low₀) × (length high ≡ length high₀) × (length work ≡ length work₀) × (length text ≡ length text₀) × (length list ≡ length list₀)
+run-rows-Inv-loop deck rows₀ names₀ cells₀ low₀ high₀ work₀ text₀ list₀ below left s next₀ fs₀ here₀ g₀ turns₀ rows names cells low high work text list next fs here g turns = (turns ≤ turns₀) × (length rows ≡ length rows₀) × (length names ≡ length names₀) × (length cells ≡ length cells₀) × (length low ≡ length low₀) × (length high ≡ length high₀) × (length work ≡ length work₀) × (length text ≡ length text₀) × (length list ≡ length list₀)
 
 abbrev run-rows-μ-loop : run-rows-lts.MeasureT-loop
-run-rows-μ-loop deck rows₀ names₀ cells₀ low₀ high₀ work₀ text₀ list₀ below member left s next₀ fs₀ g₀ turns₀ rows names cells low high work text list next fs g turns = turns
+run-rows-μ-loop deck rows₀ names₀ cells₀ low₀ high₀ work₀ text₀ list₀ below left s next₀ fs₀ here₀ g₀ turns₀ rows names cells low high work text list next fs here g turns = turns
 
 run-rows-body-requires : (t : ℕ) → run-rows-lts.Need-body-requires (
   body-reads.Asked,
@@ -1872,8 +2807,12 @@ run-rows-body-requires : (t : ℕ) → run-rows-lts.Need-body-requires (
   turns-left-reads.Learnt,
   is-over-reads.Asked,
   is-over-reads.Learnt,
+  left-at-reads.Asked,
+  left-at-reads.Learnt,
   turn-below t,
   turn.Post,
+  since-reads.Asked,
+  since-reads.Learnt,
   settle-reads.Asked,
   settle-reads.Learnt,
 ) (run-rows-at t) run-rows.Post run-rows-Inv-loop run-rows-μ-loop
@@ -1888,8 +2827,12 @@ run-rows-no-frames-requires : (t : ℕ) → run-rows-lts.Need-no-frames-requires
   turns-left-reads.Learnt,
   is-over-reads.Asked,
   is-over-reads.Learnt,
+  left-at-reads.Asked,
+  left-at-reads.Learnt,
   turn-below t,
   turn.Post,
+  since-reads.Asked,
+  since-reads.Learnt,
   settle-reads.Asked,
   settle-reads.Learnt,
 ) (run-rows-at t) run-rows.Post run-rows-Inv-loop run-rows-μ-loop
@@ -1904,8 +2847,12 @@ run-rows-turns-left-requires : (t : ℕ) → run-rows-lts.Need-turns-left-requir
   turns-left-reads.Learnt,
   is-over-reads.Asked,
   is-over-reads.Learnt,
+  left-at-reads.Asked,
+  left-at-reads.Learnt,
   turn-below t,
   turn.Post,
+  since-reads.Asked,
+  since-reads.Learnt,
   settle-reads.Asked,
   settle-reads.Learnt,
 ) (run-rows-at t) run-rows.Post run-rows-Inv-loop run-rows-μ-loop
@@ -1920,8 +2867,12 @@ run-rows-loop-holds : (t : ℕ) → run-rows-lts.Need-loop-holds (
   turns-left-reads.Learnt,
   is-over-reads.Asked,
   is-over-reads.Learnt,
+  left-at-reads.Asked,
+  left-at-reads.Learnt,
   turn-below t,
   turn.Post,
+  since-reads.Asked,
+  since-reads.Learnt,
   settle-reads.Asked,
   settle-reads.Learnt,
 ) (run-rows-at t) run-rows.Post run-rows-Inv-loop run-rows-μ-loop
@@ -1936,8 +2887,12 @@ run-rows-sub-turns : (t : ℕ) → run-rows-lts.Need-sub-turns (
   turns-left-reads.Learnt,
   is-over-reads.Asked,
   is-over-reads.Learnt,
+  left-at-reads.Asked,
+  left-at-reads.Learnt,
   turn-below t,
   turn.Post,
+  since-reads.Asked,
+  since-reads.Learnt,
   settle-reads.Asked,
   settle-reads.Learnt,
 ) (run-rows-at t) run-rows.Post run-rows-Inv-loop run-rows-μ-loop
@@ -1952,12 +2907,36 @@ run-rows-is-over-requires : (t : ℕ) → run-rows-lts.Need-is-over-requires (
   turns-left-reads.Learnt,
   is-over-reads.Asked,
   is-over-reads.Learnt,
+  left-at-reads.Asked,
+  left-at-reads.Learnt,
   turn-below t,
   turn.Post,
+  since-reads.Asked,
+  since-reads.Learnt,
   settle-reads.Asked,
   settle-reads.Learnt,
 ) (run-rows-at t) run-rows.Post run-rows-Inv-loop run-rows-μ-loop
 run-rows-is-over-requires t c κs = search needs
+
+run-rows-left-at-requires : (t : ℕ) → run-rows-lts.Need-left-at-requires (
+  body-reads.Asked,
+  body-reads.Learnt,
+  no-frames-reads.Asked,
+  no-frames-reads.Learnt,
+  turns-left-reads.Asked,
+  turns-left-reads.Learnt,
+  is-over-reads.Asked,
+  is-over-reads.Learnt,
+  left-at-reads.Asked,
+  left-at-reads.Learnt,
+  turn-below t,
+  turn.Post,
+  since-reads.Asked,
+  since-reads.Learnt,
+  settle-reads.Asked,
+  settle-reads.Learnt,
+) (run-rows-at t) run-rows.Post run-rows-Inv-loop run-rows-μ-loop
+run-rows-left-at-requires t c κs = search needs
 
 run-rows-same-length : (t : ℕ) → run-rows-lts.Need-same-length (
   body-reads.Asked,
@@ -1968,8 +2947,12 @@ run-rows-same-length : (t : ℕ) → run-rows-lts.Need-same-length (
   turns-left-reads.Learnt,
   is-over-reads.Asked,
   is-over-reads.Learnt,
+  left-at-reads.Asked,
+  left-at-reads.Learnt,
   turn-below t,
   turn.Post,
+  since-reads.Asked,
+  since-reads.Learnt,
   settle-reads.Asked,
   settle-reads.Learnt,
 ) (run-rows-at t) run-rows.Post run-rows-Inv-loop run-rows-μ-loop
@@ -1984,8 +2967,12 @@ run-rows-same-length-2 : (t : ℕ) → run-rows-lts.Need-same-length-2 (
   turns-left-reads.Learnt,
   is-over-reads.Asked,
   is-over-reads.Learnt,
+  left-at-reads.Asked,
+  left-at-reads.Learnt,
   turn-below t,
   turn.Post,
+  since-reads.Asked,
+  since-reads.Learnt,
   settle-reads.Asked,
   settle-reads.Learnt,
 ) (run-rows-at t) run-rows.Post run-rows-Inv-loop run-rows-μ-loop
@@ -2000,8 +2987,12 @@ run-rows-same-length-3 : (t : ℕ) → run-rows-lts.Need-same-length-3 (
   turns-left-reads.Learnt,
   is-over-reads.Asked,
   is-over-reads.Learnt,
+  left-at-reads.Asked,
+  left-at-reads.Learnt,
   turn-below t,
   turn.Post,
+  since-reads.Asked,
+  since-reads.Learnt,
   settle-reads.Asked,
   settle-reads.Learnt,
 ) (run-rows-at t) run-rows.Post run-rows-Inv-loop run-rows-μ-loop
@@ -2016,8 +3007,12 @@ run-rows-same-length-4 : (t : ℕ) → run-rows-lts.Need-same-length-4 (
   turns-left-reads.Learnt,
   is-over-reads.Asked,
   is-over-reads.Learnt,
+  left-at-reads.Asked,
+  left-at-reads.Learnt,
   turn-below t,
   turn.Post,
+  since-reads.Asked,
+  since-reads.Learnt,
   settle-reads.Asked,
   settle-reads.Learnt,
 ) (run-rows-at t) run-rows.Post run-rows-Inv-loop run-rows-μ-loop
@@ -2032,8 +3027,12 @@ run-rows-same-length-5 : (t : ℕ) → run-rows-lts.Need-same-length-5 (
   turns-left-reads.Learnt,
   is-over-reads.Asked,
   is-over-reads.Learnt,
+  left-at-reads.Asked,
+  left-at-reads.Learnt,
   turn-below t,
   turn.Post,
+  since-reads.Asked,
+  since-reads.Learnt,
   settle-reads.Asked,
   settle-reads.Learnt,
 ) (run-rows-at t) run-rows.Post run-rows-Inv-loop run-rows-μ-loop
@@ -2048,8 +3047,12 @@ run-rows-same-length-6 : (t : ℕ) → run-rows-lts.Need-same-length-6 (
   turns-left-reads.Learnt,
   is-over-reads.Asked,
   is-over-reads.Learnt,
+  left-at-reads.Asked,
+  left-at-reads.Learnt,
   turn-below t,
   turn.Post,
+  since-reads.Asked,
+  since-reads.Learnt,
   settle-reads.Asked,
   settle-reads.Learnt,
 ) (run-rows-at t) run-rows.Post run-rows-Inv-loop run-rows-μ-loop
@@ -2064,8 +3067,12 @@ run-rows-same-length-7 : (t : ℕ) → run-rows-lts.Need-same-length-7 (
   turns-left-reads.Learnt,
   is-over-reads.Asked,
   is-over-reads.Learnt,
+  left-at-reads.Asked,
+  left-at-reads.Learnt,
   turn-below t,
   turn.Post,
+  since-reads.Asked,
+  since-reads.Learnt,
   settle-reads.Asked,
   settle-reads.Learnt,
 ) (run-rows-at t) run-rows.Post run-rows-Inv-loop run-rows-μ-loop
@@ -2080,8 +3087,12 @@ run-rows-same-length-8 : (t : ℕ) → run-rows-lts.Need-same-length-8 (
   turns-left-reads.Learnt,
   is-over-reads.Asked,
   is-over-reads.Learnt,
+  left-at-reads.Asked,
+  left-at-reads.Learnt,
   turn-below t,
   turn.Post,
+  since-reads.Asked,
+  since-reads.Learnt,
   settle-reads.Asked,
   settle-reads.Learnt,
 ) (run-rows-at t) run-rows.Post run-rows-Inv-loop run-rows-μ-loop
@@ -2096,8 +3107,12 @@ run-rows-returns : (t : ℕ) → run-rows-lts.Need-returns (
   turns-left-reads.Learnt,
   is-over-reads.Asked,
   is-over-reads.Learnt,
+  left-at-reads.Asked,
+  left-at-reads.Learnt,
   turn-below t,
   turn.Post,
+  since-reads.Asked,
+  since-reads.Learnt,
   settle-reads.Asked,
   settle-reads.Learnt,
 ) (run-rows-at t) run-rows.Post run-rows-Inv-loop run-rows-μ-loop
@@ -2112,12 +3127,36 @@ run-rows-turn-requires : (t : ℕ) → run-rows-lts.Need-turn-requires (
   turns-left-reads.Learnt,
   is-over-reads.Asked,
   is-over-reads.Learnt,
+  left-at-reads.Asked,
+  left-at-reads.Learnt,
   turn-below t,
   turn.Post,
+  since-reads.Asked,
+  since-reads.Learnt,
   settle-reads.Asked,
   settle-reads.Learnt,
 ) (run-rows-at t) run-rows.Post run-rows-Inv-loop run-rows-μ-loop
 run-rows-turn-requires t c κs = omega (arith, (c .before .before .before .before .before .before .before .before .before .before .before .before .before .before .before .before .before .before .before .before .before .before .before .before .before .pre))
+
+run-rows-since-requires : (t : ℕ) → run-rows-lts.Need-since-requires (
+  body-reads.Asked,
+  body-reads.Learnt,
+  no-frames-reads.Asked,
+  no-frames-reads.Learnt,
+  turns-left-reads.Asked,
+  turns-left-reads.Learnt,
+  is-over-reads.Asked,
+  is-over-reads.Learnt,
+  left-at-reads.Asked,
+  left-at-reads.Learnt,
+  turn-below t,
+  turn.Post,
+  since-reads.Asked,
+  since-reads.Learnt,
+  settle-reads.Asked,
+  settle-reads.Learnt,
+) (run-rows-at t) run-rows.Post run-rows-Inv-loop run-rows-μ-loop
+run-rows-since-requires t c κs = search needs
 
 run-rows-settle-requires : (t : ℕ) → run-rows-lts.Need-settle-requires (
   body-reads.Asked,
@@ -2128,8 +3167,12 @@ run-rows-settle-requires : (t : ℕ) → run-rows-lts.Need-settle-requires (
   turns-left-reads.Learnt,
   is-over-reads.Asked,
   is-over-reads.Learnt,
+  left-at-reads.Asked,
+  left-at-reads.Learnt,
   turn-below t,
   turn.Post,
+  since-reads.Asked,
+  since-reads.Learnt,
   settle-reads.Asked,
   settle-reads.Learnt,
 ) (run-rows-at t) run-rows.Post run-rows-Inv-loop run-rows-μ-loop
@@ -2144,8 +3187,12 @@ run-rows-enum-known-a : (t : ℕ) → run-rows-lts.Need-enum-known-a (
   turns-left-reads.Learnt,
   is-over-reads.Asked,
   is-over-reads.Learnt,
+  left-at-reads.Asked,
+  left-at-reads.Learnt,
   turn-below t,
   turn.Post,
+  since-reads.Asked,
+  since-reads.Learnt,
   settle-reads.Asked,
   settle-reads.Learnt,
 ) (run-rows-at t) run-rows.Post run-rows-Inv-loop run-rows-μ-loop
@@ -2160,12 +3207,16 @@ run-rows-loop-less : (t : ℕ) → run-rows-lts.Need-loop-less (
   turns-left-reads.Learnt,
   is-over-reads.Asked,
   is-over-reads.Learnt,
+  left-at-reads.Asked,
+  left-at-reads.Learnt,
   turn-below t,
   turn.Post,
+  since-reads.Asked,
+  since-reads.Learnt,
   settle-reads.Asked,
   settle-reads.Learnt,
 ) (run-rows-at t) run-rows.Post run-rows-Inv-loop run-rows-μ-loop
-run-rows-loop-less t c = omega (arith, (c .before .before .before .before .before .before .before .before .before .before .before .before .before .before .before .before .before .before .before .before .before .before .before .before .before .before .before .before .before .before .before .before .before .before .before .before .before .before .before .before .before .before .before .before .before .before .before .before .before .before .before .before .loop-test .taken))
+run-rows-loop-less t c = omega (arith, (c .before .before .before .before .before .before .before .before .before .before .before .before .before .before .before .before .before .before .before .before .before .before .before .before .before .before .before .before .before .before .before .before .before .before .before .before .before .before .before .before .before .before .before .before .before .before .before .before .before .before .before .before .before .before .before .loop-test .taken))
 
 run-rows-loop-again : (t : ℕ) → run-rows-lts.Need-loop-again (
   body-reads.Asked,
@@ -2176,12 +3227,16 @@ run-rows-loop-again : (t : ℕ) → run-rows-lts.Need-loop-again (
   turns-left-reads.Learnt,
   is-over-reads.Asked,
   is-over-reads.Learnt,
+  left-at-reads.Asked,
+  left-at-reads.Learnt,
   turn-below t,
   turn.Post,
+  since-reads.Asked,
+  since-reads.Learnt,
   settle-reads.Asked,
   settle-reads.Learnt,
 ) (run-rows-at t) run-rows.Post run-rows-Inv-loop run-rows-μ-loop
-run-rows-loop-again t c = (omega (arith, (c .before .before .before .before .before .before .before .before .before .before .before .before .before .before .before .before .before .before .before .before .before .before .before .before .before .before .before .before .before .before .before .before .before .before .before .before .before .before .before .before .before .before .before .before .before .before .before .before .before .before .before .before .before .loop .inv .0), (c .before .before .before .before .before .before .before .before .before .before .before .before .before .before .before .before .before .before .before .before .before .before .before .before .before .before .before .before .before .before .before .before .before .before .before .before .before .before .before .before .before .before .before .before .before .before .before .before .before .before .before .before .loop-test .taken)), (c .before .before .before .before .before .before .before .before .before .before .before .before .before .before .before .before .before .before .before .before .before .before .before .before .before .before .before .before .before .before .before .before .before .before .before .before .before .before .before .before .before .turn .kept .1 .1 .0) ∙ (c .before .before .before .before .before .before .before .before .before .before .before .before .before .before .before .before .before .before .before .before .before .before .before .before .before .before .before .before .before .before .before .before .before .before .before .before .before .before .before .before .before .before .before .before .before .before .before .before .before .before .before .before .before .loop .inv .1), (c .before .before .before .before .before .before .before .before .before .before .before .before .before .before .before .before .before .before .before .before .before .before .before .before .before .before .before .before .before .before .before .before .before .before .before .before .before .before .before .before .before .turn .kept .1 .1 .1 .0) ∙ (c .before .before .before .before .before .before .before .before .before .before .before .before .before .before .before .before .before .before .before .before .before .before .before .before .before .before .before .before .before .before .before .before .before .before .before .before .before .before .before .before .before .before .before .before .before .before .before .before .before .before .before .before .before .loop .inv .2), (c .before .before .before .before .before .before .before .before .before .before .before .before .before .before .before .settle .kept .1 .1 .1 .1 .0) ∙ (c .before .before .before .before .before .before .before .before .before .before .before .before .before .before .before .before .before .before .before .before .before .before .before .before .before .before .before .before .before .before .before .before .before .before .before .before .before .before .before .before .before .turn .kept .1 .1 .1 .1 .0) ∙ (c .before .before .before .before .before .before .before .before .before .before .before .before .before .before .before .before .before .before .before .before .before .before .before .before .before .before .before .before .before .before .before .before .before .before .before .before .before .before .before .before .before .before .before .before .before .before .before .before .before .before .before .before .before .loop .inv .3), (c .before .before .before .before .before .before .before .before .before .before .before .before .before .before .before .settle .kept .1 .1 .1 .1 .1 .0) ∙ (c .before .before .before .before .before .before .before .before .before .before .before .before .before .before .before .before .before .before .before .before .before .before .before .before .before .before .before .before .before .before .before .before .before .before .before .before .before .before .before .before .before .turn .kept .1 .1 .1 .1 .1 .0) ∙ (c .before .before .before .before .before .before .before .before .before .before .before .before .before .before .before .before .before .before .before .before .before .before .before .before .before .before .before .before .before .before .before .before .before .before .before .before .before .before .before .before .before .before .before .before .before .before .before .before .before .before .before .before .before .loop .inv .4), (c .before .before .before .before .before .before .before .before .before .before .before .before .before .before .before .settle .kept .1 .1 .1 .1 .1 .1 .0) ∙ (c .before .before .before .before .before .before .before .before .before .before .before .before .before .before .before .before .before .before .before .before .before .before .before .before .before .before .before .before .before .before .before .before .before .before .before .before .before .before .before .before .before .turn .kept .1 .1 .1 .1 .1 .1 .0) ∙ (c .before .before .before .before .before .before .before .before .before .before .before .before .before .before .before .before .before .before .before .before .before .before .before .before .before .before .before .before .before .before .before .before .before .before .before .before .before .before .before .before .before .before .before .before .before .before .before .before .before .before .before .before .before .loop .inv .5), (c .before .before .before .before .before .before .before .before .before .before .before .before .before .before .before .settle .kept .1 .1 .1 .1 .1 .1 .1 .0) ∙ (c .before .before .before .before .before .before .before .before .before .before .before .before .before .before .before .before .before .before .before .before .before .before .before .before .before .before .before .before .before .before .before .before .before .before .before .before .before .before .before .before .before .turn .kept .1 .1 .1 .1 .1 .1 .1 .0) ∙ (c .before .before .before .before .before .before .before .before .before .before .before .before .before .before .before .before .before .before .before .before .before .before .before .before .before .before .before .before .before .before .before .before .before .before .before .before .before .before .before .before .before .before .before .before .before .before .before .before .before .before .before .before .before .loop .inv .6), (c .before .before .before .before .before .before .before .before .before .before .before .before .before .before .before .settle .kept .1 .1 .1 .1 .1 .1 .1 .1 .0) ∙ (c .before .before .before .before .before .before .before .before .before .before .before .before .before .before .before .before .before .before .before .before .before .before .before .before .before .before .before .before .before .before .before .before .before .before .before .before .before .before .before .before .before .turn .kept .1 .1 .1 .1 .1 .1 .1 .1 .0) ∙ (c .before .before .before .before .before .before .before .before .before .before .before .before .before .before .before .before .before .before .before .before .before .before .before .before .before .before .before .before .before .before .before .before .before .before .before .before .before .before .before .before .before .before .before .before .before .before .before .before .before .before .before .before .before .loop .inv .7), (c .before .before .before .before .before .before .before .before .before .before .before .before .before .before .before .settle .kept .1 .1 .1 .1 .1 .1 .1 .1 .1 .0) ∙ (c .before .before .before .before .before .before .before .before .before .before .before .before .before .before .before .before .before .before .before .before .before .before .before .before .before .before .before .before .before .before .before .before .before .before .before .before .before .before .before .before .before .turn .kept .1 .1 .1 .1 .1 .1 .1 .1 .1 .0) ∙ (c .before .before .before .before .before .before .before .before .before .before .before .before .before .before .before .before .before .before .before .before .before .before .before .before .before .before .before .before .before .before .before .before .before .before .before .before .before .before .before .before .before .before .before .before .before .before .before .before .before .before .before .before .before .loop .inv .8))
+run-rows-loop-again t c = (omega (arith, (c .before .before .before .before .before .before .before .before .before .before .before .before .before .before .before .before .before .before .before .before .before .before .before .before .before .before .before .before .before .before .before .before .before .before .before .before .before .before .before .before .before .before .before .before .before .before .before .before .before .before .before .before .before .before .before .before .loop .inv .0), (c .before .before .before .before .before .before .before .before .before .before .before .before .before .before .before .before .before .before .before .before .before .before .before .before .before .before .before .before .before .before .before .before .before .before .before .before .before .before .before .before .before .before .before .before .before .before .before .before .before .before .before .before .before .before .before .loop-test .taken)), (c .before .before .before .before .before .before .before .before .before .before .before .before .before .before .before .before .before .before .before .before .before .before .before .before .before .before .before .before .before .before .before .before .before .before .before .before .before .before .before .before .before .before .before .before .turn .kept .1 .1 .0) ∙ (c .before .before .before .before .before .before .before .before .before .before .before .before .before .before .before .before .before .before .before .before .before .before .before .before .before .before .before .before .before .before .before .before .before .before .before .before .before .before .before .before .before .before .before .before .before .before .before .before .before .before .before .before .before .before .before .before .loop .inv .1), (c .before .before .before .before .before .before .before .before .before .before .before .before .before .before .before .before .before .before .before .before .before .before .before .before .before .before .before .before .before .before .before .before .before .before .before .before .before .before .before .before .before .before .before .before .turn .kept .1 .1 .1 .0) ∙ (c .before .before .before .before .before .before .before .before .before .before .before .before .before .before .before .before .before .before .before .before .before .before .before .before .before .before .before .before .before .before .before .before .before .before .before .before .before .before .before .before .before .before .before .before .before .before .before .before .before .before .before .before .before .before .before .before .loop .inv .2), (c .before .before .before .before .before .before .before .before .before .before .before .before .before .before .before .settle .kept .1 .1 .1 .1 .0) ∙ (c .before .before .before .before .before .before .before .before .before .before .before .before .before .before .before .before .before .before .before .before .before .before .before .before .before .before .before .before .before .before .before .before .before .before .before .before .before .before .before .before .before .before .before .before .turn .kept .1 .1 .1 .1 .0) ∙ (c .before .before .before .before .before .before .before .before .before .before .before .before .before .before .before .before .before .before .before .before .before .before .before .before .before .before .before .before .before .before .before .before .before .before .before .before .before .before .before .before .before .before .before .before .before .before .before .before .before .before .before .before .before .before .before .before .loop .inv .3), (c .before .before .before .before .before .before .before .before .before .before .before .before .before .before .before .settle .kept .1 .1 .1 .1 .1 .0) ∙ (c .before .before .before .before .before .before .before .before .before .before .before .before .before .before .before .before .before .before .before .before .before .before .before .before .before .before .before .before .before .before .before .before .before .before .before .before .before .before .before .before .before .before .before .before .turn .kept .1 .1 .1 .1 .1 .0) ∙ (c .before .before .before .before .before .before .before .before .before .before .before .before .before .before .before .before .before .before .before .before .before .before .before .before .before .before .before .before .before .before .before .before .before .before .before .before .before .before .before .before .before .before .before .before .before .before .before .before .before .before .before .before .before .before .before .before .loop .inv .4), (c .before .before .before .before .before .before .before .before .before .before .before .before .before .before .before .settle .kept .1 .1 .1 .1 .1 .1 .0) ∙ (c .before .before .before .before .before .before .before .before .before .before .before .before .before .before .before .before .before .before .before .before .before .before .before .before .before .before .before .before .before .before .before .before .before .before .before .before .before .before .before .before .before .before .before .before .turn .kept .1 .1 .1 .1 .1 .1 .0) ∙ (c .before .before .before .before .before .before .before .before .before .before .before .before .before .before .before .before .before .before .before .before .before .before .before .before .before .before .before .before .before .before .before .before .before .before .before .before .before .before .before .before .before .before .before .before .before .before .before .before .before .before .before .before .before .before .before .before .loop .inv .5), (c .before .before .before .before .before .before .before .before .before .before .before .before .before .before .before .settle .kept .1 .1 .1 .1 .1 .1 .1 .0) ∙ (c .before .before .before .before .before .before .before .before .before .before .before .before .before .before .before .before .before .before .before .before .before .before .before .before .before .before .before .before .before .before .before .before .before .before .before .before .before .before .before .before .before .before .before .before .turn .kept .1 .1 .1 .1 .1 .1 .1 .0) ∙ (c .before .before .before .before .before .before .before .before .before .before .before .before .before .before .before .before .before .before .before .before .before .before .before .before .before .before .before .before .before .before .before .before .before .before .before .before .before .before .before .before .before .before .before .before .before .before .before .before .before .before .before .before .before .before .before .before .loop .inv .6), (c .before .before .before .before .before .before .before .before .before .before .before .before .before .before .before .settle .kept .1 .1 .1 .1 .1 .1 .1 .1 .0) ∙ (c .before .before .before .before .before .before .before .before .before .before .before .before .before .before .before .before .before .before .before .before .before .before .before .before .before .before .before .before .before .before .before .before .before .before .before .before .before .before .before .before .before .before .before .before .turn .kept .1 .1 .1 .1 .1 .1 .1 .1 .0) ∙ (c .before .before .before .before .before .before .before .before .before .before .before .before .before .before .before .before .before .before .before .before .before .before .before .before .before .before .before .before .before .before .before .before .before .before .before .before .before .before .before .before .before .before .before .before .before .before .before .before .before .before .before .before .before .before .before .before .loop .inv .7), (c .before .before .before .before .before .before .before .before .before .before .before .before .before .before .before .settle .kept .1 .1 .1 .1 .1 .1 .1 .1 .1 .0) ∙ (c .before .before .before .before .before .before .before .before .before .before .before .before .before .before .before .before .before .before .before .before .before .before .before .before .before .before .before .before .before .before .before .before .before .before .before .before .before .before .before .before .before .before .before .before .turn .kept .1 .1 .1 .1 .1 .1 .1 .1 .1 .0) ∙ (c .before .before .before .before .before .before .before .before .before .before .before .before .before .before .before .before .before .before .before .before .before .before .before .before .before .before .before .before .before .before .before .before .before .before .before .before .before .before .before .before .before .before .before .before .before .before .before .before .before .before .before .before .before .before .before .before .loop .inv .8))
 
 run-rows-enum-known-a-2 : (t : ℕ) → run-rows-lts.Need-enum-known-a-2 (
   body-reads.Asked,
@@ -2192,12 +3247,36 @@ run-rows-enum-known-a-2 : (t : ℕ) → run-rows-lts.Need-enum-known-a-2 (
   turns-left-reads.Learnt,
   is-over-reads.Asked,
   is-over-reads.Learnt,
+  left-at-reads.Asked,
+  left-at-reads.Learnt,
   turn-below t,
   turn.Post,
+  since-reads.Asked,
+  since-reads.Learnt,
   settle-reads.Asked,
   settle-reads.Learnt,
 ) (run-rows-at t) run-rows.Post run-rows-Inv-loop run-rows-μ-loop
 run-rows-enum-known-a-2 t c = search needs
+
+run-rows-left-at-requires-2 : (t : ℕ) → run-rows-lts.Need-left-at-requires-2 (
+  body-reads.Asked,
+  body-reads.Learnt,
+  no-frames-reads.Asked,
+  no-frames-reads.Learnt,
+  turns-left-reads.Asked,
+  turns-left-reads.Learnt,
+  is-over-reads.Asked,
+  is-over-reads.Learnt,
+  left-at-reads.Asked,
+  left-at-reads.Learnt,
+  turn-below t,
+  turn.Post,
+  since-reads.Asked,
+  since-reads.Learnt,
+  settle-reads.Asked,
+  settle-reads.Learnt,
+) (run-rows-at t) run-rows.Post run-rows-Inv-loop run-rows-μ-loop
+run-rows-left-at-requires-2 t c κs = search needs
 
 run-rows-same-length-9 : (t : ℕ) → run-rows-lts.Need-same-length-9 (
   body-reads.Asked,
@@ -2208,12 +3287,16 @@ run-rows-same-length-9 : (t : ℕ) → run-rows-lts.Need-same-length-9 (
   turns-left-reads.Learnt,
   is-over-reads.Asked,
   is-over-reads.Learnt,
+  left-at-reads.Asked,
+  left-at-reads.Learnt,
   turn-below t,
   turn.Post,
+  since-reads.Asked,
+  since-reads.Learnt,
   settle-reads.Asked,
   settle-reads.Learnt,
 ) (run-rows-at t) run-rows.Post run-rows-Inv-loop run-rows-μ-loop
-run-rows-same-length-9 t c = (c .before .before .before .before .before .before .before .before .before .before .before .before .before .before .before .before .before .before .before .before .before .before .before .before .before .before .before .before .before .before .before .before .before .before .before .before .before .before .before .before .before .turn .kept .1 .1 .0) ∙ (c .before .before .before .before .before .before .before .before .before .before .before .before .before .before .before .before .before .before .before .before .before .before .before .before .before .before .before .before .before .before .before .before .before .before .before .before .before .before .before .before .before .before .before .before .before .before .before .before .before .before .before .before .before .loop .inv .1)
+run-rows-same-length-9 t c = (c .before .before .before .before .before .before .before .before .before .before .before .before .before .before .before .before .before .before .before .before .before .before .before .before .before .before .before .before .before .before .before .before .before .before .before .before .before .before .before .before .before .before .before .before .before .turn .kept .1 .1 .0) ∙ (c .before .before .before .before .before .before .before .before .before .before .before .before .before .before .before .before .before .before .before .before .before .before .before .before .before .before .before .before .before .before .before .before .before .before .before .before .before .before .before .before .before .before .before .before .before .before .before .before .before .before .before .before .before .before .before .before .before .loop .inv .1)
 
 run-rows-same-length-10 : (t : ℕ) → run-rows-lts.Need-same-length-10 (
   body-reads.Asked,
@@ -2224,12 +3307,16 @@ run-rows-same-length-10 : (t : ℕ) → run-rows-lts.Need-same-length-10 (
   turns-left-reads.Learnt,
   is-over-reads.Asked,
   is-over-reads.Learnt,
+  left-at-reads.Asked,
+  left-at-reads.Learnt,
   turn-below t,
   turn.Post,
+  since-reads.Asked,
+  since-reads.Learnt,
   settle-reads.Asked,
   settle-reads.Learnt,
 ) (run-rows-at t) run-rows.Post run-rows-Inv-loop run-rows-μ-loop
-run-rows-same-length-10 t c = (c .before .before .before .before .before .before .before .before .before .before .before .before .before .before .before .before .before .before .before .before .before .before .before .before .before .before .before .before .before .before .before .before .before .before .before .before .before .before .before .before .before .turn .kept .1 .1 .1 .0) ∙ (c .before .before .before .before .before .before .before .before .before .before .before .before .before .before .before .before .before .before .before .before .before .before .before .before .before .before .before .before .before .before .before .before .before .before .before .before .before .before .before .before .before .before .before .before .before .before .before .before .before .before .before .before .before .loop .inv .2)
+run-rows-same-length-10 t c = (c .before .before .before .before .before .before .before .before .before .before .before .before .before .before .before .before .before .before .before .before .before .before .before .before .before .before .before .before .before .before .before .before .before .before .before .before .before .before .before .before .before .before .before .before .before .turn .kept .1 .1 .1 .0) ∙ (c .before .before .before .before .before .before .before .before .before .before .before .before .before .before .before .before .before .before .before .before .before .before .before .before .before .before .before .before .before .before .before .before .before .before .before .before .before .before .before .before .before .before .before .before .before .before .before .before .before .before .before .before .before .before .before .before .before .loop .inv .2)
 
 run-rows-same-length-11 : (t : ℕ) → run-rows-lts.Need-same-length-11 (
   body-reads.Asked,
@@ -2240,12 +3327,16 @@ run-rows-same-length-11 : (t : ℕ) → run-rows-lts.Need-same-length-11 (
   turns-left-reads.Learnt,
   is-over-reads.Asked,
   is-over-reads.Learnt,
+  left-at-reads.Asked,
+  left-at-reads.Learnt,
   turn-below t,
   turn.Post,
+  since-reads.Asked,
+  since-reads.Learnt,
   settle-reads.Asked,
   settle-reads.Learnt,
 ) (run-rows-at t) run-rows.Post run-rows-Inv-loop run-rows-μ-loop
-run-rows-same-length-11 t c = (c .before .before .before .before .before .before .before .before .before .before .before .before .before .before .before .settle .kept .1 .1 .1 .1 .0) ∙ (c .before .before .before .before .before .before .before .before .before .before .before .before .before .before .before .before .before .before .before .before .before .before .before .before .before .before .before .before .before .before .before .before .before .before .before .before .before .before .before .before .before .turn .kept .1 .1 .1 .1 .0) ∙ (c .before .before .before .before .before .before .before .before .before .before .before .before .before .before .before .before .before .before .before .before .before .before .before .before .before .before .before .before .before .before .before .before .before .before .before .before .before .before .before .before .before .before .before .before .before .before .before .before .before .before .before .before .before .loop .inv .3)
+run-rows-same-length-11 t c = (c .before .before .before .before .before .before .before .before .before .before .before .before .before .before .before .before .settle .kept .1 .1 .1 .1 .0) ∙ (c .before .before .before .before .before .before .before .before .before .before .before .before .before .before .before .before .before .before .before .before .before .before .before .before .before .before .before .before .before .before .before .before .before .before .before .before .before .before .before .before .before .before .before .before .before .turn .kept .1 .1 .1 .1 .0) ∙ (c .before .before .before .before .before .before .before .before .before .before .before .before .before .before .before .before .before .before .before .before .before .before .before .before .before .before .before .before .before .before .before .before .before .before .before .before .before .before .before .before .before .before .before .before .before .before .before .before .before .before .before .before .before .before .before .before .before .loop .inv .3)
 
 run-rows-same-length-12 : (t : ℕ) → run-rows-lts.Need-same-length-12 (
   body-reads.Asked,
@@ -2256,12 +3347,16 @@ run-rows-same-length-12 : (t : ℕ) → run-rows-lts.Need-same-length-12 (
   turns-left-reads.Learnt,
   is-over-reads.Asked,
   is-over-reads.Learnt,
+  left-at-reads.Asked,
+  left-at-reads.Learnt,
   turn-below t,
   turn.Post,
+  since-reads.Asked,
+  since-reads.Learnt,
   settle-reads.Asked,
   settle-reads.Learnt,
 ) (run-rows-at t) run-rows.Post run-rows-Inv-loop run-rows-μ-loop
-run-rows-same-length-12 t c = (c .before .before .before .before .before .before .before .before .before .before .before .before .before .before .before .settle .kept .1 .1 .1 .1 .1 .0) ∙ (c .before .before .before .before .before .before .before .before .before .before .before .before .before .before .before .before .before .before .before .before .before .before .before .before .before .before .before .before .before .before .before .before .before .before .before .before .before .before .before .before .before .turn .kept .1 .1 .1 .1 .1 .0) ∙ (c .before .before .before .before .before .before .before .before .before .before .before .before .before .before .before .before .before .before .before .before .before .before .before .before .before .before .before .before .before .before .before .before .before .before .before .before .before .before .before .before .before .before .before .before .before .before .before .before .before .before .before .before .before .loop .inv .4)
+run-rows-same-length-12 t c = (c .before .before .before .before .before .before .before .before .before .before .before .before .before .before .before .before .settle .kept .1 .1 .1 .1 .1 .0) ∙ (c .before .before .before .before .before .before .before .before .before .before .before .before .before .before .before .before .before .before .before .before .before .before .before .before .before .before .before .before .before .before .before .before .before .before .before .before .before .before .before .before .before .before .before .before .before .turn .kept .1 .1 .1 .1 .1 .0) ∙ (c .before .before .before .before .before .before .before .before .before .before .before .before .before .before .before .before .before .before .before .before .before .before .before .before .before .before .before .before .before .before .before .before .before .before .before .before .before .before .before .before .before .before .before .before .before .before .before .before .before .before .before .before .before .before .before .before .before .loop .inv .4)
 
 run-rows-same-length-13 : (t : ℕ) → run-rows-lts.Need-same-length-13 (
   body-reads.Asked,
@@ -2272,12 +3367,16 @@ run-rows-same-length-13 : (t : ℕ) → run-rows-lts.Need-same-length-13 (
   turns-left-reads.Learnt,
   is-over-reads.Asked,
   is-over-reads.Learnt,
+  left-at-reads.Asked,
+  left-at-reads.Learnt,
   turn-below t,
   turn.Post,
+  since-reads.Asked,
+  since-reads.Learnt,
   settle-reads.Asked,
   settle-reads.Learnt,
 ) (run-rows-at t) run-rows.Post run-rows-Inv-loop run-rows-μ-loop
-run-rows-same-length-13 t c = (c .before .before .before .before .before .before .before .before .before .before .before .before .before .before .before .settle .kept .1 .1 .1 .1 .1 .1 .0) ∙ (c .before .before .before .before .before .before .before .before .before .before .before .before .before .before .before .before .before .before .before .before .before .before .before .before .before .before .before .before .before .before .before .before .before .before .before .before .before .before .before .before .before .turn .kept .1 .1 .1 .1 .1 .1 .0) ∙ (c .before .before .before .before .before .before .before .before .before .before .before .before .before .before .before .before .before .before .before .before .before .before .before .before .before .before .before .before .before .before .before .before .before .before .before .before .before .before .before .before .before .before .before .before .before .before .before .before .before .before .before .before .before .loop .inv .5)
+run-rows-same-length-13 t c = (c .before .before .before .before .before .before .before .before .before .before .before .before .before .before .before .before .settle .kept .1 .1 .1 .1 .1 .1 .0) ∙ (c .before .before .before .before .before .before .before .before .before .before .before .before .before .before .before .before .before .before .before .before .before .before .before .before .before .before .before .before .before .before .before .before .before .before .before .before .before .before .before .before .before .before .before .before .before .turn .kept .1 .1 .1 .1 .1 .1 .0) ∙ (c .before .before .before .before .before .before .before .before .before .before .before .before .before .before .before .before .before .before .before .before .before .before .before .before .before .before .before .before .before .before .before .before .before .before .before .before .before .before .before .before .before .before .before .before .before .before .before .before .before .before .before .before .before .before .before .before .before .loop .inv .5)
 
 run-rows-same-length-14 : (t : ℕ) → run-rows-lts.Need-same-length-14 (
   body-reads.Asked,
@@ -2288,12 +3387,16 @@ run-rows-same-length-14 : (t : ℕ) → run-rows-lts.Need-same-length-14 (
   turns-left-reads.Learnt,
   is-over-reads.Asked,
   is-over-reads.Learnt,
+  left-at-reads.Asked,
+  left-at-reads.Learnt,
   turn-below t,
   turn.Post,
+  since-reads.Asked,
+  since-reads.Learnt,
   settle-reads.Asked,
   settle-reads.Learnt,
 ) (run-rows-at t) run-rows.Post run-rows-Inv-loop run-rows-μ-loop
-run-rows-same-length-14 t c = (c .before .before .before .before .before .before .before .before .before .before .before .before .before .before .before .settle .kept .1 .1 .1 .1 .1 .1 .1 .0) ∙ (c .before .before .before .before .before .before .before .before .before .before .before .before .before .before .before .before .before .before .before .before .before .before .before .before .before .before .before .before .before .before .before .before .before .before .before .before .before .before .before .before .before .turn .kept .1 .1 .1 .1 .1 .1 .1 .0) ∙ (c .before .before .before .before .before .before .before .before .before .before .before .before .before .before .before .before .before .before .before .before .before .before .before .before .before .before .before .before .before .before .before .before .before .before .before .before .before .before .before .before .before .before .before .before .before .before .before .before .before .before .before .before .before .loop .inv .6)
+run-rows-same-length-14 t c = (c .before .before .before .before .before .before .before .before .before .before .before .before .before .before .before .before .settle .kept .1 .1 .1 .1 .1 .1 .1 .0) ∙ (c .before .before .before .before .before .before .before .before .before .before .before .before .before .before .before .before .before .before .before .before .before .before .before .before .before .before .before .before .before .before .before .before .before .before .before .before .before .before .before .before .before .before .before .before .before .turn .kept .1 .1 .1 .1 .1 .1 .1 .0) ∙ (c .before .before .before .before .before .before .before .before .before .before .before .before .before .before .before .before .before .before .before .before .before .before .before .before .before .before .before .before .before .before .before .before .before .before .before .before .before .before .before .before .before .before .before .before .before .before .before .before .before .before .before .before .before .before .before .before .before .loop .inv .6)
 
 run-rows-same-length-15 : (t : ℕ) → run-rows-lts.Need-same-length-15 (
   body-reads.Asked,
@@ -2304,12 +3407,16 @@ run-rows-same-length-15 : (t : ℕ) → run-rows-lts.Need-same-length-15 (
   turns-left-reads.Learnt,
   is-over-reads.Asked,
   is-over-reads.Learnt,
+  left-at-reads.Asked,
+  left-at-reads.Learnt,
   turn-below t,
   turn.Post,
+  since-reads.Asked,
+  since-reads.Learnt,
   settle-reads.Asked,
   settle-reads.Learnt,
 ) (run-rows-at t) run-rows.Post run-rows-Inv-loop run-rows-μ-loop
-run-rows-same-length-15 t c = (c .before .before .before .before .before .before .before .before .before .before .before .before .before .before .before .settle .kept .1 .1 .1 .1 .1 .1 .1 .1 .0) ∙ (c .before .before .before .before .before .before .before .before .before .before .before .before .before .before .before .before .before .before .before .before .before .before .before .before .before .before .before .before .before .before .before .before .before .before .before .before .before .before .before .before .before .turn .kept .1 .1 .1 .1 .1 .1 .1 .1 .0) ∙ (c .before .before .before .before .before .before .before .before .before .before .before .before .before .before .before .before .before .before .before .before .before .before .before .before .before .before .before .before .before .before .before .before .before .before .before .before .before .before .before .before .before .before .before .before .before .before .before .before .before .before .before .before .before .loop .inv .7)
+run-rows-same-length-15 t c = (c .before .before .before .before .before .before .before .before .before .before .before .before .before .before .before .before .settle .kept .1 .1 .1 .1 .1 .1 .1 .1 .0) ∙ (c .before .before .before .before .before .before .before .before .before .before .before .before .before .before .before .before .before .before .before .before .before .before .before .before .before .before .before .before .before .before .before .before .before .before .before .before .before .before .before .before .before .before .before .before .before .turn .kept .1 .1 .1 .1 .1 .1 .1 .1 .0) ∙ (c .before .before .before .before .before .before .before .before .before .before .before .before .before .before .before .before .before .before .before .before .before .before .before .before .before .before .before .before .before .before .before .before .before .before .before .before .before .before .before .before .before .before .before .before .before .before .before .before .before .before .before .before .before .before .before .before .before .loop .inv .7)
 
 run-rows-same-length-16 : (t : ℕ) → run-rows-lts.Need-same-length-16 (
   body-reads.Asked,
@@ -2320,12 +3427,16 @@ run-rows-same-length-16 : (t : ℕ) → run-rows-lts.Need-same-length-16 (
   turns-left-reads.Learnt,
   is-over-reads.Asked,
   is-over-reads.Learnt,
+  left-at-reads.Asked,
+  left-at-reads.Learnt,
   turn-below t,
   turn.Post,
+  since-reads.Asked,
+  since-reads.Learnt,
   settle-reads.Asked,
   settle-reads.Learnt,
 ) (run-rows-at t) run-rows.Post run-rows-Inv-loop run-rows-μ-loop
-run-rows-same-length-16 t c = (c .before .before .before .before .before .before .before .before .before .before .before .before .before .before .before .settle .kept .1 .1 .1 .1 .1 .1 .1 .1 .1 .0) ∙ (c .before .before .before .before .before .before .before .before .before .before .before .before .before .before .before .before .before .before .before .before .before .before .before .before .before .before .before .before .before .before .before .before .before .before .before .before .before .before .before .before .before .turn .kept .1 .1 .1 .1 .1 .1 .1 .1 .1 .0) ∙ (c .before .before .before .before .before .before .before .before .before .before .before .before .before .before .before .before .before .before .before .before .before .before .before .before .before .before .before .before .before .before .before .before .before .before .before .before .before .before .before .before .before .before .before .before .before .before .before .before .before .before .before .before .before .loop .inv .8)
+run-rows-same-length-16 t c = (c .before .before .before .before .before .before .before .before .before .before .before .before .before .before .before .before .settle .kept .1 .1 .1 .1 .1 .1 .1 .1 .1 .0) ∙ (c .before .before .before .before .before .before .before .before .before .before .before .before .before .before .before .before .before .before .before .before .before .before .before .before .before .before .before .before .before .before .before .before .before .before .before .before .before .before .before .before .before .before .before .before .before .turn .kept .1 .1 .1 .1 .1 .1 .1 .1 .1 .0) ∙ (c .before .before .before .before .before .before .before .before .before .before .before .before .before .before .before .before .before .before .before .before .before .before .before .before .before .before .before .before .before .before .before .before .before .before .before .before .before .before .before .before .before .before .before .before .before .before .before .before .before .before .before .before .before .before .before .before .before .loop .inv .8)
 
 run-rows-returns-2 : (t : ℕ) → run-rows-lts.Need-returns-2 (
   body-reads.Asked,
@@ -2336,12 +3447,36 @@ run-rows-returns-2 : (t : ℕ) → run-rows-lts.Need-returns-2 (
   turns-left-reads.Learnt,
   is-over-reads.Asked,
   is-over-reads.Learnt,
+  left-at-reads.Asked,
+  left-at-reads.Learnt,
   turn-below t,
   turn.Post,
+  since-reads.Asked,
+  since-reads.Learnt,
   settle-reads.Asked,
   settle-reads.Learnt,
 ) (run-rows-at t) run-rows.Post run-rows-Inv-loop run-rows-μ-loop
 run-rows-returns-2 t c = search needs
+
+run-rows-left-at-requires-3 : (t : ℕ) → run-rows-lts.Need-left-at-requires-3 (
+  body-reads.Asked,
+  body-reads.Learnt,
+  no-frames-reads.Asked,
+  no-frames-reads.Learnt,
+  turns-left-reads.Asked,
+  turns-left-reads.Learnt,
+  is-over-reads.Asked,
+  is-over-reads.Learnt,
+  left-at-reads.Asked,
+  left-at-reads.Learnt,
+  turn-below t,
+  turn.Post,
+  since-reads.Asked,
+  since-reads.Learnt,
+  settle-reads.Asked,
+  settle-reads.Learnt,
+) (run-rows-at t) run-rows.Post run-rows-Inv-loop run-rows-μ-loop
+run-rows-left-at-requires-3 t c κs = search needs
 
 run-rows-same-length-17 : (t : ℕ) → run-rows-lts.Need-same-length-17 (
   body-reads.Asked,
@@ -2352,8 +3487,12 @@ run-rows-same-length-17 : (t : ℕ) → run-rows-lts.Need-same-length-17 (
   turns-left-reads.Learnt,
   is-over-reads.Asked,
   is-over-reads.Learnt,
+  left-at-reads.Asked,
+  left-at-reads.Learnt,
   turn-below t,
   turn.Post,
+  since-reads.Asked,
+  since-reads.Learnt,
   settle-reads.Asked,
   settle-reads.Learnt,
 ) (run-rows-at t) run-rows.Post run-rows-Inv-loop run-rows-μ-loop
@@ -2368,8 +3507,12 @@ run-rows-same-length-18 : (t : ℕ) → run-rows-lts.Need-same-length-18 (
   turns-left-reads.Learnt,
   is-over-reads.Asked,
   is-over-reads.Learnt,
+  left-at-reads.Asked,
+  left-at-reads.Learnt,
   turn-below t,
   turn.Post,
+  since-reads.Asked,
+  since-reads.Learnt,
   settle-reads.Asked,
   settle-reads.Learnt,
 ) (run-rows-at t) run-rows.Post run-rows-Inv-loop run-rows-μ-loop
@@ -2384,8 +3527,12 @@ run-rows-same-length-19 : (t : ℕ) → run-rows-lts.Need-same-length-19 (
   turns-left-reads.Learnt,
   is-over-reads.Asked,
   is-over-reads.Learnt,
+  left-at-reads.Asked,
+  left-at-reads.Learnt,
   turn-below t,
   turn.Post,
+  since-reads.Asked,
+  since-reads.Learnt,
   settle-reads.Asked,
   settle-reads.Learnt,
 ) (run-rows-at t) run-rows.Post run-rows-Inv-loop run-rows-μ-loop
@@ -2400,8 +3547,12 @@ run-rows-same-length-20 : (t : ℕ) → run-rows-lts.Need-same-length-20 (
   turns-left-reads.Learnt,
   is-over-reads.Asked,
   is-over-reads.Learnt,
+  left-at-reads.Asked,
+  left-at-reads.Learnt,
   turn-below t,
   turn.Post,
+  since-reads.Asked,
+  since-reads.Learnt,
   settle-reads.Asked,
   settle-reads.Learnt,
 ) (run-rows-at t) run-rows.Post run-rows-Inv-loop run-rows-μ-loop
@@ -2416,8 +3567,12 @@ run-rows-same-length-21 : (t : ℕ) → run-rows-lts.Need-same-length-21 (
   turns-left-reads.Learnt,
   is-over-reads.Asked,
   is-over-reads.Learnt,
+  left-at-reads.Asked,
+  left-at-reads.Learnt,
   turn-below t,
   turn.Post,
+  since-reads.Asked,
+  since-reads.Learnt,
   settle-reads.Asked,
   settle-reads.Learnt,
 ) (run-rows-at t) run-rows.Post run-rows-Inv-loop run-rows-μ-loop
@@ -2432,8 +3587,12 @@ run-rows-same-length-22 : (t : ℕ) → run-rows-lts.Need-same-length-22 (
   turns-left-reads.Learnt,
   is-over-reads.Asked,
   is-over-reads.Learnt,
+  left-at-reads.Asked,
+  left-at-reads.Learnt,
   turn-below t,
   turn.Post,
+  since-reads.Asked,
+  since-reads.Learnt,
   settle-reads.Asked,
   settle-reads.Learnt,
 ) (run-rows-at t) run-rows.Post run-rows-Inv-loop run-rows-μ-loop
@@ -2448,8 +3607,12 @@ run-rows-same-length-23 : (t : ℕ) → run-rows-lts.Need-same-length-23 (
   turns-left-reads.Learnt,
   is-over-reads.Asked,
   is-over-reads.Learnt,
+  left-at-reads.Asked,
+  left-at-reads.Learnt,
   turn-below t,
   turn.Post,
+  since-reads.Asked,
+  since-reads.Learnt,
   settle-reads.Asked,
   settle-reads.Learnt,
 ) (run-rows-at t) run-rows.Post run-rows-Inv-loop run-rows-μ-loop
@@ -2464,8 +3627,12 @@ run-rows-same-length-24 : (t : ℕ) → run-rows-lts.Need-same-length-24 (
   turns-left-reads.Learnt,
   is-over-reads.Asked,
   is-over-reads.Learnt,
+  left-at-reads.Asked,
+  left-at-reads.Learnt,
   turn-below t,
   turn.Post,
+  since-reads.Asked,
+  since-reads.Learnt,
   settle-reads.Asked,
   settle-reads.Learnt,
 ) (run-rows-at t) run-rows.Post run-rows-Inv-loop run-rows-μ-loop
@@ -2480,8 +3647,12 @@ run-rows-returns-3 : (t : ℕ) → run-rows-lts.Need-returns-3 (
   turns-left-reads.Learnt,
   is-over-reads.Asked,
   is-over-reads.Learnt,
+  left-at-reads.Asked,
+  left-at-reads.Learnt,
   turn-below t,
   turn.Post,
+  since-reads.Asked,
+  since-reads.Learnt,
   settle-reads.Asked,
   settle-reads.Learnt,
 ) (run-rows-at t) run-rows.Post run-rows-Inv-loop run-rows-μ-loop
@@ -2496,6 +3667,8 @@ run-source-body-requires : (t : ℕ) → run-source-lts.Need-body-requires (
   first-of-reads.Learnt,
   run-rows-below t,
   run-rows.Post,
+  left-at-reads.Asked,
+  left-at-reads.Learnt,
 ) (run-source-at t) run-source.Post
 run-source-body-requires t c κs = search needs
 
@@ -2508,6 +3681,8 @@ run-source-lead-out-requires : (t : ℕ) → run-source-lts.Need-lead-out-requir
   first-of-reads.Learnt,
   run-rows-below t,
   run-rows.Post,
+  left-at-reads.Asked,
+  left-at-reads.Learnt,
 ) (run-source-at t) run-source.Post
 run-source-lead-out-requires t c κs = search needs
 
@@ -2520,6 +3695,8 @@ run-source-enum-known-l : (t : ℕ) → run-source-lts.Need-enum-known-l (
   first-of-reads.Learnt,
   run-rows-below t,
   run-rows.Post,
+  left-at-reads.Asked,
+  left-at-reads.Learnt,
 ) (run-source-at t) run-source.Post
 run-source-enum-known-l t c = search needs
 
@@ -2532,6 +3709,8 @@ run-source-first-of-requires : (t : ℕ) → run-source-lts.Need-first-of-requir
   first-of-reads.Learnt,
   run-rows-below t,
   run-rows.Post,
+  left-at-reads.Asked,
+  left-at-reads.Learnt,
 ) (run-source-at t) run-source.Post
 run-source-first-of-requires t c κs = search needs
 
@@ -2544,6 +3723,8 @@ run-source-run-rows-requires : (t : ℕ) → run-source-lts.Need-run-rows-requir
   first-of-reads.Learnt,
   run-rows-below t,
   run-rows.Post,
+  left-at-reads.Asked,
+  left-at-reads.Learnt,
 ) (run-source-at t) run-source.Post
 run-source-run-rows-requires t c κs = omega (arith, (c .before .before .before .before .before .before .before .before .before .before .before .before .before .before .before .before .before .before .before .before .before .before .before .before .before .before .before .before .before .before .before .before .before .before .before .before .before .before .before .before .before .before .before .pre))
 
@@ -2556,8 +3737,24 @@ run-source-enum-known-l-2 : (t : ℕ) → run-source-lts.Need-enum-known-l-2 (
   first-of-reads.Learnt,
   run-rows-below t,
   run-rows.Post,
+  left-at-reads.Asked,
+  left-at-reads.Learnt,
 ) (run-source-at t) run-source.Post
 run-source-enum-known-l-2 t c = search needs
+
+run-source-left-at-requires : (t : ℕ) → run-source-lts.Need-left-at-requires (
+  body-reads.Asked,
+  body-reads.Learnt,
+  lead-out-reads.Asked,
+  lead-out-reads.Learnt,
+  first-of-reads.Asked,
+  first-of-reads.Learnt,
+  run-rows-below t,
+  run-rows.Post,
+  left-at-reads.Asked,
+  left-at-reads.Learnt,
+) (run-source-at t) run-source.Post
+run-source-left-at-requires t c κs = search needs
 
 run-source-same-length : (t : ℕ) → run-source-lts.Need-same-length (
   body-reads.Asked,
@@ -2568,6 +3765,8 @@ run-source-same-length : (t : ℕ) → run-source-lts.Need-same-length (
   first-of-reads.Learnt,
   run-rows-below t,
   run-rows.Post,
+  left-at-reads.Asked,
+  left-at-reads.Learnt,
 ) (run-source-at t) run-source.Post
 run-source-same-length t c = search needs
 
@@ -2580,6 +3779,8 @@ run-source-same-length-2 : (t : ℕ) → run-source-lts.Need-same-length-2 (
   first-of-reads.Learnt,
   run-rows-below t,
   run-rows.Post,
+  left-at-reads.Asked,
+  left-at-reads.Learnt,
 ) (run-source-at t) run-source.Post
 run-source-same-length-2 t c = search needs
 
@@ -2592,6 +3793,8 @@ run-source-same-length-3 : (t : ℕ) → run-source-lts.Need-same-length-3 (
   first-of-reads.Learnt,
   run-rows-below t,
   run-rows.Post,
+  left-at-reads.Asked,
+  left-at-reads.Learnt,
 ) (run-source-at t) run-source.Post
 run-source-same-length-3 t c = (c .before .before .before .before .before .before .before .before .before .before .before .before .before .before .before .before .run-rows .kept .1 .1 .1 .0) ∙ (c .before .before .before .before .before .before .before .before .before .before .before .before .before .before .before .before .before .before .before .before .before .before .before .before .before .before .before .before .before .before .before .before .before .before .before .before .before .before .before .before .before .lead-out .kept .1 .1 .1 .1 .0)
 
@@ -2604,6 +3807,8 @@ run-source-same-length-4 : (t : ℕ) → run-source-lts.Need-same-length-4 (
   first-of-reads.Learnt,
   run-rows-below t,
   run-rows.Post,
+  left-at-reads.Asked,
+  left-at-reads.Learnt,
 ) (run-source-at t) run-source.Post
 run-source-same-length-4 t c = (c .before .before .before .before .before .before .before .before .before .before .before .before .before .before .before .before .run-rows .kept .1 .1 .1 .1 .0) ∙ (c .before .before .before .before .before .before .before .before .before .before .before .before .before .before .before .before .before .before .before .before .before .before .before .before .before .before .before .before .before .before .before .before .before .before .before .before .before .before .before .before .before .lead-out .kept .1 .1 .1 .1 .1 .0)
 
@@ -2616,6 +3821,8 @@ run-source-same-length-5 : (t : ℕ) → run-source-lts.Need-same-length-5 (
   first-of-reads.Learnt,
   run-rows-below t,
   run-rows.Post,
+  left-at-reads.Asked,
+  left-at-reads.Learnt,
 ) (run-source-at t) run-source.Post
 run-source-same-length-5 t c = (c .before .before .before .before .before .before .before .before .before .before .before .before .before .before .before .before .run-rows .kept .1 .1 .1 .1 .1 .0) ∙ (c .before .before .before .before .before .before .before .before .before .before .before .before .before .before .before .before .before .before .before .before .before .before .before .before .before .before .before .before .before .before .before .before .before .before .before .before .before .before .before .before .before .lead-out .kept .1 .1 .1 .1 .1 .1 .0)
 
@@ -2628,6 +3835,8 @@ run-source-same-length-6 : (t : ℕ) → run-source-lts.Need-same-length-6 (
   first-of-reads.Learnt,
   run-rows-below t,
   run-rows.Post,
+  left-at-reads.Asked,
+  left-at-reads.Learnt,
 ) (run-source-at t) run-source.Post
 run-source-same-length-6 t c = (c .before .before .before .before .before .before .before .before .before .before .before .before .before .before .before .before .run-rows .kept .1 .1 .1 .1 .1 .1 .0) ∙ (c .before .before .before .before .before .before .before .before .before .before .before .before .before .before .before .before .before .before .before .before .before .before .before .before .before .before .before .before .before .before .before .before .before .before .before .before .before .before .before .before .before .lead-out .kept .1 .1 .1 .1 .1 .1 .1 .0)
 
@@ -2640,8 +3849,10 @@ run-source-same-length-7 : (t : ℕ) → run-source-lts.Need-same-length-7 (
   first-of-reads.Learnt,
   run-rows-below t,
   run-rows.Post,
+  left-at-reads.Asked,
+  left-at-reads.Learnt,
 ) (run-source-at t) run-source.Post
-run-source-same-length-7 t c = search needs
+run-source-same-length-7 t c = (c .before .before .before .before .before .before .before .before .before .before .before .before .before .before .before .before .run-rows .kept .1 .1 .1 .1 .1 .1 .1 .0) ∙ (c .before .before .before .before .before .before .before .before .before .before .before .before .before .before .before .before .before .before .before .before .before .before .before .before .before .before .before .before .before .before .before .before .before .before .before .before .before .before .before .before .before .lead-out .kept .1 .1 .1 .1 .1 .1 .1 .1 .0)
 
 run-source-same-length-8 : (t : ℕ) → run-source-lts.Need-same-length-8 (
   body-reads.Asked,
@@ -2652,6 +3863,8 @@ run-source-same-length-8 : (t : ℕ) → run-source-lts.Need-same-length-8 (
   first-of-reads.Learnt,
   run-rows-below t,
   run-rows.Post,
+  left-at-reads.Asked,
+  left-at-reads.Learnt,
 ) (run-source-at t) run-source.Post
 run-source-same-length-8 t c = search needs
 
@@ -2664,6 +3877,8 @@ run-source-returns : (t : ℕ) → run-source-lts.Need-returns (
   first-of-reads.Learnt,
   run-rows-below t,
   run-rows.Post,
+  left-at-reads.Asked,
+  left-at-reads.Learnt,
 ) (run-source-at t) run-source.Post
 run-source-returns t c = search needs
 
@@ -2676,6 +3891,8 @@ run-source-same-length-9 : (t : ℕ) → run-source-lts.Need-same-length-9 (
   first-of-reads.Learnt,
   run-rows-below t,
   run-rows.Post,
+  left-at-reads.Asked,
+  left-at-reads.Learnt,
 ) (run-source-at t) run-source.Post
 run-source-same-length-9 t c = search needs
 
@@ -2688,6 +3905,8 @@ run-source-same-length-10 : (t : ℕ) → run-source-lts.Need-same-length-10 (
   first-of-reads.Learnt,
   run-rows-below t,
   run-rows.Post,
+  left-at-reads.Asked,
+  left-at-reads.Learnt,
 ) (run-source-at t) run-source.Post
 run-source-same-length-10 t c = search needs
 
@@ -2700,6 +3919,8 @@ run-source-same-length-11 : (t : ℕ) → run-source-lts.Need-same-length-11 (
   first-of-reads.Learnt,
   run-rows-below t,
   run-rows.Post,
+  left-at-reads.Asked,
+  left-at-reads.Learnt,
 ) (run-source-at t) run-source.Post
 run-source-same-length-11 t c = search needs
 
@@ -2712,6 +3933,8 @@ run-source-same-length-12 : (t : ℕ) → run-source-lts.Need-same-length-12 (
   first-of-reads.Learnt,
   run-rows-below t,
   run-rows.Post,
+  left-at-reads.Asked,
+  left-at-reads.Learnt,
 ) (run-source-at t) run-source.Post
 run-source-same-length-12 t c = search needs
 
@@ -2724,6 +3947,8 @@ run-source-same-length-13 : (t : ℕ) → run-source-lts.Need-same-length-13 (
   first-of-reads.Learnt,
   run-rows-below t,
   run-rows.Post,
+  left-at-reads.Asked,
+  left-at-reads.Learnt,
 ) (run-source-at t) run-source.Post
 run-source-same-length-13 t c = search needs
 
@@ -2736,6 +3961,8 @@ run-source-same-length-14 : (t : ℕ) → run-source-lts.Need-same-length-14 (
   first-of-reads.Learnt,
   run-rows-below t,
   run-rows.Post,
+  left-at-reads.Asked,
+  left-at-reads.Learnt,
 ) (run-source-at t) run-source.Post
 run-source-same-length-14 t c = search needs
 
@@ -2748,6 +3975,8 @@ run-source-same-length-15 : (t : ℕ) → run-source-lts.Need-same-length-15 (
   first-of-reads.Learnt,
   run-rows-below t,
   run-rows.Post,
+  left-at-reads.Asked,
+  left-at-reads.Learnt,
 ) (run-source-at t) run-source.Post
 run-source-same-length-15 t c = search needs
 
@@ -2760,6 +3989,8 @@ run-source-same-length-16 : (t : ℕ) → run-source-lts.Need-same-length-16 (
   first-of-reads.Learnt,
   run-rows-below t,
   run-rows.Post,
+  left-at-reads.Asked,
+  left-at-reads.Learnt,
 ) (run-source-at t) run-source.Post
 run-source-same-length-16 t c = search needs
 
@@ -2772,14 +4003,20 @@ run-source-returns-2 : (t : ℕ) → run-source-lts.Need-returns-2 (
   first-of-reads.Learnt,
   run-rows-below t,
   run-rows.Post,
+  left-at-reads.Asked,
+  left-at-reads.Learnt,
 ) (run-source-at t) run-source.Post
 run-source-returns-2 t c = search needs
 
 turn-enum-known-next : (t : ℕ) → turn-lts.Need-enum-known-next (
   begin-below t,
   begin.Post,
+  part-here-reads.Asked,
+  part-here-reads.Learnt,
   into-again-reads.Asked,
   into-again-reads.Learnt,
+  turned-at-reads.Asked,
+  turned-at-reads.Learnt,
   with-step-reads.Asked,
   with-step-reads.Learnt,
 ) (turn-at t) turn.Post
@@ -2788,8 +4025,12 @@ turn-enum-known-next t c = search needs
 turn-begin-requires : (t : ℕ) → turn-lts.Need-begin-requires (
   begin-below t,
   begin.Post,
+  part-here-reads.Asked,
+  part-here-reads.Learnt,
   into-again-reads.Asked,
   into-again-reads.Learnt,
+  turned-at-reads.Asked,
+  turned-at-reads.Learnt,
   with-step-reads.Asked,
   with-step-reads.Learnt,
 ) (turn-at t) turn.Post
@@ -2798,28 +4039,68 @@ turn-begin-requires t c κs = omega (arith, (c .before .before .before .before .
 turn-enum-known-next-2 : (t : ℕ) → turn-lts.Need-enum-known-next-2 (
   begin-below t,
   begin.Post,
+  part-here-reads.Asked,
+  part-here-reads.Learnt,
   into-again-reads.Asked,
   into-again-reads.Learnt,
+  turned-at-reads.Asked,
+  turned-at-reads.Learnt,
   with-step-reads.Asked,
   with-step-reads.Learnt,
 ) (turn-at t) turn.Post
 turn-enum-known-next-2 t c = search needs
 
+turn-part-here-requires : (t : ℕ) → turn-lts.Need-part-here-requires (
+  begin-below t,
+  begin.Post,
+  part-here-reads.Asked,
+  part-here-reads.Learnt,
+  into-again-reads.Asked,
+  into-again-reads.Learnt,
+  turned-at-reads.Asked,
+  turned-at-reads.Learnt,
+  with-step-reads.Asked,
+  with-step-reads.Learnt,
+) (turn-at t) turn.Post
+turn-part-here-requires t c κs = search needs
+
 turn-into-again-requires : (t : ℕ) → turn-lts.Need-into-again-requires (
   begin-below t,
   begin.Post,
+  part-here-reads.Asked,
+  part-here-reads.Learnt,
   into-again-reads.Asked,
   into-again-reads.Learnt,
+  turned-at-reads.Asked,
+  turned-at-reads.Learnt,
   with-step-reads.Asked,
   with-step-reads.Learnt,
 ) (turn-at t) turn.Post
 turn-into-again-requires t c κs = search needs
 
+turn-turned-at-requires : (t : ℕ) → turn-lts.Need-turned-at-requires (
+  begin-below t,
+  begin.Post,
+  part-here-reads.Asked,
+  part-here-reads.Learnt,
+  into-again-reads.Asked,
+  into-again-reads.Learnt,
+  turned-at-reads.Asked,
+  turned-at-reads.Learnt,
+  with-step-reads.Asked,
+  with-step-reads.Learnt,
+) (turn-at t) turn.Post
+turn-turned-at-requires t c κs = search needs
+
 turn-enum-told : (t : ℕ) → turn-lts.Need-enum-told (
   begin-below t,
   begin.Post,
+  part-here-reads.Asked,
+  part-here-reads.Learnt,
   into-again-reads.Asked,
   into-again-reads.Learnt,
+  turned-at-reads.Asked,
+  turned-at-reads.Learnt,
   with-step-reads.Asked,
   with-step-reads.Learnt,
 ) (turn-at t) turn.Post
@@ -2828,18 +4109,40 @@ turn-enum-told t c = search needs
 turn-with-step-requires : (t : ℕ) → turn-lts.Need-with-step-requires (
   begin-below t,
   begin.Post,
+  part-here-reads.Asked,
+  part-here-reads.Learnt,
   into-again-reads.Asked,
   into-again-reads.Learnt,
+  turned-at-reads.Asked,
+  turned-at-reads.Learnt,
   with-step-reads.Asked,
   with-step-reads.Learnt,
 ) (turn-at t) turn.Post
 turn-with-step-requires t c κs = search needs
 
+turn-turned-at-requires-2 : (t : ℕ) → turn-lts.Need-turned-at-requires-2 (
+  begin-below t,
+  begin.Post,
+  part-here-reads.Asked,
+  part-here-reads.Learnt,
+  into-again-reads.Asked,
+  into-again-reads.Learnt,
+  turned-at-reads.Asked,
+  turned-at-reads.Learnt,
+  with-step-reads.Asked,
+  with-step-reads.Learnt,
+) (turn-at t) turn.Post
+turn-turned-at-requires-2 t c κs = search needs
+
 turn-same-length : (t : ℕ) → turn-lts.Need-same-length (
   begin-below t,
   begin.Post,
+  part-here-reads.Asked,
+  part-here-reads.Learnt,
   into-again-reads.Asked,
   into-again-reads.Learnt,
+  turned-at-reads.Asked,
+  turned-at-reads.Learnt,
   with-step-reads.Asked,
   with-step-reads.Learnt,
 ) (turn-at t) turn.Post
@@ -2848,8 +4151,12 @@ turn-same-length t c = search needs
 turn-same-length-2 : (t : ℕ) → turn-lts.Need-same-length-2 (
   begin-below t,
   begin.Post,
+  part-here-reads.Asked,
+  part-here-reads.Learnt,
   into-again-reads.Asked,
   into-again-reads.Learnt,
+  turned-at-reads.Asked,
+  turned-at-reads.Learnt,
   with-step-reads.Asked,
   with-step-reads.Learnt,
 ) (turn-at t) turn.Post
@@ -2858,8 +4165,12 @@ turn-same-length-2 t c = search needs
 turn-same-length-3 : (t : ℕ) → turn-lts.Need-same-length-3 (
   begin-below t,
   begin.Post,
+  part-here-reads.Asked,
+  part-here-reads.Learnt,
   into-again-reads.Asked,
   into-again-reads.Learnt,
+  turned-at-reads.Asked,
+  turned-at-reads.Learnt,
   with-step-reads.Asked,
   with-step-reads.Learnt,
 ) (turn-at t) turn.Post
@@ -2868,8 +4179,12 @@ turn-same-length-3 t c = search needs
 turn-same-length-4 : (t : ℕ) → turn-lts.Need-same-length-4 (
   begin-below t,
   begin.Post,
+  part-here-reads.Asked,
+  part-here-reads.Learnt,
   into-again-reads.Asked,
   into-again-reads.Learnt,
+  turned-at-reads.Asked,
+  turned-at-reads.Learnt,
   with-step-reads.Asked,
   with-step-reads.Learnt,
 ) (turn-at t) turn.Post
@@ -2878,8 +4193,12 @@ turn-same-length-4 t c = search needs
 turn-same-length-5 : (t : ℕ) → turn-lts.Need-same-length-5 (
   begin-below t,
   begin.Post,
+  part-here-reads.Asked,
+  part-here-reads.Learnt,
   into-again-reads.Asked,
   into-again-reads.Learnt,
+  turned-at-reads.Asked,
+  turned-at-reads.Learnt,
   with-step-reads.Asked,
   with-step-reads.Learnt,
 ) (turn-at t) turn.Post
@@ -2888,8 +4207,12 @@ turn-same-length-5 t c = search needs
 turn-same-length-6 : (t : ℕ) → turn-lts.Need-same-length-6 (
   begin-below t,
   begin.Post,
+  part-here-reads.Asked,
+  part-here-reads.Learnt,
   into-again-reads.Asked,
   into-again-reads.Learnt,
+  turned-at-reads.Asked,
+  turned-at-reads.Learnt,
   with-step-reads.Asked,
   with-step-reads.Learnt,
 ) (turn-at t) turn.Post
@@ -2898,8 +4221,12 @@ turn-same-length-6 t c = search needs
 turn-same-length-7 : (t : ℕ) → turn-lts.Need-same-length-7 (
   begin-below t,
   begin.Post,
+  part-here-reads.Asked,
+  part-here-reads.Learnt,
   into-again-reads.Asked,
   into-again-reads.Learnt,
+  turned-at-reads.Asked,
+  turned-at-reads.Learnt,
   with-step-reads.Asked,
   with-step-reads.Learnt,
 ) (turn-at t) turn.Post
@@ -2908,8 +4235,12 @@ turn-same-length-7 t c = search needs
 turn-same-length-8 : (t : ℕ) → turn-lts.Need-same-length-8 (
   begin-below t,
   begin.Post,
+  part-here-reads.Asked,
+  part-here-reads.Learnt,
   into-again-reads.Asked,
   into-again-reads.Learnt,
+  turned-at-reads.Asked,
+  turned-at-reads.Learnt,
   with-step-reads.Asked,
   with-step-reads.Learnt,
 ) (turn-at t) turn.Post
@@ -2918,8 +4249,12 @@ turn-same-length-8 t c = search needs
 turn-returns : (t : ℕ) → turn-lts.Need-returns (
   begin-below t,
   begin.Post,
+  part-here-reads.Asked,
+  part-here-reads.Learnt,
   into-again-reads.Asked,
   into-again-reads.Learnt,
+  turned-at-reads.Asked,
+  turned-at-reads.Learnt,
   with-step-reads.Asked,
   with-step-reads.Learnt,
 ) (turn-at t) turn.Post
@@ -2928,8 +4263,12 @@ turn-returns t c = search needs
 turn-same-length-9 : (t : ℕ) → turn-lts.Need-same-length-9 (
   begin-below t,
   begin.Post,
+  part-here-reads.Asked,
+  part-here-reads.Learnt,
   into-again-reads.Asked,
   into-again-reads.Learnt,
+  turned-at-reads.Asked,
+  turned-at-reads.Learnt,
   with-step-reads.Asked,
   with-step-reads.Learnt,
 ) (turn-at t) turn.Post
@@ -2938,8 +4277,12 @@ turn-same-length-9 t c = search needs
 turn-same-length-10 : (t : ℕ) → turn-lts.Need-same-length-10 (
   begin-below t,
   begin.Post,
+  part-here-reads.Asked,
+  part-here-reads.Learnt,
   into-again-reads.Asked,
   into-again-reads.Learnt,
+  turned-at-reads.Asked,
+  turned-at-reads.Learnt,
   with-step-reads.Asked,
   with-step-reads.Learnt,
 ) (turn-at t) turn.Post
@@ -2948,8 +4291,12 @@ turn-same-length-10 t c = search needs
 turn-same-length-11 : (t : ℕ) → turn-lts.Need-same-length-11 (
   begin-below t,
   begin.Post,
+  part-here-reads.Asked,
+  part-here-reads.Learnt,
   into-again-reads.Asked,
   into-again-reads.Learnt,
+  turned-at-reads.Asked,
+  turned-at-reads.Learnt,
   with-step-reads.Asked,
   with-step-reads.Learnt,
 ) (turn-at t) turn.Post
@@ -2958,8 +4305,12 @@ turn-same-length-11 t c = search needs
 turn-same-length-12 : (t : ℕ) → turn-lts.Need-same-length-12 (
   begin-below t,
   begin.Post,
+  part-here-reads.Asked,
+  part-here-reads.Learnt,
   into-again-reads.Asked,
   into-again-reads.Learnt,
+  turned-at-reads.Asked,
+  turned-at-reads.Learnt,
   with-step-reads.Asked,
   with-step-reads.Learnt,
 ) (turn-at t) turn.Post
@@ -2968,8 +4319,12 @@ turn-same-length-12 t c = search needs
 turn-same-length-13 : (t : ℕ) → turn-lts.Need-same-length-13 (
   begin-below t,
   begin.Post,
+  part-here-reads.Asked,
+  part-here-reads.Learnt,
   into-again-reads.Asked,
   into-again-reads.Learnt,
+  turned-at-reads.Asked,
+  turned-at-reads.Learnt,
   with-step-reads.Asked,
   with-step-reads.Learnt,
 ) (turn-at t) turn.Post
@@ -2978,8 +4333,12 @@ turn-same-length-13 t c = search needs
 turn-same-length-14 : (t : ℕ) → turn-lts.Need-same-length-14 (
   begin-below t,
   begin.Post,
+  part-here-reads.Asked,
+  part-here-reads.Learnt,
   into-again-reads.Asked,
   into-again-reads.Learnt,
+  turned-at-reads.Asked,
+  turned-at-reads.Learnt,
   with-step-reads.Asked,
   with-step-reads.Learnt,
 ) (turn-at t) turn.Post
@@ -2988,8 +4347,12 @@ turn-same-length-14 t c = search needs
 turn-same-length-15 : (t : ℕ) → turn-lts.Need-same-length-15 (
   begin-below t,
   begin.Post,
+  part-here-reads.Asked,
+  part-here-reads.Learnt,
   into-again-reads.Asked,
   into-again-reads.Learnt,
+  turned-at-reads.Asked,
+  turned-at-reads.Learnt,
   with-step-reads.Asked,
   with-step-reads.Learnt,
 ) (turn-at t) turn.Post
@@ -2998,8 +4361,12 @@ turn-same-length-15 t c = search needs
 turn-same-length-16 : (t : ℕ) → turn-lts.Need-same-length-16 (
   begin-below t,
   begin.Post,
+  part-here-reads.Asked,
+  part-here-reads.Learnt,
   into-again-reads.Asked,
   into-again-reads.Learnt,
+  turned-at-reads.Asked,
+  turned-at-reads.Learnt,
   with-step-reads.Asked,
   with-step-reads.Learnt,
 ) (turn-at t) turn.Post
@@ -3008,8 +4375,12 @@ turn-same-length-16 t c = search needs
 turn-returns-2 : (t : ℕ) → turn-lts.Need-returns-2 (
   begin-below t,
   begin.Post,
+  part-here-reads.Asked,
+  part-here-reads.Learnt,
   into-again-reads.Asked,
   into-again-reads.Learnt,
+  turned-at-reads.Asked,
+  turned-at-reads.Learnt,
   with-step-reads.Asked,
   with-step-reads.Learnt,
 ) (turn-at t) turn.Post
@@ -3018,8 +4389,12 @@ turn-returns-2 t c = search needs
 turn-returns-3 : (t : ℕ) → turn-lts.Need-returns-3 (
   begin-below t,
   begin.Post,
+  part-here-reads.Asked,
+  part-here-reads.Learnt,
   into-again-reads.Asked,
   into-again-reads.Learnt,
+  turned-at-reads.Asked,
+  turned-at-reads.Learnt,
   with-step-reads.Asked,
   with-step-reads.Learnt,
 ) (turn-at t) turn.Post
@@ -3037,6 +4412,8 @@ pub +begin+enter-and-run+include-all+include-one+run-rows+run-source+turn-spec :
     μ-run-source
     μ-turn
     (λ t. begin-lts.spec (
+      part-here-reads.Asked,
+      part-here-reads.Learnt,
       row-at-reads.Asked,
       row-at-reads.Learnt,
       charged-reads.Asked,
@@ -3045,6 +4422,8 @@ pub +begin+enter-and-run+include-all+include-one+run-rows+run-source+turn-spec :
       with-meter-reads.Learnt,
       refused-reads.Asked,
       refused-reads.Learnt,
+      turned-at-reads.Asked,
+      turned-at-reads.Learnt,
       is-include-reads.Asked,
       is-include-reads.Learnt,
       include-all-below t,
@@ -3056,11 +4435,13 @@ pub +begin+enter-and-run+include-all+include-one+run-rows+run-source+turn-spec :
     )
     (begin-at t)
     begin.Post
+    (begin-part-here-requires t)
     (begin-row-at-requires t)
     (begin-charged-requires t)
     (begin-with-meter-requires t)
     (begin-cast-refused t)
     (begin-refused-requires t)
+    (begin-turned-at-requires t)
     (begin-same-length t)
     (begin-returns t)
     (begin-is-include-requires t)
@@ -3075,7 +4456,9 @@ pub +begin+enter-and-run+include-all+include-one+run-rows+run-source+turn-spec :
     (begin-same-length-8 t)
     (begin-same-length-9 t)
     (begin-returns-2 t)
+    (begin-part-here-requires-2 t)
     (begin-statement-requires t)
+    (begin-turned-at-requires-2 t)
     (begin-same-length-10 t)
     (begin-same-length-11 t)
     (begin-same-length-12 t)
@@ -3086,20 +4469,29 @@ pub +begin+enter-and-run+include-all+include-one+run-rows+run-source+turn-spec :
     (begin-same-length-17 t)
     (begin-returns-3 t))
     (λ t. enter-and-run-lts.spec (
-      read-member-reads.Asked,
-      read-member-reads.Learnt,
+      read-behind-reads.Asked,
+      read-behind-reads.Learnt,
+      entered-reads.Asked,
+      entered-reads.Learnt,
       with-source-reads.Asked,
       with-source-reads.Learnt,
       run-source-below t,
       run-source.Post,
+      stopped-reads.Asked,
+      stopped-reads.Learnt,
+      left-at-reads.Asked,
+      left-at-reads.Learnt,
     )
     (enter-and-run-at t)
     enter-and-run.Post
-    (enter-and-run-read-member-requires t)
+    (enter-and-run-read-behind-requires t)
     (enter-and-run-enum-told t)
+    (enter-and-run-entered-requires t)
     (enter-and-run-with-source-requires t)
     (enter-and-run-run-source-requires t)
     (enter-and-run-enum-known-fault t)
+    (enter-and-run-stopped-requires t)
+    (enter-and-run-left-at-requires t)
     (enter-and-run-same-length t)
     (enter-and-run-same-length-2 t)
     (enter-and-run-same-length-3 t)
@@ -3115,6 +4507,8 @@ pub +begin+enter-and-run+include-all+include-one+run-rows+run-source+turn-spec :
     (λ t. include-all-lts.spec (
       body-reads.Asked,
       body-reads.Learnt,
+      part-here-reads.Asked,
+      part-here-reads.Learnt,
       row-at-reads.Asked,
       row-at-reads.Learnt,
       with-below-reads.Asked,
@@ -3123,14 +4517,19 @@ pub +begin+enter-and-run+include-all+include-one+run-rows+run-source+turn-spec :
       token-at-reads.Learnt,
       include-one-below t,
       include-one.Post,
+      since-reads.Asked,
+      since-reads.Learnt,
       is-sign-reads.Asked,
       is-sign-reads.Learnt,
+      left-at-reads.Asked,
+      left-at-reads.Learnt,
     )
     (include-all-at t)
     include-all.Post
     include-all-Inv-loop
     include-all-μ-loop
     (include-all-body-requires t)
+    (include-all-part-here-requires t)
     (include-all-row-at-requires t)
     (include-all-cast-place t)
     (include-all-with-below-requires t)
@@ -3139,8 +4538,9 @@ pub +begin+enter-and-run+include-all+include-one+run-rows+run-source+turn-spec :
     (include-all-sub-turns t)
     (include-all-token-at-requires t)
     (include-all-include-one-requires t)
+    (include-all-since-requires t)
     (include-all-enum-known-e t)
-    (include-all-enum-known-e-2 t)
+    (include-all-enum-told t)
     (include-all-same-length t)
     (include-all-same-length-2 t)
     (include-all-same-length-3 t)
@@ -3150,7 +4550,7 @@ pub +begin+enter-and-run+include-all+include-one+run-rows+run-source+turn-spec :
     (include-all-same-length-7 t)
     (include-all-same-length-8 t)
     (include-all-returns t)
-    (include-all-enum-known-e-3 t)
+    (include-all-enum-told-2 t)
     (include-all-same-length-9 t)
     (include-all-same-length-10 t)
     (include-all-same-length-11 t)
@@ -3165,6 +4565,7 @@ pub +begin+enter-and-run+include-all+include-one+run-rows+run-source+turn-spec :
     (include-all-is-sign-requires t)
     (include-all-loop-less t)
     (include-all-loop-again t)
+    (include-all-left-at-requires t)
     (include-all-same-length-17 t)
     (include-all-same-length-18 t)
     (include-all-same-length-19 t)
@@ -3174,6 +4575,7 @@ pub +begin+enter-and-run+include-all+include-one+run-rows+run-source+turn-spec :
     (include-all-same-length-23 t)
     (include-all-same-length-24 t)
     (include-all-returns-3 t)
+    (include-all-left-at-requires-2 t)
     (include-all-same-length-25 t)
     (include-all-same-length-26 t)
     (include-all-same-length-27 t)
@@ -3186,6 +4588,12 @@ pub +begin+enter-and-run+include-all+include-one+run-rows+run-source+turn-spec :
     (λ t. include-one-lts.spec (
       member-named-reads.Asked,
       member-named-reads.Learnt,
+      stopped-reads.Asked,
+      stopped-reads.Learnt,
+      left-at-reads.Asked,
+      left-at-reads.Learnt,
+      in-member-reads.Asked,
+      in-member-reads.Learnt,
       enter-and-run-below t,
       enter-and-run.Post,
     )
@@ -3193,8 +4601,13 @@ pub +begin+enter-and-run+include-all+include-one+run-rows+run-source+turn-spec :
     include-one.Post
     (include-one-member-named-requires t)
     (include-one-enum-told t)
+    (include-one-stopped-requires t)
+    (include-one-left-at-requires t)
     (include-one-enum-known-found t)
+    (include-one-stopped-requires-2 t)
+    (include-one-left-at-requires-2 t)
     (include-one-returns t)
+    (include-one-in-member-requires t)
     (include-one-enter-and-run-requires t)
     (include-one-returns-2 t)
     (include-one-same-length t)
@@ -3215,8 +4628,12 @@ pub +begin+enter-and-run+include-all+include-one+run-rows+run-source+turn-spec :
       turns-left-reads.Learnt,
       is-over-reads.Asked,
       is-over-reads.Learnt,
+      left-at-reads.Asked,
+      left-at-reads.Learnt,
       turn-below t,
       turn.Post,
+      since-reads.Asked,
+      since-reads.Learnt,
       settle-reads.Asked,
       settle-reads.Learnt,
     )
@@ -3230,6 +4647,7 @@ pub +begin+enter-and-run+include-all+include-one+run-rows+run-source+turn-spec :
     (run-rows-loop-holds t)
     (run-rows-sub-turns t)
     (run-rows-is-over-requires t)
+    (run-rows-left-at-requires t)
     (run-rows-same-length t)
     (run-rows-same-length-2 t)
     (run-rows-same-length-3 t)
@@ -3240,11 +4658,13 @@ pub +begin+enter-and-run+include-all+include-one+run-rows+run-source+turn-spec :
     (run-rows-same-length-8 t)
     (run-rows-returns t)
     (run-rows-turn-requires t)
+    (run-rows-since-requires t)
     (run-rows-settle-requires t)
     (run-rows-enum-known-a t)
     (run-rows-loop-less t)
     (run-rows-loop-again t)
     (run-rows-enum-known-a-2 t)
+    (run-rows-left-at-requires-2 t)
     (run-rows-same-length-9 t)
     (run-rows-same-length-10 t)
     (run-rows-same-length-11 t)
@@ -3254,6 +4674,7 @@ pub +begin+enter-and-run+include-all+include-one+run-rows+run-source+turn-spec :
     (run-rows-same-length-15 t)
     (run-rows-same-length-16 t)
     (run-rows-returns-2 t)
+    (run-rows-left-at-requires-3 t)
     (run-rows-same-length-17 t)
     (run-rows-same-length-18 t)
     (run-rows-same-length-19 t)
@@ -3272,6 +4693,8 @@ pub +begin+enter-and-run+include-all+include-one+run-rows+run-source+turn-spec :
       first-of-reads.Learnt,
       run-rows-below t,
       run-rows.Post,
+      left-at-reads.Asked,
+      left-at-reads.Learnt,
     )
     (run-source-at t)
     run-source.Post
@@ -3281,6 +4704,7 @@ pub +begin+enter-and-run+include-all+include-one+run-rows+run-source+turn-spec :
     (run-source-first-of-requires t)
     (run-source-run-rows-requires t)
     (run-source-enum-known-l-2 t)
+    (run-source-left-at-requires t)
     (run-source-same-length t)
     (run-source-same-length-2 t)
     (run-source-same-length-3 t)
@@ -3302,8 +4726,12 @@ pub +begin+enter-and-run+include-all+include-one+run-rows+run-source+turn-spec :
     λ t. turn-lts.spec (
       begin-below t,
       begin.Post,
+      part-here-reads.Asked,
+      part-here-reads.Learnt,
       into-again-reads.Asked,
       into-again-reads.Learnt,
+      turned-at-reads.Asked,
+      turned-at-reads.Learnt,
       with-step-reads.Asked,
       with-step-reads.Learnt,
     )
@@ -3312,9 +4740,12 @@ pub +begin+enter-and-run+include-all+include-one+run-rows+run-source+turn-spec :
     (turn-enum-known-next t)
     (turn-begin-requires t)
     (turn-enum-known-next-2 t)
+    (turn-part-here-requires t)
     (turn-into-again-requires t)
+    (turn-turned-at-requires t)
     (turn-enum-told t)
     (turn-with-step-requires t)
+    (turn-turned-at-requires-2 t)
     (turn-same-length t)
     (turn-same-length-2 t)
     (turn-same-length-3 t)
