@@ -3,4 +3,5 @@ pub mod Laws
 pub mod Stacked
 pub mod Labelling
 pub mod Words
+pub mod Keywords
 pub mod Ends
