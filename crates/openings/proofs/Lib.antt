@@ -5,3 +5,4 @@ pub mod Labelling
 pub mod Words
 pub mod Keywords
 pub mod Ends
+pub mod Sentences

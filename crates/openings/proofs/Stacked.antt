@@ -138,11 +138,11 @@ lastIn-cons s x os n = refl
 pub last-there : (o q r : Opened) (t x : Open) (n : ℕ) → Popped o q → t ≡ topIn (o .items) (o .count) → WithLast t n x → Pushed q x r → AtLast o n r
 last-there o q r t x n p e w h = record {
   is = λ a b s.
-      h .is (omega (arith, p .count, b)) s
-      ∙ ap (λ (z : D.Open). z ∷ openedOf s q) (w .is s)
-      ∙ ap (λ (z : List D.Open). lastBy (whereOf (t .kind)) (openOf s t) n ∷ z) (p .is s)
-      ∙ sym (lastIn-cons s t (restOf (openedOf s o)) n)
-      ∙ ap (lastIn n) (sym (opened-split s o t a e));
+    h .is (omega (arith, p .count, b)) s
+    ∙ ap (λ (z : D.Open). z ∷ openedOf s q) (w .is s)
+    ∙ ap (λ (z : List D.Open). lastBy (whereOf (t .kind)) (openOf s t) n ∷ z) (p .is s)
+    ∙ sym (lastIn-cons s t (restOf (openedOf s o)) n)
+    ∙ ap (lastIn n) (sym (opened-split s o t a e));
   count = λ a b. omega (arith, h .count (omega (arith, p .count, b)), p .count, a);
 }
 
@@ -226,3 +226,33 @@ row-added D.inGroup o os x p st = refl
 row-added D.inBody o os x p st = refl
 row-added D.inThen o os x p st = refl
 row-added D.inElse o os x p st = refl
+
+-- ---- the list at its start, and its size
+size-from : (s : List ℕ) (os : List Open) (n : ℕ) → length (openFrom s os n) ≡ n
+unfolding openFrom
+size-from s os zero = refl
+size-from s os (suc n) = ap suc (size-from s os n)
+
+pub opened-size : (s : List ℕ) (o : Opened) → length (openedOf s o) ≡ o .count
+unfolding openedOf
+opened-size s o = size-from s (o .items) (o .count)
+
+none-from : (s : List ℕ) (os : List Open) (n : ℕ) → n ≡ 0 → openFrom s os n ≡ []
+unfolding openFrom
+none-from s os n e = ap (openFrom s os) e
+
+pub opened-none : (s : List ℕ) (o : Opened) → o .count ≡ 0 → openedOf s o ≡ []
+unfolding openedOf
+opened-none s o e = none-from s (o .items) (o .count) e
+
+pub program-open : (s : List ℕ) → openOf s noOpen ≡ D.opening D.inProgram 0 []
+unfolding openOf
+program-open s = refl
+
+pub open-kind : (s : List ℕ) (x : Open) → openOf s x .kind ≡ whereOf (x .kind)
+unfolding openOf
+open-kind s x = refl
+
+pub open-row : (s : List ℕ) (x : Open) → openOf s x .row ≡ x .row
+unfolding openOf
+open-row s x = refl
