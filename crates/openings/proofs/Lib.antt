@@ -6,3 +6,4 @@ pub mod Words
 pub mod Keywords
 pub mod Ends
 pub mod Sentences
+pub mod Turning

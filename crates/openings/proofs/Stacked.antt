@@ -138,11 +138,11 @@ lastIn-cons s x os n = refl
 pub last-there : (o q r : Opened) (t x : Open) (n : ℕ) → Popped o q → t ≡ topIn (o .items) (o .count) → WithLast t n x → Pushed q x r → AtLast o n r
 last-there o q r t x n p e w h = record {
   is = λ a b s.
-    h .is (omega (arith, p .count, b)) s
-    ∙ ap (λ (z : D.Open). z ∷ openedOf s q) (w .is s)
-    ∙ ap (λ (z : List D.Open). lastBy (whereOf (t .kind)) (openOf s t) n ∷ z) (p .is s)
-    ∙ sym (lastIn-cons s t (restOf (openedOf s o)) n)
-    ∙ ap (lastIn n) (sym (opened-split s o t a e));
+      h .is (omega (arith, p .count, b)) s
+      ∙ ap (λ (z : D.Open). z ∷ openedOf s q) (w .is s)
+      ∙ ap (λ (z : List D.Open). lastBy (whereOf (t .kind)) (openOf s t) n ∷ z) (p .is s)
+      ∙ sym (lastIn-cons s t (restOf (openedOf s o)) n)
+      ∙ ap (lastIn n) (sym (opened-split s o t a e));
   count = λ a b. omega (arith, h .count (omega (arith, p .count, b)), p .count, a);
 }
 

@@ -85,6 +85,7 @@ pub fn opening(kind: Where, row: u16, labels: usize) -> Open
     }
 }
 
+// What is open at a place of the list, from the outermost on; past its room there is nothing but the program.
 fn open_at(o: Opened, i: usize) -> Open
     ensures { λ r. ⌜ T.OpenAt o i r ⌝ }
 {
@@ -257,6 +258,7 @@ pub fn role_in(k: Where) -> Role
     }
 }
 
+// A list whose last row is nowhere is empty: n is its first.
 fn first_behind(first: Link, last: Link, n: u16) -> Link
     ensures { λ r. ⌜ T.linkOf r ≡ D.firstOf (T.linkOf first) (T.linkOf last) n ⌝ }
 {
@@ -374,6 +376,7 @@ pub fn labels_at(s: &[u8], from: usize) -> Labels
     }
 }
 
+// Never below 0, so that no caller owes an order of the places.
 fn length_of(from: usize, to: usize) -> usize
     ensures { λ r. ⌜ r ≡ to - from ⌝ }
 {
@@ -606,6 +609,7 @@ pub fn is_end(s: &[u8], kind: Where, t: Lexeme) -> bool
     false
 }
 
+// Whether END may have the token t behind it: a word that is one of the labels from a place on.
 fn may_name(s: &[u8], labels: usize, t: Lexeme) -> bool
     ensures { λ r. ⌜ r ≡ T.mayNameIn (now (s .entry)) t (T.labelled (now (s .entry)) labels) ⌝ }
 {
