@@ -38,7 +38,7 @@ use Rattle.openings.specs.declared.Done.the-variants as Dn
 use Rattle.openings.specs.Open.{whereOf, elseFor, beginsIn, isEndIn, mayNameIn, doneTurn, Completes, alternativeTurn, AlternativeFrom}
 use Rattle.openings.proofs.Words.{begins-is}
 
-inside-is : (k : Owner) → D.isInside (scopeOf k) ≡ isInside k
+pub inside-is : (k : Owner) → D.isInside (scopeOf k) ≡ isInside k
 inside-is Everyone = refl
 inside-is (Procedure p) = refl
 
