@@ -1,3 +1,6 @@
 -- Laws that belong to no one function.
+pub mod Rows
+pub mod Adding
+pub mod Endings
 pub mod Frame
 pub mod Growth

@@ -1,18 +1,36 @@
 -- What the state of the reading and the room of rows stand for in the definition. A member has its own part of the room: its first
 -- row is row 0.
-use Prim.Native.Nat.{ℕ, zero, suc, _+_, _*_, _≤_, _<_}
-use mathlib.Core.List.{List, [], _∷_}
+use Prim.Native.Nat.{ℕ, zero, suc, _+_, _*_, _%_, _≤_, _<_}
+use mathlib.Core.Bool.{Bool, true, false, _&&_}
+use mathlib.Core.List.{List, [], _∷_, _++_}
 use mathlib.Core.Path.{_≡_}
 use lib.ListN.{length}
+use Rattle.definition.specs.Room.{over}
+use Rattle.definition.specs.Expressions.{Reading, read, refused, Named}
 use Rattle.definition.specs.Program as P
+use Rattle.definition.specs.Statements as St
 use Rattle.definition.specs.Reading as D
-use Rattle.rows.specs.Table.{rowIn}
+use Rattle.definition.specs.declared.Why.{Why}
+use Rattle.definition.specs.declared.Why.the-variants.{OverLimit}
+use Rattle.rows.specs.Table.{rowIn, linkNumber}
+use Rattle.rows.specs.declared.Link.{Link}
+use Rattle.rows.specs.declared.Link.the-variants as L
 use Rattle.rows.specs.declared.Stretch.{Stretch}
 use Rattle.rows.specs.declared.Row.{Row}
-use Rattle.entering.specs.Book.{Book, bookWhole, Entered, bookAll}
-use Rattle.statements.specs.Clauses.{scopeOf, Ready}
+use Rattle.names.specs.declared.Owner.{Owner}
+use Rattle.entering.specs.declared.Tally.{Tally}
+use Rattle.entering.specs.Book.{Book, bookWhole, bookOf, Entered, bookAll}
+use Rattle.statements.specs.declared.Clause.{Clause}
+use Rattle.statements.specs.declared.Opens.{Opens}
+use Rattle.statements.specs.declared.Read.{Read}
+use Rattle.statements.specs.declared.Read.the-variants as Rd
+use Rattle.statements.specs.Clauses.{scopeOf, opensFor, Own, Ready}
 use Rattle.statements.specs.Again.{statementAt}
-use Rattle.openings.specs.Open.{linkOf, roleOf, openFrom}
+use Rattle.openings.specs.declared.Where.{Where}
+use Rattle.openings.specs.declared.Where.the-variants as Wh
+use Rattle.openings.specs.declared.Open.{Open}
+use Rattle.openings.specs.declared.Opened.{Opened}
+use Rattle.openings.specs.Open.{linkOf, roleOf, openedOf, labelled}
 use Rattle.reading.specs.declared.State.{State}
 use Rattle.reading.specs.declared.Mode.{Mode}
 use Rattle.reading.specs.declared.Mode.the-variants as Md
@@ -51,7 +69,7 @@ stateOf s t ds x = record {
   first = linkOf (x .first);
   rows = rowsFrom s t 0 (x .rows);
   declared = ds;
-  opened = openFrom s (x .opened .items) (x .opened .count);
+  opened = openedOf s (x .opened);
   scope = scopeOf (x .scope);
 }
 
@@ -61,16 +79,152 @@ modeOf (Md.Behind n) = D.textBehind n
 modeOf Md.Alternative = D.alternative
 modeOf Md.Inner = D.inner
 
--- THE TURN that an answer is; a sentence that stops the reading is `begun`
-abbrev pub nextOf : Next → List ℕ → D.State → D.Turn
-nextOf (Nx.Go m at) begun st = D.go (modeOf m) at st
-nextOf (Nx.Stop w p) begun st = D.stop w p begun st
-nextOf Nx.Finish begun st = D.finish st
+-- THE TURN that an answer is, where the reading goes on
+abbrev pub nextOf : Next → D.State → D.Turn
+nextOf (Nx.Go m at) st = D.go (modeOf m) at st
+nextOf (Nx.Stop w p) st = D.stop w p [] st
+nextOf Nx.Finish st = D.finish st
 
-unfoldable pub turnOf : List ℕ → List ℕ → List P.Declared → List ℕ → Turned → D.Turn
-turnOf s t ds begun r = nextOf (r .next) begun (stateOf s t ds (r .state))
+unfoldable pub turnOf : List ℕ → List ℕ → List P.Declared → Turned → D.Turn
+turnOf s t ds r = nextOf (r .next) (stateOf s t ds (r .state))
 
--- what the definition's turn declares, and the sentence that it stopped at
+-- ---- what holds of every state: the program is around all, and what is open leads to rows that there are
+abbrev pub Within : P.Link → ℕ → Type 0
+Within P.nowhere n = Unit {0}
+Within (P.row k) n = k < n
+
+abbrev pub Inside : D.Where → ℕ → ℕ → Type 0
+Inside D.inProgram k n = Unit {0}
+Inside D.inGroup k n = k < n
+Inside D.inBody k n = k < n
+Inside D.inThen k n = k < n
+Inside D.inElse k n = k < n
+
+pub record Low (n : ℕ) (o : D.Open) : Type 0 where
+  pub row : Inside (o .kind) (o .row) n
+  pub last : Within (o .last) n
+
+abbrev pub Around : D.Where → Type 0 → Type 0
+Around D.inProgram A = Unit {0}
+Around D.inGroup A = A
+Around D.inBody A = A
+Around D.inThen A = A
+Around D.inElse A = A
+
+-- with n rows
+abbrev pub Stand : ℕ → List D.Open → Type 0
+Stand n [] = ⊥
+Stand n (o ∷ os) = Low n o × Around (o .kind) (Stand n os)
+
+pub record Placed (s t : List ℕ) (x : State) : Type 0 where
+  pub room : 16384 ≤ length t
+  pub own : x .rows ≤ 1024
+  pub stand : Stand (x .rows) (openedOf s (x .opened))
+  pub some : 0 < x .opened .count
+  pub deep : x .opened .count ≤ 20
+
+-- ---- a state that is changed
+abbrev pub withOpened : State → Opened → State
+withOpened x o = record { entered = x .entered; rows = x .rows; first = x .first; lead = x .lead; opened = o; scope = x .scope; tally = x .tally }
+
+abbrev pub withTally : State → Tally → State
+withTally x y = record { entered = x .entered; rows = x .rows; first = x .first; lead = x .lead; opened = x .opened; scope = x .scope; tally = y }
+
+abbrev pub withScope : State → Owner → State
+withScope x k = record { entered = x .entered; rows = x .rows; first = x .first; lead = x .lead; opened = x .opened; scope = k; tally = x .tally }
+
+abbrev pub turned : State → Next → Turned
+turned x n = record { state = x; next = n }
+
+abbrev pub stretchAt : ℕ → ℕ → Stretch
+stretchAt a b = record { from = a % 65536; to = b % 65536 }
+
+-- a number that the table has room for
+pub record After (n r : ℕ) : Type 0 where
+  pub is : n < 65535 → r ≡ suc n
+
+-- what a new row, a text or what is open leaves as it was; a scope stays one of the member
+pub record Keeps (x r : State) : Type 0 where
+  pub entered : r .entered ≡ x .entered
+  pub tally : r .tally ≡ x .tally
+  pub own : Own (x .tally .member) (x .scope) → Own (x .tally .member) (r .scope)
+
+-- ---- the link to a new row n: from the last of its list, or from what it stands in
+abbrev pub linkAt : List ℕ → ℕ → ℕ → ℕ → List ℕ
+linkAt t k j n = over t (16 * k + j) (linkNumber (L.To n) ∷ [])
+
+abbrev pub linkLast : Link → List ℕ → ℕ → List ℕ → List ℕ
+linkLast L.Nowhere t n other = other
+linkLast (L.To l) t n other = linkAt t l 7 n
+
+abbrev pub linkIn : Where → List ℕ → Open → ℕ → List ℕ
+linkIn Wh.InProgram t o n = linkLast (o .last) t n t
+linkIn Wh.InGroup t o n = linkLast (o .last) t n (linkAt t (o .row) 8 n)
+linkIn Wh.InBody t o n = linkLast (o .last) t n (linkAt t (o .row) 8 n)
+linkIn Wh.InThen t o n = linkAt t (o .row) 8 n
+linkIn Wh.InElse t o n = linkAt t (o .row) 9 n
+
+-- THE NEW ROW: of the clause c at the place p
+pub record Adds (t : List ℕ) (x : State) (c : Clause) (p : ℕ) (t′ : List ℕ) (r : State) : Type 0 where
+  pub is : (s : List ℕ) (ds : List P.Declared) → Placed s t x → x .rows < 1024 → p < 65536 → c .content < 65536
+      → stateOf s t′ ds r ≡ D.addRow (statementAt s (c .statement) (c .content)) p (stateOf s t ds x)
+  pub stand : (s : List ℕ) → Placed s t x → x .rows < 1024 → Stand (suc (x .rows)) (openedOf s (r .opened))
+  pub count : x .rows < 1024 → r .rows ≡ suc (x .rows)
+  pub deep : 0 < x .opened .count → x .opened .count ≤ 20 → r .opened .count ≡ x .opened .count
+  pub keeps : Keeps x r
+  pub size : length t′ ≡ length t
+
+-- the text that the program or a group begins with
+pub record Leads (t : List ℕ) (x : State) (y : Stretch) (t′ : List ℕ) (r : State) : Type 0 where
+  pub is : (s : List ℕ) (ds : List P.Declared) → Placed s t x
+      → stateOf s t′ ds r ≡ D.leadIn (openedOf s (x .opened)) (y .from) (y .to) (stateOf s t ds x)
+  pub opened : r .opened ≡ x .opened
+  pub rows : r .rows ≡ x .rows
+  pub keeps : Keeps x r
+  pub size : length t′ ≡ length t
+
+-- ---- behind a statement: of any rows and declarations
+pub record Ends (s : List ℕ) (x : State) (n e : ℕ) (r : Turned) : Type 0 where
+  pub is : (t : List ℕ) (ds : List P.Declared) (m : ℕ) → Stand m (openedOf s (x .opened)) → x .opened .count ≤ 20
+      → turnOf s t ds r ≡ D.complete s (openedOf s (x .opened)) n e (stateOf s t ds x)
+  pub rows : r .state .rows ≡ x .rows
+  pub keeps : Keeps x (r .state)
+
+pub record OpensIn (s : List ℕ) (x : State) (o : St.Opens) (n labels e : ℕ) (r : Turned) : Type 0 where
+  pub is : (t : List ℕ) (ds : List P.Declared) (ns : List Named) (m : ℕ) → Stand m (openedOf s (x .opened)) → x .opened .count < 20 → D.spelled ns ≡ labelled s labels
+      → turnOf s t ds r ≡ D.opened o s n ns e (stateOf s t ds x)
+  pub rows : r .state .rows ≡ x .rows
+  pub keeps : Keeps x (r .state)
+
+pub record OpensAs (s : List ℕ) (x : State) (k : Opens) (n labels e : ℕ) (r : Turned) : Type 0 where
+  pub so : (o : St.Opens) → k ≡ opensFor o → OpensIn s x o n labels e r
+
+-- ---- a statement that was read, or not: R is what the definition reads
+pub record Again (s : List ℕ) (c : Clause) (x : St.Clause) : Type 0 where
+  pub statement : statementAt s (c .statement) (c .content) ≡ x .statement
+  pub content : c .content < 65536
+  pub opens : c .opens ≡ opensFor (x .opens)
+  pub to : c .to ≡ x .to
+
+abbrev pub Stood : List ℕ → Read → Reading St.Clause → Type 0
+Stood s (Rd.Is c) (read x) = Again s c x
+Stood s (Rd.Is c) (refused w q) = ⊥
+Stood s (Rd.Refused v p) (read x) = ⊥
+Stood s (Rd.Refused v p) (refused w q) = (v ≡ w) × (p ≡ q)
+
+-- where the clause is read, its names es follow those of its labels ns, whatever was declared before; where it is not, nothing changes
+abbrev pub Taken : List ℕ → List ℕ → State → ℕ → List ℕ → Turned → List Named → List P.Declared → List P.Declared → Reading St.Clause → Type 0
+Taken s t x p t′ r ns ds es (read c) = turnOf s t′ (ds ++ (St.means (scopeOf (x .scope)) (D.labelMeaning (c .opens) (x .rows)) ns ++ es)) r ≡ D.taken s p ns (stateOf s t ds x) c es
+Taken s t x p t′ r ns ds es (refused w q) = (r ≡ turned x (Nx.Stop w q)) × (t′ ≡ t)
+
+pub record TakesAs (s t : List ℕ) (x : State) (y : Read) (p labels : ℕ) (t′ : List ℕ) (r : Turned) : Type 0 where
+  pub is : (R : Reading St.Clause) (ns : List Named) (ds es : List P.Declared) → Stood s y R → Placed s t x → x .rows < 1024 → x .opened .count < 20 → p < 65536
+      → D.spelled ns ≡ labelled s labels → Taken s t x p t′ r ns ds es R
+  pub rows : x .rows < 1024 → r .state .rows ≤ suc (x .rows)
+  pub keeps : Keeps x (r .state)
+  pub size : length t′ ≡ length t
+
+-- ---- what the definition's turn leaves: its state, and the sentence that it stopped at
 abbrev pub stateIn : D.Turn → D.State
 stateIn (D.go m at st) = st
 stateIn (D.stop w p begun st) = st
@@ -81,32 +235,57 @@ begunIn (D.go m at st) = []
 begunIn (D.stop w p begun st) = begun
 begunIn (D.finish st) = []
 
--- ---- what a turn needs and does: deck d, body s, rooms of rows t and of names n
+-- ---- what a turn needs: deck d, body s, rooms of rows t and of names n
 pub record Sits (d s t n : List ℕ) (x : State) : Type 0 where
   pub ready : Ready d s n (x .tally) (x .scope)
   pub few : x .entered + x .rows ≤ 2048
-  pub own : x .rows ≤ 1024
-  pub room : 16 * 1024 ≤ length t
-  pub some : 0 < x .opened .count
-  pub deep : x .opened .count ≤ 19
+  pub short : length s < 65536
+  pub placed : Placed s t x
 
--- X is the turn that the definition takes from a state without declarations; those that it makes are entered
-pub record Takes (d s t n : List ℕ) (x : State) (X : D.Turn) (t′ n′ : List ℕ) (r : Turned) : Type 0 where
-  pub turn : turnOf s t′ (stateIn X .declared) (begunIn X) r ≡ X
+-- ---- THE TURN, where the definition takes X from a state without declarations. Where the reading goes on, all is as there
+pub record Goes (d s n : List ℕ) (x : State) (X : D.Turn) (t′ n′ : List ℕ) (r : Turned) : Type 0 where
+  pub turn : turnOf s t′ (stateIn X .declared) r ≡ X
   pub entered : Entered d n (x .tally) (bookAll (x .tally .member) (stateIn X .declared)) n′ (r .state .tally)
-  pub sits : Sits d s t′ n′ (r .state)
+
+-- where it stops, the names of a wrong statement are there, but with another meaning; the refusal asks for none
+pub record Stops (d s n : List ℕ) (x : State) (w : Why) (p : ℕ) (st : D.State) (t′ n′ : List ℕ) (r : Turned) : Type 0 where
+  pub next : r .next ≡ Nx.Stop w p
+  pub rows : rowsFrom s t′ 0 (r .state .rows) ≡ st .rows
+  pub names : bookOf d n′ (r .state .tally) .identifiers ≡ bookAll (x .tally .member) (st .declared) (bookOf d n (x .tally)) .identifiers
+  pub past : bookOf d n′ (r .state .tally) .past ≡ bookAll (x .tally .member) (st .declared) (bookOf d n (x .tally)) .past
+
+abbrev pub Does : List ℕ → List ℕ → List ℕ → State → D.Turn → List ℕ → List ℕ → Turned → Type 0
+Does d s n x (D.go m at st) t′ n′ r = Goes d s n x (D.go m at st) t′ n′ r
+Does d s n x (D.stop w p begun st) t′ n′ r = Stops d s n x w p st t′ n′ r
+Does d s n x (D.finish st) t′ n′ r = Goes d s n x (D.finish st) t′ n′ r
+
+-- the 2,049th sentence of all inclusions, at p, stops the reading at once, where the definition begins it and reads on
+pub record Over (s t : List ℕ) (x : State) (X : D.Turn) (p : ℕ) (r : Turned) : Type 0 where
+  pub next : r .next ≡ Nx.Stop OverLimit p
+  pub full : x .entered + x .rows ≡ 2048
+  pub begins : D.places (stateIn X .rows) ++ begunIn X ≡ D.places (rowsFrom s t 0 (x .rows)) ++ p ∷ []
+
+pub data Way (d s t n : List ℕ) (x : State) (X : D.Turn) (t′ n′ : List ℕ) (r : Turned) : Type 0 where
+  does : Does d s n x X t′ n′ r → Way d s t n x X t′ n′ r
+  over′ : (p : ℕ) → Over s t x X p r → Way d s t n x X t′ n′ r
+
+pub record Takes (d s t n : List ℕ) (x : State) (X : D.Turn) (t′ n′ : List ℕ) (r : Turned) : Type 0 where
+  pub way : Way d s t n x X t′ n′ r
   pub before : r .state .entered ≡ x .entered
+  pub few : r .state .entered + r .state .rows ≤ 2048
+  pub own : Own (x .tally .member) (r .state .scope)
+  pub size : length t′ ≡ length t
 
 abbrev pub fromState : List ℕ → List ℕ → State → D.State
 fromState s t x = stateOf s t [] x
 
 -- the contract of `turn`
-abbrev pub Turns : List ℕ → List ℕ → List ℕ → List ℕ → State → Mode → ℕ → List ℕ → List ℕ → Turned → Type 0
-Turns d s t n x m at t′ n′ r = Takes d s t n x (D.turn s (modeOf m) at (fromState s t x)) t′ n′ r
+pub record Turns (d s t n : List ℕ) (x : State) (m : Mode) (at : ℕ) (t′ n′ : List ℕ) (r : Turned) : Type 0 where
+  pub so : Sits d s t n x → at ≤ length s → Takes d s t n x (D.turn s (modeOf m) at (fromState s t x)) t′ n′ r
 
 -- and of `clause_at`
-abbrev pub Clauses : List ℕ → List ℕ → List ℕ → List ℕ → State → ℕ → ℕ → List ℕ → List ℕ → Turned → Type 0
-Clauses d s t n x p at t′ n′ r = Takes d s t n x (D.clauseAt s p at (fromState s t x)) t′ n′ r
+pub record Clauses (d s t n : List ℕ) (x : State) (p at : ℕ) (t′ n′ : List ℕ) (r : Turned) : Type 0 where
+  pub so : Sits d s t n x → p < length s → at ≤ length s → Takes d s t n x (D.clauseAt s p at (fromState s t x)) t′ n′ r
 
 -- THE MEMBER m of the deck, whose body is s; b is the book before it
 pub record Reads (s : List ℕ) (m : ℕ) (b : Book) (t′ : List ℕ) (c : Book) (r : Source) : Type 0 where

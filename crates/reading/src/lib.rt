@@ -1,4 +1,10 @@
 // A member is read once, from left to right, with a list of what is open: its sentences become rows, its names are declared.
+ghost use mathlib.Core.Path.{_≡_};
+ghost use Prim.Native.Nat.{_%_};
+ghost use Rattle.definition.specs.Reading as D;
+ghost use Rattle.statements.specs.Clauses as C;
+ghost use Rattle.reading.specs.State as T;
+ghost use Rattle.reading.specs.declared.Next.the-variants as Next;
 use deck::body;
 use definition::Why;
 use entering::Fault;
@@ -106,27 +112,35 @@ struct Turned {
     next: Next,
 }
 
-fn go(state: State, mode: Mode, at: usize) -> Turned {
+fn go(state: State, mode: Mode, at: usize) -> Turned
+    ensures { λ r. ⌜ r ≡ T.turned state (Next.Go mode at) ⌝ }
+{
     Turned {
         state,
         next: Next::Go(mode, at),
     }
 }
 
-fn stop(state: State, why: Why, at: usize) -> Turned {
+fn stop(state: State, why: Why, at: usize) -> Turned
+    ensures { λ r. ⌜ r ≡ T.turned state (Next.Stop why at) ⌝ }
+{
     Turned {
         state,
         next: Next::Stop(why, at),
     }
 }
 
-fn with_opened(st: State, opened: Opened) -> State {
+fn with_opened(st: State, opened: Opened) -> State
+    ensures { λ r. ⌜ r ≡ T.withOpened st opened ⌝ }
+{
     let mut x = st;
     x.opened = opened;
     x
 }
 
-fn with_tally(st: State, tally: Tally) -> State {
+fn with_tally(st: State, tally: Tally) -> State
+    ensures { λ r. ⌜ r ≡ T.withTally st tally ⌝ }
+{
     let first = st.first;
     let lead = st.lead;
     let opened = st.opened;
@@ -142,7 +156,9 @@ fn with_tally(st: State, tally: Tally) -> State {
     }
 }
 
-fn with_scope(st: State, scope: Owner) -> State {
+fn with_scope(st: State, scope: Owner) -> State
+    ensures { λ r. ⌜ r ≡ T.withScope st scope ⌝ }
+{
     let first = st.first;
     let lead = st.lead;
     let opened = st.opened;
@@ -159,11 +175,15 @@ fn with_scope(st: State, scope: Owner) -> State {
 }
 
 // Places of a body are below 65,536.
-fn place16(p: usize) -> u16 {
+fn place16(p: usize) -> u16
+    ensures { λ r. ⌜ r ≡ p % 65536 ⌝ }
+{
     (p % 65_536) as u16
 }
 
-fn stretch(from: usize, to: usize) -> Stretch {
+fn stretch(from: usize, to: usize) -> Stretch
+    ensures { λ r. ⌜ r ≡ T.stretchAt «from» to ⌝ }
+{
     Stretch {
         from: place16(from),
         to: place16(to),
@@ -173,7 +193,9 @@ fn stretch(from: usize, to: usize) -> Stretch {
 // ---- a new row
 
 // The link that leads to the new row n: from the last of its list, or as the first inside its parent.
-fn link_listed(rows: &mut [u16], o: Open, n: u16) {
+fn link_listed(rows: &mut [u16], o: Open, n: u16)
+    ensures { λ _. ⌜ now (rows .exit) ≡ T.linkLast (o .last) (now (rows .entry)) n (T.linkAt (now (rows .entry)) (o .row) 8 n) ⌝ }
+{
     let last = o.last;
     match last {
         Link::Nowhere => set_child(rows, o.row, n),
@@ -182,7 +204,9 @@ fn link_listed(rows: &mut [u16], o: Open, n: u16) {
 }
 
 // In the program the first row is kept apart.
-fn link_program(rows: &mut [u16], o: Open, n: u16) {
+fn link_program(rows: &mut [u16], o: Open, n: u16)
+    ensures { λ _. ⌜ now (rows .exit) ≡ T.linkLast (o .last) (now (rows .entry)) n (now (rows .entry)) ⌝ }
+{
     let last = o.last;
     match last {
         Link::Nowhere => {}
@@ -190,7 +214,9 @@ fn link_program(rows: &mut [u16], o: Open, n: u16) {
     }
 }
 
-fn link_row(rows: &mut [u16], o: Open, n: u16) {
+fn link_row(rows: &mut [u16], o: Open, n: u16)
+    ensures { λ _. ⌜ now (rows .exit) ≡ T.linkIn (o .kind) (now (rows .entry)) o n ⌝ }
+{
     let kind = o.kind;
     match kind {
         Where::InProgram => link_program(rows, o, n),
@@ -202,7 +228,9 @@ fn link_row(rows: &mut [u16], o: Open, n: u16) {
 }
 
 // A number that the table has room for.
-fn row_after(n: u16) -> u16 {
+fn row_after(n: u16) -> u16
+    ensures { λ r. ⌜ T.After n r ⌝ }
+{
     if n < 65_535 {
         return n + 1;
     }
@@ -210,7 +238,9 @@ fn row_after(n: u16) -> u16 {
 }
 
 // The statement of the place p as a new row, in what is open.
-fn add_row(rows: &mut [u16], st: State, c: Clause, p: usize) -> State {
+fn add_row(rows: &mut [u16], st: State, c: Clause, p: usize) -> State
+    ensures { λ r. ⌜ T.Adds (now (rows .entry)) st c p (now (rows .exit)) r ⌝ }
+{
     let n = st.rows;
     let opened = st.opened;
     let o = top(opened);
@@ -253,7 +283,9 @@ fn add_row(rows: &mut [u16], st: State, c: Clause, p: usize) -> State {
 
 // ---- behind a statement
 
-fn behind(scope: Owner, n: u16) -> Mode {
+fn behind(scope: Owner, n: u16) -> Mode
+    ensures { λ r. ⌜ T.modeOf r ≡ D.behind (C.scopeOf scope) n ⌝ }
+{
     match scope {
         Owner::Everyone => Mode::Behind(n),
         Owner::Procedure(_) => Mode::Inner,
@@ -261,7 +293,9 @@ fn behind(scope: Owner, n: u16) -> Mode {
 }
 
 // The statement of row n ends at e. "ELSE goes with the nearest IF."
-fn complete(s: &[u8], st0: State, n: u16, e: usize) -> Turned {
+fn complete(s: &[u8], st0: State, n: u16, e: usize) -> Turned
+    ensures { λ r. ⌜ T.Ends (now (s .entry)) st0 n e r ⌝ }
+{
     let mut st = st0;
     let mut i = n;
     let mut turns: usize = 20;
@@ -342,7 +376,9 @@ fn declare_labels(
 // ---- a statement that was read
 
 // What a statement opens, behind its row n.
-fn open_inside(s: &[u8], st: State, opens: Opens, n: u16, labels: usize, e: usize) -> Turned {
+fn open_inside(s: &[u8], st: State, opens: Opens, n: u16, labels: usize, e: usize) -> Turned
+    ensures { λ r. ⌜ T.OpensAs (now (s .entry)) st opens n labels e r ⌝ }
+{
     let opened = st.opened;
     let scope = st.scope;
     match opens {
@@ -369,7 +405,9 @@ fn open_inside(s: &[u8], st: State, opens: Opens, n: u16, labels: usize, e: usiz
     }
 }
 
-fn taken(s: &[u8], rows: &mut [u16], st: State, r: Read, p: usize, labels: usize) -> Turned {
+fn taken(s: &[u8], rows: &mut [u16], st: State, r: Read, p: usize, labels: usize) -> Turned
+    ensures { λ y. ⌜ T.TakesAs (now (s .entry)) (now (rows .entry)) st r p labels (now (rows .exit)) y ⌝ }
+{
     match r {
         Read::Is(c) => {
             let n = st.rows;
@@ -577,7 +615,9 @@ fn texted(
 }
 
 // The text that the program or a group begins with.
-fn lead_in(rows: &mut [u16], st: State, x: Stretch) -> State {
+fn lead_in(rows: &mut [u16], st: State, x: Stretch) -> State
+    ensures { λ r. ⌜ T.Leads (now (rows .entry)) st x (now (rows .exit)) r ⌝ }
+{
     let opened = st.opened;
     let o = top(opened);
     let kind = o.kind;

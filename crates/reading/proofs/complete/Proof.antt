@@ -1,27 +1,29 @@
--- The turns left get fewer.
+-- What is left to do is what was to do.
 use borrow.Author.Needs.{needs}
 use Rattle.reading.proofs.complete.Statement.{statement}
 use Rattle.reading.proofs.complete.Tie as tie
 use Rattle.reading.proofs.complete.Reads as reads
 use Rattle.reading.proofs.complete.Lts as lts
-use Rattle.reading.proofs.behind.Reads as behind-reads
 use Rattle.openings.proofs.done_in.Reads as done-in-reads
-use Rattle.reading.proofs.go.Reads as go-reads
 use Rattle.openings.proofs.opening.Reads as opening-reads
 use Rattle.openings.proofs.pop.Reads as pop-reads
 use Rattle.openings.proofs.push.Reads as push-reads
 use Rattle.openings.proofs.top.Reads as top-reads
+use Rattle.reading.proofs.behind.Reads as behind-reads
+use Rattle.reading.proofs.go.Reads as go-reads
 use Rattle.reading.proofs.with_opened.Reads as with-opened-reads
 use Prim.Native.Nat.{_≤_}
+use denote.Ref.{now}
+use Rattle.reading.proofs.Endings.{Completing, complete-starts, complete-none, complete-on, complete-else, complete-up}
 
 abbrev Inv-loop : tie.InvT-loop
-Inv-loop s n e st₀ i₀ turns₀ st i turns = (turns ≤ turns₀)
+Inv-loop s n e st₀ i₀ turns₀ st i turns = (turns ≤ turns₀) × Completing s st₀ n e st i turns
 
 abbrev μ-loop : tie.MeasureT-loop
 μ-loop s n e st₀ i₀ turns₀ st i turns = turns
 
 loop-holds : tie.Need-loop-holds Inv-loop μ-loop
-loop-holds c = search needs
+loop-holds c = search (needs, complete-starts)
 
 sub-turns : tie.Need-sub-turns Inv-loop μ-loop
 sub-turns c = search needs
@@ -42,7 +44,7 @@ go-requires : tie.Need-go-requires Inv-loop μ-loop
 go-requires c κs = search needs
 
 returns : tie.Need-returns Inv-loop μ-loop
-returns c = search needs
+returns c = search complete-on
 
 enum-known-d : tie.Need-enum-known-d Inv-loop μ-loop
 enum-known-d c = search needs
@@ -63,7 +65,7 @@ go-requires-2 : tie.Need-go-requires-2 Inv-loop μ-loop
 go-requires-2 c κs = search needs
 
 returns-2 : tie.Need-returns-2 Inv-loop μ-loop
-returns-2 c = search needs
+returns-2 c = search (complete-else, (c .before .before .before .before .before .before .before .before .before .before .before .before .loop .inv .1), (c .before .before .before .before .before .before .before .before .before .top .ensures), (c .before .before .before .before .before .before .before .before .done-in .ensures), (c .before .before .before .before .pop .ensures), (c .before .before .before .opening .ensures), (c .before .before .push .ensures), (c .before .with-opened .ensures), (c .go2 .ensures))
 
 enum-known-d-2 : tie.Need-enum-known-d-2 Inv-loop μ-loop
 enum-known-d-2 c = search needs
@@ -78,10 +80,10 @@ loop-less : tie.Need-loop-less Inv-loop μ-loop
 loop-less c = search needs
 
 loop-again : tie.Need-loop-again Inv-loop μ-loop
-loop-again c = search needs
+loop-again c = search (needs, complete-up)
 
 returns-3 : tie.Need-returns-3 Inv-loop μ-loop
-returns-3 c = search needs
+returns-3 c = search complete-none
 
 pub complete-spec : {M : Type 1} → statement M
 complete-spec =
