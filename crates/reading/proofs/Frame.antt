@@ -13,9 +13,9 @@ use Rattle.definition.specs.declared.Why.{Why}
 use Rattle.definition.specs.declared.Why.the-variants.{Syntax, OverLimit}
 use Rattle.definition.specs.Tokens.{Token, word, integer, string, bits, sign, nothing, wrong, Lexeme, isWord, isSign, tokenAt, TextEnd, percentAt, atEnd, openAt, textEnd}
 use Rattle.definition.specs.Expressions.{Reading, read, refused, Named, nameOf}
-use Rattle.definition.specs.Program.{Statement, null, Scope, global, inside, Meaning, label, endLabel, Declared, Fault, Source}
+use Rattle.definition.specs.Program.{Statement, null, Scope, global, inside, label, endLabel, Declared, Source}
 use Rattle.definition.specs.Statements.{Opens, opensNothing, opensGroup, opensBody, opensThen, Clause, clause, assignment, Declaring, declared, undeclared, declareFrom, procedureClause, means}
-use Rattle.definition.specs.Reading.{Where, inProgram, inGroup, inBody, inThen, inElse, Open, State, state, stretch, change, setLead, setText, addIn, addTo, addRow, withNames, withRows, withLead, withOpened, scopeOut, Mode, Turn, go, stop, finish, Else, elseTo, noElse, elseAt, elsed, completeIn, complete, Labelled, labels, opened, taken, untaken, takeRead, takeDeclared, labelMeaning, isDeclare, isProcedure, isNone, isInside, isList, kindOf, doAt, common, inList, outer, byWord, byName, byToken, endName, endRead, endAt, isInGroup, isInBody, isFull, isEnd, longLabel, named, clauseFrom, clauseAt, texted, leadIn, notEnd, procedureEnd, begins, innerAt, depth, deepEnough, alternativeAt, leadingText, textBehind, alternative, inner, turn, readOn}
+use Rattle.definition.specs.Reading.{Where, inProgram, inGroup, inBody, inThen, inElse, Open, State, state, stretch, change, setLead, addIn, addTo, addRow, withNames, withRows, withLead, withOpened, scopeOut, Mode, Turn, go, stop, finish, Else, elseTo, noElse, elseAt, elsed, completeIn, complete, Labelled, labels, opened, taken, untaken, takeRead, takeDeclared, labelMeaning, isDeclare, isProcedure, isNone, isInside, isList, kindOf, doAt, common, inList, outer, byWord, byName, byToken, endName, endRead, endAt, isInGroup, isInBody, isFull, isEnd, longLabel, named, clauseFrom, clauseAt, texted, leadIn, notEnd, procedureEnd, begins, innerAt, depth, deepEnough, alternativeAt, leadingText, textBehind, alternative, inner, turn, readOn}
 
 -- a state with other declarations, and with some in front of its own
 abbrev pub withDeclared : List Declared → State → State

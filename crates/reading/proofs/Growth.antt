@@ -6,7 +6,7 @@ use Prim.Native.Char.{code}
 use Prim.Native.String.{String}
 use native.Mathlib.Omega.{arith}
 use mathlib.Core.Bool.{Bool, true, false, cond, not, _&&_, _||_, false≢true}
-use mathlib.Core.List.{List, [], _∷_, _++_, append-nil}
+use mathlib.Core.List.{List, [], _∷_, _++_}
 use mathlib.Core.Path.{_≡_, refl, sym, ap, subst, _∙_}
 use lib.Dec.{leb, ltb, eqb}
 use lib.ListN.{length, getD, length-append, List·getD-eq-default}
@@ -17,12 +17,12 @@ use Rattle.definition.specs.Limits.{openGroups, enteredSentences, declaredNames
 use Rattle.definition.specs.declared.Why.{Why}
 use Rattle.definition.specs.declared.Why.the-variants.{Syntax, OverLimit}
 use Rattle.definition.specs.Tokens as Tokens
-use Rattle.definition.specs.Tokens.{Token, word, integer, string, bits, sign, nothing, wrong, Lexeme, lexeme, isWord, isSign, Spaces, upTo, spaces, isSpace, isComment, lexemeAt, tokenAt, Piece, name, plain, unclosed, pieceAt, TextEnd, percentAt, atEnd, openAt, textEnd}
+use Rattle.definition.specs.Tokens.{Token, word, integer, string, bits, sign, nothing, wrong, Lexeme, lexeme, isWord, isSign, upTo, spaces, isSpace, isComment, lexemeAt, tokenAt, Piece, name, plain, unclosed, pieceAt, TextEnd, percentAt, atEnd, openAt, textEnd}
 use Rattle.definition.specs.Expressions.{Reading, read, refused, then, Tree, binary, Maybe, is, noOperator, infixOf, prefixOf, Parsed, expectSign, expectWord, Named, nameOf, nameAt, Reader, arguments, referenceAt, primitive, prefixed, operand, chained, chain, levels, expression, wholeExpression}
 use Rattle.definition.specs.declared.Operator.{Operator}
 use Rattle.definition.specs.declared.Prefix.{Prefix}
 use Rattle.definition.specs.declared.ValueType.{ValueType}
-use Rattle.definition.specs.Program.{Bound, by, upto, Activation, Statement, null, iterated, Link, nowhere, row, listed, thenPart, elsePart, Row, Scope, global, inside, Meaning, variable, parameter, label, endLabel, Declared, Fault, sound, faulty, Source}
+use Rattle.definition.specs.Program.{Bound, by, upto, Activation, Statement, null, Link, nowhere, row, listed, thenPart, elsePart, Row, Scope, global, inside, Meaning, parameter, label, endLabel, Declared, Fault, sound, faulty, Source}
 use Rattle.definition.specs.Statements as S
 use Rattle.definition.specs.Statements.{Opens, opensNothing, opensGroup, opensBody, opensThen, Clause, clause, ended, assignment, thenWord, ifClause, boundAt, doBounds, doClause, gotoClause, listOf, eachName, eachActivation, includeClause, activateClause, deactivateClause, returnClause, Declaring, declared, undeclared, thenDeclare, means, namesAt, attribute, declareNames, declareNext, declareFrom, returnsType, procedureHead, procedureClause}
 use Rattle.definition.specs.Reading as R
@@ -36,7 +36,7 @@ use Rattle.entering.specs.declared.Mark.the-variants.{Unmarked, Marked}
 use Rattle.entering.specs.declared.Fault.the-variants.{Faulty}
 use Rattle.entering.specs.Book.{Book, markOf, twiceOr, faultIn}
 use Rattle.entering.proofs.Order.{Entry, stays-out}
-use Rattle.reading.proofs.Frame.{withDeclared, prepend, prependSource, clauseAt-frame, read-frame}
+use Rattle.reading.proofs.Frame.{withDeclared, prependSource, clauseAt-frame, read-frame}
 
 -- ---- a token does not lie before the place that it is looked for at, and one with bytes lies within the source
 spaces-end : (f : ℕ) (s : List ℕ) (e : ℕ) → length s ≤ e → spaces f s e ≡ upTo e
@@ -48,12 +48,12 @@ token-end : (s : List ℕ) (e : ℕ) → length s ≤ e → tokenAt s e ≡ lexe
 unfolding tokenAt lexemeAt
 token-end s e h = rw (spaces-end (length s) s e h, le-leb (length s) e h)
 
-record On (s : List ℕ) (e : ℕ) (t : Lexeme) : Type 0 where
-  low : e ≤ t .from
-  order : t .from ≤ t .to
-  some : Real (t .token) → (t .from < t .to) × (t .to ≤ length s)
+pub record On (s : List ℕ) (e : ℕ) (t : Lexeme) : Type 0 where
+  pub low : e ≤ t .from
+  pub order : t .from ≤ t .to
+  pub some : Real (t .token) → (t .from < t .to) × (t .to ≤ length s)
 
-token-on : (s : List ℕ) (e : ℕ) → On s e (tokenAt s e)
+pub token-on : (s : List ℕ) (e : ℕ) → On s e (tokenAt s e)
 token-on s e = go′ (leb (length s) e) refl
   where
     go′ : (b : Bool) → leb (length s) e ≡ b → On s e (tokenAt s e)
@@ -798,17 +798,17 @@ percent-low s f q p h = (subst (LowEnd s) h (text-low s f q), behind (omega arit
 pub begins-low : (s : List ℕ) (e : ℕ) → begins (tokenAt s e .token) ≡ true → (tokenAt s e .from < length s) × Starts s (tokenAt s e .from) e
 begins-low s e h = let t : (tokenAt s e .from < tokenAt s e .to) × (tokenAt s e .to ≤ length s) = token-on s e .some (begins-real (tokenAt s e .token) h) in (omega (arith, t .0, t .1), opens refl h)
 
-sign-real : (t : Token) → isSign "%" t ≡ true → Real t
-sign-real (word w) e = tt
-sign-real (integer w) e = tt
-sign-real (string w) e = tt
-sign-real (bits w) e = tt
-sign-real (sign w) e = tt
-sign-real nothing e = absurd (false≢true e)
-sign-real wrong e = absurd (false≢true e)
+pub sign-real : (x : String) (t : Token) → isSign x t ≡ true → Real t
+sign-real x (word w) e = tt
+sign-real x (integer w) e = tt
+sign-real x (string w) e = tt
+sign-real x (bits w) e = tt
+sign-real x (sign w) e = tt
+sign-real x nothing e = absurd (false≢true e)
+sign-real x wrong e = absurd (false≢true e)
 
 pub sign-low : (s : List ℕ) (e : ℕ) → isSign "%" (tokenAt s e .token) ≡ true → (tokenAt s e .from < length s) × Starts s (tokenAt s e .from) (tokenAt s e .to)
-sign-low s e h = let t : (tokenAt s e .from < tokenAt s e .to) × (tokenAt s e .to ≤ length s) = token-on s e .some (sign-real (tokenAt s e .token) h) in (omega (arith, t .0, t .1), behind (t .0))
+sign-low s e h = let t : (tokenAt s e .from < tokenAt s e .to) × (tokenAt s e .to ≤ length s) = token-on s e .some (sign-real "%" (tokenAt s e .token) h) in (omega (arith, t .0, t .1), behind (t .0))
 
 -- ---- WHAT IS READ FROM THERE has p as the next of its sentences, its fault is not sooner, and its names are not before p
 pub sentence-grows : (s : List ℕ) (p e : ℕ) (st : State) → Sentence s p e st → FarNames s p (st .declared) → (f : ℕ) → Grown s p (places (st .rows) ++ p ∷ []) (readOn s f (clauseAt s p e st))

@@ -4,3 +4,4 @@ pub mod Adding
 pub mod Endings
 pub mod Frame
 pub mod Growth
+pub mod Parameters
