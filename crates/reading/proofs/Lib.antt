@@ -5,3 +5,4 @@ pub mod Endings
 pub mod Frame
 pub mod Growth
 pub mod Parameters
+pub mod Owners

@@ -430,6 +430,16 @@ module _ (s : List ℕ) (k : Scope) where
   listed-names : (e : ℕ) → D.namesAt k parameter s [] (length s) [] e (D.procedureHead k s) ≡ afterNames k parameter s [] (D.procedureHead k s) (listEnd (41 ∷ []) false s (length s) e) (namesRead s (length s) e)
   listed-names e = names-at k parameter s [] (D.procedureHead k s) (length s) [] e (omega arith) (λ z. absurd (omega arith))
 
+  names-by : (e : ℕ) (g : Bool) → isSign "(" (tokenAt s e .token) ≡ g → namesIn (D.procedureClause k s e) ≡ means k parameter (when g (λ _. namesRead s (length s) (tokenAt s e .to)) (λ _. []))
+  unfolding D.procedureClause
+  names-by e true h =
+      let list : ℕ = tokenAt s e .to in
+      rw (h, listed-names list) (after-names (listEnd (41 ∷ []) false s (length s) list) (namesRead s (length s) list))
+  names-by e false h = rw h (head-names [] e)
+
+  pub clause-names : (e : ℕ) → namesIn (D.procedureClause k s e) ≡ means k parameter (when (isSign "(" (tokenAt s e .token)) (λ _. namesRead s (length s) (tokenAt s e .to)) (λ _. []))
+  clause-names e = names-by e (isSign "(" (tokenAt s e .token)) refl
+
 book-twice : (d t : List ℕ) (k : Mark) (x : Tally) → bookOf d t (tallyTwice k x) ≡ bookTwice k (bookOf d t x)
 unfolding bookOf
 book-twice d t Unmarked x = refl
@@ -459,16 +469,12 @@ module _ (d t : List ℕ) (x : Tally) (m n : ℕ) (s : List ℕ) (from : ℕ) wh
   none-entered [] b = refl
   none-entered (y ∷ ns) b = none-entered ns b
 
-  refused-by : (g : Bool) → isSign "(" (tokenAt s from .token) ≡ g → bookAll m (namesIn (D.procedureClause (inside n) s from)) (bookOf d t x) ≡ bookOf d t x
-  unfolding D.procedureClause
-  refused-by true e =
-      let list : ℕ = tokenAt s from .to in
-      rw (e, listed-names s (inside n) list, after-names s (inside n) (listEnd (41 ∷ []) false s (length s) list) (namesRead s (length s) list)) (none-entered (namesRead s (length s) list) (bookOf d t x))
-  refused-by false e = rw (e, head-names s (inside n) [] from) (none-entered [] (bookOf d t x))
+  refused-none : bookAll m (namesIn (D.procedureClause (inside n) s from)) (bookOf d t x) ≡ bookOf d t x
+  refused-none = rw (clause-names s (inside n) from) (none-entered (when (isSign "(" (tokenAt s from .token)) (λ _. namesRead s (length s) (tokenAt s from .to)) (λ _. [])) (bookOf d t x))
 
   pub procedure-refused : (r : Read) → isRead r ≡ false → Almost (bookWhole m [] (namesIn (D.procedureClause (inside n) s from)) (bookOf d t x)) (bookOf d t (procedureTally s from r x))
   unfolding procedureTally
   procedure-refused r h =
       let b : Book = bookOf d t x in
       let c : Book = bookWhole m [] (namesIn (D.procedureClause (inside n) s from)) b in
-      rw h (subst (λ (z : Book). Almost c z) (refused-by (isSign "(" (tokenAt s from .token)) refl) (whole-almost m [] (namesIn (D.procedureClause (inside n) s from)) b b (record { identifiers = refl; denotations = refl; activities = refl; past = refl })))
+      rw h (subst (λ (z : Book). Almost c z) refused-none (whole-almost m [] (namesIn (D.procedureClause (inside n) s from)) b b (record { identifiers = refl; denotations = refl; activities = refl; past = refl })))
