@@ -6,3 +6,4 @@ pub mod Frame
 pub mod Growth
 pub mod Parameters
 pub mod Owners
+pub mod Labelling

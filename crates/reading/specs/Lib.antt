@@ -1,2 +1,3 @@
 -- What the contracts of `reading` cite.
 pub mod State
+pub mod Labelled

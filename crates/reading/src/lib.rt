@@ -5,6 +5,7 @@ ghost use Rattle.definition.specs.Reading as D;
 ghost use Rattle.statements.specs.Clauses as C;
 ghost use Rattle.reading.specs.State as T;
 ghost use Rattle.reading.specs.declared.Next.the-variants as Next;
+ghost use Rattle.reading.specs.Labelled as L;
 use deck::body;
 use definition::Why;
 use entering::Fault;
@@ -336,7 +337,9 @@ fn declare_label(
     at: usize,
     scope: Owner,
     meaning: Meaning,
-) -> Tally {
+) -> Tally
+    ensures { λ r. ⌜ L.LabelIf (now (deck .entry)) (now (s .entry)) (now (names .entry)) t at scope meaning (now (names .exit)) r ⌝ }
+{
     let n = name_at(s, at);
     match n {
         NamedAt::Is(from, to) => declare(deck, s, names, t, Spelling { from, to }, scope, meaning),
@@ -352,7 +355,9 @@ fn declare_labels(
     st: State,
     from: usize,
     meaning: Meaning,
-) -> State {
+) -> State
+    ensures { λ r. ⌜ L.LabelsIf (now (deck .entry)) (now (s .entry)) (now (names .entry)) st from meaning (now (names .exit)) r ⌝ }
+{
     let scope = st.scope;
     let mut tally = st.tally;
     let mut at = from;
