@@ -287,10 +287,6 @@ pub record Turns (d s t n : List ℕ) (x : State) (m : Mode) (at : ℕ) (t′ n�
 pub record Clauses (d s t n : List ℕ) (x : State) (p at : ℕ) (t′ n′ : List ℕ) (r : Turned) : Type 0 where
   pub so : Sits d s t n x → p < length s → at ≤ length s → Takes d s t n x (D.clauseAt s p at (fromState s t x)) t′ n′ r
 
--- ---- a state with another tally
-abbrev pub withTally : State → Tally → State
-withTally x y = record { entered = x .entered; rows = x .rows; first = x .first; lead = x .lead; opened = x .opened; scope = x .scope; tally = y }
-
 -- THE MEMBER m of the deck, whose body is s; b is the book before it
 pub record Reads (s : List ℕ) (m : ℕ) (b : Book) (t′ : List ℕ) (c : Book) (r : Source) : Type 0 where
   pub lead : stretchOf (r .lead) ≡ D.readMember s .lead
