@@ -33,11 +33,11 @@ abbrev pub prependSource : List Declared → Source → Source
 prependSource ds x = record { lead = x .lead; first = x .first; rows = x .rows; declared = ds ++ x .declared; begun = x .begun; fault = x .fault }
 
 module _ (s : List ℕ) (ds : List Declared) where
-  when-frame : (t : Bool) (f g f′ g′ : Unit {0} → Turn) → f tt ≡ prepend ds (f′ tt) → g tt ≡ prepend ds (g′ tt) → when t f g ≡ prepend ds (when t f′ g′)
+  pub when-frame : (t : Bool) (f g f′ g′ : Unit {0} → Turn) → f tt ≡ prepend ds (f′ tt) → g tt ≡ prepend ds (g′ tt) → when t f g ≡ prepend ds (when t f′ g′)
   when-frame true f g f′ g′ h k = h
   when-frame false f g f′ g′ h k = k
 
-  cond-frame : (t : Bool) (x y x′ y′ : Turn) → x ≡ prepend ds x′ → y ≡ prepend ds y′ → cond t x y ≡ prepend ds (cond t x′ y′)
+  pub cond-frame : (t : Bool) (x y x′ y′ : Turn) → x ≡ prepend ds x′ → y ≡ prepend ds y′ → cond t x y ≡ prepend ds (cond t x′ y′)
   cond-frame true x y x′ y′ h k = h
   cond-frame false x y x′ y′ h k = k
 
@@ -168,7 +168,7 @@ module _ (s : List ℕ) (ds : List Declared) where
       (too-long (L .long) _ _ _ _ (λ q. untaken-frame p (L .labels) st OverLimit q []) (by-token (L .behind .token) p (L .labels) (L .behind) st)))
 
   -- ---- texts and procedures
-  texted-frame : (e : TextEnd) (f f′ : ℕ → State) → ((p : ℕ) → f p ≡ behind ds (f′ p)) → texted e s f ≡ prepend ds (texted e s f′)
+  pub texted-frame : (e : TextEnd) (f f′ : ℕ → State) → ((p : ℕ) → f p ≡ behind ds (f′ p)) → texted e s f ≡ prepend ds (texted e s f′)
   texted-frame (percentAt p) f f′ h = ap (clauseAt s p (p + 1)) (h p) ∙ clause-frame p (labels s (p + 1)) (f′ p)
   texted-frame atEnd f f′ h =
       ap (λ (z : State). cond (leb (length (z .opened)) 1) (finish (f (length s))) (stop Syntax (length s) [] (f (length s)))) (h 0)
@@ -176,7 +176,7 @@ module _ (s : List ℕ) (ds : List Declared) where
       (ap finish (h (length s))) (ap (stop Syntax (length s) []) (h (length s)))
   texted-frame (openAt p) f f′ h = ap (stop Syntax p []) (h p)
 
-  lead-in : (os : List Open) (from p : ℕ) (st : State) → leadIn os from p (behind ds st) ≡ behind ds (leadIn os from p st)
+  pub lead-in : (os : List Open) (from p : ℕ) (st : State) → leadIn os from p (behind ds st) ≡ behind ds (leadIn os from p st)
   lead-in [] from p st = refl
   lead-in (o ∷ os) from p st = at-kind (o .kind)
     where
@@ -192,7 +192,7 @@ module _ (s : List ℕ) (ds : List Declared) where
   not-end (read n) st = refl
   not-end (refused w p) st = refl
 
-  procedure-end : (L : Labelled) (st : State) → procedureEnd s L (behind ds st) ≡ prepend ds (procedureEnd s L st)
+  pub procedure-end : (L : Labelled) (st : State) → procedureEnd s L (behind ds st) ≡ prepend ds (procedureEnd s L st)
   procedure-end L st =
       too-long (L .long) _ _ _ _ (λ q. ap (stop OverLimit q []) (named-frame (L .labels) st))
       (when-frame (isWord "END" (L .behind .token)) _ _ _ _ (end-at (L .labels) (L .behind .to) (st .opened) st)
@@ -204,7 +204,7 @@ module _ (s : List ℕ) (ds : List Declared) where
       when-frame (isInBody (kindOf (st .opened)) && isSign "%" (t .token)) _ _ _ _ (procedure-end (labels s (t .to)) st)
       (when-frame (begins (t .token)) _ _ _ _ (clause-frame (t .from) (labels s p) st) refl)
 
-  deep-frame : (p : ℕ) (st : State) (f g : Unit {0} → Turn) → f tt ≡ prepend ds (g tt) → deepEnough p (behind ds st) f ≡ prepend ds (deepEnough p st g)
+  pub deep-frame : (p : ℕ) (st : State) (f g : Unit {0} → Turn) → f tt ≡ prepend ds (g tt) → deepEnough p (behind ds st) f ≡ prepend ds (deepEnough p st g)
   unfolding deepEnough
   deep-frame p st f g k = when-frame (leb (depth (st .opened)) openGroups) _ _ _ _ k refl
 
@@ -220,7 +220,7 @@ module _ (s : List ℕ) (ds : List Declared) where
   turn-behind alternative p st = alternative-frame (st .scope) p (tokenAt s p) st
   turn-behind inner p st = inner-frame p (tokenAt s p) st
 
-  none-front : (st : State) → withDeclared ds st ≡ behind ds (withDeclared [] st)
+  pub none-front : (st : State) → withDeclared ds st ≡ behind ds (withDeclared [] st)
   none-front st = ap (λ (z : List Declared). withDeclared z st) (sym (append-nil ds))
 
   pub turn-frame : (m : Mode) (p : ℕ) (st : State) → turn s m p (withDeclared ds st) ≡ prepend ds (turn s m p (withDeclared [] st))

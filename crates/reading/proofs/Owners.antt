@@ -95,7 +95,7 @@ module _ (s : List ℕ) where
       plain-then ds (nameAt s e) _ h λ n. declared-plain k ds (n ∷ []) (n .to) _ h (next-plain _ (λ es z. declare-plain k f es z))
 
 -- ---- rows
-change-length : (n : ℕ) (f : Row → Row) (rs : List Row) → length (change n f rs) ≡ length rs
+pub change-length : (n : ℕ) (f : Row → Row) (rs : List Row) → length (change n f rs) ≡ length rs
 unfolding change
 change-length n f [] = refl
 change-length zero f (r ∷ rs) = refl
@@ -132,7 +132,7 @@ add-names inBody o os x c st = refl
 add-names inThen o os x c st = refl
 add-names inElse o os x c st = refl
 
-row-length : (os : List Open) (x : Statement) (c : ℕ) (st : State) → 0 < length os → length (addTo os x c st .rows) ≡ suc (length (st .rows))
+pub row-length : (os : List Open) (x : Statement) (c : ℕ) (st : State) → 0 < length os → length (addTo os x c st .rows) ≡ suc (length (st .rows))
 row-length [] x c st h = absurd (omega arith)
 row-length (o ∷ os) x c st h = add-length (o .kind) o os x c st
 
@@ -151,7 +151,7 @@ pub data OwnTurn (low : ℕ) : Turn → Type 0 where
   finishing : {st : State} → Kept low st → OwnTurn low (finish st)
 
 module _ (s : List ℕ) (low : ℕ) where
-  like : {st : State} (other : State) → other .declared ≡ st .declared → length (other .rows) ≡ length (st .rows) → Kept low st → Kept low other
+  pub like : {st : State} (other : State) → other .declared ≡ st .declared → length (other .rows) ≡ length (st .rows) → Kept low st → Kept low other
   like {st} other a b h = record { rows = rw b (h .rows); names = rw (a, b) (h .names) }
 
   opens-on : {m : Mode} {q : ℕ} (o : Open) (os : List Open) (x : Scope) (st : State) → Kept low st → OwnTurn low (go m q (R.withOpened (o ∷ os) x st))
@@ -160,7 +160,7 @@ module _ (s : List ℕ) (low : ℕ) where
       some-open : (o : Open) (os : List Open) → 0 < length (o ∷ os)
       some-open o os = omega arith
 
-  halting : {w : Why} {q : ℕ} {begun : List ℕ} {st : State} → Kept low st → OwnTurn low (stop w q begun st)
+  pub halting : {w : Why} {q : ℕ} {begun : List ℕ} {st : State} → Kept low st → OwnTurn low (stop w q begun st)
   halting {st = st} h = stopping (owned-wider low (length (st .rows)) low (suc (length (st .rows))) (st .declared) (omega arith) (omega arith) (h .names))
 
   elsed-own : (x : Else) (i : ℕ) (os : List Open) (st : State) (f : Unit {0} → Turn) → Kept low st → OwnTurn low (f tt) → OwnTurn low (elsed x i os st f)
@@ -278,7 +278,7 @@ module _ (s : List ℕ) (low : ℕ) where
   too-long [] f g j k = k
   too-long (q ∷ qs) f g j k = j q
 
-  clause-own : (c : ℕ) (L : Labelled) (st : State) → 0 < length (st .opened) → Kept low st → OwnTurn low (clauseFrom s c L st)
+  pub clause-own : (c : ℕ) (L : Labelled) (st : State) → 0 < length (st .opened) → Kept low st → OwnTurn low (clauseFrom s c L st)
   unfolding clauseFrom
   clause-own c L st l h =
       when-has (OwnTurn low) (isInGroup (kindOf (st .opened)) && isEnd s (L .behind)) _ _
@@ -287,12 +287,12 @@ module _ (s : List ℕ) (low : ℕ) where
       too-long (L .long) _ _ (λ q. untaken-own c (L .labels) st l h OverLimit q [] tt) (by-token c (L .labels) st l h (L .behind .token) (L .behind))
 
   -- ---- texts and procedures
-  texted-own : (e : TextEnd) (f : ℕ → State) → ((q : ℕ) → 0 < length (f q .opened)) → ((q : ℕ) → Kept low (f q)) → OwnTurn low (texted e s f)
+  pub texted-own : (e : TextEnd) (f : ℕ → State) → ((q : ℕ) → 0 < length (f q .opened)) → ((q : ℕ) → Kept low (f q)) → OwnTurn low (texted e s f)
   texted-own (percentAt q) f l h = clause-own q (labels s (q + 1)) (f q) (l q) (h q)
   texted-own atEnd f l h = cond-has (OwnTurn low) (leb (length (f 0 .opened)) 1) _ _ (λ _. finishing (h (length s))) λ _. halting (h (length s))
   texted-own (openAt q) f l h = halting (h q)
 
-  lead-in : (os : List Open) (from q : ℕ) (st : State) → 0 < length (st .opened) → Kept low st → (0 < length (leadIn os from q st .opened)) × Kept low (leadIn os from q st)
+  pub lead-in : (os : List Open) (from q : ℕ) (st : State) → 0 < length (st .opened) → Kept low st → (0 < length (leadIn os from q st .opened)) × Kept low (leadIn os from q st)
   lead-in [] from q st h k = (h, k)
   lead-in (o ∷ os) from q st h k = at-kind (o .kind)
     where
@@ -308,7 +308,7 @@ module _ (s : List ℕ) (low : ℕ) where
   not-end (read n) st h = halting h
   not-end (refused w p) st h = halting h
 
-  procedure-end : (L : Labelled) (st : State) → Kept low st → OwnTurn low (procedureEnd s L st)
+  pub procedure-end : (L : Labelled) (st : State) → Kept low st → OwnTurn low (procedureEnd s L st)
   procedure-end L st h =
       too-long (L .long) _ _ (λ q. halting (more-own st (L .labels) (label 0) refl h))
       (when-has (OwnTurn low) (isWord "END" (L .behind .token)) _ _ (λ _. end-at (L .labels) (L .behind .to) (st .opened) st h) λ _.
@@ -320,7 +320,7 @@ module _ (s : List ℕ) (low : ℕ) where
       when-has (OwnTurn low) (isInBody (kindOf (st .opened)) && isSign "%" (t .token)) _ _ (λ _. procedure-end (labels s (t .to)) st h) λ _.
       when-has (OwnTurn low) (begins (t .token)) _ _ (λ _. clause-own (t .from) _ st l h) λ _. halting h
 
-  deep-own : (c : ℕ) (st : State) (f : Unit {0} → Turn) → Kept low st → OwnTurn low (f tt) → OwnTurn low (deepEnough c st f)
+  pub deep-own : (c : ℕ) (st : State) (f : Unit {0} → Turn) → Kept low st → OwnTurn low (f tt) → OwnTurn low (deepEnough c st f)
   unfolding deepEnough
   deep-own c st f h k = when-has (OwnTurn low) (leb (depth (st .opened)) openGroups) _ _ (λ _. k) λ _. halting h
 

@@ -1,3 +1,4 @@
 -- What the contracts of `reading` cite.
 pub mod State
 pub mod Labelled
+pub mod UpTo
