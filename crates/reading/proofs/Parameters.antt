@@ -171,6 +171,9 @@ pub record Almost (b c : Book) : Type 0 where
   pub activities : b .activities ≡ c .activities
   pub past : b .past ≡ c .past
 
+pub almost-self : (b : Book) → Almost b b
+almost-self b = record { identifiers = refl; denotations = refl; activities = refl; past = refl }
+
 almost-add : (g : Bool) (i : W.Identifier) (d : W.Denotation) (p : ℕ) (b c : Book) → Almost b c → Almost (cond g (bookPast p b) (bookMore i d b)) (cond g (bookPast p c) (bookMore i d c))
 almost-add true i d p b c h = record { identifiers = h .identifiers; denotations = h .denotations; activities = h .activities; past = ap (λ (z : Mark). firstOf z p) (h .past) }
 almost-add false i d p b c h = record {
@@ -477,4 +480,4 @@ module _ (d t : List ℕ) (x : Tally) (m n : ℕ) (s : List ℕ) (from : ℕ) wh
   procedure-refused r h =
       let b : Book = bookOf d t x in
       let c : Book = bookWhole m [] (namesIn (D.procedureClause (inside n) s from)) b in
-      rw h (subst (λ (z : Book). Almost c z) refused-none (whole-almost m [] (namesIn (D.procedureClause (inside n) s from)) b b (record { identifiers = refl; denotations = refl; activities = refl; past = refl })))
+      rw h (subst (λ (z : Book). Almost c z) refused-none (whole-almost m [] (namesIn (D.procedureClause (inside n) s from)) b b (almost-self b)))

@@ -1,29 +1,37 @@
 -- The reading that stops at the sentence that is one too many, turn by turn: each turn may begin with no declarations, and what it
--- declares comes behind those of the turns before it.
+-- declares comes behind those of the turns before it. Where the reading ends, what it found decides as the definition does.
 -- Assumes nothing.
-use Prim.Native.Nat.{ℕ, suc, _+_, _<_}
+use Prim.Native.Nat.{ℕ, suc, _+_, _-_, _<_}
 use native.Mathlib.Omega.{arith}
-use mathlib.Core.Bool.{_&&_}
+use mathlib.Core.Bool.{Bool, true, false, cond, _&&_}
 use mathlib.Core.List.{List, [], _++_}
 use mathlib.Core.Path.{_≡_, refl, sym, ap, subst, _∙_}
-use lib.Dec.{leb}
+use lib.Dec.{leb, ltb}
 use lib.ListN.{length}
 use Rattle.definition.specs.Tokens.{Lexeme, isSign, tokenAt, TextEnd, percentAt, atEnd, openAt, textEnd}
 use Rattle.definition.specs.Program.{Scope, global, inside, Declared, Fault, sound, faulty, Source}
 use Rattle.definition.specs.Reading as R
 use Rattle.definition.specs.Reading.{State, Mode, Turn, go, stop, finish, Labelled, labels, kindOf, isInBody, begins, setText, leadingText, textBehind, alternative, inner}
 use Rattle.definition.specs.declared.Why.{Why}
-use Rattle.definition.specs.declared.Why.the-variants.{Syntax}
+use Rattle.definition.specs.declared.Why.the-variants.{Syntax, OverLimit}
+use Rattle.definition.specs.Limits.{enteredSentences}
+use Rattle.definition.specs.World as W
+use Rattle.definition.specs.Names as N
 use Rattle.definition.proofs.Choices.{when-has}
-use Rattle.entering.specs.Book.{Book, bookWhole}
+use Rattle.entering.specs.declared.Mark.{Mark}
+use Rattle.entering.specs.declared.Mark.the-variants.{Unmarked, Marked}
+use Rattle.entering.specs.declared.Fault as F
+use Rattle.entering.specs.declared.Fault.the-variants.{Sound, Faulty}
+use Rattle.entering.specs.Book.{Book, bookWhole, faultFor, faultIn}
+use Rattle.entering.proofs.Order.{Shows, Entry, goes-in, stays-out}
 use Rattle.reading.specs.UpTo.{isSentence, clauseUpTo, textedUpTo, innerUpTo, alternativeUpTo, turnUpTo, readUpTo, memberUpTo}
 use Rattle.reading.specs.State.{stateIn}
 use Rattle.reading.proofs.Frame as Frame
 use Rattle.reading.proofs.Frame.{withDeclared, behind, prepend, clause-frame}
 use Rattle.reading.proofs.Owners as Own
 use Rattle.reading.proofs.Owners.{Kept, OwnTurn, going, change-length, whole-turn, owned-turn}
-use Rattle.reading.proofs.Parameters.{Owned}
-use Rattle.reading.proofs.Stopping.{stop-source, finish-source}
+use Rattle.reading.proofs.Parameters.{Owned, Almost, fault-either}
+use Rattle.reading.proofs.Stopping.{stop-source, finish-source, member-decides, decides-up-to}
 
 -- ---- declarations come behind those before
 module _ (n : ℕ) (s : List ℕ) (ds : List Declared) where
@@ -148,3 +156,39 @@ module _ (n m : ℕ) (s : List ℕ) (b : Book) where
 
       pub round-finish : (u : State) → turnUpTo n s x e (withDeclared [] st) ≡ finish u → Ended n m s b u [] sound (bookWhole m [] (u .declared) c)
       round-finish u k = ended (finish u) u [] sound k refl (finish-source n s f (behind (h .done) u))
+
+-- ---- THE DECISION, where the reading ends
+module _ (n m : ℕ) (s : List ℕ) (w : W.World) (b : Book) (h : Shows w b) (a : b .past ≡ Unmarked) (t : b .second ≡ Unmarked) (k : n ≡ enteredSentences - w .sentences) where
+  pub ended-decides : (u : State) (begun : List ℕ) (f : F.Fault) (c : Book) → Ended n m s b u begun (faultFor f) c → Entry m (R.readMember s) c (N.enter m (R.readMember s) w) (faultIn (c .past) (c .second) f)
+  ended-decides u begun f c e =
+      subst (λ (z : Book). Entry m (R.readMember s) z (N.enter m (R.readMember s) w) (faultIn (z .past) (z .second) f)) (e .names)
+      (decides-up-to m s w b n f h a t k (ap (λ (z : Source). z .fault) (sym (e .source))))
+
+  faulty-in : (p q : Mark) (e : Why) (r : ℕ) → faultIn p q (Faulty e r) ≡ Sound → ⊥
+  unfolding faultIn
+  faulty-in Unmarked Unmarked e r z = let y : _≡_ {A = ℕ} 0 1 = cc in omega arith
+  faulty-in Unmarked (Marked q) e r z = let y : _≡_ {A = ℕ} 0 1 = cc in omega arith
+  faulty-in (Marked p) q e r z = either (ltb p r) z
+    where
+      either : (g : Bool) → cond g (Faulty OverLimit p) (Faulty e r) ≡ Sound → ⊥
+      either true z = let y : _≡_ {A = ℕ} 0 1 = cc in omega arith
+      either false z = let y : _≡_ {A = ℕ} 0 1 = cc in omega arith
+
+  stays-so : (x : Source) (c d : Book) (y : N.Entering) (p q r : Mark) (e : Why) (i : ℕ) → c .past ≡ r → Entry m x c y (faultIn (c .past) p (Faulty e i)) → Entry m x d y (faultIn r q (Faulty e i))
+  stays-so x c d y p q r e i g (goes-in v f j o) = absurd (faulty-in (c .past) p e i o)
+  stays-so x c d y p q r e i g (stays-out v j f o) = stays-out v j f (fault-either r q p e i ∙ ap (λ (z : Mark). faultIn z p (Faulty e i)) (sym g) ∙ o)
+
+  -- where it stops, what is declared twice does not matter
+  pub stopped-decides : (u : State) (begun : List ℕ) (e : Why) (p : ℕ) (c d : Book) → Ended n m s b u begun (faulty e p) c → Almost c d
+      → Entry m (R.readMember s) d (N.enter m (R.readMember s) w) (faultIn (d .past) (d .second) (Faulty e p))
+  stopped-decides u begun e p c d g l = stays-so (R.readMember s) c d (N.enter m (R.readMember s) w) (c .second) (d .second) (d .past) e p (l .past) (ended-decides u begun (Faulty e p) c g)
+
+  -- and where it finishes, the member is the definition's
+  pub finished-whole : (u : State) (c : Book) → Ended n m s b u [] sound c → R.readMember s .rows ≡ u .rows
+  finished-whole u c e = ap (λ (z : Source). z .rows) (sym (member-decides n s .whole (ap (λ (z : Source). z .fault) (e .source))) ∙ e .source)
+
+  pub finished-first : (u : State) (c : Book) → Ended n m s b u [] sound c → R.readMember s .first ≡ u .first
+  finished-first u c e = ap (λ (z : Source). z .first) (sym (member-decides n s .whole (ap (λ (z : Source). z .fault) (e .source))) ∙ e .source)
+
+  pub finished-lead : (u : State) (c : Book) → Ended n m s b u [] sound c → R.readMember s .lead ≡ u .lead
+  finished-lead u c e = ap (λ (z : Source). z .lead) (sym (member-decides n s .whole (ap (λ (z : Source). z .fault) (e .source))) ∙ e .source)
