@@ -35,7 +35,7 @@ use Rattle.openings.specs.declared.Where.the-variants as Wh
 use Rattle.openings.specs.declared.Open.{Open}
 use Rattle.openings.specs.declared.Done.{Done}
 use Rattle.openings.specs.declared.Done.the-variants as Dn
-use Rattle.openings.specs.Open.{whereOf, elseFor, beginsIn, isEndIn, mayNameIn, doneTurn, Completes, alternativeTurn, AlternativeFrom}
+use Rattle.openings.specs.Open.{whereOf, elseFor, beginsIn, isEndIn, mayNameIn, doneTurn, Completes, alternativeTurn, Enters, first, behind, AlternativeFrom}
 use Rattle.openings.proofs.Words.{begins-is}
 
 pub inside-is : (k : Owner) → D.isInside (scopeOf k) ≡ isInside k
@@ -170,17 +170,17 @@ module _ (s : List ℕ) (at : ℕ) (t : Lexeme) where
   module _ (k : Owner) (i : Bool) (hi : i ≡ isInside k) where
     module _ (yi : i ≡ true) (b : Bool) (hb : b ≡ beginsIn s t) where
       pub from-first : b ≡ true → AlternativeFrom s k t at (Marked at)
-      from-first e = record { is = λ lex st. begun-by k true (sym hi ∙ yi) lex (sym hb ∙ e) st }
+      from-first e = record { is = λ lex st. begun-by k true (sym hi ∙ yi) lex (sym hb ∙ e) st; enters = λ lex q f. let z : at ≡ q = cc in first (sym z) (sym (begins-is s at t lex) ∙ sym hb ∙ e) }
 
       pub from-wrong : b ≡ false → AlternativeFrom s k t at Unmarked
-      from-wrong e = record { is = λ lex st. begun-by k false (sym hi ∙ yi) lex (sym hb ∙ e) st }
+      from-wrong e = record { is = λ lex st. begun-by k false (sym hi ∙ yi) lex (sym hb ∙ e) st; enters = λ lex q f. let z : _≡_ {A = ℕ} 0 1 = cc in absurd (omega arith) }
 
     module _ (ni : i ≡ false) (v : Bool) (hv : v ≡ isSignIn s t (37 ∷ [])) where
       pub from-percent : v ≡ true → AlternativeFrom s k t at (Marked (t .to))
-      from-percent e = record { is = λ lex st. percent-by k v true (sym hi ∙ ni) lex hv e st }
+      from-percent e = record { is = λ lex st. percent-by k v true (sym hi ∙ ni) lex hv e st; enters = λ lex q f. let z : t .to ≡ q = cc in behind (sym z ∙ lex .to) (told s at t lex "%" (37 ∷ []) v true refl hv e) }
 
       pub from-none : v ≡ false → AlternativeFrom s k t at Unmarked
-      from-none e = record { is = λ lex st. percent-by k v false (sym hi ∙ ni) lex hv e st }
+      from-none e = record { is = λ lex st. percent-by k v false (sym hi ∙ ni) lex hv e st; enters = λ lex q f. let z : _≡_ {A = ℕ} 0 1 = cc in absurd (omega arith) }
 
 -- ---- a text that ends at a `%` ends inside
 module _ (s : List ℕ) (p : ℕ) where

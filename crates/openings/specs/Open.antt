@@ -321,8 +321,14 @@ abbrev pub alternativeTurn : Mark → List ℕ → Tk.Lexeme → D.State → D.T
 alternativeTurn (Marked q) s t st = D.deepEnough (t .from) st (λ _. D.clauseAt s (t .from) q st)
 alternativeTurn Unmarked s t st = D.stop Syntax (t .from) [] st
 
+-- which begins with the first token, in a procedure, or behind `%`
+pub data Enters (s : List ℕ) (at q : ℕ) : Type 0 where
+  first : q ≡ at → D.begins (tokenAt s at .token) ≡ true → Enters s at q
+  behind : q ≡ tokenAt s at .to → Tk.isSign "%" (tokenAt s at .token) ≡ true → Enters s at q
+
 pub record AlternativeFrom (s : List ℕ) (k : Owner) (t : Lexeme) (at : ℕ) (r : Mark) : Type 0 where
   pub is : Lexed s at t → (st : D.State) → D.alternativeAt (scopeOf k) s at (tokenAt s at) st ≡ alternativeTurn r s (tokenAt s at) st
+  pub enters : Lexed s at t → (q : ℕ) → r ≡ Marked q → Enters s at q
 
 pub record PlaceAfter (s : List ℕ) (p r : ℕ) : Type 0 where
   pub is : p < length s → r ≡ p + 1

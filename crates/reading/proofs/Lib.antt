@@ -9,3 +9,4 @@ pub mod Owners
 pub mod Stopping
 pub mod Rounds
 pub mod Labelling
+pub mod Turning

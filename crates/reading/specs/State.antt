@@ -7,19 +7,25 @@ use mathlib.Core.Path.{_≡_}
 use lib.ListN.{length}
 use Rattle.definition.specs.Room.{over}
 use Rattle.definition.specs.Expressions.{Reading, read, refused, Named}
+use Rattle.definition.specs.Tokens.{tokenAt, TextEnd}
 use Rattle.definition.specs.Program as P
 use Rattle.definition.specs.Statements as St
 use Rattle.definition.specs.Reading as D
 use Rattle.definition.specs.declared.Why.{Why}
 use Rattle.definition.specs.declared.Why.the-variants.{OverLimit}
+use Rattle.tokens.specs.Answer.{endingFor}
+use Rattle.tokens.specs.declared.Ending.{Ending}
+use Rattle.tokens.specs.declared.Ending.the-variants as En
 use Rattle.rows.specs.Table.{rowIn, linkNumber}
 use Rattle.rows.specs.declared.Link.{Link}
 use Rattle.rows.specs.declared.Link.the-variants as L
 use Rattle.rows.specs.declared.Stretch.{Stretch}
 use Rattle.rows.specs.declared.Row.{Row}
 use Rattle.names.specs.declared.Owner.{Owner}
+use Rattle.names.specs.declared.Owner.the-variants as Ow
+use Rattle.entering.specs.declared.Mark.the-variants.{Unmarked}
 use Rattle.entering.specs.declared.Tally.{Tally}
-use Rattle.entering.specs.Book.{Book, bookWhole, bookOf, Entered, bookAll}
+use Rattle.entering.specs.Book.{Book, tallyOf, bookWhole, bookOf, Entered, bookAll}
 use Rattle.statements.specs.declared.Clause.{Clause}
 use Rattle.statements.specs.declared.Opens.{Opens}
 use Rattle.statements.specs.declared.Read.{Read}
@@ -30,7 +36,7 @@ use Rattle.openings.specs.declared.Where.{Where}
 use Rattle.openings.specs.declared.Where.the-variants as Wh
 use Rattle.openings.specs.declared.Open.{Open}
 use Rattle.openings.specs.declared.Opened.{Opened}
-use Rattle.openings.specs.Open.{linkOf, roleOf, openedOf, labelled}
+use Rattle.openings.specs.Open.{linkOf, roleOf, openedOf, labelled, endFor}
 use Rattle.reading.specs.declared.State.{State}
 use Rattle.reading.specs.declared.Mode.{Mode}
 use Rattle.reading.specs.declared.Mode.the-variants as Md
@@ -242,35 +248,48 @@ pub record Sits (d s t n : List ℕ) (x : State) : Type 0 where
   pub short : length s < 65536
   pub placed : Placed s t x
 
--- ---- THE TURN, where the definition takes X from a state without declarations. Where the reading goes on, all is as there
-pub record Goes (d s n : List ℕ) (x : State) (X : D.Turn) (t′ n′ : List ℕ) (r : Turned) : Type 0 where
+-- ---- THE TURN, where the definition takes X from a state without declarations, and k is the tally before. Where the reading goes
+-- on, all is as there
+pub record Goes (d s n : List ℕ) (k : Tally) (X : D.Turn) (t′ n′ : List ℕ) (r : Turned) : Type 0 where
   pub turn : turnOf s t′ (stateIn X .declared) r ≡ X
-  pub entered : Entered d n (x .tally) (bookAll (x .tally .member) (stateIn X .declared)) n′ (r .state .tally)
+  pub entered : Entered d n k (bookAll (k .member) (stateIn X .declared)) n′ (r .state .tally)
 
 -- where it stops, the names of a wrong statement are there, but with another meaning; the refusal asks for none
-pub record Stops (d s n : List ℕ) (x : State) (w : Why) (p : ℕ) (st : D.State) (t′ n′ : List ℕ) (r : Turned) : Type 0 where
+pub record Stops (d s n : List ℕ) (k : Tally) (w : Why) (p : ℕ) (st : D.State) (t′ n′ : List ℕ) (r : Turned) : Type 0 where
   pub next : r .next ≡ Nx.Stop w p
   pub rows : rowsFrom s t′ 0 (r .state .rows) ≡ st .rows
-  pub names : bookOf d n′ (r .state .tally) .identifiers ≡ bookAll (x .tally .member) (st .declared) (bookOf d n (x .tally)) .identifiers
-  pub past : bookOf d n′ (r .state .tally) .past ≡ bookAll (x .tally .member) (st .declared) (bookOf d n (x .tally)) .past
+  pub names : bookOf d n′ (r .state .tally) .identifiers ≡ bookAll (k .member) (st .declared) (bookOf d n k) .identifiers
+  pub past : bookOf d n′ (r .state .tally) .past ≡ bookAll (k .member) (st .declared) (bookOf d n k) .past
 
-abbrev pub Does : List ℕ → List ℕ → List ℕ → State → D.Turn → List ℕ → List ℕ → Turned → Type 0
-Does d s n x (D.go m at st) t′ n′ r = Goes d s n x (D.go m at st) t′ n′ r
-Does d s n x (D.stop w p begun st) t′ n′ r = Stops d s n x w p st t′ n′ r
-Does d s n x (D.finish st) t′ n′ r = Goes d s n x (D.finish st) t′ n′ r
+abbrev pub Does : List ℕ → List ℕ → List ℕ → Tally → D.Turn → List ℕ → List ℕ → Turned → Type 0
+Does d s n k (D.go m at st) t′ n′ r = Goes d s n k (D.go m at st) t′ n′ r
+Does d s n k (D.stop w p begun st) t′ n′ r = Stops d s n k w p st t′ n′ r
+Does d s n k (D.finish st) t′ n′ r = Goes d s n k (D.finish st) t′ n′ r
 
--- the 2,049th sentence of all inclusions, at p, stops the reading at once, where the definition begins it and reads on
-pub record Over (s t : List ℕ) (x : State) (X : D.Turn) (p : ℕ) (r : Turned) : Type 0 where
-  pub next : r .next ≡ Nx.Stop OverLimit p
-  pub full : x .entered + x .rows ≡ 2048
-  pub begins : D.places (stateIn X .rows) ++ begunIn X ≡ D.places (rowsFrom s t 0 (x .rows)) ++ p ∷ []
+-- a statement from `at` on begins at p: behind its `%`, or with its first token
+pub data Starts (s : List ℕ) (p at : ℕ) : Type 0 where
+  behind : p < at → Starts s p at
+  opens : p ≡ tokenAt s at .from → D.begins (tokenAt s at .token) ≡ true → Starts s p at
 
-pub data Way (d s t n : List ℕ) (x : State) (X : D.Turn) (t′ n′ : List ℕ) (r : Turned) : Type 0 where
-  does : Does d s n x X t′ n′ r → Way d s t n x X t′ n′ r
-  over′ : (p : ℕ) → Over s t x X p r → Way d s t n x X t′ n′ r
+-- the 2,049th sentence of all inclusions stops the reading at its place, where the definition reads its clause and on
+pub record Over (s : List ℕ) (entered : ℕ) (X : D.Turn) (r : Turned) : Type 0 where
+  pub place : ℕ
+  pub at : ℕ
+  pub state : D.State
+  pub next : r .next ≡ Nx.Stop OverLimit place
+  pub full : entered + length (state .rows) ≡ 2048
+  pub low : place < length s
+  pub starts : Starts s place at
+  pub some : 0 < length (state .opened)
+  pub sentence : (D.isInGroup (D.kindOf (state .opened)) && D.isEnd s (D.labels s at .behind)) ≡ false
+  pub is : X ≡ D.clauseAt s place at state
+
+pub data Way (d s n : List ℕ) (entered : ℕ) (k : Tally) (X : D.Turn) (t′ n′ : List ℕ) (r : Turned) : Type 0 where
+  does : Does d s n k X t′ n′ r → Way d s n entered k X t′ n′ r
+  stops : Over s entered X r → Way d s n entered k X t′ n′ r
 
 pub record Takes (d s t n : List ℕ) (x : State) (X : D.Turn) (t′ n′ : List ℕ) (r : Turned) : Type 0 where
-  pub way : Way d s t n x X t′ n′ r
+  pub way : Way d s n (x .entered) (x .tally) X t′ n′ r
   pub before : r .state .entered ≡ x .entered
   pub few : r .state .entered + r .state .rows ≤ 2048
   pub own : Own (x .tally .member) (r .state .scope)
@@ -279,13 +298,47 @@ pub record Takes (d s t n : List ℕ) (x : State) (X : D.Turn) (t′ n′ : List
 abbrev pub fromState : List ℕ → List ℕ → State → D.State
 fromState s t x = stateOf s t [] x
 
--- the contract of `turn`
-pub record Turns (d s t n : List ℕ) (x : State) (m : Mode) (at : ℕ) (t′ n′ : List ℕ) (r : Turned) : Type 0 where
-  pub so : Sits d s t n x → at ≤ length s → Takes d s t n x (D.turn s (modeOf m) at (fromState s t x)) t′ n′ r
-
--- and of `clause_at`
+-- ---- THE CONTRACTS, each with the definition's function of the same name
 pub record Clauses (d s t n : List ℕ) (x : State) (p at : ℕ) (t′ n′ : List ℕ) (r : Turned) : Type 0 where
-  pub so : Sits d s t n x → p < length s → at ≤ length s → Takes d s t n x (D.clauseAt s p at (fromState s t x)) t′ n′ r
+  pub so : Sits d s t n x → p < length s → at ≤ length s → Starts s p at → Takes d s t n x (D.clauseAt s p at (fromState s t x)) t′ n′ r
+
+-- a text ended with e; f are the states that it leads to, by where it ends
+abbrev pub LowEnd : List ℕ → Ending → Type 0
+LowEnd s (En.Percent p) = p < length s
+LowEnd s En.AtEnd = Unit {0}
+LowEnd s (En.OpenAt p) = Unit {0}
+
+pub record Texts (d s t n : List ℕ) (x : State) (e : Ending) (t′ n′ : List ℕ) (r : Turned) : Type 0 where
+  pub so : Sits d s t n x → (E : TextEnd) (f : ℕ → D.State) → e ≡ endingFor E → LowEnd s e → f (endFor s e) ≡ fromState s t x → length (f 0 .opened) ≡ x .opened .count
+      → Takes d s t n x (D.texted E s f) t′ n′ r
+
+pub record ProcedureEnds (d s n : List ℕ) (x : State) (at : ℕ) (n′ : List ℕ) (r : Turned) : Type 0 where
+  pub so : (t : List ℕ) → Sits d s t n x → at ≤ length s → Takes d s t n x (D.procedureEnd s (D.labels s at) (fromState s t x)) t n′ r
+
+pub record Inners (d s t n : List ℕ) (x : State) (at : ℕ) (t′ n′ : List ℕ) (r : Turned) : Type 0 where
+  pub so : Sits d s t n x → at ≤ length s → Takes d s t n x (D.innerAt s at (tokenAt s at) (fromState s t x)) t′ n′ r
+
+pub record Alternatives (d s t n : List ℕ) (x : State) (at : ℕ) (t′ n′ : List ℕ) (r : Turned) : Type 0 where
+  pub so : Sits d s t n x → at ≤ length s → Takes d s t n x (D.alternativeAt (scopeOf (x .scope)) s at (tokenAt s at) (fromState s t x)) t′ n′ r
+
+-- where a text follows a row, the row is there
+abbrev pub Follows : Mode → ℕ → Type 0
+Follows Md.Leading n = Unit {0}
+Follows (Md.Behind k) n = k < n
+Follows Md.Alternative n = Unit {0}
+Follows Md.Inner n = Unit {0}
+
+pub record Turns (d s t n : List ℕ) (x : State) (m : Mode) (at : ℕ) (t′ n′ : List ℕ) (r : Turned) : Type 0 where
+  pub so : Sits d s t n x → at ≤ length s → Follows m (x .rows) → Takes d s t n x (D.turn s (modeOf m) at (fromState s t x)) t′ n′ r
+
+-- of `start`: the member m begins at base in the deck, with so many sentences and names before it
+pub record Begins (m base before names : ℕ) (r : State) : Type 0 where
+  pub is : (s t : List ℕ) → stateOf s t [] r ≡ D.start
+  pub placed : (s t : List ℕ) → 16384 ≤ length t → Placed s t r
+  pub entered : r .entered ≡ before
+  pub rows : r .rows ≡ 0
+  pub scope : r .scope ≡ Ow.Everyone
+  pub tally : r .tally ≡ tallyOf m base names Unmarked Unmarked
 
 -- THE MEMBER m of the deck, whose body is s; b is the book before it
 pub record Reads (s : List ℕ) (m : ℕ) (b : Book) (t′ : List ℕ) (c : Book) (r : Source) : Type 0 where

@@ -1,8 +1,12 @@
 // A member is read once, from left to right, with a list of what is open: its sentences become rows, its names are declared.
 ghost use mathlib.Core.Path.{_≡_};
+ghost use mathlib.Core.Bool.{_&&_};
 ghost use Prim.Native.Nat.{_%_};
+ghost use Rattle.definition.specs.Text.{bytesOf};
 ghost use Rattle.definition.specs.Reading as D;
+ghost use Rattle.tokens.specs.Answer.{isSignIn};
 ghost use Rattle.statements.specs.Clauses as C;
+ghost use Rattle.openings.specs.Open as O;
 ghost use Rattle.reading.specs.State as T;
 ghost use Rattle.reading.specs.declared.Next.the-variants as Next;
 ghost use Rattle.reading.specs.Labelled as L;
@@ -673,6 +677,16 @@ fn not_end(s: &[u8], st: State, at: usize) -> Turned {
     }
 }
 
+// Whether `%` stands in a procedure, where it begins only its END.
+fn ends_body(s: &[u8], kind: Where, t: Lexeme) -> bool
+    ensures { λ r. ⌜ r ≡ (D.isInBody (O.whereOf kind) && isSignIn (now (s .entry)) t (bytesOf "%")) ⌝ }
+{
+    if is_in_body(kind) {
+        return is_sign(s, t, b"%");
+    }
+    false
+}
+
 fn inner_at(
     deck: &[u8],
     s: &[u8],
@@ -684,10 +698,8 @@ fn inner_at(
     let t = token_at(s, at);
     let opened = st.opened;
     let kind = top_kind(opened);
-    if is_in_body(kind) {
-        if is_sign(s, t, b"%") {
-            return procedure_end(deck, s, names, st, t.to);
-        }
+    if ends_body(s, kind, t) {
+        return procedure_end(deck, s, names, st, t.to);
     }
     if begins(s, t) {
         return clause_at(deck, s, rows, names, st, t.from, at);
@@ -768,7 +780,9 @@ fn source_of(st: State, f: Fault) -> Source {
     }
 }
 
-fn start(member: u16, base: u16, entered: u16, names: u16) -> State {
+fn start(member: u16, base: u16, entered: u16, names: u16) -> State
+    ensures { λ r. ⌜ T.Begins member base entered names r ⌝ }
+{
     let none = Opened {
         count: 0,
         items: [nothing_open(); 20],
