@@ -117,7 +117,7 @@ parent-kept Wh.InThen r n (L.To m) e h q = let z : m ≡ r = cc in kept m (omega
 parent-kept Wh.InElse r n (L.To m) e h q = let z : m ≡ r = cc in kept m (omega arith)
 
 -- ---- the state: what the definition adds, by what is open
-add-in : (w : D.Where) (o : D.Open) (os : List D.Open) (y : P.Statement) (p n : ℕ) (st : D.State) → length (st .rows) ≡ n
+pub add-in : (w : D.Where) (o : D.Open) (os : List D.Open) (y : P.Statement) (p n : ℕ) (st : D.State) → length (st .rows) ≡ n
     → D.addIn w o os y p st ≡ D.grown st (firstIn w (st .first) (o .last) n) (linkedIn w o n (st .rows) ++ D.newRow y p (parentIn w (o .row)) (roleIn w) ∷ []) (lastBy w o n ∷ os)
 add-in D.inProgram o os y p n st e = rw e
 add-in D.inGroup o os y p n st e = rw e
@@ -167,7 +167,7 @@ stand-more : (n : ℕ) (L : List D.Open) → Stand n L → Stand (suc n) L
 stand-more n [] h = h
 stand-more n (o ∷ os) h = (low-more n o (h .0), around-more (o .kind) (Stand n os) (Stand (suc n) os) (stand-more n os) (h .1))
 
-stand-last : (w : D.Where) (k : ℕ) (l : P.Link) (bs : List (List ℕ)) (os : List D.Open) (n : ℕ) → Stand n (record { kind = w; row = k; last = l; labels = bs } ∷ os)
+pub stand-last : (w : D.Where) (k : ℕ) (l : P.Link) (bs : List (List ℕ)) (os : List D.Open) (n : ℕ) → Stand n (record { kind = w; row = k; last = l; labels = bs } ∷ os)
     → Stand (suc n) (lastBy w (record { kind = w; row = k; last = l; labels = bs }) n ∷ os)
 stand-last D.inProgram k l bs os n h = (record { row = tt; last = omega arith }, tt)
 stand-last D.inGroup k l bs os n h = (record { row = omega (arith, h .0 .row); last = omega arith }, stand-more n os (h .1))
@@ -250,8 +250,8 @@ adds t u v x c p q e d o par ro a b m f z hu hv ho hq he hp hr ha hb hm hf hz = 
       added-state s t v ds x m f z o (statementAt s (c .statement) (c .content)) p top hf
       (added-rows s t u v (x .rows) m (rowFrom c q e d par ro a b) o (D.newRow (statementAt s (c .statement) (c .content)) p (parentIn (whereOf (o .kind)) (o .row)) (roleIn (whereOf (o .kind)))) small (g .room) (hm .is (omega (arith, small))) hu (parent-low s o par (x .rows) hp low small) refl refl refl hv low
       (new-row s c p q e d par ro a b (whereOf (o .kind)) (o .row) hq he lp lc hp hr ha hb))
-      (hz .is (g .some) (g .deep) s);
-  stand = λ s g small. last-stand s (openedOf s (x .opened)) (openedOf s z) o (x .rows) (opened-top s (x .opened) o ho (g .some)) (hz .is (g .some) (g .deep) s) (g .stand);
+      (hz .is (g .some) (omega (arith, g .deep)) s);
+  stand = λ s g small. last-stand s (openedOf s (x .opened)) (openedOf s z) o (x .rows) (opened-top s (x .opened) o ho (g .some)) (hz .is (g .some) (omega (arith, g .deep)) s) (g .stand);
   count = λ small. hm .is (omega (arith, small));
   deep = λ i j. hz .count i j;
   keeps = record { entered = refl; tally = refl; own = λ h. h };

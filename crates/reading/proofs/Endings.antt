@@ -282,7 +282,7 @@ module _ (s t : List ℕ) (x : State) (p labels : ℕ) (t′ : List ℕ) (r : Tu
       h .is s (ds ++ ms) q small lp (g .content)
       ∙ ap (λ (y : P.Statement). D.addRow y p (stateOf s t (ds ++ ms) x)) (g .statement)
       ∙ add-names (z .statement) p ms (stateOf s t ds x) in
-      o .is t′ (ds ++ ms) ns (suc (x .rows)) (h .stand s q small) (omega (arith, h .deep (q .some) (q .deep), few)) sp
+      o .is t′ (ds ++ ms) ns (suc (x .rows)) (h .stand s q small) (omega (arith, h .deep (q .some) (omega (arith, q .deep)), few)) sp
       ∙ ap (λ (st : D.State). D.opened (z .opens) s (x .rows) ns (c .to) st) new
       ∙ ap (λ (e : ℕ). D.opened (z .opens) s (x .rows) ns e (D.withNames ms (D.addRow (z .statement) p (stateOf s t ds x)))) (g .to)
       ∙ ap (λ (k : ℕ). D.opened (z .opens) s k ns (z .to) (D.withNames (St.means (scopeOf (x .scope)) (D.labelMeaning (z .opens) k) ns ++ es) (D.addRow (z .statement) p (stateOf s t ds x)))) (sym (rows-length s t 0 (x .rows)))

@@ -10,3 +10,4 @@ pub mod Stopping
 pub mod Rounds
 pub mod Labelling
 pub mod Turning
+pub mod Standing

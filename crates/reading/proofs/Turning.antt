@@ -200,7 +200,7 @@ module _ (d s t u n : List ℕ) (x y : State) (he : y .entered ≡ x .entered) (
           own = omega (arith, h .placed .own, hr);
           stand = subst (λ (w : Opened). Stand (y .rows) (openedOf s w)) (sym ho) (subst (λ (m : ℕ). Stand m (openedOf s (x .opened))) (sym hr) (h .placed .stand));
           some = subst (λ (w : Opened). 0 < w .count) (sym ho) (h .placed .some);
-          deep = subst (λ (w : Opened). w .count ≤ 20) (sym ho) (h .placed .deep);
+          deep = subst (λ (w : Opened). w .count ≤ 19) (sym ho) (h .placed .deep);
         };
       }
 

@@ -127,7 +127,7 @@ pub record Placed (s t : List ℕ) (x : State) : Type 0 where
   pub own : x .rows ≤ 1024
   pub stand : Stand (x .rows) (openedOf s (x .opened))
   pub some : 0 < x .opened .count
-  pub deep : x .opened .count ≤ 20
+  pub deep : x .opened .count ≤ 19
 
 -- ---- a state that is changed
 abbrev pub withOpened : State → Opened → State
