@@ -19,11 +19,20 @@ use Rattle.definition.specs.Reading as D
 use Rattle.definition.specs.declared.Why.{Why}
 use Rattle.definition.specs.declared.Why.the-variants.{Syntax, OverLimit}
 use Rattle.definition.proofs.Choices.{when-has, cond-has}
-use Rattle.statements.specs.Clauses.{goClause}
-use Rattle.openings.specs.Open.{otherAt}
+use Rattle.statements.specs.Clauses.{goClause, Lies, Own}
+use Rattle.openings.specs.Open.{openedOf, otherAt}
 use Rattle.openings.proofs.Keywords.{OpensSo, DeclaresSo, if-so, do-so, goto-so, go-so, include-so, activate-so, deactivate-so, return-so, other-so, declare-so, procedure-so}
-use Rattle.reading.specs.State.{Low, Around, Stand}
+use Rattle.reading.specs.declared.State.{State}
+use Rattle.reading.specs.declared.Turned.{Turned}
+use Rattle.reading.specs.declared.Mode.{Mode}
+use Rattle.reading.specs.declared.Mode.the-variants as Md
+use Rattle.reading.specs.declared.Next.{Next}
+use Rattle.reading.specs.declared.Next.the-variants as Nx
+use Rattle.reading.specs.State.{rowsFrom, stateOf, modeOf, nextOf, turnOf, Low, Around, Stand, Placed, stateIn, Sits, Goes, Takes, Follows}
+use Rattle.reading.proofs.Rows.{rows-length}
 use Rattle.reading.proofs.Adding.{stand-last}
+use Rattle.reading.proofs.Endings.{stand-some}
+use Rattle.reading.proofs.Turning.{opened-length}
 
 -- ---- what a state has, and by what comes next
 abbrev procedures : P.Scope → ℕ
@@ -356,3 +365,48 @@ module _ (s : List ℕ) where
 pub start-well : Well D.start
 unfolding D.depth
 start-well = record { few = omega arith; stand = (record { row = tt; last = tt }, tt); count = omega arith }
+
+-- ---- so the code's state is in its place for the next turn
+pub placed-well : (s t : List ℕ) (ds : List P.Declared) (x : State) (m : D.Mode) → Well (stateOf s t ds x) → WellFor m (stateOf s t ds x) → 16384 ≤ length t → Placed s t x
+unfolding stateOf
+placed-well s t ds x m h k w =
+    let n : length (rowsFrom s t 0 (x .rows)) ≡ x .rows = rows-length s t 0 (x .rows) in
+    let g : Stand (x .rows) (openedOf s (x .opened)) = subst (λ (i : ℕ). Stand i (openedOf s (x .opened))) n (h .stand) in
+    record {
+      room = w;
+      own = omega (arith, n, h .few);
+      stand = g;
+      some = stand-some s (x .opened) (x .rows) g;
+      deep = omega (arith, opened-length s (x .opened), well-deep m (stateOf s t ds x) h k);
+    }
+
+follows : (s t : List ℕ) (ds : List P.Declared) (x : State) (m : Mode) → WellFor (modeOf m) (stateOf s t ds x) → Follows m (x .rows)
+unfolding stateOf
+follows s t ds x Md.Leading h = tt
+follows s t ds x (Md.Behind k) h = omega (arith, h .1, rows-length s t 0 (x .rows))
+follows s t ds x Md.Alternative h = tt
+follows s t ds x Md.Inner h = tt
+
+pub record Ongoing (d s t n : List ℕ) (x : State) (m : Mode) : Type 0 where
+  pub sits : Sits d s t n x
+  pub follows : Follows m (x .rows)
+
+module _ (d s t n : List ℕ) (x : State) (X : D.Turn) (t′ n′ : List ℕ) (r : Turned) (m : Mode) (at : ℕ) where
+  pub goes-on : Sits d s t n x → Takes d s t n x X t′ n′ r → Goes d s n (x .tally) X t′ n′ r → r .next ≡ Nx.Go m at → WellTurn X → Ongoing d s t′ n′ (r .state) m
+  unfolding turnOf
+  goes-on h k g e w =
+      let ds : List P.Declared = stateIn X .declared in
+      let y : WellTurn (D.go (modeOf m) at (stateOf s t′ ds (r .state))) = subst WellTurn (sym (g .turn) ∙ ap (λ (z : Next). nextOf z (stateOf s t′ ds (r .state))) e) w in
+      record {
+        sits = record {
+          ready = record {
+            roomy = g .entered .roomy;
+            lies = subst (Lies d s) (sym (g .entered .base)) (h .ready .lies);
+            own = subst (λ (i : ℕ). Own i (r .state .scope)) (sym (g .entered .member)) (k .own);
+          };
+          few = k .few;
+          short = h .short;
+          placed = placed-well s t′ ds (r .state) (modeOf m) (y .0) (y .1) (omega (arith, k .size, h .placed .room));
+        };
+        follows = follows s t′ ds (r .state) m (y .1);
+      }

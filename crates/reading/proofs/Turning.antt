@@ -169,7 +169,7 @@ lead-opened : (L : List D.Open) (a b : ℕ) (st : D.State) → D.leadIn L a b st
 lead-opened [] a b st = refl
 lead-opened (o ∷ os) a b st = lead-kept (o .kind) (o .row) (o .last) (o .labels) os a b st
 
-opened-length : (s : List ℕ) (o : Opened) → length (openedOf s o) ≡ o .count
+pub opened-length : (s : List ℕ) (o : Opened) → length (openedOf s o) ≡ o .count
 unfolding openedOf openFrom
 opened-length s o = by (o .count)
   where
