@@ -17,6 +17,7 @@ use Rattle.definition.specs.Tokens as Tk
 use Rattle.definition.specs.Tokens.{tokenAt, TextEnd, percentAt, atEnd, openAt, textEnd}
 use Rattle.definition.proofs.Choices.{when-has}
 use Rattle.definition.proofs.Ends.{Real, Lies, tokenAt-lies}
+use Rattle.definition.specs.Expressions.{Reading, read, refused, Named, nameAt}
 use Rattle.definition.specs.Program as P
 use Rattle.definition.specs.Reading as D
 use Rattle.definition.specs.declared.Why.{Why}
@@ -27,6 +28,9 @@ use Rattle.tokens.specs.declared.Ending.the-variants as En
 use Rattle.tokens.specs.declared.Lexeme.{Lexeme}
 use Rattle.tokens.proofs.Pieces.{percent-there}
 use Rattle.tokens.proofs.Lexemes.{is-sign}
+use Rattle.expressions.specs.declared.NamedAt.{NamedAt}
+use Rattle.expressions.specs.declared.NamedAt.the-variants as Word
+use Rattle.expressions.specs.Check.{namedFor}
 use Rattle.rows.specs.declared.Stretch.{Stretch}
 use Rattle.rows.specs.Table.{stretchNumbers}
 use Rattle.rows.specs.declared.Link.the-variants as L
@@ -34,7 +38,8 @@ use Rattle.names.specs.declared.Owner.the-variants.{Everyone}
 use Rattle.entering.specs.declared.Mark.{Mark}
 use Rattle.entering.specs.declared.Mark.the-variants.{Unmarked, Marked}
 use Rattle.entering.specs.declared.Tally.{Tally}
-use Rattle.entering.specs.Book.{tallyOf, bookAll}
+use Rattle.entering.specs.declared.Fault.{Fault}
+use Rattle.entering.specs.Book.{tallyOf, faultIn, bookAll}
 use Rattle.statements.specs.Clauses.{scopeOf, Own, Ready}
 use Rattle.openings.specs.declared.Where.{Where}
 use Rattle.openings.specs.declared.Open.{Open}
@@ -43,10 +48,11 @@ use Rattle.openings.specs.Open.{whereOf, noOpen, openOf, openFrom, openedOf, Pu
 use Rattle.openings.proofs.Words.{begins-is}
 use Rattle.reading.specs.declared.State.{State}
 use Rattle.reading.specs.declared.Turned.{Turned}
+use Rattle.reading.specs.declared.Source.{Source}
 use Rattle.reading.specs.declared.Mode.{Mode}
 use Rattle.reading.specs.declared.Mode.the-variants as Md
 use Rattle.reading.specs.declared.Next.the-variants as Nx
-use Rattle.reading.specs.State.{stretchOf, rowsFrom, stateOf, turnOf, modeOf, Stand, Placed, Keeps, turned, stretchAt, Leads, stateIn, begunIn, Sits, Goes, Stops, Does, Starts, behind, opens, Over, Way, does, stops, Takes, fromState, Clauses, LowEnd, Texts, ProcedureEnds, Inners, Alternatives, Follows, Turns, Low, Begins}
+use Rattle.reading.specs.State.{stretchOf, rowsFrom, stateOf, turnOf, modeOf, Stand, Placed, Keeps, turned, stretchAt, Leads, stateIn, begunIn, Sits, Goes, Stops, Does, Starts, behind, opens, Over, Way, does, stops, Takes, fromState, Clauses, LowEnd, Texts, ProcedureEnds, Inners, Alternatives, Follows, Turns, Low, Begins, isFull, notEnd, sourceOf}
 use Rattle.reading.proofs.Rows.{text-set}
 
 -- ---- where nothing is read, all stays
@@ -363,3 +369,33 @@ begins-so m base entered names g xs o y k hg hy hp hk =
       scope = refl;
       tally = hk;
     }
+
+-- ---- leaves
+pub full-all : (x : State) → 2048 ≤ x .entered + x .rows → true ≡ isFull x
+unfolding isFull
+full-all x h = rw (le-leb 2048 (x .entered + x .rows) h)
+
+pub full-own : (x : State) → x .entered + x .rows < 2048 → leb 1024 (x .rows) ≡ isFull x
+unfolding isFull
+full-own x h = rw (lt-leb 2048 (x .entered + x .rows) h)
+
+pub source-is : (x : State) (f g : Fault) → g ≡ faultIn (x .tally .past) (x .tally .second) f
+    → _≡_ {A = Source} (record { first = x .first; lead = x .lead; rows = x .rows; names = x .tally .names; fault = g }) (sourceOf x f)
+source-is x f g e = rw e
+
+module _ (s : List ℕ) (x : State) (at : ℕ) (m : NamedAt) (hm : m ≡ namedFor (nameAt s at)) (r : Turned) where
+  pub wrong-word : (a b : ℕ) (k : Lexeme) → m ≡ Word.Is a b → Lexed s b k → r ≡ turned x (Nx.Stop Syntax (k .from)) → r ≡ turned x (notEnd s (nameAt s at))
+  unfolding notEnd
+  wrong-word a b k e lex hr = hr ∙ by (nameAt s at) (sym e ∙ hm)
+    where
+      by : (R : Reading Named) → Word.Is a b ≡ namedFor R → turned x (Nx.Stop Syntax (k .from)) ≡ turned x (notEnd s R)
+      by (read n) f = let z : b ≡ n .to = cc in rw (lex .from, z)
+      by (refused w p) f = let z : _≡_ {A = ℕ} 0 1 = cc in absurd (omega arith)
+
+  pub no-word : (w : Why) (p : ℕ) → m ≡ Word.Refused w p → r ≡ turned x (Nx.Stop w p) → r ≡ turned x (notEnd s (nameAt s at))
+  unfolding notEnd
+  no-word w p e hr = hr ∙ by (nameAt s at) (sym e ∙ hm)
+    where
+      by : (R : Reading Named) → Word.Refused w p ≡ namedFor R → turned x (Nx.Stop w p) ≡ turned x (notEnd s R)
+      by (read n) f = let z : _≡_ {A = ℕ} 0 1 = cc in absurd (omega arith)
+      by (refused v q) f = let y : w ≡ v = cc in let z : p ≡ q = cc in rw (y, z)

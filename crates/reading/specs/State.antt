@@ -1,9 +1,10 @@
 -- What the state of the reading and the room of rows stand for in the definition. A member has its own part of the room: its first
 -- row is row 0.
 use Prim.Native.Nat.{ℕ, zero, suc, _+_, _*_, _%_, _≤_, _<_}
-use mathlib.Core.Bool.{Bool, true, false, _&&_}
+use mathlib.Core.Bool.{Bool, true, false, _&&_, _||_}
 use mathlib.Core.List.{List, [], _∷_, _++_}
 use mathlib.Core.Path.{_≡_}
+use lib.Dec.{leb}
 use lib.ListN.{length}
 use Rattle.definition.specs.Room.{over}
 use Rattle.definition.specs.Expressions.{Reading, read, refused, Named}
@@ -12,7 +13,7 @@ use Rattle.definition.specs.Program as P
 use Rattle.definition.specs.Statements as St
 use Rattle.definition.specs.Reading as D
 use Rattle.definition.specs.declared.Why.{Why}
-use Rattle.definition.specs.declared.Why.the-variants.{OverLimit}
+use Rattle.definition.specs.declared.Why.the-variants.{Syntax, OverLimit}
 use Rattle.tokens.specs.Answer.{endingFor}
 use Rattle.tokens.specs.declared.Ending.{Ending}
 use Rattle.tokens.specs.declared.Ending.the-variants as En
@@ -25,7 +26,8 @@ use Rattle.names.specs.declared.Owner.{Owner}
 use Rattle.names.specs.declared.Owner.the-variants as Ow
 use Rattle.entering.specs.declared.Mark.the-variants.{Unmarked}
 use Rattle.entering.specs.declared.Tally.{Tally}
-use Rattle.entering.specs.Book.{Book, tallyOf, bookWhole, bookOf, Entered, bookAll}
+use Rattle.entering.specs.declared.Fault.{Fault}
+use Rattle.entering.specs.Book.{Book, tallyOf, faultIn, bookWhole, bookOf, Entered, bookAll}
 use Rattle.statements.specs.declared.Clause.{Clause}
 use Rattle.statements.specs.declared.Opens.{Opens}
 use Rattle.statements.specs.declared.Read.{Read}
@@ -339,6 +341,20 @@ pub record Begins (m base before names : ℕ) (r : State) : Type 0 where
   pub rows : r .rows ≡ 0
   pub scope : r .scope ≡ Ow.Everyone
   pub tally : r .tally ≡ tallyOf m base names Unmarked Unmarked
+
+-- of `is_full`, `not_end`, `turns_for` and `source_of`
+unfoldable pub isFull : State → Bool
+isFull x = leb 2048 (x .entered + x .rows) || leb 1024 (x .rows)
+
+unfoldable pub notEnd : List ℕ → Reading Named → Next
+notEnd s (read n) = Nx.Stop Syntax (tokenAt s (n .to) .from)
+notEnd s (refused w p) = Nx.Stop w p
+
+pub record Enough (s : List ℕ) (r : ℕ) : Type 0 where
+  pub is : length s < 65536 → r ≡ length s + 2
+
+abbrev pub sourceOf : State → Fault → Source
+sourceOf x f = record { first = x .first; lead = x .lead; rows = x .rows; names = x .tally .names; fault = faultIn (x .tally .past) (x .tally .second) f }
 
 -- THE MEMBER m of the deck, whose body is s; b is the book before it
 pub record Reads (s : List ℕ) (m : ℕ) (b : Book) (t′ : List ℕ) (c : Book) (r : Source) : Type 0 where

@@ -3,6 +3,7 @@ ghost use mathlib.Core.Path.{_≡_};
 ghost use mathlib.Core.Bool.{_&&_};
 ghost use Prim.Native.Nat.{_%_};
 ghost use Rattle.definition.specs.Text.{bytesOf};
+ghost use Rattle.definition.specs.Expressions.{nameAt};
 ghost use Rattle.definition.specs.Reading as D;
 ghost use Rattle.tokens.specs.Answer.{isSignIn};
 ghost use Rattle.statements.specs.Clauses as C;
@@ -558,7 +559,9 @@ fn end_too_long(
 // ---- a clause at p, from behind its `%` or in a procedure from its first token
 
 // "over 1,024 sentences and procedure statements in a member, 2,048 in those entered"
-fn is_full(st: State) -> bool {
+fn is_full(st: State) -> bool
+    ensures { λ r. ⌜ r ≡ T.isFull st ⌝ }
+{
     if Sentences::ENTERED <= st.entered as usize + st.rows as usize {
         return true;
     }
@@ -666,7 +669,9 @@ fn procedure_end(deck: &[u8], s: &[u8], names: &mut [u16], st: State, at: usize)
 }
 
 // Another word could still be a label, and the token behind it is wrong.
-fn not_end(s: &[u8], st: State, at: usize) -> Turned {
+fn not_end(s: &[u8], st: State, at: usize) -> Turned
+    ensures { λ r. ⌜ r ≡ T.turned st (T.notEnd (now (s .entry)) (nameAt (now (s .entry)) «at»)) ⌝ }
+{
     let n = name_at(s, at);
     match n {
         NamedAt::Is(_, to) => {
@@ -767,7 +772,9 @@ pub struct Source {
     pub fault: Fault,
 }
 
-fn source_of(st: State, f: Fault) -> Source {
+fn source_of(st: State, f: Fault) -> Source
+    ensures { λ r. ⌜ r ≡ T.sourceOf st f ⌝ }
+{
     let first = st.first;
     let lead = st.lead;
     let tally = st.tally;
@@ -799,7 +806,9 @@ fn start(member: u16, base: u16, entered: u16, names: u16) -> State
 }
 
 // More turns than there are tokens.
-fn turns_for(s: &[u8]) -> usize {
+fn turns_for(s: &[u8]) -> usize
+    ensures { λ r. ⌜ T.Enough (now (s .entry)) r ⌝ }
+{
     let n = s.len();
     if n < 65_536 {
         return n + 2;
