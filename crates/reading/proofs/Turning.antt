@@ -39,7 +39,7 @@ use Rattle.entering.specs.declared.Mark.{Mark}
 use Rattle.entering.specs.declared.Mark.the-variants.{Unmarked, Marked}
 use Rattle.entering.specs.declared.Tally.{Tally}
 use Rattle.entering.specs.declared.Fault.{Fault}
-use Rattle.entering.specs.Book.{tallyOf, faultIn, bookAll}
+use Rattle.entering.specs.Book.{tallyOf, faultIn, bookAll, bookWhole}
 use Rattle.statements.specs.Clauses.{scopeOf, Own, Ready}
 use Rattle.openings.specs.declared.Where.{Where}
 use Rattle.openings.specs.declared.Open.{Open}
@@ -58,7 +58,7 @@ use Rattle.reading.proofs.Rows.{text-set}
 -- ---- where nothing is read, all stays
 module _ (d s t n : List ℕ) (x : State) (h : Sits d s t n x) where
   pub stay-finish : Takes d s t n x (D.finish (fromState s t x)) t n (turned x Nx.Finish)
-  unfolding turnOf stateOf bookAll
+  unfolding turnOf stateOf bookWhole
   stay-finish = record {
     way = does (record { turn = refl; entered = record { book = refl; roomy = h .ready .roomy; member = refl; base = refl } });
     before = refl;

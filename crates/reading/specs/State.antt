@@ -251,10 +251,10 @@ pub record Sits (d s t n : List ℕ) (x : State) : Type 0 where
   pub placed : Placed s t x
 
 -- ---- THE TURN, where the definition takes X from a state without declarations, and k is the tally before. Where the reading goes
--- on, all is as there
+-- on, all is as there; a procedure's parameters are all listed in one turn, so that one listed twice is found in it
 pub record Goes (d s n : List ℕ) (k : Tally) (X : D.Turn) (t′ n′ : List ℕ) (r : Turned) : Type 0 where
   pub turn : turnOf s t′ (stateIn X .declared) r ≡ X
-  pub entered : Entered d n k (bookAll (k .member) (stateIn X .declared)) n′ (r .state .tally)
+  pub entered : Entered d n k (bookWhole (k .member) [] (stateIn X .declared)) n′ (r .state .tally)
 
 -- where it stops, the names of a wrong statement are there, but with another meaning; the refusal asks for none
 pub record Stops (d s n : List ℕ) (k : Tally) (w : Why) (p : ℕ) (st : D.State) (t′ n′ : List ℕ) (r : Turned) : Type 0 where
