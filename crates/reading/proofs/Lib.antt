@@ -11,3 +11,5 @@ pub mod Rounds
 pub mod Labelling
 pub mod Turning
 pub mod Standing
+pub mod Closing
+pub mod Rescoping

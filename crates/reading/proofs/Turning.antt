@@ -52,7 +52,7 @@ use Rattle.reading.specs.declared.Source.{Source}
 use Rattle.reading.specs.declared.Mode.{Mode}
 use Rattle.reading.specs.declared.Mode.the-variants as Md
 use Rattle.reading.specs.declared.Next.the-variants as Nx
-use Rattle.reading.specs.State.{stretchOf, rowsFrom, stateOf, turnOf, modeOf, Stand, Placed, Keeps, turned, stretchAt, Leads, stateIn, begunIn, Sits, Goes, Stops, Does, Starts, behind, opens, Over, Way, does, stops, Takes, fromState, Clauses, LowEnd, Texts, ProcedureEnds, Inners, Alternatives, Follows, Turns, Low, Begins, isFull, notEnd, sourceOf}
+use Rattle.reading.specs.State.{stretchOf, rowsFrom, stateOf, turnOf, modeOf, Stand, Placed, Keeps, turned, stretchAt, Leads, stateIn, begunIn, Sits, Goes, Stops, Does, Starts, behind, opens, Over, Way, does, stops, Takes, fromState, Clauses, LowEnd, Texts, ProcedureEnds, Inners, Alternatives, Follows, Turns, Low, Begins, isFull, sourceOf}
 use Rattle.reading.proofs.Rows.{text-set}
 
 -- ---- where nothing is read, all stays
@@ -382,20 +382,3 @@ full-own x h = rw (lt-leb 2048 (x .entered + x .rows) h)
 pub source-is : (x : State) (f g : Fault) → g ≡ faultIn (x .tally .past) (x .tally .second) f
     → _≡_ {A = Source} (record { first = x .first; lead = x .lead; rows = x .rows; names = x .tally .names; fault = g }) (sourceOf x f)
 source-is x f g e = rw e
-
-module _ (s : List ℕ) (x : State) (at : ℕ) (m : NamedAt) (hm : m ≡ namedFor (nameAt s at)) (r : Turned) where
-  pub wrong-word : (a b : ℕ) (k : Lexeme) → m ≡ Word.Is a b → Lexed s b k → r ≡ turned x (Nx.Stop Syntax (k .from)) → r ≡ turned x (notEnd s (nameAt s at))
-  unfolding notEnd
-  wrong-word a b k e lex hr = hr ∙ by (nameAt s at) (sym e ∙ hm)
-    where
-      by : (R : Reading Named) → Word.Is a b ≡ namedFor R → turned x (Nx.Stop Syntax (k .from)) ≡ turned x (notEnd s R)
-      by (read n) f = let z : b ≡ n .to = cc in rw (lex .from, z)
-      by (refused w p) f = let z : _≡_ {A = ℕ} 0 1 = cc in absurd (omega arith)
-
-  pub no-word : (w : Why) (p : ℕ) → m ≡ Word.Refused w p → r ≡ turned x (Nx.Stop w p) → r ≡ turned x (notEnd s (nameAt s at))
-  unfolding notEnd
-  no-word w p e hr = hr ∙ by (nameAt s at) (sym e ∙ hm)
-    where
-      by : (R : Reading Named) → Word.Refused w p ≡ namedFor R → turned x (Nx.Stop w p) ≡ turned x (notEnd s R)
-      by (read n) f = let z : _≡_ {A = ℕ} 0 1 = cc in absurd (omega arith)
-      by (refused v q) f = let y : w ≡ v = cc in let z : p ≡ q = cc in rw (y, z)

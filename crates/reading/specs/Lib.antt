@@ -2,3 +2,4 @@
 pub mod State
 pub mod Labelled
 pub mod UpTo
+pub mod Sentences

@@ -346,10 +346,6 @@ pub record Begins (m base before names : ℕ) (r : State) : Type 0 where
 unfoldable pub isFull : State → Bool
 isFull x = leb 2048 (x .entered + x .rows) || leb 1024 (x .rows)
 
-unfoldable pub notEnd : List ℕ → Reading Named → Next
-notEnd s (read n) = Nx.Stop Syntax (tokenAt s (n .to) .from)
-notEnd s (refused w p) = Nx.Stop w p
-
 pub record Enough (s : List ℕ) (r : ℕ) : Type 0 where
   pub is : length s < 65536 → r ≡ length s + 2
 

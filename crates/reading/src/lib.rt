@@ -11,6 +11,7 @@ ghost use Rattle.openings.specs.Open as O;
 ghost use Rattle.reading.specs.State as T;
 ghost use Rattle.reading.specs.declared.Next.the-variants as Next;
 ghost use Rattle.reading.specs.Labelled as L;
+ghost use Rattle.reading.specs.Sentences as S;
 use deck::body;
 use definition::Why;
 use entering::Fault;
@@ -526,7 +527,9 @@ fn end_at(
     st0: State,
     labels: usize,
     at: usize,
-) -> Turned {
+) -> Turned
+    ensures { λ r. ⌜ S.EndsAt (now (deck .entry)) (now (s .entry)) (now (names .entry)) st0 labels at (now (names .exit)) r ⌝ }
+{
     let open = st0.opened;
     let o = top(open);
     let st = declare_labels(deck, s, names, st0, labels, Meaning::EndLabelAt(o.row));
@@ -551,7 +554,9 @@ fn end_too_long(
     st: State,
     labels: usize,
     q: usize,
-) -> Turned {
+) -> Turned
+    ensures { λ r. ⌜ S.EndsLong (now (deck .entry)) (now (s .entry)) (now (names .entry)) st labels q (now (names .exit)) r ⌝ }
+{
     let named = declare_labels(deck, s, names, st, labels, Meaning::LabelAt(0));
     stop(named, Why::OverLimit, q)
 }
@@ -652,7 +657,9 @@ fn lead_in(rows: &mut [u16], st: State, x: Stretch) -> State
 // ---- in a procedure
 
 // `%` begins only its END.
-fn procedure_end(deck: &[u8], s: &[u8], names: &mut [u16], st: State, at: usize) -> Turned {
+fn procedure_end(deck: &[u8], s: &[u8], names: &mut [u16], st: State, at: usize) -> Turned
+    ensures { λ r. ⌜ S.EndsBody (now (deck .entry)) (now (s .entry)) (now (names .entry)) st at (now (names .exit)) r ⌝ }
+{
     let l = labels_at(s, at);
     let t = token_at(s, l.to);
     let long = l.long;
@@ -670,7 +677,7 @@ fn procedure_end(deck: &[u8], s: &[u8], names: &mut [u16], st: State, at: usize)
 
 // Another word could still be a label, and the token behind it is wrong.
 fn not_end(s: &[u8], st: State, at: usize) -> Turned
-    ensures { λ r. ⌜ r ≡ T.turned st (T.notEnd (now (s .entry)) (nameAt (now (s .entry)) «at»)) ⌝ }
+    ensures { λ r. ⌜ r ≡ T.turned st (S.notEndNext (now (s .entry)) (nameAt (now (s .entry)) at)) ⌝ }
 {
     let n = name_at(s, at);
     match n {

@@ -1,18 +1,19 @@
--- Only the labels are declared.
+-- What END ends is left, or the reading stops.
 use borrow.Author.Needs.{needs}
 use Rattle.reading.proofs.end_at.Statement.{statement}
 use Rattle.reading.proofs.end_at.Tie as tie
 use Rattle.reading.proofs.end_at.Reads as reads
 use Rattle.reading.proofs.end_at.Lts as lts
-use Rattle.reading.proofs.complete.Reads as complete-reads
-use Rattle.reading.proofs.declare_labels.Reads as declare-labels-reads
 use Rattle.openings.proofs.end_name.Reads as end-name-reads
 use Rattle.openings.proofs.pop.Reads as pop-reads
 use Rattle.openings.proofs.scope_out.Reads as scope-out-reads
-use Rattle.reading.proofs.stop.Reads as stop-reads
 use Rattle.openings.proofs.top.Reads as top-reads
+use Rattle.reading.proofs.complete.Reads as complete-reads
+use Rattle.reading.proofs.declare_labels.Reads as declare-labels-reads
+use Rattle.reading.proofs.stop.Reads as stop-reads
 use Rattle.reading.proofs.with_opened.Reads as with-opened-reads
 use Rattle.reading.proofs.with_scope.Reads as with-scope-reads
+use Rattle.reading.proofs.Closing.{end-goes, end-stops}
 
 top-requires : tie.Need-top-requires
 top-requires c κs = search needs
@@ -51,13 +52,13 @@ same-length : tie.Need-same-length
 same-length c = (c .before .before .before .before .before .before .before .before .before .before .before .before .declare-labels .kept .1 .1 .0)
 
 returns : tie.Need-returns
-returns c = search needs
+returns c = search (end-goes, c .before .before .before .before .before .before .before .before .before .before .before .before .before .before .top .ensures, c .before .before .before .before .before .before .before .before .before .before .before .before .declare-labels .ensures, c .complete .ensures, c .before .with-opened .ensures, c .before .before .before .before .with-scope .ensures, c .before .before .pop .ensures, c .before .before .before .before .before .scope-out .ensures, c .before .before .before .before .before .before .before .before .before .end-name .ensures, c .before .before .before .before .before .before .before .read)
 
 same-length-2 : tie.Need-same-length-2
 same-length-2 c = search needs
 
 returns-2 : tie.Need-returns-2
-returns-2 c = search needs
+returns-2 c = search end-stops
 
 pub end-at-spec : {M : Type 1} → statement M
 end-at-spec =
