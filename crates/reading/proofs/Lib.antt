@@ -13,3 +13,6 @@ pub mod Turning
 pub mod Standing
 pub mod Closing
 pub mod Rescoping
+pub mod Wording
+pub mod Tokening
+pub mod Clausing

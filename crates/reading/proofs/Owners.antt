@@ -86,7 +86,7 @@ module _ (s : List ℕ) where
   unfolding declareNext
   next-plain g j ds e h = when-has PlainNames (isSign "," (tokenAt s e .token)) _ _ (λ _. j ds _ h) λ _. plain-then ds (expectSign ";" s e) _ h λ q. h
 
-  declare-plain : (k : Scope) (f : ℕ) (ds : List Declared) (e : ℕ) → AllPlain ds → PlainNames (declareFrom k s f ds e)
+  pub declare-plain : (k : Scope) (f : ℕ) (ds : List Declared) (e : ℕ) → AllPlain ds → PlainNames (declareFrom k s f ds e)
   unfolding declareFrom
   declare-plain k zero ds e h = h
   declare-plain k (suc f) ds e h =

@@ -52,7 +52,7 @@ use Rattle.reading.specs.declared.Source.{Source}
 use Rattle.reading.specs.declared.Mode.{Mode}
 use Rattle.reading.specs.declared.Mode.the-variants as Md
 use Rattle.reading.specs.declared.Next.the-variants as Nx
-use Rattle.reading.specs.State.{stretchOf, rowsFrom, stateOf, turnOf, modeOf, Stand, Placed, Keeps, turned, stretchAt, Leads, stateIn, begunIn, Sits, Goes, Stops, Does, Starts, behind, opens, Over, Way, does, stops, Takes, fromState, Clauses, LowEnd, Texts, ProcedureEnds, Inners, Alternatives, Follows, Turns, Low, Begins, isFull, sourceOf}
+use Rattle.reading.specs.State.{stretchOf, rowsFrom, stateOf, turnOf, modeOf, Stand, Placed, Keeps, turned, stretchAt, Leads, stateIn, begunIn, Sits, Goes, Stops, Does, Starts, behind, opens, Over, Way, does, stops, Takes, fromState, Clauses, LowEnd, Texts, ProcedureEnds, Inners, Alternatives, Follows, Turns, Low, Begins, sourceOf}
 use Rattle.reading.proofs.Rows.{text-set}
 
 -- ---- where nothing is read, all stays
@@ -371,14 +371,6 @@ begins-so m base entered names g xs o y k hg hy hp hk =
     }
 
 -- ---- leaves
-pub full-all : (x : State) → 2048 ≤ x .entered + x .rows → true ≡ isFull x
-unfolding isFull
-full-all x h = rw (le-leb 2048 (x .entered + x .rows) h)
-
-pub full-own : (x : State) → x .entered + x .rows < 2048 → leb 1024 (x .rows) ≡ isFull x
-unfolding isFull
-full-own x h = rw (lt-leb 2048 (x .entered + x .rows) h)
-
 pub source-is : (x : State) (f g : Fault) → g ≡ faultIn (x .tally .past) (x .tally .second) f
     → _≡_ {A = Source} (record { first = x .first; lead = x .lead; rows = x .rows; names = x .tally .names; fault = g }) (sourceOf x f)
 source-is x f g e = rw e

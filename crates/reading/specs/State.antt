@@ -342,10 +342,6 @@ pub record Begins (m base before names : ℕ) (r : State) : Type 0 where
   pub scope : r .scope ≡ Ow.Everyone
   pub tally : r .tally ≡ tallyOf m base names Unmarked Unmarked
 
--- of `is_full`, `not_end`, `turns_for` and `source_of`
-unfoldable pub isFull : State → Bool
-isFull x = leb 2048 (x .entered + x .rows) || leb 1024 (x .rows)
-
 pub record Enough (s : List ℕ) (r : ℕ) : Type 0 where
   pub is : length s < 65536 → r ≡ length s + 2
 

@@ -436,7 +436,9 @@ fn after_declaring(
     d: Declaring,
     p: usize,
     labels: usize,
-) -> Turned {
+) -> Turned
+    ensures { λ r. ⌜ T.TakesAs (now (s .entry)) (now (rows .entry)) (T.withTally st (d .tally)) (d .read) p labels (now (rows .exit)) r ⌝ }
+{
     let tally = d.tally;
     let read = d.read;
     taken(s, rows, with_tally(st, tally), read, p, labels)
@@ -454,7 +456,9 @@ fn by_word(
     from: usize,
     p: usize,
     labels: usize,
-) -> Turned {
+) -> Turned
+    ensures { λ r. ⌜ S.ByWord (now (deck .entry)) (now (s .entry)) (now (rows .entry)) (now (names .entry)) st k t «from» p labels (now (rows .exit)) (now (names .exit)) r ⌝ }
+{
     let scope = st.scope;
     let tally = st.tally;
     match k {
@@ -503,7 +507,9 @@ fn by_token(
     from: usize,
     p: usize,
     labels: usize,
-) -> Turned {
+) -> Turned
+    ensures { λ r. ⌜ S.ByToken (now (deck .entry)) (now (s .entry)) (now (rows .entry)) (now (names .entry)) st k t «from» p labels (now (rows .exit)) (now (names .exit)) r ⌝ }
+{
     let kind = t.kind;
     if is_word_kind(kind) {
         if span(t) <= limits::Name::LONGEST {
@@ -565,7 +571,7 @@ fn end_too_long(
 
 // "over 1,024 sentences and procedure statements in a member, 2,048 in those entered"
 fn is_full(st: State) -> bool
-    ensures { λ r. ⌜ r ≡ T.isFull st ⌝ }
+    ensures { λ r. ⌜ r ≡ S.isFull st ⌝ }
 {
     if Sentences::ENTERED <= st.entered as usize + st.rows as usize {
         return true;
