@@ -10,19 +10,39 @@ use lib.Dec.{leb, ltb}
 use lib.ListN.{length, getD}
 use Rattle.definition.specs.Limits.{declaredNames}
 use Rattle.definition.specs.Expressions.{Named}
+use Rattle.definition.specs.Tokens as Tk
+use Rattle.definition.specs.Tokens.{tokenAt}
+use Rattle.definition.specs.declared.Why.the-variants.{OverLimit}
+use Rattle.tokens.specs.declared.Lexeme.{Lexeme}
+use Rattle.tokens.specs.Answer.{Lexed}
 use Rattle.definition.specs.Program as P
 use Rattle.definition.specs.Statements as St
 use Rattle.definition.specs.Reading as D
 use Rattle.definition.specs.World as W
 use Rattle.definition.specs.Names as N
 use Rattle.entering.specs.declared.Mark.{Mark}
-use Rattle.entering.specs.Book.{Book, firstOf, bookPast, bookSecond, bookMore, bookSet, bookAdd, bookJoint, bookJoin, bookAt, bookOne, bookNew, bookAll, bookWhole, bookOf, Entered}
+use Rattle.entering.specs.declared.Mark.the-variants.{Unmarked, Marked}
+use Rattle.entering.specs.declared.Meaning.{Meaning}
+use Rattle.entering.specs.Book.{Book, firstOf, bookPast, bookSecond, bookMore, bookSet, bookAdd, bookJoint, bookJoin, bookAt, bookOne, bookNew, bookAll, bookWhole, bookOf, Entered, meaningOf}
 use Rattle.entering.specs.declared.Tally.{Tally}
+use Rattle.statements.specs.declared.Keyword.{Keyword}
+use Rattle.statements.specs.Clauses.{scopeOf, isInside, Own, Lies}
 use Rattle.statements.proofs.Listed.{all-append}
+use Rattle.openings.specs.declared.Where.{Where}
+use Rattle.openings.specs.declared.Labels.{Labels}
+use Rattle.openings.specs.Open.{whereOf, openedOf, TopKind, LabelsAt, isEndIn, keywordAt, opensBy}
+use Rattle.openings.proofs.Stacked.{opened-size}
+use Rattle.openings.proofs.Labelling.{labels-counted}
+use Rattle.openings.proofs.Ends.{inside-is, end-is}
+use Rattle.openings.proofs.Sentences.{no-longs, clause-end-long, clause-end, clause-full, clause-long, clause-token}
 use Rattle.reading.specs.declared.State.{State}
 use Rattle.reading.specs.declared.Turned.{Turned}
-use Rattle.reading.specs.State.{turnOf, Does}
-use Rattle.reading.specs.Sentences.{Comes, isFull}
+use Rattle.reading.specs.declared.Next.the-variants as Nx
+use Rattle.reading.specs.State.{rowsFrom, stateOf, turnOf, withTally, turned, Sits, Does, Over, Way, does, over′, Takes, fromState, Clauses}
+use Rattle.reading.specs.Labelled.{LabelsIf}
+use Rattle.reading.specs.Sentences.{Comes, isFull, Clausal, ByToken, EndsLong, EndsAt}
+use Rattle.reading.proofs.Rows.{rows-length}
+use Rattle.reading.proofs.Overfull.{clause-begins}
 use Rattle.reading.proofs.Parameters.{AllPlain, whole-plain, plain-means}
 
 -- ---- is_full
@@ -130,3 +150,118 @@ module _ (d s n : List ℕ) (x y : State) (k : P.Scope) (o : St.Opens) (row : �
     turn = subst (λ (z : List P.Declared). turnOf s t′ z r ≡ D.finish st) (sym (c .declared)) (c .turn);
     entered = subst (λ (z : List P.Declared). Entered d n (x .tally) (bookWhole (x .tally .member) [] z) n′ (r .state .tally)) (sym (c .declared)) (all-entered (c .entered));
   }
+
+-- ---- the tests
+or-none : (a b : Bool) → (a || b) ≡ false → (a ≡ false) × (b ≡ false)
+or-none true b e = absurd (false≢true (sym e))
+or-none false b e = (refl, e)
+
+or-left : (a b : Bool) → a ≡ true → (a || b) ≡ true
+or-left true b e = refl
+or-left false b e = absurd (false≢true e)
+
+and-left : (a b : Bool) → (a && b) ≡ true → a ≡ true
+and-left true b e = refl
+and-left false b e = e
+
+full-is : (s t : List ℕ) (x : State) (b : Bool) → leb 1024 (x .rows) ≡ b → D.isFull (fromState s t x) ≡ b
+unfolding D.isFull stateOf
+full-is s t x b e = ap (leb 1024) (rows-length s t 0 (x .rows)) ∙ e
+
+-- ---- THE CLAUSE at p: its labels l, and the token u behind them
+module _ (d s t n : List ℕ) (x : State) (p at : ℕ) (l : Labels) (hl : LabelsAt s at l) (u : Lexeme) (lex : Lexed s (l .to) u) (w : Where) (hw : TopKind (x .opened) w) (e : Bool) (he : e ≡ (D.isInGroup (whereOf w) && isEndIn s u)) (r : Turned) where
+  test : (b : Bool) → e ≡ b → (D.isInGroup (D.kindOf (openedOf s (x .opened))) && isEndIn s u) ≡ b
+  test b f = ap (λ (z : D.Where). D.isInGroup z && isEndIn s u) (sym (hw .is s)) ∙ sym he ∙ f
+
+  pub clause-ends-long : (n′ : List ℕ) (q : ℕ) → e ≡ true → l .long ≡ Marked q → EndsLong d s n x at q n′ r → Clauses d s t n x p at t n′ r
+  unfolding stateOf
+  clause-ends-long n′ q f g h = record { so = λ i lp la. subst (λ (X : D.Turn). Takes d s t n x X t n′ r) (sym (clause-end-long s p (fromState s t x) at l hl u lex (test true f) q g)) (h .so t i) }
+
+  pub clause-ends : (n′ : List ℕ) → e ≡ true → l .long ≡ Unmarked → EndsAt d s n x at (u .to) n′ r → Clauses d s t n x p at t n′ r
+  unfolding stateOf
+  clause-ends n′ f g h = record {
+    so = λ i lp la. subst (λ (X : D.Turn). Takes d s t n x X t n′ r) (sym (clause-end s p (fromState s t x) at l hl u lex (test true f) g))
+        (h .so t i (or-left (D.isInGroup (D.kindOf (openedOf s (x .opened)))) (D.isInBody (D.kindOf (openedOf s (x .opened)))) (and-left (D.isInGroup (D.kindOf (openedOf s (x .opened)))) (isEndIn s u) (test true f))));
+  }
+
+  module _ (f : e ≡ false) where
+    -- the 2,049th sentence of all, or the 1,025th of the member
+    over-way : Sits d s t n x → leb 2048 (x .entered + x .rows) ≡ true → r .next ≡ Nx.Stop OverLimit p → Over s t x (D.clauseAt s p at (fromState s t x)) p r
+    unfolding stateOf
+    over-way i g h = record {
+      next = h;
+      full = omega (arith, leb-true 2048 (x .entered + x .rows) g, i .few);
+      begins = clause-begins s p (fromState s t x) (omega (arith, opened-size s (x .opened), i .placed .some)) at
+          (ap (λ (z : Tk.Lexeme). D.isInGroup (D.kindOf (openedOf s (x .opened))) && D.isEnd s z) (hl .behind) ∙ ap (λ (z : Bool). D.isInGroup (D.kindOf (openedOf s (x .opened))) && z) (sym (end-is s (l .to) u lex)) ∙ test false f);
+    }
+
+    full-way : Sits d s t n x → leb 1024 (x .rows) ≡ true → r ≡ turned x (Nx.Stop OverLimit p) → Does d s n x (D.clauseAt s p at (fromState s t x)) t n r
+    unfolding stateOf bookAll
+    full-way i g h = subst (λ (X : D.Turn). Does d s n x X t n r) (sym (clause-full s p (fromState s t x) at l hl u lex (test false f) (full-is s t x true g)))
+        (rw h (record { next = refl; rows = refl; names = refl; past = refl }))
+
+    way-full : Sits d s t n x → (b : Bool) → leb 2048 (x .entered + x .rows) ≡ b → (b || leb 1024 (x .rows)) ≡ true → r ≡ turned x (Nx.Stop OverLimit p) → Way d s t n x (D.clauseAt s p at (fromState s t x)) t n r
+    way-full i true g c h = over′ p (over-way i g (ap (λ (z : Turned). z .next) h))
+    way-full i false g c h = does (full-way i c h)
+
+    pub clause-overfull : (b : Bool) → b ≡ isFull x → b ≡ true → r ≡ turned x (Nx.Stop OverLimit p) → Clauses d s t n x p at t n r
+    clause-overfull b hb g h = record {
+      so = λ i lp la. record {
+        way = way-full i (leb 2048 (x .entered + x .rows)) refl (sym hb ∙ g) h;
+        before = ap (λ (z : Turned). z .state .entered) h;
+        few = subst (λ (z : Turned). z .state .entered + z .state .rows ≤ 2048) (sym h) (i .few);
+        own = subst (λ (z : Turned). Own (x .tally .member) (z .state .scope)) (sym h) (i .ready .own);
+        size = refl;
+      };
+    }
+
+    module _ (b : Bool) (hb : b ≡ isFull x) (g : b ≡ false) (k : Keyword) (a : Meaning) (ha : meaningOf a ≡ D.labelMeaning (opensBy k) (x .rows)) (y : State) (n₁ : List ℕ) (hy : LabelsIf d s n x at a n₁ y) where
+      low : (leb 2048 (x .entered + x .rows) ≡ false) × (leb 1024 (x .rows) ≡ false)
+      low = or-none (leb 2048 (x .entered + x .rows)) (leb 1024 (x .rows)) (sym hb ∙ g)
+
+      labels-in : Sits d s t n x → Entered d n (x .tally) (bookAll (x .tally .member) (St.means (scopeOf (x .scope)) (D.labelMeaning (opensBy k) (x .rows)) (D.labels s at .labels))) n₁ (y .tally)
+      labels-in i = subst (λ (m : P.Meaning). Entered d n (x .tally) (bookAll (x .tally .member) (St.means (scopeOf (x .scope)) m (D.labels s at .labels))) n₁ (y .tally)) ha (hy .names .is (i .ready))
+
+      pub clause-too-long : (q : ℕ) → l .long ≡ Marked q → r ≡ turned y (Nx.Stop OverLimit q) → Clauses d s t n x p at t n₁ r
+      unfolding stateOf bookAll
+      clause-too-long q c h = record {
+        so = λ i lp la.
+            let X : D.Turn = D.untaken p (D.labels s at .labels) (fromState s t x) OverLimit q [] in
+            subst (λ (z : D.Turn). Takes d s t n x z t n₁ r) (sym (clause-long s p (fromState s t x) at l hl u lex (test false f) (full-is s t x false (low .1)) q c))
+            (rw h (record {
+              way = does (does-comes d s n x y (scopeOf (x .scope)) (opensBy k) (x .rows) (D.labels s at .labels) [] n₁ t n₁ (turned y (Nx.Stop OverLimit q)) (labels-in i) (D.untaken p (D.labels s at .labels) (fromState s t x) OverLimit q [])
+                  (record { next = refl; rows = ap (λ (z : State). rowsFrom s t 0 (z .rows)) (hy .rest); declared = refl; names = refl; past = refl }));
+              before = ap (λ (z : State). z .entered) (hy .rest);
+              few = subst (λ (z : State). z .entered + z .rows ≤ 2048) (sym (hy .rest)) (i .few);
+              own = subst (λ (z : State). Own (x .tally .member) (z .scope)) (sym (hy .rest)) (i .ready .own);
+              size = refl;
+            }));
+      }
+
+      pub clause-statement : (t′ n′ : List ℕ) → l .long ≡ Unmarked → k ≡ keywordAt s (whereOf w) (isInside (x .scope)) u (l .count) → ByToken d s t n₁ y k u (l .to) p at t′ n′ r → Clauses d s t n x p at t′ n′ r
+      unfolding stateOf
+      clause-statement t′ n′ c hk h = record {
+        so = λ i lp la.
+            let ns : List Named = D.labels s at .labels in
+            let z : Tally = y .tally in
+            let m : ByToken d s t n₁ (withTally x (y .tally)) k u (l .to) p at t′ n′ r = subst (λ (v : State). ByToken d s t n₁ v k u (l .to) p at t′ n′ r) (hy .rest) h in
+            let en : Entered d n (x .tally) (bookAll (x .tally .member) (St.means (scopeOf (x .scope)) (D.labelMeaning (opensBy k) (x .rows)) (D.labels s at .labels))) n₁ (y .tally) = labels-in i in
+            let si : Sits d s t n₁ (withTally x (y .tally)) = record {
+              ready = record { roomy = en .roomy; lies = subst (λ (v : ℕ). Lies d s v) (sym (en .base)) (i .ready .lies); own = subst (λ (v : ℕ). Own v (x .scope)) (sym (en .member)) (i .ready .own) };
+              few = i .few;
+              short = i .short;
+              placed = record { room = i .placed .room; own = i .placed .own; stand = i .placed .stand; some = i .placed .some; deep = i .placed .deep };
+            } in
+            let q : Clausal d s t n₁ (withTally x (y .tally)) (D.labelMeaning (opensBy k) (x .rows)) (D.labels s at .labels) (D.byToken (tokenAt s (l .to) .token) s p (D.labels s at .labels) (tokenAt s (l .to)) (fromState s t x)) t′ n′ r =
+            m .so (D.labels s at .labels) (l .count) (record { sits = si; room = leb-false 1024 (x .rows) (low .1); place = omega (arith, lp, i .short); lexed = lex; labelled = refl })
+            (hk ∙ ap (λ (v : D.Where). keywordAt s v (isInside (x .scope)) u (l .count)) (hw .is s) ∙ ap (λ (v : Bool). keywordAt s (D.kindOf (openedOf s (x .opened))) v u (l .count)) (sym (inside-is (x .scope))))
+            (labels-counted s at l hl (no-longs (D.labels s at .long) (sym (hl .long) ∙ c))) in
+            subst (λ (v : D.Turn). Takes d s t n x v t′ n′ r) (sym (clause-token s p (fromState s t x) at l hl u lex (test false f) (full-is s t x false (low .1)) c))
+            (record {
+              way = does (does-comes d s n x (withTally x (y .tally)) (scopeOf (x .scope)) (opensBy k) (x .rows) (D.labels s at .labels) (q .names) n₁ t′ n′ r en (D.byToken (tokenAt s (l .to) .token) s p (D.labels s at .labels) (tokenAt s (l .to)) (fromState s t x)) (q .comes));
+              before = q .before;
+              few = omega (arith, q .before, q .few, leb-false 2048 (x .entered + x .rows) (low .0));
+              own = subst (λ (v : ℕ). Own v (r .state .scope)) (en .member) (q .own);
+              size = q .size;
+            });
+      }

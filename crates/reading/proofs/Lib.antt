@@ -16,3 +16,4 @@ pub mod Rescoping
 pub mod Wording
 pub mod Tokening
 pub mod Clausing
+pub mod Overfull

@@ -587,7 +587,9 @@ fn clause_at(
     st: State,
     p: usize,
     at: usize,
-) -> Turned {
+) -> Turned
+    ensures { λ r. ⌜ T.Clauses (now (deck .entry)) (now (s .entry)) (now (rows .entry)) (now (names .entry)) st p at (now (rows .exit)) (now (names .exit)) r ⌝ }
+{
     let l = labels_at(s, at);
     let t = token_at(s, l.to);
     let long = l.long;
