@@ -127,8 +127,6 @@ module _ (d s n : List ℕ) (x y : State) (k : P.Scope) (o : St.Opens) (row : �
 
   wrong-names : SameNames (bookAll (y .tally .member) es (bookOf d n₁ (y .tally))) (bookAll (x .tally .member) (bad ++ es) (bookOf d n (x .tally)))
   wrong-names =
-      let b : Book = bookOf d n (x .tally) in
-      let m : ℕ = x .tally .member in
       subst (λ (z : ℕ). SameNames (bookAll z es (bookOf d n₁ (y .tally))) (bookAll (x .tally .member) (bad ++ es) (bookOf d n (x .tally)))) (sym (h .member))
       (subst (λ (z : Book). SameNames (bookAll (x .tally .member) es z) (bookAll (x .tally .member) (bad ++ es) (bookOf d n (x .tally)))) (sym (h .book))
       (subst (λ (z : Book). SameNames (bookAll (x .tally .member) es (bookAll (x .tally .member) good (bookOf d n (x .tally)))) z) (sym (all-append (x .tally .member) bad es (bookOf d n (x .tally))))
@@ -226,7 +224,6 @@ module _ (d s t n : List ℕ) (x : State) (p at : ℕ) (l : Labels) (hl : Labels
       unfolding stateOf bookAll
       clause-too-long q c h = record {
         so = λ i lp la.
-            let X : D.Turn = D.untaken p (D.labels s at .labels) (fromState s t x) OverLimit q [] in
             subst (λ (z : D.Turn). Takes d s t n x z t n₁ r) (sym (clause-long s p (fromState s t x) at l hl u lex (test false f) (full-is s t x false (low .1)) q c))
             (rw h (record {
               way = does (does-comes d s n x y (scopeOf (x .scope)) (opensBy k) (x .rows) (D.labels s at .labels) [] n₁ t n₁ (turned y (Nx.Stop OverLimit q)) (labels-in i) (D.untaken p (D.labels s at .labels) (fromState s t x) OverLimit q [])
@@ -242,8 +239,6 @@ module _ (d s t n : List ℕ) (x : State) (p at : ℕ) (l : Labels) (hl : Labels
       unfolding stateOf
       clause-statement t′ n′ c hk h = record {
         so = λ i lp la.
-            let ns : List Named = D.labels s at .labels in
-            let z : Tally = y .tally in
             let m : ByToken d s t n₁ (withTally x (y .tally)) k u (l .to) p at t′ n′ r = subst (λ (v : State). ByToken d s t n₁ v k u (l .to) p at t′ n′ r) (hy .rest) h in
             let en : Entered d n (x .tally) (bookAll (x .tally .member) (St.means (scopeOf (x .scope)) (D.labelMeaning (opensBy k) (x .rows)) (D.labels s at .labels))) n₁ (y .tally) = labels-in i in
             let si : Sits d s t n₁ (withTally x (y .tally)) = record {

@@ -33,7 +33,7 @@ use Rattle.openings.specs.declared.Opened.{Opened}
 use Rattle.openings.specs.declared.Labels.{Labels}
 use Rattle.openings.specs.Open.{whereOf, openOf, openedOf, topIn, restOf, labelled, Popped, ScopeOut, LabelsAt}
 use Rattle.openings.proofs.Stacked.{opened-split}
-use Rattle.openings.proofs.Sentences.{procedure-end-long, procedure-end, procedure-not-end, not-end-name, not-end-refused, end-past, end-refused}
+use Rattle.openings.proofs.Sentences.{procedure-end-long, procedure-end, procedure-not-end, end-past, end-refused}
 use Rattle.reading.specs.declared.State.{State}
 use Rattle.reading.specs.declared.Next.{Next}
 use Rattle.reading.specs.declared.Next.the-variants as Nx
@@ -133,9 +133,9 @@ module _ (s : List ℕ) (x : State) (at : ℕ) (a : NamedAt) (h : a ≡ namedFor
   not-end-no-name w p e f = f ∙ ap (λ (z : Next). turned x z) (next-refused (nameAt s at) w p h e)
 
 -- what the definition does then
-not-end-is : (s : List ℕ) (R : Reading Named) (st : D.State) (F : Why → ℕ → Type 0) (G : D.Turn → Type 0) → ((w : Why) (q : ℕ) → notEndNext s R ≡ Nx.Stop w q → G (D.stop w q [] st)) → G (D.notEnd R s st)
-not-end-is s (read n) st F G h = h Syntax (tokenAt s (n .to) .from) refl
-not-end-is s (refused w p) st F G h = h w p refl
+not-end-is : (s : List ℕ) (R : Reading Named) (st : D.State) (G : D.Turn → Type 0) → ((w : Why) (q : ℕ) → notEndNext s R ≡ Nx.Stop w q → G (D.stop w q [] st)) → G (D.notEnd R s st)
+not-end-is s (read n) st G h = h Syntax (tokenAt s (n .to) .from) refl
+not-end-is s (refused w p) st G h = h w p refl
 
 -- ---- END, from behind it
 module _ (d s n : List ℕ) (x : State) (labels at : ℕ) (n′ : List ℕ) (o : Open) (ho : o ≡ topIn (x .opened .items) (x .opened .count)) (a : Expected) (ha : a ≡ expectFor (D.endName s (labelled s (o .labels)) at)) (r : Turned) where
@@ -227,6 +227,6 @@ module _ (d s n : List ℕ) (x : State) (at : ℕ) (n′ : List ℕ) (l : Labels
     unfolding stateOf
     body-other f y h hr = record {
       so = λ t i b. subst (λ (X : D.Turn). Takes d s t n x X t n′ r) (sym (procedure-not-end s (fromState s t x) at l hl u lex e (sym hv ∙ f)))
-          (not-end-is s (nameAt s (l .to)) (D.named (D.labels s at .labels) (fromState s t x)) (λ w q. Unit {0}) (λ X. Takes d s t n x X t n′ r)
+          (not-end-is s (nameAt s (l .to)) (D.named (D.labels s at .labels) (fromState s t x)) (λ X. Takes d s t n x X t n′ r)
           (λ w q k. stops-named d s n x at (M.LabelAt 0) n′ y h t w q r (hr ∙ ap (λ (c : Next). turned y c) k) i));
     }

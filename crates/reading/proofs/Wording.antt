@@ -324,7 +324,6 @@ pub word-declare : (d s t n : List ℕ) (x : State) (k : Keyword) (l : Lexeme) (
 unfolding stateOf
 word-declare d s t n x k l from p labels t′ n′ r a e hd h = rw e (record {
   so = λ ns i w c.
-      let at : ℕ = tokenAt s from .to in
       let Q : St.Declaring = St.declareFrom (scopeOf (x .scope)) s (length s) [] (tokenAt s from .to) in
       let g : Declares d s n (x .tally) (x .scope) (tokenAt s from .to) n′ a = subst (λ (q : ℕ). Declares d s n (x .tally) (x .scope) q n′ a) (i .lexed .to) (hd .is (i .sits .ready)) in
       clausal d s t n x l from p labels ns i (opensBy K.Declare) t′ n′ r (a .tally) (a .read) h (g .entered .member) Q
@@ -365,7 +364,6 @@ module _ (d s n : List ℕ) (x : State) (m c : ℕ) (ro : Roomy n (x .tally)) (y
         base = k .base;
       }
   procedure-of (St.undeclared w q es) e =
-      let b : Book = bookOf d n (x .tally) in
       let f : Almost (bookWhole (x .tally .member) [] es (bookOf d n (x .tally))) (bookOf d n (procedureTally s c y (x .tally))) =
       subst (λ (u : St.Declaring). Almost (bookWhole (x .tally .member) [] (namesIn u) (bookOf d n (x .tally))) (bookOf d n (procedureTally s c y (x .tally)))) e (procedure-refused d n (x .tally) (x .tally .member) m s c y (ap isRead (hy ∙ ap (readProcedure c) e))) in
       let g : Almost (bookWhole (x .tally .member) [] es (bookOf d n (x .tally))) (bookAll (x .tally .member) es (bookOf d n (x .tally))) = whole-almost (x .tally .member) [] es (bookOf d n (x .tally)) (bookOf d n (x .tally)) (record { identifiers = refl; denotations = refl; activities = refl; past = refl }) in
@@ -376,7 +374,6 @@ pub word-procedure : (d s t n : List ℕ) (x : State) (k : Keyword) (l : Lexeme)
 unfolding stateOf
 word-procedure d s t n x k l from p labels t′ r a e hd h = rw e (record {
   so = λ ns i w c.
-      let m : ℕ = length (rowsFrom s t 0 (x .rows)) in
       let Q : St.Declaring = St.procedureClause (P.inside (length (rowsFrom s t 0 (x .rows)))) s (tokenAt s from .to) in
       let g : Heads s (x .tally) (tokenAt s from .to) a = subst (λ (q : ℕ). Heads s (x .tally) q a) (i .lexed .to) hd in
       clausal d s t n x l from p labels ns i (opensBy K.Procedure) t′ n r (a .tally) (a .read) h (ap (λ (u : Tally). u .member) (g .tally) ∙ procedure-keeps s (tokenAt s from .to) (a .read) (x .tally) .member) Q

@@ -526,14 +526,7 @@ fn by_token(
 // ---- END
 
 // END, from behind it; `labels` is where its own labels begin.
-fn end_at(
-    deck: &[u8],
-    s: &[u8],
-    names: &mut [u16],
-    st0: State,
-    labels: usize,
-    at: usize,
-) -> Turned
+fn end_at(deck: &[u8], s: &[u8], names: &mut [u16], st0: State, labels: usize, at: usize) -> Turned
     ensures { λ r. ⌜ S.EndsAt (now (deck .entry)) (now (s .entry)) (now (names .entry)) st0 labels at (now (names .exit)) r ⌝ }
 {
     let open = st0.opened;
