@@ -7,7 +7,7 @@ use Prim.Native.Nat.{ℕ, zero, suc, _+_, _-_, _<_, _≤_}
 use native.Mathlib.Omega.{arith}
 use borrow.Author.Tests.{le-leb, lt-leb, leb-true, leb-false}
 use lib.Dec.{leb, ltb}
-use lib.ListN.{length, getD}
+use lib.ListN.{length, getD, length-append}
 use Rattle.definition.specs.Limits.{declaredNames}
 use Rattle.definition.specs.Expressions.{Named}
 use Rattle.definition.specs.Tokens as Tk
@@ -38,7 +38,7 @@ use Rattle.openings.proofs.Sentences.{no-longs, clause-end-long, clause-end, cl
 use Rattle.reading.specs.declared.State.{State}
 use Rattle.reading.specs.declared.Turned.{Turned}
 use Rattle.reading.specs.declared.Next.the-variants as Nx
-use Rattle.reading.specs.State.{rowsFrom, stateOf, turnOf, withTally, turned, Sits, Does, Over, Way, does, over′, Takes, fromState, Clauses}
+use Rattle.reading.specs.State.{rowsFrom, stateOf, turnOf, withTally, turned, stateIn, begunIn, Sits, Does, Over, Starts, Counts, early, Fits, Way, does, stops, Takes, fromState, Clauses}
 use Rattle.reading.specs.Labelled.{LabelsIf}
 use Rattle.reading.specs.Sentences.{Comes, isFull, Clausal, ByToken, EndsLong, EndsAt}
 use Rattle.reading.proofs.Rows.{rows-length}
@@ -133,7 +133,7 @@ module _ (d s n : List ℕ) (x y : State) (k : P.Scope) (o : St.Opens) (row : �
       (all-same (x .tally .member) es _ _ (labels-same (x .tally .member) k o row ns (bookOf d n (x .tally)) (bookOf d n (x .tally)) (record { identifiers = refl; past = refl })))))
 
   -- what comes of the clause is what the turn does
-  pub does-comes : (X : D.Turn) → Comes d s n₁ y (good ++ es) (bad ++ es) es X t′ n′ r → Does d s n x X t′ n′ r
+  pub does-comes : (X : D.Turn) → Comes d s n₁ y (good ++ es) (bad ++ es) es X t′ n′ r → Does d s n (x .tally) X t′ n′ r
   does-comes (D.go m at st) c = record {
     turn = subst (λ (z : List P.Declared). turnOf s t′ z r ≡ D.go m at st) (sym (c .declared)) (c .turn);
     entered = subst (λ (z : List P.Declared). Entered d n (x .tally) (bookWhole (x .tally .member) [] z) n′ (r .state .tally)) (sym (c .declared)) (all-entered (c .entered));
@@ -166,6 +166,20 @@ full-is : (s t : List ℕ) (x : State) (b : Bool) → leb 1024 (x .rows) ≡ b �
 unfolding D.isFull stateOf
 full-is s t x b e = ap (leb 1024) (rows-length s t 0 (x .rows)) ∙ e
 
+-- ---- a turn that begins a sentence which is not the 2,049th
+length-places : (rs : List P.Row) → length (D.places rs) ≡ length rs
+length-places [] = refl
+length-places (x ∷ rs) = ap suc (length-places rs)
+
+fits-begun : (entered p : ℕ) (st : D.State) (X : D.Turn) → D.places (stateIn X .rows) ++ begunIn X ≡ D.places (st .rows) ++ p ∷ [] → entered + length (st .rows) < 2048 → Fits entered X
+fits-begun entered p st (D.go m at y) e h = tt
+fits-begun entered p st (D.finish y) e h = tt
+fits-begun entered p st (D.stop w q begun y) e h =
+    let a : length (D.places (y .rows) ++ begun) ≡ length (D.places (st .rows) ++ p ∷ []) = ap length e in
+    let b : length (D.places (y .rows) ++ begun) ≡ length (D.places (y .rows)) + length begun = length-append (D.places (y .rows)) begun in
+    let c : length (D.places (st .rows) ++ p ∷ []) ≡ length (D.places (st .rows)) + 1 = length-append (D.places (st .rows)) (p ∷ []) in
+    early (omega (arith, a, b, c, length-places (y .rows), length-places (st .rows)))
+
 -- ---- THE CLAUSE at p: its labels l, and the token u behind them
 module _ (d s t n : List ℕ) (x : State) (p at : ℕ) (l : Labels) (hl : LabelsAt s at l) (u : Lexeme) (lex : Lexed s (l .to) u) (w : Where) (hw : TopKind (x .opened) w) (e : Bool) (he : e ≡ (D.isInGroup (whereOf w) && isEndIn s u)) (r : Turned) where
   test : (b : Bool) → e ≡ b → (D.isInGroup (D.kindOf (openedOf s (x .opened))) && isEndIn s u) ≡ b
@@ -173,39 +187,62 @@ module _ (d s t n : List ℕ) (x : State) (p at : ℕ) (l : Labels) (hl : Labels
 
   pub clause-ends-long : (n′ : List ℕ) (q : ℕ) → e ≡ true → l .long ≡ Marked q → EndsLong d s n x at q n′ r → Clauses d s t n x p at t n′ r
   unfolding stateOf
-  clause-ends-long n′ q f g h = record { so = λ i lp la. subst (λ (X : D.Turn). Takes d s t n x X t n′ r) (sym (clause-end-long s p (fromState s t x) at l hl u lex (test true f) q g)) (h .so t i) }
+  clause-ends-long n′ q f g h = record { so = λ i lp la st. subst (λ (X : D.Turn). Takes d s t n x X t n′ r) (sym (clause-end-long s p (fromState s t x) at l hl u lex (test true f) q g)) (h .so t i) }
 
   pub clause-ends : (n′ : List ℕ) → e ≡ true → l .long ≡ Unmarked → EndsAt d s n x at (u .to) n′ r → Clauses d s t n x p at t n′ r
   unfolding stateOf
   clause-ends n′ f g h = record {
-    so = λ i lp la. subst (λ (X : D.Turn). Takes d s t n x X t n′ r) (sym (clause-end s p (fromState s t x) at l hl u lex (test true f) g))
+    so = λ i lp la st. subst (λ (X : D.Turn). Takes d s t n x X t n′ r) (sym (clause-end s p (fromState s t x) at l hl u lex (test true f) g))
         (h .so t i (or-left (D.isInGroup (D.kindOf (openedOf s (x .opened)))) (D.isInBody (D.kindOf (openedOf s (x .opened)))) (and-left (D.isInGroup (D.kindOf (openedOf s (x .opened)))) (isEndIn s u) (test true f))));
   }
 
   module _ (f : e ≡ false) where
-    -- the 2,049th sentence of all, or the 1,025th of the member
-    over-way : Sits d s t n x → leb 2048 (x .entered + x .rows) ≡ true → r .next ≡ Nx.Stop OverLimit p → Over s t x (D.clauseAt s p at (fromState s t x)) p r
+    some : Sits d s t n x → 0 < length (openedOf s (x .opened))
+    some i = omega (arith, opened-size s (x .opened), i .placed .some)
+
+    no-end : (D.isInGroup (D.kindOf (openedOf s (x .opened))) && D.isEnd s (D.labels s at .behind)) ≡ false
+    no-end =
+        ap (λ (z : Tk.Lexeme). D.isInGroup (D.kindOf (openedOf s (x .opened))) && D.isEnd s z) (hl .behind)
+        ∙ ap (λ (z : Bool). D.isInGroup (D.kindOf (openedOf s (x .opened))) && z) (sym (end-is s (l .to) u lex))
+        ∙ test false f
+
+    -- a sentence that is not the 2,049th of all
+    fits : Sits d s t n x → leb 2048 (x .entered + x .rows) ≡ false → Fits (x .entered) (D.clauseAt s p at (fromState s t x))
     unfolding stateOf
-    over-way i g h = record {
+    fits i g = fits-begun (x .entered) p (fromState s t x) (D.clauseAt s p at (fromState s t x)) (clause-begins s p (fromState s t x) (some i) at no-end)
+        (omega (arith, leb-false 2048 (x .entered + x .rows) g, rows-length s t 0 (x .rows)))
+
+    -- the 2,049th sentence of all, or the 1,025th of the member
+    over-way : Sits d s t n x → p < length s → Starts s p at → leb 2048 (x .entered + x .rows) ≡ true → r .next ≡ Nx.Stop OverLimit p → Over s (x .entered) (D.clauseAt s p at (fromState s t x)) r
+    unfolding stateOf
+    over-way i lp st g h = record {
+      place = p;
+      at = at;
+      state = fromState s t x;
       next = h;
-      full = omega (arith, leb-true 2048 (x .entered + x .rows) g, i .few);
-      begins = clause-begins s p (fromState s t x) (omega (arith, opened-size s (x .opened), i .placed .some)) at
-          (ap (λ (z : Tk.Lexeme). D.isInGroup (D.kindOf (openedOf s (x .opened))) && D.isEnd s z) (hl .behind) ∙ ap (λ (z : Bool). D.isInGroup (D.kindOf (openedOf s (x .opened))) && z) (sym (end-is s (l .to) u lex)) ∙ test false f);
+      full = omega (arith, leb-true 2048 (x .entered + x .rows) g, i .few, rows-length s t 0 (x .rows));
+      low = lp;
+      starts = st;
+      some = some i;
+      none = refl;
+      sentence = no-end;
+      is = refl;
     }
 
-    full-way : Sits d s t n x → leb 1024 (x .rows) ≡ true → r ≡ turned x (Nx.Stop OverLimit p) → Does d s n x (D.clauseAt s p at (fromState s t x)) t n r
+    full-way : Sits d s t n x → leb 1024 (x .rows) ≡ true → r ≡ turned x (Nx.Stop OverLimit p) → Does d s n (x .tally) (D.clauseAt s p at (fromState s t x)) t n r
     unfolding stateOf bookAll
-    full-way i g h = subst (λ (X : D.Turn). Does d s n x X t n r) (sym (clause-full s p (fromState s t x) at l hl u lex (test false f) (full-is s t x true g)))
+    full-way i g h = subst (λ (X : D.Turn). Does d s n (x .tally) X t n r) (sym (clause-full s p (fromState s t x) at l hl u lex (test false f) (full-is s t x true g)))
         (rw h (record { next = refl; rows = refl; names = refl; past = refl }))
 
-    way-full : Sits d s t n x → (b : Bool) → leb 2048 (x .entered + x .rows) ≡ b → (b || leb 1024 (x .rows)) ≡ true → r ≡ turned x (Nx.Stop OverLimit p) → Way d s t n x (D.clauseAt s p at (fromState s t x)) t n r
-    way-full i true g c h = over′ p (over-way i g (ap (λ (z : Turned). z .next) h))
-    way-full i false g c h = does (full-way i c h)
+    way-full : Sits d s t n x → p < length s → Starts s p at → (b : Bool) → leb 2048 (x .entered + x .rows) ≡ b → (b || leb 1024 (x .rows)) ≡ true → r ≡ turned x (Nx.Stop OverLimit p)
+        → Way d s n (x .entered) (x .tally) (D.clauseAt s p at (fromState s t x)) t n r
+    way-full i lp st true g c h = stops (over-way i lp st g (ap (λ (z : Turned). z .next) h)) (ap (λ (z : Turned). bookOf d n (z .state .tally)) h)
+    way-full i lp st false g c h = does (fits i g) (full-way i c h)
 
     pub clause-overfull : (b : Bool) → b ≡ isFull x → b ≡ true → r ≡ turned x (Nx.Stop OverLimit p) → Clauses d s t n x p at t n r
     clause-overfull b hb g h = record {
-      so = λ i lp la. record {
-        way = way-full i (leb 2048 (x .entered + x .rows)) refl (sym hb ∙ g) h;
+      so = λ i lp la st. record {
+        way = way-full i lp st (leb 2048 (x .entered + x .rows)) refl (sym hb ∙ g) h;
         before = ap (λ (z : Turned). z .state .entered) h;
         few = subst (λ (z : Turned). z .state .entered + z .state .rows ≤ 2048) (sym h) (i .few);
         own = subst (λ (z : Turned). Own (x .tally .member) (z .state .scope)) (sym h) (i .ready .own);
@@ -223,10 +260,10 @@ module _ (d s t n : List ℕ) (x : State) (p at : ℕ) (l : Labels) (hl : Labels
       pub clause-too-long : (q : ℕ) → l .long ≡ Marked q → r ≡ turned y (Nx.Stop OverLimit q) → Clauses d s t n x p at t n₁ r
       unfolding stateOf bookAll
       clause-too-long q c h = record {
-        so = λ i lp la.
+        so = λ i lp la st.
             subst (λ (z : D.Turn). Takes d s t n x z t n₁ r) (sym (clause-long s p (fromState s t x) at l hl u lex (test false f) (full-is s t x false (low .1)) q c))
             (rw h (record {
-              way = does (does-comes d s n x y (scopeOf (x .scope)) (opensBy k) (x .rows) (D.labels s at .labels) [] n₁ t n₁ (turned y (Nx.Stop OverLimit q)) (labels-in i) (D.untaken p (D.labels s at .labels) (fromState s t x) OverLimit q [])
+              way = does (subst (λ (v : D.Turn). Fits (x .entered) v) (clause-long s p (fromState s t x) at l hl u lex (test false f) (full-is s t x false (low .1)) q c) (fits i (low .0))) (does-comes d s n x y (scopeOf (x .scope)) (opensBy k) (x .rows) (D.labels s at .labels) [] n₁ t n₁ (turned y (Nx.Stop OverLimit q)) (labels-in i) (D.untaken p (D.labels s at .labels) (fromState s t x) OverLimit q [])
                   (record { next = refl; rows = ap (λ (z : State). rowsFrom s t 0 (z .rows)) (hy .rest); declared = refl; names = refl; past = refl }));
               before = ap (λ (z : State). z .entered) (hy .rest);
               few = subst (λ (z : State). z .entered + z .rows ≤ 2048) (sym (hy .rest)) (i .few);
@@ -238,7 +275,7 @@ module _ (d s t n : List ℕ) (x : State) (p at : ℕ) (l : Labels) (hl : Labels
       pub clause-statement : (t′ n′ : List ℕ) → l .long ≡ Unmarked → k ≡ keywordAt s (whereOf w) (isInside (x .scope)) u (l .count) → ByToken d s t n₁ y k u (l .to) p at t′ n′ r → Clauses d s t n x p at t′ n′ r
       unfolding stateOf
       clause-statement t′ n′ c hk h = record {
-        so = λ i lp la.
+        so = λ i lp la st.
             let m : ByToken d s t n₁ (withTally x (y .tally)) k u (l .to) p at t′ n′ r = subst (λ (v : State). ByToken d s t n₁ v k u (l .to) p at t′ n′ r) (hy .rest) h in
             let en : Entered d n (x .tally) (bookAll (x .tally .member) (St.means (scopeOf (x .scope)) (D.labelMeaning (opensBy k) (x .rows)) (D.labels s at .labels))) n₁ (y .tally) = labels-in i in
             let si : Sits d s t n₁ (withTally x (y .tally)) = record {
@@ -253,7 +290,7 @@ module _ (d s t n : List ℕ) (x : State) (p at : ℕ) (l : Labels) (hl : Labels
             (labels-counted s at l hl (no-longs (D.labels s at .long) (sym (hl .long) ∙ c))) in
             subst (λ (v : D.Turn). Takes d s t n x v t′ n′ r) (sym (clause-token s p (fromState s t x) at l hl u lex (test false f) (full-is s t x false (low .1)) c))
             (record {
-              way = does (does-comes d s n x (withTally x (y .tally)) (scopeOf (x .scope)) (opensBy k) (x .rows) (D.labels s at .labels) (q .names) n₁ t′ n′ r en (D.byToken (tokenAt s (l .to) .token) s p (D.labels s at .labels) (tokenAt s (l .to)) (fromState s t x)) (q .comes));
+              way = does (subst (λ (v : D.Turn). Fits (x .entered) v) (clause-token s p (fromState s t x) at l hl u lex (test false f) (full-is s t x false (low .1)) c) (fits i (low .0))) (does-comes d s n x (withTally x (y .tally)) (scopeOf (x .scope)) (opensBy k) (x .rows) (D.labels s at .labels) (q .names) n₁ t′ n′ r en (D.byToken (tokenAt s (l .to) .token) s p (D.labels s at .labels) (tokenAt s (l .to)) (fromState s t x)) (q .comes));
               before = q .before;
               few = omega (arith, q .before, q .few, leb-false 2048 (x .entered + x .rows) (low .0));
               own = subst (λ (v : ℕ). Own v (r .state .scope)) (en .member) (q .own);

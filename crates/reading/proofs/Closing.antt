@@ -38,8 +38,9 @@ use Rattle.reading.specs.declared.State.{State}
 use Rattle.reading.specs.declared.Next.{Next}
 use Rattle.reading.specs.declared.Next.the-variants as Nx
 use Rattle.reading.specs.declared.Turned.{Turned}
-use Rattle.reading.specs.State.{rowsFrom, stateOf, turnOf, Around, Stand, withOpened, withScope, withTally, turned, Ends, Sits, Goes, Stops, Does, Way, does, Takes, fromState}
+use Rattle.reading.specs.State.{rowsFrom, stateOf, turnOf, Around, Stand, withOpened, withScope, withTally, turned, Ends, Sits, Goes, Stops, Does, Fits, early, Way, does, Takes, fromState}
 use Rattle.reading.specs.Labelled.{LabelsIf}
+use Rattle.reading.proofs.Rows.{rows-length}
 use Rattle.reading.proofs.Parameters.{AllPlain, whole-all, plain-means}
 use Rattle.reading.specs.Sentences.{notEndNext, EndsLong, EndsAt, EndsBody}
 
@@ -48,6 +49,11 @@ abbrev pub Onward : List P.Declared → D.Turn → Type 0
 Onward ds (D.go m at st) = st .declared ≡ ds
 Onward ds (D.stop w p begun st) = ⊥
 Onward ds (D.finish st) = st .declared ≡ ds
+
+pub fits-onward : (entered : ℕ) (ds : List P.Declared) (X : D.Turn) → Onward ds X → Fits entered X
+fits-onward entered ds (D.go m at st) h = tt
+fits-onward entered ds (D.stop w p begun st) h = absurd h
+fits-onward entered ds (D.finish st) h = tt
 
 pub does-onward : (d s n : List ℕ) (x : State) (t′ n′ : List ℕ) (r : Turned) (ds : List P.Declared) (X : D.Turn) → Onward ds X → turnOf s t′ ds r ≡ X
     → Entered d n (x .tally) (bookWhole (x .tally .member) [] ds) n′ (r .state .tally) → Does d s n (x .tally) X t′ n′ r
@@ -100,7 +106,7 @@ module _ (d s n : List ℕ) (x : State) (labels : ℕ) (g : Meaning) (n′ : Lis
       → Takes d s t n x (D.stop w q [] (D.withNames (St.means (scopeOf (x .scope)) (meaningOf g) (D.labels s labels .labels)) (fromState s t x))) t n′ r
   unfolding stateOf
   stops-named t w q r hr i = rw hr (record {
-    way = does (record {
+    way = does (early (omega (arith, rows-length s t 0 (x .rows), i .few))) (record {
       next = refl;
       rows = ap (λ (z : State). rowsFrom s t 0 (z .rows)) (h .rest);
       names = ap (λ (b : Book). b .identifiers) (h .names .is (i .ready) .book);
@@ -187,7 +193,7 @@ module _ (d s n : List ℕ) (x : State) (labels at : ℕ) (n′ : List ℕ) (o :
 
         takes : Entered d n (x .tally) (bookAll (x .tally .member) ended) n′ z → Takes d s t n x (D.endAt s (D.labels s labels .labels) at (openedOf s (x .opened)) (fromState s t x)) t n′ r
         takes g = record {
-          way = does (does-onward d s n x t n′ r ended (D.endAt s (D.labels s labels .labels) at (openedOf s (x .opened)) (fromState s t x)) onward turns (subst (λ (u : Tally). Entered d n (x .tally) (bookWhole (x .tally .member) [] ended) n′ u) (sym (f .keeps .tally)) (entered-plain d n (x .tally) ended n′ z (plain-means (scopeOf (x .scope)) (P.endLabel (o .row)) (D.labels s labels .labels) refl) g)));
+          way = does (fits-onward (x .entered) ended (D.endAt s (D.labels s labels .labels) at (openedOf s (x .opened)) (fromState s t x)) onward) (does-onward d s n x t n′ r ended (D.endAt s (D.labels s labels .labels) at (openedOf s (x .opened)) (fromState s t x)) onward turns (subst (λ (u : Tally). Entered d n (x .tally) (bookWhole (x .tally .member) [] ended) n′ u) (sym (f .keeps .tally)) (entered-plain d n (x .tally) ended n′ z (plain-means (scopeOf (x .scope)) (P.endLabel (o .row)) (D.labels s labels .labels) refl) g)));
           before = f .keeps .entered;
           few = omega (arith, f .keeps .entered, f .rows, i .few);
           own = subst (λ (m : ℕ). Own m (r .state .scope)) (g .member) (f .keeps .own (hk .own (z .member) (subst (λ (m : ℕ). Own m (x .scope)) (sym (g .member)) (i .ready .own))));

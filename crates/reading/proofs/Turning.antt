@@ -52,25 +52,33 @@ use Rattle.reading.specs.declared.Source.{Source}
 use Rattle.reading.specs.declared.Mode.{Mode}
 use Rattle.reading.specs.declared.Mode.the-variants as Md
 use Rattle.reading.specs.declared.Next.the-variants as Nx
-use Rattle.reading.specs.State.{stretchOf, rowsFrom, stateOf, turnOf, modeOf, Stand, Placed, Keeps, turned, stretchAt, Leads, stateIn, begunIn, Sits, Goes, Stops, Does, Starts, behind, opens, Over, Way, does, stops, Takes, fromState, Clauses, LowEnd, Texts, ProcedureEnds, Inners, Alternatives, Follows, Turns, Low, Begins, sourceOf}
-use Rattle.reading.proofs.Rows.{text-set}
+use Rattle.reading.specs.State.{stretchOf, rowsFrom, stateOf, turnOf, modeOf, Stand, Placed, Keeps, turned, stretchAt, Leads, stateIn, begunIn, Sits, Goes, Stops, Does, Starts, behind, opens, Over, Way, Counts, early, last, does, stops, Takes, fromState, Clauses, LowEnd, Texts, ProcedureEnds, Inners, Alternatives, Follows, Turns, Low, Begins, sourceOf}
+use Rattle.reading.proofs.Rows.{rows-length, text-set}
 
 -- ---- where nothing is read, all stays
 module _ (d s t n : List ℕ) (x : State) (h : Sits d s t n x) where
   pub stay-finish : Takes d s t n x (D.finish (fromState s t x)) t n (turned x Nx.Finish)
   unfolding turnOf stateOf bookWhole
   stay-finish = record {
-    way = does (record { turn = refl; entered = record { book = refl; roomy = h .ready .roomy; member = refl; base = refl } });
+    way = does tt (record { turn = refl; entered = record { book = refl; roomy = h .ready .roomy; member = refl; base = refl } });
     before = refl;
     few = h .few;
     own = h .ready .own;
     size = refl;
   }
 
-  pub stay-stop : (w : Why) (p : ℕ) (begun : List ℕ) → Takes d s t n x (D.stop w p begun (fromState s t x)) t n (turned x (Nx.Stop w p))
+  pub stay-early : (w : Why) (p : ℕ) → Counts (x .entered) w p [] (fromState s t x)
+  unfolding stateOf
+  stay-early w p = early (omega (arith, rows-length s t 0 (x .rows), h .few))
+
+  pub stay-last : (p : ℕ) → Counts (x .entered) OverLimit p (p ∷ []) (fromState s t x)
+  unfolding stateOf
+  stay-last p = last refl refl (omega (arith, rows-length s t 0 (x .rows), h .few))
+
+  pub stay-stop : (w : Why) (p : ℕ) (begun : List ℕ) → Counts (x .entered) w p begun (fromState s t x) → Takes d s t n x (D.stop w p begun (fromState s t x)) t n (turned x (Nx.Stop w p))
   unfolding stateOf bookAll
-  stay-stop w p begun = record {
-    way = does (record { next = refl; rows = refl; names = refl; past = refl });
+  stay-stop w p begun c = record {
+    way = does c (record { next = refl; rows = refl; names = refl; past = refl });
     before = refl;
     few = h .few;
     own = h .ready .own;
@@ -105,7 +113,7 @@ module _ (d s t n : List ℕ) (x : State) (e : Ending) where
     where
       by : Sits d s t n x → (E : TextEnd) (f : ℕ → D.State) → En.AtEnd ≡ endingFor E → f (length s) ≡ fromState s t x → length (f 0 .opened) ≡ x .opened .count → Takes d s t n x (D.texted E s f) t n (turned x (Nx.Stop Syntax (length s)))
       by h (percentAt j) f k hf ho = let z : _≡_ {A = ℕ} 0 1 = cc in absurd (omega arith)
-      by h atEnd f k hf ho = rw (lt-leb (length (f 0 .opened)) 1 (omega (arith, ho, l)), hf) (stay-stop d s t n x h Syntax (length s) [])
+      by h atEnd f k hf ho = rw (lt-leb (length (f 0 .opened)) 1 (omega (arith, ho, l)), hf) (stay-stop d s t n x h Syntax (length s) [] (stay-early d s t n x h Syntax (length s)))
       by h (openAt j) f k hf ho = let z : _≡_ {A = ℕ} 0 1 = cc in absurd (omega arith)
 
   pub texted-open : (p : ℕ) (r : Turned) → e ≡ En.OpenAt p → r ≡ turned x (Nx.Stop Syntax p) → Texts d s t n x e t n r
@@ -117,7 +125,7 @@ module _ (d s t n : List ℕ) (x : State) (e : Ending) where
       by h (openAt j) f k hf =
           let z : p ≡ j = cc in
           subst (λ (i : ℕ). Takes d s t n x (D.stop Syntax i [] (f i)) t n (turned x (Nx.Stop Syntax p))) z
-          (subst (λ (st : D.State). Takes d s t n x (D.stop Syntax p [] st) t n (turned x (Nx.Stop Syntax p))) (sym hf) (stay-stop d s t n x h Syntax p []))
+          (subst (λ (st : D.State). Takes d s t n x (D.stop Syntax p [] st) t n (turned x (Nx.Stop Syntax p))) (sym hf) (stay-stop d s t n x h Syntax p [] (stay-early d s t n x h Syntax p)))
 
 -- ---- A TEXT, and what is behind it
 -- where it ends
@@ -293,7 +301,7 @@ module _ (d s t n : List ℕ) (x : State) (at : ℕ) (k : Lexeme) (lex : Lexed s
     pub inner-wrong : (r : Turned) → c ≡ false → r ≡ turned x (Nx.Stop Syntax (k .from)) → Inners d s t n x at t n r
     unfolding D.innerAt stateOf
     inner-wrong r y hr = rw hr (record {
-      so = λ h l. rw (in-body ∙ no, begun ∙ y) (subst (λ (i : ℕ). Takes d s t n x (D.stop Syntax i [] (fromState s t x)) t n (turned x (Nx.Stop Syntax (k .from)))) (lex .from) (stay-stop d s t n x h Syntax (k .from) []));
+      so = λ h l. rw (in-body ∙ no, begun ∙ y) (subst (λ (i : ℕ). Takes d s t n x (D.stop Syntax i [] (fromState s t x)) t n (turned x (Nx.Stop Syntax (k .from)))) (lex .from) (stay-stop d s t n x h Syntax (k .from) [] (stay-early d s t n x h Syntax (k .from))));
     })
 
 -- ---- AN ALTERNATIVE
@@ -330,7 +338,7 @@ module _ (d s t n : List ℕ) (x : State) (at : ℕ) (k : Lexeme) (lex : Lexed s
   alternative-wrong r y hr = rw hr (record {
     so = λ h l.
         subst (λ (X : D.Turn). Takes d s t n x X t n (turned x (Nx.Stop Syntax (k .from)))) (sym (hm .is lex (fromState s t x) ∙ ap (λ (w : Mark). alternativeTurn w s (tokenAt s at) (fromState s t x)) y))
-        (subst (λ (i : ℕ). Takes d s t n x (D.stop Syntax i [] (fromState s t x)) t n (turned x (Nx.Stop Syntax (k .from)))) (lex .from) (stay-stop d s t n x h Syntax (k .from) []));
+        (subst (λ (i : ℕ). Takes d s t n x (D.stop Syntax i [] (fromState s t x)) t n (turned x (Nx.Stop Syntax (k .from)))) (lex .from) (stay-stop d s t n x h Syntax (k .from) [] (stay-early d s t n x h Syntax (k .from))));
   })
 
   module _ (q g : ℕ) (y : m ≡ Marked q) (hg : Deep (x .opened) g) where
@@ -351,7 +359,7 @@ module _ (d s t n : List ℕ) (x : State) (at : ℕ) (k : Lexeme) (lex : Lexed s
     alternative-deep r l hr = rw hr (record {
       so = λ h w.
           subst (λ (X : D.Turn). Takes d s t n x X t n (turned x (Nx.Stop OverLimit (k .from)))) (sym (deep-is ∙ rw (lt-leb g 16 l)))
-          (subst (λ (i : ℕ). Takes d s t n x (D.stop OverLimit i (i ∷ []) (fromState s t x)) t n (turned x (Nx.Stop OverLimit (k .from)))) (lex .from) (stay-stop d s t n x h OverLimit (k .from) (k .from ∷ [])));
+          (subst (λ (i : ℕ). Takes d s t n x (D.stop OverLimit i (i ∷ []) (fromState s t x)) t n (turned x (Nx.Stop OverLimit (k .from)))) (lex .from) (stay-stop d s t n x h OverLimit (k .from) (k .from ∷ []) (stay-last d s t n x h (k .from))));
     })
 
 -- ---- THE START

@@ -114,7 +114,7 @@ module _ (d s t n : List ℕ) (x : State) (l : Lexeme) (from p labels : ℕ) (ns
   clausal (St.declared c es) g so e =
       let ds : List P.Declared = St.means (scopeOf (x .scope)) (D.labelMeaning (c .opens) (x .rows)) ns ++ es in
       let on : Onward ds (D.taken s p ns (fromState s t x) c es) = subst (λ (k : ℕ). Onward (St.means (scopeOf (x .scope)) (D.labelMeaning (c .opens) k) ns ++ es) (D.taken s p ns (fromState s t x) c es)) (rows-length s t 0 (x .rows)) (taken-onward s p ns (fromState s t x) c es) in
-      let tk : Taken s t (withTally x z) p t′ r ns [] es (read c) = h .is (read c) ns [] es g placed (i .room) (i .sits .placed .deep) (i .place) (i .labelled) in
+      let tk : Taken s t (withTally x z) p t′ r ns [] es (read c) = h .is (read c) ns [] es g placed (i .room) (omega (arith, i .sits .placed .deep)) (i .place) (i .labelled) in
       record {
         names = es;
         comes = subst (λ (a : St.Opens). Comes d s n x (St.means (scopeOf (x .scope)) (D.labelMeaning a (x .rows)) ns ++ es) (St.means (scopeOf (x .scope)) (P.label 0) ns ++ es) es (D.taken s p ns (fromState s t x) c es) t′ n′ r) so
@@ -125,7 +125,7 @@ module _ (d s t n : List ℕ) (x : State) (l : Lexeme) (from p labels : ℕ) (ns
         size = h .size;
       }
   clausal (St.undeclared w q es) g so e =
-      let tk : Taken s t (withTally x z) p t′ r ns [] es (refused w q) = h .is (refused w q) ns [] es g placed (i .room) (i .sits .placed .deep) (i .place) (i .labelled) in
+      let tk : Taken s t (withTally x z) p t′ r ns [] es (refused w q) = h .is (refused w q) ns [] es g placed (i .room) (omega (arith, i .sits .placed .deep)) (i .place) (i .labelled) in
       record {
         names = es;
         comes = record {

@@ -283,12 +283,23 @@ pub record Over (s : List ℕ) (entered : ℕ) (X : D.Turn) (r : Turned) : Type 
   pub low : place < length s
   pub starts : Starts s place at
   pub some : 0 < length (state .opened)
+  pub none : state .declared ≡ []
   pub sentence : (D.isInGroup (D.kindOf (state .opened)) && D.isEnd s (D.labels s at .behind)) ≡ false
   pub is : X ≡ D.clauseAt s place at state
 
+-- where that sentence does not come first: the turn refuses with fewer begun, or by a limit at the last that it began
+pub data Counts (entered : ℕ) (w : Why) (p : ℕ) (begun : List ℕ) (st : D.State) : Type 0 where
+  early : entered + length (st .rows) + length begun ≤ 2048 → Counts entered w p begun st
+  last : w ≡ OverLimit → begun ≡ p ∷ [] → entered + length (st .rows) ≤ 2048 → Counts entered w p begun st
+
+abbrev pub Fits : ℕ → D.Turn → Type 0
+Fits entered (D.go m at st) = Unit {0}
+Fits entered (D.stop w p begun st) = Counts entered w p begun st
+Fits entered (D.finish st) = Unit {0}
+
 pub data Way (d s n : List ℕ) (entered : ℕ) (k : Tally) (X : D.Turn) (t′ n′ : List ℕ) (r : Turned) : Type 0 where
-  does : Does d s n k X t′ n′ r → Way d s n entered k X t′ n′ r
-  stops : Over s entered X r → Way d s n entered k X t′ n′ r
+  does : Fits entered X → Does d s n k X t′ n′ r → Way d s n entered k X t′ n′ r
+  stops : Over s entered X r → bookOf d n′ (r .state .tally) ≡ bookOf d n k → Way d s n entered k X t′ n′ r
 
 pub record Takes (d s t n : List ℕ) (x : State) (X : D.Turn) (t′ n′ : List ℕ) (r : Turned) : Type 0 where
   pub way : Way d s n (x .entered) (x .tally) X t′ n′ r
