@@ -52,7 +52,8 @@ use Rattle.reading.specs.declared.Source.{Source}
 use Rattle.reading.specs.declared.Mode.{Mode}
 use Rattle.reading.specs.declared.Mode.the-variants as Md
 use Rattle.reading.specs.declared.Next.the-variants as Nx
-use Rattle.reading.specs.State.{stretchOf, rowsFrom, stateOf, turnOf, modeOf, Stand, Placed, Keeps, turned, stretchAt, Leads, stateIn, begunIn, Sits, Goes, Stops, Does, Starts, behind, opens, Over, Way, Counts, early, last, does, stops, Takes, fromState, Clauses, LowEnd, Texts, ProcedureEnds, Inners, Alternatives, Follows, Turns, Low, Begins, sourceOf}
+use Rattle.reading.specs.State.{stretchOf, rowsFrom, stateOf, turnOf, modeOf, Stand, Placed, Keeps, turned, stretchAt, Leads, stateIn, begunIn, Sits, Goes, Stops, Does, Starts, behind, opens, Over, Way, Counts, early, last, does, stops, Takes, fromState, Clauses, LowEnd, Texts, Inners, Alternatives, Follows, Turns, Low, Begins, sourceOf}
+use Rattle.reading.specs.Sentences.{EndsBody}
 use Rattle.reading.proofs.Rows.{rows-length, text-set}
 
 -- ---- where nothing is read, all stays
@@ -273,15 +274,19 @@ body-end s k w a b ha ya hb = rw (sym ha ∙ ya) hb
 pub no-body : (s : List ℕ) (k : Lexeme) (w : Where) (a : Bool) → a ≡ D.isInBody (whereOf w) → a ≡ false → false ≡ (D.isInBody (whereOf w) && isSignIn s k (37 ∷ []))
 no-body s k w a ha na = rw (sym ha ∙ na)
 
+both-left : (a b : Bool) → (a && b) ≡ true → a ≡ true
+both-left true b e = refl
+both-left false b e = e
+
 module _ (d s t n : List ℕ) (x : State) (at : ℕ) (k : Lexeme) (lex : Lexed s at k) (w : Where) (hw : TopKind (x .opened) w) (b : Bool) (hb : b ≡ (D.isInBody (whereOf w) && isSignIn s k (37 ∷ []))) where
   in-body : (D.isInBody (D.kindOf (openedOf s (x .opened))) && Tk.isSign "%" (tokenAt s at .token)) ≡ b
   in-body = sym (hb ∙ rw (hw .is s, is-sign s at k lex "%" (37 ∷ []) refl))
 
-  pub inner-end : (n′ : List ℕ) (r : Turned) → b ≡ true → ProcedureEnds d s n x (k .to) n′ r → Inners d s t n x at t n′ r
+  pub inner-end : (n′ : List ℕ) (r : Turned) → b ≡ true → EndsBody d s n x (k .to) n′ r → Inners d s t n x at t n′ r
   unfolding D.innerAt stateOf
   inner-end n′ r y p = record {
     so = λ h l.
-        let e : k .to ≤ length s = omega (arith, lex .to, tokenAt-lies s at l .high) in
+        let e : D.isInBody (D.kindOf (openedOf s (x .opened))) ≡ true = both-left (D.isInBody (D.kindOf (openedOf s (x .opened)))) (Tk.isSign "%" (tokenAt s at .token)) (in-body ∙ y) in
         rw (in-body ∙ y) (subst (λ (i : ℕ). Takes d s t n x (D.procedureEnd s (D.labels s i) (fromState s t x)) t n′ r) (lex .to) (p .so t h e));
   }
 

@@ -325,9 +325,6 @@ pub record Texts (d s t n : List ℕ) (x : State) (e : Ending) (t′ n′ : List
   pub so : Sits d s t n x → (E : TextEnd) (f : ℕ → D.State) → e ≡ endingFor E → LowEnd s e → f (endFor s e) ≡ fromState s t x → length (f 0 .opened) ≡ x .opened .count
       → Takes d s t n x (D.texted E s f) t′ n′ r
 
-pub record ProcedureEnds (d s n : List ℕ) (x : State) (at : ℕ) (n′ : List ℕ) (r : Turned) : Type 0 where
-  pub so : (t : List ℕ) → Sits d s t n x → at ≤ length s → Takes d s t n x (D.procedureEnd s (D.labels s at) (fromState s t x)) t n′ r
-
 pub record Inners (d s t n : List ℕ) (x : State) (at : ℕ) (t′ n′ : List ℕ) (r : Turned) : Type 0 where
   pub so : Sits d s t n x → at ≤ length s → Takes d s t n x (D.innerAt s at (tokenAt s at) (fromState s t x)) t′ n′ r
 

@@ -616,7 +616,9 @@ fn texted(
     names: &mut [u16],
     st: State,
     e: Ending,
-) -> Turned {
+) -> Turned
+    ensures { λ r. ⌜ T.Texts (now (deck .entry)) (now (s .entry)) (now (rows .entry)) (now (names .entry)) st e (now (rows .exit)) (now (names .exit)) r ⌝ }
+{
     match e {
         Ending::Percent(p) => clause_at(deck, s, rows, names, st, p, place_after(s, p)),
         Ending::AtEnd => {
@@ -707,7 +709,9 @@ fn inner_at(
     names: &mut [u16],
     st: State,
     at: usize,
-) -> Turned {
+) -> Turned
+    ensures { λ r. ⌜ T.Inners (now (deck .entry)) (now (s .entry)) (now (rows .entry)) (now (names .entry)) st «at» (now (rows .exit)) (now (names .exit)) r ⌝ }
+{
     let t = token_at(s, at);
     let opened = st.opened;
     let kind = top_kind(opened);
@@ -728,7 +732,9 @@ fn alternative_at(
     names: &mut [u16],
     st: State,
     at: usize,
-) -> Turned {
+) -> Turned
+    ensures { λ r. ⌜ T.Alternatives (now (deck .entry)) (now (s .entry)) (now (rows .entry)) (now (names .entry)) st «at» (now (rows .exit)) (now (names .exit)) r ⌝ }
+{
     let t = token_at(s, at);
     let scope = st.scope;
     let found = alternative_from(s, scope, t, at);
@@ -752,7 +758,9 @@ fn turn(
     st: State,
     mode: Mode,
     at: usize,
-) -> Turned {
+) -> Turned
+    ensures { λ r. ⌜ T.Turns (now (deck .entry)) (now (s .entry)) (now (rows .entry)) (now (names .entry)) st mode «at» (now (rows .exit)) (now (names .exit)) r ⌝ }
+{
     match mode {
         Mode::Leading => {
             let e = text_end(s, at);
