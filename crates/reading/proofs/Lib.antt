@@ -17,3 +17,4 @@ pub mod Wording
 pub mod Tokening
 pub mod Clausing
 pub mod Overfull
+pub mod Bounds
