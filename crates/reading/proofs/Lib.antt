@@ -18,3 +18,4 @@ pub mod Tokening
 pub mod Clausing
 pub mod Overfull
 pub mod Bounds
+pub mod Membering

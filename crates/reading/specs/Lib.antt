@@ -3,3 +3,4 @@ pub mod State
 pub mod Labelled
 pub mod UpTo
 pub mod Sentences
+pub mod Members

@@ -1,0 +1,248 @@
+-- A MEMBER, turn by turn: what the loop of `read_member` knows, and what it leaves by each way out.
+-- Assumes nothing.
+use Prim.Native.Nat.{ℕ, zero, suc, _+_, _-_, _%_, _≤_, _<_}
+use native.Mathlib.Omega.{arith}
+use mathlib.Core.Bool.{Bool, true, false, cond}
+use mathlib.Core.List.{List, [], _∷_, _++_}
+use mathlib.Core.Path.{_≡_, refl, sym, ap, subst, _∙_}
+use lib.Dec.{ltb}
+use lib.ListN.{length}
+use Rattle.definition.specs.Limits.{enteredSentences}
+use Rattle.definition.specs.Program as P
+use Rattle.definition.specs.Reading as D
+use Rattle.definition.specs.World as W
+use Rattle.definition.specs.Names as N
+use Rattle.definition.specs.declared.Why.{Why}
+use Rattle.definition.specs.declared.Why.the-variants.{Syntax, OverLimit}
+use Rattle.deck.specs.Answer.{bodyIn}
+use Rattle.entering.specs.declared.Mark.{Mark}
+use Rattle.entering.specs.declared.Mark.the-variants.{Unmarked, Marked}
+use Rattle.entering.specs.declared.Tally.{Tally}
+use Rattle.entering.specs.declared.Fault.{Fault}
+use Rattle.entering.specs.declared.Fault.the-variants.{Sound, Faulty}
+use Rattle.entering.specs.Book.{Book, Roomy, tallyOf, bookOf, bookAll, bookWhole, markOf, faultFor, faultIn}
+use Rattle.entering.proofs.Order as O
+use Rattle.entering.proofs.Order.{decides, past-is}
+use Rattle.statements.specs.Clauses.{Lies}
+use Rattle.openings.specs.Open.{openedOf}
+use Rattle.reading.specs.declared.State.{State}
+use Rattle.reading.specs.declared.Turned.{Turned}
+use Rattle.reading.specs.declared.Source.{Source}
+use Rattle.reading.specs.declared.Mode.{Mode}
+use Rattle.reading.specs.declared.Mode.the-variants as Md
+use Rattle.reading.specs.declared.Next.{Next}
+use Rattle.reading.specs.declared.Next.the-variants as Nx
+use Rattle.reading.specs.State as T
+use Rattle.reading.specs.State.{rowsFrom, stateOf, modeOf, nextOf, turnOf, stateIn, Sits, Goes, Stops, Does, Over, Counts, early, last, Fits, Way, does, stops, Takes, fromState, Follows, Turns, Begins, Enough, sourceOf, Reads}
+use Rattle.reading.specs.Members.{namesOf, Has, Enters, goes-in, stays-out, baseOf, Fresh, Whole, Membered, Members}
+use Rattle.reading.proofs.Rows.{rows-length}
+use Rattle.reading.proofs.Turning.{opened-length}
+use Rattle.reading.proofs.Frame.{withDeclared, behind, prepend, clauseAt-frame, read-turn}
+use Rattle.reading.proofs.Owners.{Kept, OwnTurn, going, names-turn, whole-turn, owned-turn}
+use Rattle.reading.proofs.Parameters.{Owned, Almost, almost-self, whole-almost, fault-either}
+use Rattle.reading.proofs.Growth as G
+use Rattle.reading.proofs.Growth.{Sentence, decides-past, all-entered, last-entered}
+use Rattle.reading.proofs.Standing.{Well, WellFor, WellTurn, turn-well, start-well, Ongoing, goes-on}
+use Rattle.reading.proofs.Bounds.{InTurn, turn-in}
+
+-- ---- THE LOOP: f turns are left, of the member m whose body is s; b are the names before it
+pub record Going (d s : List ℕ) (m entered : ℕ) (b : Book) (t n : List ℕ) (x : State) (mode : Mode) (at f : ℕ) : Type 0 where
+  pub sits : Sits d s t n x
+  pub follows : Follows mode (x .rows)
+  pub within : at ≤ length s
+  pub well : Well (fromState s t x)
+  pub fit : WellFor (modeOf mode) (fromState s t x)
+  pub member : x .tally .member ≡ m
+  pub before : x .entered ≡ entered
+  pub done : List P.Declared
+  pub left : D.readOn s f (D.go (modeOf mode) at (withDeclared done (fromState s t x))) ≡ D.readMember s
+  pub owned : Owned 0 (x .rows) done
+  pub names : bookOf d n (x .tally) ≡ bookWhole m [] done b
+
+pub record Loop (d t₀ n₀ : List ℕ) (m entered names : ℕ) (s t n : List ℕ) (x : State) (mode : Mode) (at f : ℕ) : Type 0 where
+  pub body : s ≡ bodyIn d m
+  pub so : Fresh d s t₀ n₀ (baseOf d m) entered names → Going d s m entered (namesOf d n₀ names) t n x mode at f
+
+-- ---- the start
+well-first : (st : D.State) → st ≡ D.start → WellFor D.leadingText st
+unfolding D.depth
+well-first st e = rw e (omega arith)
+
+pub loop-start : (d t n : List ℕ) (m entered names : ℕ) (s : List ℕ) → s ≡ bodyIn d m → (base : ℕ) → base ≡ baseOf d m → (x : State) → Begins m base entered names x → (f : ℕ) → Enough s f
+    → Loop d t n m entered names s t n x Md.Leading 0 f
+unfolding bookOf bookWhole D.readMember
+loop-start d t n m entered names s hs base hb x h f e = record {
+  body = hs;
+  so = λ k.
+      let y : x .tally ≡ tallyOf m base names Unmarked Unmarked = h .tally in
+      let turns : f ≡ suc (suc (length s)) = omega (arith, e .is (k .short)) in
+      record {
+        sits = record {
+          ready = record {
+            roomy = subst (λ (z : Tally). Roomy n z) (sym y) (record { size = k .room; few = k .few });
+            lies = subst (λ (z : Tally). Lies d s (z .base)) (sym y) (subst (λ (i : ℕ). Lies d s i) (sym hb) (k .lies));
+            own = rw (h .scope) tt;
+          };
+          few = omega (arith, h .entered, h .rows, k .sentences);
+          short = k .short;
+          placed = h .placed s t (k .rows);
+        };
+        follows = tt;
+        within = omega arith;
+        well = subst Well (sym (h .is s t)) start-well;
+        fit = well-first (fromState s t x) (h .is s t);
+        member = ap (λ (z : Tally). z .member) y;
+        before = h .entered;
+        done = [];
+        left = ap (λ (z : D.State). D.readOn s f (D.go D.leadingText 0 (withDeclared [] z))) (h .is s t) ∙ ap (λ (i : ℕ). D.readOn s i (D.go D.leadingText 0 D.start)) turns;
+        owned = tt;
+        names = ap (bookOf d n) y;
+      };
+}
+
+-- ---- one turn: X is the definition's, from no declarations
+module _ (d s : List ℕ) (m entered : ℕ) (b : Book) (t n : List ℕ) (x : State) (mode : Mode) (at f : ℕ) (h : Going d s m entered b t n x mode at (suc f)) where
+  abbrev X : D.Turn
+  X = D.turn s (modeOf mode) at (fromState s t x)
+
+  left-on : D.readOn s f (prepend (h .done) X) ≡ D.readMember s
+  unfolding stateOf
+  left-on = sym (read-turn s (h .done) f (modeOf mode) at (fromState s t x)) ∙ h .left
+
+  some-open : 0 < length (fromState s t x .opened)
+  unfolding stateOf
+  some-open = omega (arith, opened-length s (x .opened), h .sits .placed .some, h .sits .placed .deep)
+
+  owns : OwnTurn (x .rows) X
+  unfolding stateOf
+  owns = subst (λ (i : ℕ). OwnTurn i X) (rows-length s t 0 (x .rows)) (names-turn s (modeOf mode) at (fromState s t x) some-open)
+
+  entered-so : (Y : D.Turn) → X ≡ Y → bookWhole m [] (h .done ++ stateIn Y .declared) b ≡ bookWhole m [] (stateIn Y .declared) (bookOf d n (x .tally))
+  entered-so Y e = whole-turn m (x .rows) (h .done) b (h .owned) (subst (OwnTurn (x .rows)) e owns) ∙ ap (bookWhole m [] (stateIn Y .declared)) (sym (h .names))
+
+  well-turn : WellTurn X
+  well-turn = turn-well s (modeOf mode) at (fromState s t x) (h .well) (h .fit)
+
+  module _ (t′ n′ : List ℕ) (r : Turned) (k : Takes d s t n x X t′ n′ r) where
+    module _ (m′ : Mode) (e : ℕ) (hn : r .next ≡ Nx.Go m′ e) where
+      going-on : {y : D.Mode} {q : ℕ} {u : D.State} → OwnTurn (x .rows) (D.go y q u) → Kept (x .rows) u
+      going-on (going l j) = j
+
+      again : (u : D.State) → X ≡ D.go (modeOf m′) e u → u ≡ stateOf s t′ (u .declared) (r .state) → Goes d s n (x .tally) X t′ n′ r → Going d s m entered b t′ n′ (r .state) m′ e f
+      unfolding stateOf
+      again u hx hu g =
+          let on : Ongoing d s t′ n′ (r .state) m′ = goes-on d s t n x X t′ n′ r m′ e (h .sits) k g hn well-turn in
+          let w : WellTurn (D.go (modeOf m′) e u) = subst WellTurn hx well-turn in
+          let v : Well (stateOf s t′ (u .declared) (r .state)) = subst Well hu (w .0) in
+          let rows : length (u .rows) ≡ r .state .rows = ap (λ (z : D.State). length (z .rows)) hu ∙ rows-length s t′ 0 (r .state .rows) in
+          record {
+            sits = on .sits;
+            follows = on .follows;
+            within = subst (InTurn s) hx (turn-in s (modeOf mode) at (fromState s t x) (h .within));
+            well = record { few = v .few; stand = v .stand; count = v .count };
+            fit = fits (modeOf m′) (subst (WellFor (modeOf m′)) hu (w .1));
+            member = g .entered .member ∙ h .member;
+            before = k .before ∙ h .before;
+            done = h .done ++ u .declared;
+            left = ap (λ (z : D.State). D.readOn s f (D.go (modeOf m′) e (withDeclared (h .done ++ u .declared) z))) (sym hu) ∙ ap (λ (z : D.Turn). D.readOn s f (prepend (h .done) z)) (sym hx) ∙ left-on;
+            owned = subst (λ (i : ℕ). Owned 0 i (h .done ++ u .declared)) rows (owned-turn (x .rows) (h .done) u (h .owned) (going-on (subst (OwnTurn (x .rows)) hx owns)));
+            names = g .entered .book ∙ ap (λ (i : ℕ). bookWhole i [] (stateIn X .declared) (bookOf d n (x .tally))) (h .member) ∙ sym (entered-so X refl) ∙ ap (λ (z : D.Turn). bookWhole m [] (h .done ++ stateIn z .declared) b) hx;
+          }
+        where
+          fits : (y : D.Mode) → WellFor y (stateOf s t′ (u .declared) (r .state)) → WellFor y (stateOf s t′ [] (r .state))
+          fits D.leadingText z = z
+          fits (D.textBehind i) z = z
+          fits D.alternative z = z
+          fits D.inner z = z
+
+      by-does : (Y : D.Turn) → X ≡ Y → Does d s n (x .tally) Y t′ n′ r → Going d s m entered b t′ n′ (r .state) m′ e f
+      unfolding turnOf
+      by-does (D.go y q u) hx g =
+          let z : D.go (modeOf m′) e (stateOf s t′ (u .declared) (r .state)) ≡ D.go y q u = ap (λ (i : Next). nextOf i (stateOf s t′ (u .declared) (r .state))) (sym hn) ∙ g .turn in
+          let y′ : modeOf m′ ≡ y = cc in
+          let q′ : e ≡ q = cc in
+          let u′ : stateOf s t′ (u .declared) (r .state) ≡ u = cc in
+          again u (hx ∙ ap (λ (i : D.Mode). D.go i q u) (sym y′) ∙ ap (λ (i : ℕ). D.go (modeOf m′) i u) (sym q′)) (sym u′) (subst (λ (Y : D.Turn). Goes d s n (x .tally) Y t′ n′ r) (sym hx) g)
+      by-does (D.stop w p begun u) hx g = let z : Nx.Go m′ e ≡ Nx.Stop w p = sym hn ∙ g .next in let o : _≡_ {A = ℕ} 0 1 = cc in absurd (omega arith)
+      by-does (D.finish u) hx g =
+          let z : D.go (modeOf m′) e (stateOf s t′ (u .declared) (r .state)) ≡ D.finish u = ap (λ (i : Next). nextOf i (stateOf s t′ (u .declared) (r .state))) (sym hn) ∙ g .turn in
+          let o : _≡_ {A = ℕ} 0 1 = cc in absurd (omega arith)
+
+      by-way : Way d s n (x .entered) (x .tally) X t′ n′ r → Going d s m entered b t′ n′ (r .state) m′ e f
+      by-way (does c g) = by-does X refl g
+      by-way (stops o c) = let z : Nx.Go m′ e ≡ Nx.Stop OverLimit (o .place) = sym hn ∙ o .next in let i : _≡_ {A = ℕ} 0 1 = cc in absurd (omega arith)
+
+      pub going-again : Going d s m entered b t′ n′ (r .state) m′ e f
+      going-again = by-way (k .way)
+
+-- AGAIN
+pub loop-again : (d t₀ n₀ : List ℕ) (m entered names : ℕ) (s t n : List ℕ) (x : State) (mode : Mode) (at f : ℕ) → Loop d t₀ n₀ m entered names s t n x mode at f → 0 < f
+    → (t′ n′ : List ℕ) (r : Turned) → Turns d s t n x mode at t′ n′ r → (m′ : Mode) (e : ℕ) → r .next ≡ Nx.Go m′ e → Loop d t₀ n₀ m entered names s t′ n′ (r .state) m′ e (f - 1)
+loop-again d t₀ n₀ m entered names s t n x mode at zero h l t′ n′ r k m′ e hn = absurd (omega arith)
+loop-again d t₀ n₀ m entered names s t n x mode at (suc f) h l t′ n′ r k m′ e hn = record {
+  body = h .body;
+  so = λ z.
+      let g : Going d s m entered (namesOf d n₀ names) t n x mode at (suc f) = h .so z in
+      let less : f ≡ suc f - 1 = omega arith in
+      subst (Going d s m entered (namesOf d n₀ names) t′ n′ (r .state) m′ e) less
+      (going-again d s m entered (namesOf d n₀ names) t n x mode at f g t′ n′ r (k .so (g .sits) (g .within) (g .follows)) m′ e hn);
+}
+
+-- ---- THE DECISION
+faulty-in : (p q : Mark) (e : Why) (r : ℕ) → faultIn p q (Faulty e r) ≡ Sound → ⊥
+unfolding faultIn
+faulty-in Unmarked Unmarked e r z = let y : _≡_ {A = ℕ} 0 1 = cc in omega arith
+faulty-in Unmarked (Marked q) e r z = let y : _≡_ {A = ℕ} 0 1 = cc in omega arith
+faulty-in (Marked p) q e r z = either (ltb p r) z
+  where
+    either : (g : Bool) → cond g (Faulty OverLimit p) (Faulty e r) ≡ Sound → ⊥
+    either true z = let y : _≡_ {A = ℕ} 0 1 = cc in omega arith
+    either false z = let y : _≡_ {A = ℕ} 0 1 = cc in omega arith
+
+record Clean (p q : Mark) : Type 0 where
+  past : p ≡ Unmarked
+  second : q ≡ Unmarked
+
+sound-clean : (p q : Mark) → faultIn p q Sound ≡ Sound → Clean p q
+unfolding faultIn
+sound-clean Unmarked Unmarked z = record { past = refl; second = refl }
+sound-clean Unmarked (Marked q) z = let y : _≡_ {A = ℕ} 0 1 = cc in absurd (omega arith)
+sound-clean (Marked p) Unmarked z = let y : _≡_ {A = ℕ} 0 1 = cc in absurd (omega arith)
+sound-clean (Marked p) (Marked q) z = let y : _≡_ {A = ℕ} 0 1 = cc in absurd (omega arith)
+
+-- what a mark is does not matter to who has the names
+enters-so : (m : ℕ) (x : P.Source) (d n : List ℕ) (k : Tally) (y : N.Entering) (f : Fault) → O.Entry m x (bookOf d n k) y f → Enters m x (namesOf d n (k .names)) y f
+unfolding bookOf
+enters-so m x d n k y f (O.goes-in v e h g) = goes-in v e (record { identifiers = h .identifiers; denotations = h .denotations; activities = h .activities }) g
+enters-so m x d n k y f (O.stays-out e p h g) = stays-out e p h g
+
+stays-so : (m : ℕ) (x : P.Source) (c d : Book) (y : N.Entering) (e : Why) (i : ℕ) → c .past ≡ d .past → O.Entry m x c y (faultIn (c .past) (c .second) (Faulty e i)) → O.Entry m x d y (faultIn (d .past) (d .second) (Faulty e i))
+stays-so m x c d y e i g (O.goes-in v f j o) = absurd (faulty-in (c .past) (c .second) e i o)
+stays-so m x c d y e i g (O.stays-out v j f o) = O.stays-out v j f (fault-either (d .past) (d .second) (c .second) e i ∙ ap (λ (z : Mark). faultIn z (c .second) (Faulty e i)) (sym g) ∙ o)
+
+shows-it : (w : W.World) (b : Book) → Has w b → O.Shows w b
+shows-it w b h = record { identifiers = h .identifiers; denotations = h .denotations; activities = h .activities }
+
+module _ (m : ℕ) (s : List ℕ) (w : W.World) (b : Book) (h : Has w b) (u : b .past ≡ Unmarked) (v : b .second ≡ Unmarked) where
+  abbrev Decided : Book → Fault → Type 0
+  Decided c g = O.Entry m (D.readMember s) c (N.enter m (D.readMember s) w) (faultIn (c .past) (c .second) g)
+
+  -- the reading ended with the state st
+  ended : (st : D.State) (begun : List ℕ) (g : Fault) → D.readMember s ≡ D.source st begun (faultFor g)
+      → N.sooner (N.sentencesPast (enteredSentences - w .sentences) (D.source st begun (faultFor g) .begun)) (faultFor g) ≡ faultFor g → Decided (bookWhole m [] (st .declared) b) g
+  ended st begun g e k =
+      let x : P.Source = D.source st begun (faultFor g) in
+      let c : Book = bookWhole m [] (st .declared) b in
+      subst (λ (z : P.Source). O.Entry m z c (N.enter m z w) (faultIn (c .past) (c .second) g)) (sym e) (decides m x w b g (shows-it w b h) u v (sym k))
+
+  pub ended-early : (st : D.State) (begun : List ℕ) (g : Fault) → D.readMember s ≡ D.source st begun (faultFor g) → w .sentences + length (st .rows) + length begun ≤ 2048 → Decided (bookWhole m [] (st .declared) b) g
+  ended-early st begun g e k = ended st begun g e (all-entered (enteredSentences - w .sentences) st begun (faultFor g) (omega (arith, k)))
+
+  pub ended-last : (st : D.State) (p : ℕ) → D.readMember s ≡ D.source st (p ∷ []) (P.faulty OverLimit p) → w .sentences + length (st .rows) ≤ 2048 → Decided (bookWhole m [] (st .declared) b) (Faulty OverLimit p)
+  ended-last st p e k = ended st (p ∷ []) (Faulty OverLimit p) e (last-entered (enteredSentences - w .sentences) st p (omega (arith, k)))
+
+  pub ended-past : (p e : ℕ) (st : D.State) (f : ℕ) (c : Book) → D.readMember s ≡ D.readOn s f (D.clauseAt s p e st) → Sentence s p e st → w .sentences + length (st .rows) ≡ 2048 → c ≡ bookWhole m [] (st .declared) b → Decided c (Faulty OverLimit p)
+  ended-past p e st f c k i j l =
+      subst (λ (z : P.Source). O.Entry m z c (N.enter m z w) (faultIn (c .past) (c .second) (Faulty OverLimit p))) (sym k)
+      (decides-past m w s p e st i (omega (arith, j)) f c (c .past) (c .second)
+      (ap (λ (z : Book). z .past) l ∙ past-is m [] (st .declared) b (w .identifiers) (record { past = u; size = rw (h .identifiers); listed = λ i. rw (h .identifiers) })))
