@@ -223,26 +223,130 @@ stays-so m x c d y e i g (O.stays-out v j f o) = O.stays-out v j f (fault-either
 shows-it : (w : W.World) (b : Book) → Has w b → O.Shows w b
 shows-it w b h = record { identifiers = h .identifiers; denotations = h .denotations; activities = h .activities }
 
-module _ (m : ℕ) (s : List ℕ) (w : W.World) (b : Book) (h : Has w b) (u : b .past ≡ Unmarked) (v : b .second ≡ Unmarked) where
-  abbrev Decided : Book → Fault → Type 0
-  Decided c g = O.Entry m (D.readMember s) c (N.enter m (D.readMember s) w) (faultIn (c .past) (c .second) g)
+abbrev Decided : ℕ → List ℕ → W.World → Book → Fault → Type 0
+Decided m s w c g = O.Entry m (D.readMember s) c (N.enter m (D.readMember s) w) (faultIn (c .past) (c .second) g)
 
+module _ (m : ℕ) (s : List ℕ) (w : W.World) (b : Book) (h : Has w b) (u : b .past ≡ Unmarked) (v : b .second ≡ Unmarked) where
   -- the reading ended with the state st
   ended : (st : D.State) (begun : List ℕ) (g : Fault) → D.readMember s ≡ D.source st begun (faultFor g)
-      → N.sooner (N.sentencesPast (enteredSentences - w .sentences) (D.source st begun (faultFor g) .begun)) (faultFor g) ≡ faultFor g → Decided (bookWhole m [] (st .declared) b) g
+      → N.sooner (N.sentencesPast (enteredSentences - w .sentences) (D.source st begun (faultFor g) .begun)) (faultFor g) ≡ faultFor g → Decided m s w (bookWhole m [] (st .declared) b) g
   ended st begun g e k =
       let x : P.Source = D.source st begun (faultFor g) in
       let c : Book = bookWhole m [] (st .declared) b in
       subst (λ (z : P.Source). O.Entry m z c (N.enter m z w) (faultIn (c .past) (c .second) g)) (sym e) (decides m x w b g (shows-it w b h) u v (sym k))
 
-  pub ended-early : (st : D.State) (begun : List ℕ) (g : Fault) → D.readMember s ≡ D.source st begun (faultFor g) → w .sentences + length (st .rows) + length begun ≤ 2048 → Decided (bookWhole m [] (st .declared) b) g
+  pub ended-early : (st : D.State) (begun : List ℕ) (g : Fault) → D.readMember s ≡ D.source st begun (faultFor g) → w .sentences + length (st .rows) + length begun ≤ 2048 → Decided m s w (bookWhole m [] (st .declared) b) g
   ended-early st begun g e k = ended st begun g e (all-entered (enteredSentences - w .sentences) st begun (faultFor g) (omega (arith, k)))
 
-  pub ended-last : (st : D.State) (p : ℕ) → D.readMember s ≡ D.source st (p ∷ []) (P.faulty OverLimit p) → w .sentences + length (st .rows) ≤ 2048 → Decided (bookWhole m [] (st .declared) b) (Faulty OverLimit p)
+  pub ended-last : (st : D.State) (p : ℕ) → D.readMember s ≡ D.source st (p ∷ []) (P.faulty OverLimit p) → w .sentences + length (st .rows) ≤ 2048 → Decided m s w (bookWhole m [] (st .declared) b) (Faulty OverLimit p)
   ended-last st p e k = ended st (p ∷ []) (Faulty OverLimit p) e (last-entered (enteredSentences - w .sentences) st p (omega (arith, k)))
 
-  pub ended-past : (p e : ℕ) (st : D.State) (f : ℕ) (c : Book) → D.readMember s ≡ D.readOn s f (D.clauseAt s p e st) → Sentence s p e st → w .sentences + length (st .rows) ≡ 2048 → c ≡ bookWhole m [] (st .declared) b → Decided c (Faulty OverLimit p)
+  pub ended-past : (p e : ℕ) (st : D.State) (f : ℕ) (c : Book) → D.readMember s ≡ D.readOn s f (D.clauseAt s p e st) → Sentence s p e st → w .sentences + length (st .rows) ≡ 2048 → c ≡ bookWhole m [] (st .declared) b → Decided m s w c (Faulty OverLimit p)
   ended-past p e st f c k i j l =
       subst (λ (z : P.Source). O.Entry m z c (N.enter m z w) (faultIn (c .past) (c .second) (Faulty OverLimit p))) (sym k)
       (decides-past m w s p e st i (omega (arith, j)) f c (c .past) (c .second)
       (ap (λ (z : Book). z .past) l ∙ past-is m [] (st .declared) b (w .identifiers) (record { past = u; size = rw (h .identifiers); listed = λ i. rw (h .identifiers) })))
+
+stop-on : (s : List ℕ) (f : ℕ) (w : Why) (p : ℕ) (begun : List ℕ) (st : D.State) → D.readOn s f (D.stop w p begun st) ≡ D.source st begun (P.faulty w p)
+unfolding D.readOn
+stop-on s zero w p begun st = refl
+stop-on s (suc f) w p begun st = refl
+
+finish-on : (s : List ℕ) (f : ℕ) (st : D.State) → D.readOn s f (D.finish st) ≡ D.source st [] P.sound
+unfolding D.readOn
+finish-on s zero st = refl
+finish-on s (suc f) st = refl
+
+starts-at : (s : List ℕ) (p at : ℕ) → T.Starts s p at → G.Starts s p at
+starts-at s p at (T.behind h) = G.behind h
+starts-at s p at (T.opens h k) = G.opens h k
+
+-- ---- what is left where it is refused
+out : (d s n₀ : List ℕ) (m entered names : ℕ) (t′ n′ : List ℕ) (x : State) (e : Why) (p : ℕ) (r : Source) → r ≡ sourceOf x (Faulty e p)
+    → ((w : W.World) → Has w (namesOf d n₀ names) → w .sentences ≡ entered → Decided m s w (bookOf d n′ (x .tally)) (Faulty e p)) → Membered d s n₀ m entered names t′ n′ r
+unfolding bookOf
+out d s n₀ m entered names t′ n′ x e p r hr h = rw hr (record {
+  whole = λ z. absurd (faulty-in (x .tally .past) (x .tally .second) e p z);
+  enters = λ w k l. enters-so m (D.readMember s) d n′ (x .tally) (N.enter m (D.readMember s) w) (faultIn (x .tally .past) (x .tally .second) (Faulty e p)) (h w k l);
+})
+
+-- ---- NO TURN IS LEFT
+module _ (d s n₀ : List ℕ) (m entered names : ℕ) (t n : List ℕ) (x : State) (mode : Mode) (at : ℕ) (h : Going d s m entered (namesOf d n₀ names) t n x mode at 0) where
+  turns-out : (r : Source) → r ≡ sourceOf x (Faulty Syntax at) → Membered d s n₀ m entered names t n r
+  unfolding D.readOn bookOf stateOf
+  turns-out r hr = out d s n₀ m entered names t n x Syntax at r hr λ w k l.
+      let st : D.State = withDeclared (h .done) (fromState s t x) in
+      let b : Book = namesOf d n₀ names in
+      subst (λ (c : Book). Decided m s w c (Faulty Syntax at)) (sym (h .names))
+      (ended-early m s w b k refl refl st [] (Faulty Syntax at) (sym (h .left)) (omega (arith, l, rows-length s t 0 (x .rows), h .before, h .sits .few)))
+
+-- ---- A TURN REFUSES, OR ENDS THE MEMBER
+module _ (d s n₀ : List ℕ) (m entered names : ℕ) (t n : List ℕ) (x : State) (mode : Mode) (at f : ℕ) (h : Going d s m entered (namesOf d n₀ names) t n x mode at (suc f)) (t′ n′ : List ℕ) (r : Turned)
+    (k : Takes d s t n x (D.turn s (modeOf mode) at (fromState s t x)) t′ n′ r) where
+  abbrev b : Book
+  b = namesOf d n₀ names
+
+  abbrev Y : D.Turn
+  Y = D.turn s (modeOf mode) at (fromState s t x)
+
+  ends : (Z : D.Turn) → Y ≡ Z → D.readMember s ≡ D.readOn s f (prepend (h .done) Z)
+  ends Z e = sym (left-on d s m entered b t n x mode at f h) ∙ ap (λ (z : D.Turn). D.readOn s f (prepend (h .done) z)) e
+
+  module _ (e : Why) (p : ℕ) (hn : r .next ≡ Nx.Stop e p) (w : W.World) (hw : Has w b) (l : w .sentences ≡ entered) where
+    -- the names before the refusal
+    pasts : (u : D.State) (begun : List ℕ) → Y ≡ D.stop e p begun u → Stops d s n (x .tally) e p u t′ n′ r → bookWhole m [] (h .done ++ u .declared) b .past ≡ bookOf d n′ (r .state .tally) .past
+    pasts u begun hx g =
+        ap (λ (z : Book). z .past) (entered-so d s m entered b t n x mode at f h (D.stop e p begun u) hx)
+        ∙ whole-almost m [] (u .declared) (bookOf d n (x .tally)) (bookOf d n (x .tally)) (almost-self (bookOf d n (x .tally))) .past
+        ∙ ap (λ (i : ℕ). bookAll i (u .declared) (bookOf d n (x .tally)) .past) (sym (h .member)) ∙ sym (g .past)
+
+    refusal : (u : D.State) (begun : List ℕ) → Y ≡ D.stop e p begun u → Counts (x .entered) e p begun u → Decided m s w (bookWhole m [] (h .done ++ u .declared) b) (Faulty e p)
+    unfolding bookOf
+    refusal u begun hx (early c) =
+        ended-early m s w b hw refl refl (behind (h .done) u) begun (Faulty e p) (ends (D.stop e p begun u) hx ∙ stop-on s f e p begun (behind (h .done) u)) (omega (arith, l, h .before, c))
+    refusal u begun hx (last a g c) =
+        subst (λ (i : Why). Decided m s w (bookWhole m [] (h .done ++ u .declared) b) (Faulty i p)) (sym a)
+        (ended-last m s w b hw refl refl (behind (h .done) u) p
+        (ends (D.stop e p begun u) hx ∙ stop-on s f e p begun (behind (h .done) u) ∙ ap (λ (i : Why). D.source (behind (h .done) u) begun (P.faulty i p)) a ∙ ap (λ (z : List ℕ). D.source (behind (h .done) u) z (P.faulty OverLimit p)) g)
+        (omega (arith, l, h .before, c)))
+
+    does-stop : (Z : D.Turn) → Y ≡ Z → Fits (x .entered) Z → Does d s n (x .tally) Z t′ n′ r → Decided m s w (bookOf d n′ (r .state .tally)) (Faulty e p)
+    unfolding turnOf
+    does-stop (D.go y q u) hx c g =
+        let z : D.stop e p [] (stateOf s t′ (u .declared) (r .state)) ≡ D.go y q u = ap (λ (i : Next). nextOf i (stateOf s t′ (u .declared) (r .state))) (sym hn) ∙ g .turn in
+        let o : _≡_ {A = ℕ} 0 1 = cc in absurd (omega arith)
+    does-stop (D.stop e′ p′ begun u) hx c g =
+        let z : Nx.Stop e p ≡ Nx.Stop e′ p′ = sym hn ∙ g .next in
+        let a : e ≡ e′ = cc in
+        let i : p ≡ p′ = cc in
+        let hy : Y ≡ D.stop e p begun u = hx ∙ ap (λ (v : Why). D.stop v p′ begun u) (sym a) ∙ ap (λ (v : ℕ). D.stop e v begun u) (sym i) in
+        let c′ : Counts (x .entered) e p begun u = subst (λ (v : Why). Counts (x .entered) v p begun u) (sym a) (subst (λ (v : ℕ). Counts (x .entered) e′ v begun u) (sym i) c) in
+        let g′ : Stops d s n (x .tally) e p u t′ n′ r = record { next = hn; rows = g .rows; names = g .names; past = g .past } in
+        stays-so m (D.readMember s) (bookWhole m [] (h .done ++ u .declared) b) (bookOf d n′ (r .state .tally)) (N.enter m (D.readMember s) w) e p (pasts u begun hy g′) (refusal u begun hy c′)
+    does-stop (D.finish u) hx c g =
+        let z : D.stop e p [] (stateOf s t′ (u .declared) (r .state)) ≡ D.finish u = ap (λ (i : Next). nextOf i (stateOf s t′ (u .declared) (r .state))) (sym hn) ∙ g .turn in
+        let o : _≡_ {A = ℕ} 0 1 = cc in absurd (omega arith)
+
+    -- the sentence that is one too many
+    over-stop : Over s (x .entered) Y r → bookOf d n′ (r .state .tally) ≡ bookOf d n (x .tally) → Decided m s w (bookOf d n′ (r .state .tally)) (Faulty e p)
+    unfolding bookOf
+    over-stop o c =
+        let z : Nx.Stop e p ≡ Nx.Stop OverLimit (o .place) = sym hn ∙ o .next in
+        let a : OverLimit ≡ e = cc in
+        let i : o .place ≡ p = cc in
+        let st : D.State = withDeclared (h .done) (o .state) in
+        let none : withDeclared [] (o .state) ≡ o .state = ap (λ (ds : List P.Declared). withDeclared ds (o .state)) (sym (o .none)) in
+        let src : D.readMember s ≡ D.readOn s f (D.clauseAt s (o .place) (o .at) st) =
+            ends (D.clauseAt s (o .place) (o .at) (o .state)) (o .is) ∙ ap (λ (v : D.State). D.readOn s f (prepend (h .done) (D.clauseAt s (o .place) (o .at) v))) (sym none)
+            ∙ ap (D.readOn s f) (sym (clauseAt-frame s (h .done) (o .place) (o .at) (o .state))) in
+        subst (λ (v : Why). Decided m s w (bookOf d n′ (r .state .tally)) (Faulty v p)) a
+        (subst (λ (v : ℕ). Decided m s w (bookOf d n′ (r .state .tally)) (Faulty OverLimit v)) i
+        (ended-past m s w b hw refl refl (o .place) (o .at) st f (bookOf d n′ (r .state .tally)) src
+        (record { low = o .low; starts = starts-at s (o .place) (o .at) (o .starts); some = o .some; sentence = o .sentence }) (omega (arith, l, h .before, o .full)) (c ∙ h .names)))
+
+    by-stop : Way d s n (x .entered) (x .tally) Y t′ n′ r → Decided m s w (bookOf d n′ (r .state .tally)) (Faulty e p)
+    by-stop (does c g) = does-stop Y refl c g
+    by-stop (stops o c) = over-stop o c
+
+    pub stop-decides : Decided m s w (bookOf d n′ (r .state .tally)) (Faulty e p)
+    stop-decides = by-stop (k .way)
