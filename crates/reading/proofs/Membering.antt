@@ -350,3 +350,77 @@ module _ (d s n₀ : List ℕ) (m entered names : ℕ) (t n : List ℕ) (x : Sta
 
     pub stop-decides : Decided m s w (bookOf d n′ (r .state .tally)) (Faulty e p)
     stop-decides = by-stop (k .way)
+
+  module _ (hn : r .next ≡ Nx.Finish) where
+    -- the names of the whole member
+    whole-names : (u : D.State) → Y ≡ D.finish u → Goes d s n (x .tally) (D.finish u) t′ n′ r → bookOf d n′ (r .state .tally) ≡ bookWhole m [] (h .done ++ u .declared) b
+    whole-names u hx g =
+        g .entered .book ∙ ap (λ (i : ℕ). bookWhole i [] (u .declared) (bookOf d n (x .tally))) (h .member) ∙ sym (entered-so d s m entered b t n x mode at f h (D.finish u) hx)
+
+    unmarked : (q : Tally) → Clean (q .past) (q .second) → namesOf d n′ (q .names) ≡ bookOf d n′ q
+    unfolding bookOf
+    unmarked q c = ap (λ (z : Mark). bookOf d n′ (tallyOf 0 0 (q .names) z Unmarked)) (sym (c .past)) ∙ ap (λ (z : Mark). bookOf d n′ (tallyOf 0 0 (q .names) (q .past) z)) (sym (c .second))
+
+    finished : (u : D.State) → Y ≡ D.finish u → u ≡ stateOf s t′ (u .declared) (r .state) → Goes d s n (x .tally) (D.finish u) t′ n′ r → (y : Source) → y ≡ sourceOf (r .state) Sound → Membered d s n₀ m entered names t′ n′ y
+    unfolding stateOf bookOf
+    finished u hx hu g y hy =
+        let src : D.readMember s ≡ D.source (behind (h .done) u) [] P.sound = ends (D.finish u) hx ∙ finish-on s f (behind (h .done) u) in
+        let q : Tally = r .state .tally in
+        let rows : length (u .rows) ≡ r .state .rows = ap (λ (z : D.State). length (z .rows)) hu ∙ rows-length s t′ 0 (r .state .rows) in
+        rw hy (record {
+          whole = λ z. record {
+            reads = record {
+              lead = ap (λ (v : D.State). v .lead) (sym hu) ∙ ap (λ (v : P.Source). v .lead) (sym src);
+              first = ap (λ (v : D.State). v .first) (sym hu) ∙ ap (λ (v : P.Source). v .first) (sym src);
+              rows = ap (λ (v : D.State). v .rows) (sym hu) ∙ ap (λ (v : P.Source). v .rows) (sym src);
+              names = unmarked q (sound-clean (q .past) (q .second) z) ∙ whole-names u hx g ∙ ap (λ (v : P.Source). bookWhole m [] (v .declared) b) (sym src);
+            };
+            few = g .entered .roomy .few;
+            sentences = omega (arith, k .before, h .before, k .few);
+          };
+          enters = λ w hw l.
+              enters-so m (D.readMember s) d n′ q (N.enter m (D.readMember s) w) (faultIn (q .past) (q .second) Sound)
+              (subst (λ (c : Book). Decided m s w c Sound) (sym (whole-names u hx g))
+              (ended-early m s w b hw refl refl (behind (h .done) u) [] Sound src (omega (arith, l, rows, k .before, h .before, k .few))));
+        })
+
+    does-finish : (Z : D.Turn) → Y ≡ Z → Does d s n (x .tally) Z t′ n′ r → (y : Source) → y ≡ sourceOf (r .state) Sound → Membered d s n₀ m entered names t′ n′ y
+    unfolding turnOf
+    does-finish (D.go i q u) hx g y hy =
+        let z : D.finish (stateOf s t′ (u .declared) (r .state)) ≡ D.go i q u = ap (λ (v : Next). nextOf v (stateOf s t′ (u .declared) (r .state))) (sym hn) ∙ g .turn in
+        let o : _≡_ {A = ℕ} 0 1 = cc in absurd (omega arith)
+    does-finish (D.stop e p begun u) hx g y hy = let z : Nx.Finish ≡ Nx.Stop e p = sym hn ∙ g .next in let o : _≡_ {A = ℕ} 0 1 = cc in absurd (omega arith)
+    does-finish (D.finish u) hx g y hy =
+        let z : D.finish (stateOf s t′ (u .declared) (r .state)) ≡ D.finish u = ap (λ (v : Next). nextOf v (stateOf s t′ (u .declared) (r .state))) (sym hn) ∙ g .turn in
+        let hu : stateOf s t′ (u .declared) (r .state) ≡ u = cc in
+        finished u hx (sym hu) g y hy
+
+    by-finish : Way d s n (x .entered) (x .tally) Y t′ n′ r → (y : Source) → y ≡ sourceOf (r .state) Sound → Membered d s n₀ m entered names t′ n′ y
+    by-finish (does c g) y hy = does-finish Y refl g y hy
+    by-finish (stops o c) y hy = let z : Nx.Finish ≡ Nx.Stop OverLimit (o .place) = sym hn ∙ o .next in let i : _≡_ {A = ℕ} 0 1 = cc in absurd (omega arith)
+
+-- ---- THE WAYS OUT
+module _ (d t₀ n₀ : List ℕ) (m entered names : ℕ) (s t n : List ℕ) (x : State) (mode : Mode) (at f : ℕ) (h : Loop d t₀ n₀ m entered names s t n x mode at f) where
+  members : (t′ n′ : List ℕ) (y : Source) → (Fresh d s t₀ n₀ (baseOf d m) entered names → Membered d s n₀ m entered names t′ n′ y) → Members d t₀ n₀ m entered names t′ n′ y
+  members t′ n′ y k = record { so = λ z. subst (λ (i : List ℕ). Membered d i n₀ m entered names t′ n′ y) (h .body) (k (subst (λ (i : List ℕ). Fresh d i t₀ n₀ (baseOf d m) entered names) (sym (h .body)) z)) }
+
+  pub loop-out : f ≤ 0 → (y : Source) → y ≡ sourceOf x (Faulty Syntax at) → Members d t₀ n₀ m entered names t n y
+  loop-out l y hy =
+      let none : f ≡ 0 = omega arith in
+      members t n y λ z. turns-out d s n₀ m entered names t n x mode at (subst (Going d s m entered (namesOf d n₀ names) t n x mode at) none (h .so z)) y hy
+
+  module _ (l : 0 < f) (t′ n′ : List ℕ) (r : Turned) (k : Turns d s t n x mode at t′ n′ r) where
+    more : Fresh d s t₀ n₀ (baseOf d m) entered names → Going d s m entered (namesOf d n₀ names) t n x mode at (suc (f - 1))
+    more z = let one : f ≡ suc (f - 1) = omega (arith, l) in subst (Going d s m entered (namesOf d n₀ names) t n x mode at) one (h .so z)
+
+    pub loop-stop : (w : Why) (p : ℕ) → r .next ≡ Nx.Stop w p → (y : Source) → y ≡ sourceOf (r .state) (Faulty w p) → Members d t₀ n₀ m entered names t′ n′ y
+    loop-stop w p hn y hy = members t′ n′ y λ z.
+        let g : Going d s m entered (namesOf d n₀ names) t n x mode at (suc (f - 1)) = more z in
+        out d s n₀ m entered names t′ n′ (r .state) w p y hy
+        (stop-decides d s n₀ m entered names t n x mode at (f - 1) g t′ n′ r (k .so (g .sits) (g .within) (g .follows)) w p hn)
+
+    pub loop-finish : r .next ≡ Nx.Finish → (y : Source) → y ≡ sourceOf (r .state) Sound → Members d t₀ n₀ m entered names t′ n′ y
+    loop-finish hn y hy = members t′ n′ y λ z.
+        let g : Going d s m entered (namesOf d n₀ names) t n x mode at (suc (f - 1)) = more z in
+        let T : Takes d s t n x (D.turn s (modeOf mode) at (fromState s t x)) t′ n′ r = k .so (g .sits) (g .within) (g .follows) in
+        by-finish d s n₀ m entered names t n x mode at (f - 1) g t′ n′ r T hn (T .way) y hy
