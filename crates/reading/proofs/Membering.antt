@@ -337,8 +337,8 @@ module _ (d s n₀ : List ℕ) (m entered names : ℕ) (t n : List ℕ) (x : Sta
         let st : D.State = withDeclared (h .done) (o .state) in
         let none : withDeclared [] (o .state) ≡ o .state = ap (λ (ds : List P.Declared). withDeclared ds (o .state)) (sym (o .none)) in
         let src : D.readMember s ≡ D.readOn s f (D.clauseAt s (o .place) (o .at) st) =
-            ends (D.clauseAt s (o .place) (o .at) (o .state)) (o .is) ∙ ap (λ (v : D.State). D.readOn s f (prepend (h .done) (D.clauseAt s (o .place) (o .at) v))) (sym none)
-            ∙ ap (D.readOn s f) (sym (clauseAt-frame s (h .done) (o .place) (o .at) (o .state))) in
+        ends (D.clauseAt s (o .place) (o .at) (o .state)) (o .is) ∙ ap (λ (v : D.State). D.readOn s f (prepend (h .done) (D.clauseAt s (o .place) (o .at) v))) (sym none)
+        ∙ ap (D.readOn s f) (sym (clauseAt-frame s (h .done) (o .place) (o .at) (o .state))) in
         subst (λ (v : Why). Decided m s w (bookOf d n′ (r .state .tally)) (Faulty v p)) a
         (subst (λ (v : ℕ). Decided m s w (bookOf d n′ (r .state .tally)) (Faulty OverLimit v)) i
         (ended-past m s w b hw refl refl (o .place) (o .at) st f (bookOf d n′ (r .state .tally)) src

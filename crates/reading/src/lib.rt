@@ -11,6 +11,7 @@ ghost use Rattle.openings.specs.Open as O;
 ghost use Rattle.reading.specs.State as T;
 ghost use Rattle.reading.specs.declared.Next.the-variants as Next;
 ghost use Rattle.reading.specs.Labelled as L;
+ghost use Rattle.reading.specs.Members as M;
 ghost use Rattle.reading.specs.Sentences as S;
 use deck::body;
 use definition::Why;
@@ -841,7 +842,9 @@ pub fn read_member(
     member: u16,
     entered: u16,
     name_count: u16,
-) -> Source {
+) -> Source
+    ensures { λ r. ⌜ M.Members (now (deck .entry)) (now (rows .entry)) (now (names .entry)) member entered «name_count» (now (rows .exit)) (now (names .exit)) r ⌝ }
+{
     let s = body(deck, member);
     let base = place16(deck::offset(deck, member) as usize);
     let mut st = start(member, base, entered, name_count);

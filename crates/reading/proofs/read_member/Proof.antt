@@ -1,4 +1,4 @@
--- The turns left get fewer.
+-- Turn by turn, as the definition; the turns left get fewer.
 use borrow.Author.Needs.{needs}
 use Rattle.reading.proofs.read_member.Statement.{statement}
 use Rattle.reading.proofs.read_member.Tie as tie
@@ -14,9 +14,10 @@ use Rattle.reading.proofs.turns_for.Reads as turns-for-reads
 use Prim.Native.Nat.{_≤_}
 use mathlib.Core.Path.{_≡_}
 use lib.ListN.{length}
+use Rattle.reading.proofs.Membering.{Loop, loop-start, loop-again as again, loop-out, loop-stop, loop-finish}
 
 abbrev Inv-loop : tie.InvT-loop
-Inv-loop deck rows₀ names₀ member entered name-count s base st₀ mode₀ at₀ turns₀ rows names st mode at turns = (turns ≤ turns₀) × (length rows ≡ length rows₀) × (length names ≡ length names₀)
+Inv-loop deck rows₀ names₀ member entered name-count s base st₀ mode₀ at₀ turns₀ rows names st mode at turns = (turns ≤ turns₀) × (length rows ≡ length rows₀) × (length names ≡ length names₀) × Loop deck rows₀ names₀ member entered name-count s rows names st mode at turns
 
 abbrev μ-loop : tie.MeasureT-loop
 μ-loop deck rows₀ names₀ member entered name-count s base st₀ mode₀ at₀ turns₀ rows names st mode at turns = turns
@@ -40,7 +41,7 @@ turns-for-requires : tie.Need-turns-for-requires Inv-loop μ-loop
 turns-for-requires c κs = search needs
 
 loop-holds : tie.Need-loop-holds Inv-loop μ-loop
-loop-holds c = search needs
+loop-holds c = search (needs, loop-start, c .turns-for .ensures, c .before .start .ensures, c .before .before .place16 .ensures, c .before .before .before .offset .ensures, c .before .before .before .before .body .ensures)
 
 sub-turns : tie.Need-sub-turns Inv-loop μ-loop
 sub-turns c = search needs
@@ -55,7 +56,7 @@ loop-less : tie.Need-loop-less Inv-loop μ-loop
 loop-less c = search needs
 
 loop-again : tie.Need-loop-again Inv-loop μ-loop
-loop-again c = search needs
+loop-again c = search (needs, again)
 
 enum-known-next-2 : tie.Need-enum-known-next-2 Inv-loop μ-loop
 enum-known-next-2 c = search needs
@@ -70,7 +71,7 @@ same-length-2 : tie.Need-same-length-2 Inv-loop μ-loop
 same-length-2 c = search needs
 
 returns : tie.Need-returns Inv-loop μ-loop
-returns c = search needs
+returns c = search loop-stop
 
 enum-told : tie.Need-enum-told Inv-loop μ-loop
 enum-told c = search needs
@@ -85,7 +86,7 @@ same-length-4 : tie.Need-same-length-4 Inv-loop μ-loop
 same-length-4 c = search needs
 
 returns-2 : tie.Need-returns-2 Inv-loop μ-loop
-returns-2 c = search needs
+returns-2 c = search loop-finish
 
 source-of-requires-3 : tie.Need-source-of-requires-3 Inv-loop μ-loop
 source-of-requires-3 c κs = search needs
@@ -97,7 +98,7 @@ same-length-6 : tie.Need-same-length-6 Inv-loop μ-loop
 same-length-6 c = search needs
 
 returns-3 : tie.Need-returns-3 Inv-loop μ-loop
-returns-3 c = search needs
+returns-3 c = search loop-out
 
 pub read-member-spec : {M : Type 1} → statement M
 read-member-spec =
