@@ -6,8 +6,6 @@ pub mod Frame
 pub mod Growth
 pub mod Parameters
 pub mod Owners
-pub mod Stopping
-pub mod Rounds
 pub mod Labelling
 pub mod Turning
 pub mod Standing

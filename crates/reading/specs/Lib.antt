@@ -1,6 +1,5 @@
 -- What the contracts of `reading` cite.
 pub mod State
 pub mod Labelled
-pub mod UpTo
 pub mod Sentences
 pub mod Members
