@@ -1,5 +1,6 @@
--- 01, "The program and marked examples": the bytes that the program prints of an expansion. "It prints the six numbers, the lines
--- (B, C or V, then member, offset, length), then the text and a line feed." Of a refusal these are its numbers and an empty line.
+-- 01, "The program and marked examples": the bytes that the program prints of an expansion. "It prints the six numbers,
+-- the lines (B, C or V, then member, offset, length), then the text and a line feed." Of a refusal these are its
+-- numbers and an empty line.
 use Prim.Native.Nat.{ℕ}
 use Prim.Native.Char.{code}
 use mathlib.Core.Bool.{cond}
@@ -24,7 +25,8 @@ lineRest (n ∷ ns) = code " " ∷ decimal n ++ lineRest ns
 
 -- "the six numbers"
 unfoldable pub numbersLine : Expansion → List ℕ
-numbersLine x = decimal (x .number) ++ lineRest (x .member ∷ x .offset ∷ x .steps ∷ length (x .text) ∷ length (x .lines) ∷ [])
+numbersLine x =
+    decimal (x .number) ++ lineRest (x .member ∷ x .offset ∷ x .steps ∷ length (x .text) ∷ length (x .lines) ∷ [])
 
 -- an inserted blank, a copied stretch, a replaced occurrence (its value)
 unfoldable pub letter : ℕ → ℕ

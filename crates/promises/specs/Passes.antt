@@ -1,7 +1,7 @@
 -- Demand 3, second part: "no name in" a copied stretch, "strings and comments apart, was active when the scan passed.
 -- Every name in the program text, with the same exceptions, that was active when the scan passed is listed once for
--- each pass, also where its value was empty; only names inside a listed name's argument list go under that name."
--- The definition's worlds have a ghost, `passes`: what the scan of program text stood at when it put out a blank or passed
+-- each pass, also where its value was empty; only names inside a listed name's argument list go under that name." The
+-- definition's worlds have a ghost, `passes`: what the scan of program text stood at when it put out a blank or passed
 -- a token, with the names and their activities at that moment. Here stands what the passes say of the list, and of the
 -- text.
 use Prim.Native.Nat.{ℕ, _+_, _-_, _≤_, _<_}
