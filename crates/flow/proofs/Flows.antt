@@ -78,7 +78,7 @@ module _ {E : Type 0} (M : D.Machine E) (F : List D.Frame) (up : ℕ → World �
     pub next-is : (n : ℕ) → n < length (M .rows) → Framed M t fs F n
         → D.nextIn M (rowOf (M .rows) n .next) (rowOf (M .rows) n .parent) F up w ≡ walked (C.nextWalk t fs (rowIn t n .next) (rowIn t n .parent)) up w
     next-is n h f = rw (s .rows n h .next, s .rows n h .parent) (next-as (rowOf (M .rows) n .next) (rowOf (M .rows) n .parent) (λ g e.
-        let k : g < n = s .before n g h e in
+        let k : g < n = s .tabled .before n g h e in
         end-is g (omega arith) (f .once g (parent n g e))))
 
     -- what the walk is in each role
@@ -170,7 +170,7 @@ module _ {E : Type 0} (M : D.Machine E) (quiet : (x : P.Stretch) (w : World) →
   behind-on (suc f) (suc k) n w h i l fr =
       turn-as (rowOf (M .rows) n .role) n (λ g v. D.behindOn M F f g v) w l fr refl
       ∙ step-as n k w (λ g v. D.behindOn M F f g v) l (λ g e.
-      let lt : g < n = s .before n g l e in
+      let lt : g < n = s .tabled .before n g l e in
       behind-on f k g w (omega arith) (omega arith) (omega arith) (framed-up M t fs F n g fr e)) (C.behindWalk t fs n) refl
 
   -- THE FUNCTION `behind` of the code is the definition's
@@ -296,14 +296,14 @@ module _ (t : List ℕ) (rs : List P.Row) (s : Shown t rs) where
     around-from (suc f) (suc k) p h j l =
         in-list g p (P.isIterated (rowOf rs p .statement)) (D.groupsUp (rowOf rs p .parent) (λ q. D.groupsFrom rs f q)) (λ e. rw (eqb-true p g e) i)
         ∙ ap (λ (z : Bool). cond (eqb p g) true z) (around-link k (λ q. D.groupsFrom rs f q) (rowOf rs p .parent) (λ q e.
-        let m : q < p = s .before p q l e in
+        let m : q < p = s .tabled .before p q l e in
         around-from f k q (omega arith) (omega arith) (omega arith)))
         ∙ rw (parent-at p l)
 
   module _ (n : ℕ) (ln : n < length rs) (small : length rs ≤ 2048) where
     in-around : (q : ℕ) → P.isIterated (rowOf rs q .statement) ≡ true → C.aroundOn t q 2048 (C.parentAt t n) ≡ D.isIn q (D.groupsAround rs (rowOf rs n .parent))
     in-around q i = rw (parent-at n ln) (sym (around-link q i 2048 (λ g. D.groupsFrom rs (suc g) g) (rowOf rs n .parent) (λ p e.
-        let m : p < n = s .before n p ln e in
+        let m : p < n = s .tabled .before n p ln e in
         around-from q i (suc p) 2048 p (omega arith) (omega arith) (omega arith))))
 
     stand-is : (q : ℕ) → q < length rs → C.mayStand t q n ≡ cond (P.isIterated (rowOf rs q .statement)) (D.isIn q (D.groupsAround rs (rowOf rs n .parent))) true
@@ -334,7 +334,7 @@ module _ (t : List ℕ) (rs : List P.Row) (s : Shown t rs) where
         are-list q (P.isIterated (rowOf rs q .statement)) (D.groupsUp (rowOf rs q .parent) (λ p. D.groupsFrom rs f p)) (D.groupsAround rs (rowOf rs n .parent))
         ∙ ap (λ (z : Bool). cond (cond (P.isIterated (rowOf rs q .statement)) (D.isIn q (D.groupsAround rs (rowOf rs n .parent))) true) z false)
         (go-link k (λ p. D.groupsFrom rs f p) (rowOf rs q .parent) (λ p e.
-        let m : p < q = s .before q p l e in
+        let m : p < q = s .tabled .before q p l e in
         go-from f k p (omega arith) (omega arith) (omega arith)))
         ∙ rw (stand-is q l, parent-at q l)
 
@@ -343,24 +343,24 @@ module _ (t : List ℕ) (rs : List P.Row) (s : Shown t rs) where
     unfolding D.mayGo C.labelFrom
     may-go-is r true l = go-from (suc r) 2048 r (omega arith) (omega arith) l
     may-go-is r false l = rw (parent-at r l) (go-link 2048 (λ g. D.groupsFrom rs (suc g) g) (rowOf rs r .parent) (λ p e.
-        let m : p < r = s .before r p l e in
+        let m : p < r = s .tabled .before r p l e in
         go-from (suc p) 2048 p (omega arith) (omega arith) (omega arith)))
 
 -- ---- the frames: what is around a row is before it and, if it is an iterated group, less deep
 module _ (t : List ℕ) (rs : List P.Row) (s : Shown t rs) where
   pub around-before : (n g : ℕ) → n < length rs → Around rs n g → g < n
-  around-before n g h (parent _ _ e) = s .before n g h e
+  around-before n g h (parent _ _ e) = s .tabled .before n g h e
   around-before n g h (outer _ p _ e a) =
-      let k : p < n = s .before n p h e in
+      let k : p < n = s .tabled .before n p h e in
       let l : g < p = around-before p g (omega arith) a in
       omega arith
 
   pub around-depth : (n g : ℕ) → n < length rs → Around rs n g → P.isIterated (rowOf rs g .statement) ≡ true → rowIn t g .depth < rowIn t n .depth
-  around-depth n g h (parent _ _ e) i = s .inner n g h e i
+  around-depth n g h (parent _ _ e) i = s .tabled .inner n g h e i
   around-depth n g h (outer _ p _ e a) i =
-      let k : p < n = s .before n p h e in
+      let k : p < n = s .tabled .before n p h e in
       let l : rowIn t g .depth < rowIn t p .depth = around-depth p g (omega arith) a i in
-      let m : rowIn t p .depth ≤ rowIn t n .depth = s .level n p h e in
+      let m : rowIn t p .depth ≤ rowIn t n .depth = s .tabled .level n p h e in
       omega arith
 
 -- rows in the same place have the same groups around them
@@ -387,7 +387,7 @@ frame-as xs ys k g e = rw e
 module _ {E : Type 0} (M : D.Machine E) (t : List ℕ) (s : Shown t (M .rows)) (fs : Frames) (F : List D.Frame) (whole : length (fs .items) ≡ 16)
     (g : ℕ) (lg : g < length (M .rows)) (i : P.isIterated (rowOf (M .rows) g .statement) ≡ true) (f : Frame) (d : D.Frame) (sh : FrameShown f d) (own : d .group ≡ g) where
   deep : rowIn t g .depth < 16
-  deep = s .shallow g lg i
+  deep = s .tabled .shallow g lg i
 
   items-are : C.framesWith t fs g f .items ≡ set (fs .items) (rowIn t g .depth) f
   unfolding C.framesWith
@@ -483,10 +483,10 @@ module _ (rs : List P.Row) (k : ℕ) where
   up-listed t s i zero p h l a = absurd (omega arith)
   up-listed t s i (suc f) p h l (itself e) = rw (← e, i) (in-first (D.groupsUp (rowOf rs k .parent) (λ q. D.groupsFrom rs f q)))
   up-listed t s i (suc f) p h l (outside (parent _ _ e)) =
-      let m : k < p = s .before p k l e in
+      let m : k < p = s .tabled .before p k l e in
       in-either p (P.isIterated (rowOf rs p .statement)) (D.groupsUp (rowOf rs p .parent) (λ q. D.groupsFrom rs f q)) (rw e (up-listed t s i f k (omega arith) (omega arith) (itself refl)))
   up-listed t s i (suc f) p h l (outside (outer _ q _ e a)) =
-      let m : q < p = s .before p q l e in
+      let m : q < p = s .tabled .before p q l e in
       in-either p (P.isIterated (rowOf rs p .statement)) (D.groupsUp (rowOf rs p .parent) (λ q. D.groupsFrom rs f q)) (rw e (up-listed t s i f q (omega arith) (omega arith) (outside a)))
 
   in-both : (xs ys : List ℕ) → D.areIn xs ys ≡ true → D.isIn k xs ≡ true → D.isIn k ys ≡ true
@@ -516,10 +516,10 @@ module _ {E : Type 0} (M : D.Machine E) (t : List ℕ) (s : Shown t (M .rows)) (
   -- at a row
   around-label : (k : ℕ) → P.isIterated (rowOf (M .rows) k .statement) ≡ true → Around (M .rows) r k → D.isIn k (D.groupsAround (M .rows) (rowOf (M .rows) r .parent)) ≡ true
   around-label k i (parent _ _ e) =
-      let m : k < r = s .before r k lr e in
+      let m : k < r = s .tabled .before r k lr e in
       rw e (up-listed (M .rows) k t s i (suc k) k (omega arith) (omega arith) (itself refl))
   around-label k i (outer _ p _ e a) =
-      let m : p < r = s .before r p lr e in
+      let m : p < r = s .tabled .before r p lr e in
       rw e (up-listed (M .rows) k t s i (suc p) p (omega arith) (omega arith) (outside a))
 
   pub framed-goto : D.mayGo (M .rows) n r false ≡ true → Framed M t fs F r

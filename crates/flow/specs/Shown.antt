@@ -1,5 +1,5 @@
 -- What the rows of a member stand for; t is the part of the table that they begin.
-use Prim.Native.Nat.{ℕ, _<_, _≤_}
+use Prim.Native.Nat.{ℕ, _<_}
 use mathlib.Core.Path.{_≡_}
 use mathlib.Core.Bool.{Bool, true}
 use mathlib.Core.List.{List}
@@ -17,6 +17,7 @@ use Rattle.rows.specs.declared.Link.{Link}
 use Rattle.rows.specs.declared.Link.the-variants.{Nowhere, To}
 use Rattle.rows.specs.declared.Row.{Row}
 use Rattle.rows.specs.Table.{rowIn}
+use Rattle.rows.specs.Tabled.{Tabled}
 use Rattle.flow.specs.declared.Next.{Next}
 use Rattle.flow.specs.declared.Next.the-variants.{Begin, Again, Over}
 use Rattle.flow.specs.declared.Walk.{Walk}
@@ -57,14 +58,10 @@ pub record Stands (r : Row) (d : P.Row) : Type 0 where
   pub child : r .child ≡ linkOf (d .child)
   pub other : r .other ≡ linkOf (d .other)
 
--- THE ABSTRACTION: the table stands for rows; "A parent comes before its rows"; what stands in an iterated
--- group is deeper than the group, and the group is not the 17th
+-- THE ABSTRACTION: the table stands for rows
 pub record Shown (t : List ℕ) (rs : List P.Row) : Type 0 where
   pub rows : (n : ℕ) → n < length rs → Stands (rowIn t n) (rowOf rs n)
-  pub before : (n g : ℕ) → n < length rs → rowOf rs n .parent ≡ P.row g → g < n
-  pub level : (n g : ℕ) → n < length rs → rowOf rs n .parent ≡ P.row g → rowIn t g .depth ≤ rowIn t n .depth
-  pub inner : (n g : ℕ) → n < length rs → rowOf rs n .parent ≡ P.row g → P.isIterated (rowOf rs g .statement) ≡ true → rowIn t g .depth < rowIn t n .depth
-  pub shallow : (g : ℕ) → g < length rs → P.isIterated (rowOf rs g .statement) ≡ true → rowIn t g .depth < 16
+  pub tabled : Tabled t rs
 
 -- the row g is around the row n
 pub data Around (rs : List P.Row) : ℕ → ℕ → Type 0 where

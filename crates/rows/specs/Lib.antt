@@ -1,3 +1,4 @@
 -- What the contracts of `rows` cite.
 pub mod Table
 pub mod Parts
+pub mod Tabled
