@@ -25,6 +25,7 @@ use Rattle.rows.specs.declared.Link.{Link}
 use Rattle.rows.specs.declared.Link.the-variants.{Nowhere, To}
 use Rattle.rows.specs.declared.Row.{Row}
 use Rattle.rows.specs.Table.{rowIn}
+use Rattle.rows.specs.Tabled.{kindOf}
 use Rattle.flow.specs.declared.Next.{Next}
 use Rattle.flow.specs.declared.Next.the-variants.{Begin, Again, Over}
 use Rattle.flow.specs.declared.Walk.{Walk}
@@ -32,7 +33,7 @@ use Rattle.flow.specs.declared.Walk.the-variants.{To as Arrives, Up}
 use Rattle.flow.specs.declared.Frame.{Frame}
 use Rattle.flow.specs.declared.Frames.{Frames}
 use Rattle.flow.specs.Walks as C
-use Rattle.flow.specs.Shown.{kindOf, roleOf, linkOf, Stands, Shown, Around, parent, outer, Framed, toOf, FrameShown, nextFrom, walked}
+use Rattle.flow.specs.Shown.{roleOf, linkOf, Stands, Shown, Around, parent, outer, Framed, toOf, FrameShown, nextFrom, walked}
 
 module _ {E : Type 0} (M : D.Machine E) (F : List D.Frame) (up : ℕ → World → Res E D.Next) (w : World) where
   -- ---- the end of what stands in a row
@@ -60,7 +61,7 @@ module _ {E : Type 0} (M : D.Machine E) (F : List D.Frame) (up : ℕ → World �
     pub end-is : (g : ℕ) → g < length (M .rows) → (P.isIterated (rowOf (M .rows) g .statement) ≡ true → C.frameIn t fs g .«is_once» ≡ D.isOnce g F)
         → D.endIn M (rowOf (M .rows) g .statement) g F (λ _. up g w) w ≡ walked (C.endWalk t fs g) up w
     unfolding C.endWalk
-    end-is g h o = rw (s .rows g h .kind) (end-as (rowOf (M .rows) g .statement) g (C.frameIn t fs g .«is_once») o)
+    end-is g h o = rw (s .tabled .kind g h) (end-as (rowOf (M .rows) g .statement) g (C.frameIn t fs g .«is_once») o)
 
     -- ---- behind a row
     up-as : (p : P.Link) → D.upFrom M p up w ≡ walked (C.upWalk (linkOf p)) up w
@@ -274,7 +275,7 @@ module _ (t : List ℕ) (rs : List P.Row) (s : Shown t rs) where
 
   iterated-at : (n : ℕ) → n < length rs → C.iteratedAt t n ≡ P.isIterated (rowOf rs n .statement)
   unfolding C.iteratedAt
-  iterated-at n h = rw (s .rows n h .kind) (iterated-as (rowOf rs n .statement))
+  iterated-at n h = rw (s .tabled .kind n h) (iterated-as (rowOf rs n .statement))
 
   -- a group is around a row
   module _ (g : ℕ) (i : P.isIterated (rowOf rs g .statement) ≡ true) where

@@ -9,8 +9,6 @@ use Rattle.definition.specs.World.{World, Res, good, rowOf}
 use Rattle.definition.specs.Fixed as F
 use Rattle.definition.specs.Flow as D
 use Rattle.fixed.specs.Signed.{fromStored}
-use Rattle.rows.specs.declared.Statement.{Statement}
-use Rattle.rows.specs.declared.Statement.the-variants.{Null, Declare, Procedure, Assign, Conditional, Group, Iterated, Goto, Include, Activate, Deactivate, Return}
 use Rattle.rows.specs.declared.Role.{Role}
 use Rattle.rows.specs.declared.Role.the-variants.{Listed, ThenPart, ElsePart}
 use Rattle.rows.specs.declared.Link.{Link}
@@ -26,20 +24,6 @@ use Rattle.flow.specs.declared.Frame.{Frame}
 use Rattle.flow.specs.declared.Frames.{Frames}
 use Rattle.flow.specs.Walks.{frameIn}
 
-abbrev pub kindOf : P.Statement → Statement
-kindOf P.null = Null
-kindOf (P.declare ns) = Declare
-kindOf (P.procedure ns t) = Procedure
-kindOf (P.assign n x) = Assign
-kindOf (P.conditional x) = Conditional
-kindOf P.group = Group
-kindOf (P.iterated n x bs) = Iterated
-kindOf (P.goto n) = Goto
-kindOf (P.include ns) = Include
-kindOf (P.activate ns) = Activate
-kindOf (P.deactivate ns) = Deactivate
-kindOf (P.return x) = Return
-
 abbrev pub roleOf : P.Role → Role
 roleOf P.listed = Listed
 roleOf P.thenPart = ThenPart
@@ -49,9 +33,8 @@ abbrev pub linkOf : P.Link → Link
 linkOf P.nowhere = Nowhere
 linkOf (P.row n) = To n
 
--- a record stands for a row
+-- a record stands for a row: its links
 pub record Stands (r : Row) (d : P.Row) : Type 0 where
-  pub kind : r .statement ≡ kindOf (d .statement)
   pub parent : r .parent ≡ linkOf (d .parent)
   pub role : r .role ≡ roleOf (d .role)
   pub next : r .next ≡ linkOf (d .next)
