@@ -244,7 +244,7 @@ pub fn past_prefixes(s: &[u8], from: usize) -> Prefixes
 // ---- the check of an expression: the place past it. `left` parentheses may still be opened in it
 
 // What stands behind the parenthesis at p.
-fn inside(s: &[u8], p: usize, at: usize, left: usize) -> Expected
+pub fn inside(s: &[u8], p: usize, at: usize, left: usize) -> Expected
     ensures { λ r. ⌜ r ≡ endFor (insideOf left (now (s .entry)) p at) ⌝ }
 {
     if left < 1 {
