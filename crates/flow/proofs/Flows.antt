@@ -271,7 +271,7 @@ module _ (t : List ℕ) (rs : List P.Row) (s : Shown t rs) where
   unfolding C.parentAt
   parent-at n h = s .rows n h .parent
 
-  iterated-at : (n : ℕ) → n < length rs → C.iteratedAt t n ≡ P.isIterated (rowOf rs n .statement)
+  pub iterated-at : (n : ℕ) → n < length rs → C.iteratedAt t n ≡ P.isIterated (rowOf rs n .statement)
   unfolding C.iteratedAt
   iterated-at n h = rw (s .tabled .kind n h) (iterated-as (rowOf rs n .statement))
 

@@ -6,10 +6,10 @@ use mathlib.Core.Bool.{Bool, true, false, cond, _&&_, _||_}
 use mathlib.Core.List.{List, [], _∷_}
 use Prim.Native.Nat.{ℕ, zero, suc, _<_, _≤_}
 use native.Mathlib.Omega.{arith}
-use borrow.Author.Tests.{lt-ltb, eq-eqb, ne-eqb, eqb-true}
-use lib.Dec.{eqb}
+use borrow.Author.Tests.{lt-ltb, ltb-true, eq-eqb, ne-eqb, eqb-true}
+use lib.Dec.{eqb, ltb}
 use lib.IntN.{ℤ}
-use lib.ListN.{length, getD, set, length-set}
+use lib.ListN.{length, getD, set, length-set, length-replicate, getD-replicate}
 use lib.Seq.{getD-set-same, getD-set-other}
 use Rattle.definition.specs.declared.ValueType.the-variants.{FixedType}
 use Rattle.definition.specs.declared.Why.{Why}
@@ -21,7 +21,7 @@ use Rattle.rows.specs.Table.{rowIn}
 use Rattle.flow.specs.declared.Frame.{Frame}
 use Rattle.flow.specs.declared.Frames.{Frames}
 use Rattle.flow.specs.Walks as C
-use Rattle.flow.specs.Shown.{Shown, Around, parent, outer, FrameShown, Newest, newest-first, newest-later, HasFrame, Framed, numberOf, steppedOn}
+use Rattle.flow.specs.Shown.{Shown, Around, parent, outer, FrameShown, Newest, newest-first, newest-later, HasFrame, FrameOf, having, without, Framed, numberOf, steppedOn}
 
 -- ---- the newest frame of a group
 newest-once : (g : ℕ) (d : D.Frame) (F : List D.Frame) → Newest g d F → d .isOnce ≡ D.isOnce g F
@@ -29,8 +29,18 @@ unfolding D.isOnce
 newest-once g d (_ ∷ F) (newest-first _ e) = rw (eq-eqb (d .group) g e)
 newest-once g d (x ∷ F) (newest-later _ _ h n) = rw (ne-eqb (x .group) g h) (newest-once g d F n)
 
-pub once-of : {ds : List Denotation} {f : Frame} {g : ℕ} {F : List D.Frame} → HasFrame ds f g F → f .«is_once» ≡ D.isOnce g F
-once-of {ds} {f} {g} {F} h = h .shown .once ∙ newest-once g (h .frame) F (h .newest)
+module _ {ds : List Denotation} {f : Frame} {g : ℕ} {F : List D.Frame} where
+  pub once-has : HasFrame ds f g F → f .«is_once» ≡ D.isOnce g F
+  once-has h = h .shown .once ∙ newest-once g (h .frame) F (h .newest)
+
+  pub once-of : FrameOf ds f g F → f .«is_once» ≡ D.isOnce g F
+  once-of (having h) = once-has h
+  once-of (without e o) = e ∙ sym o
+
+  -- a group that is tested again has its frame
+  pub has-again : FrameOf ds f g F → f .«is_once» ≡ false → HasFrame ds f g F
+  has-again (having h) e = h
+  has-again (without i o) e = let z : _≡_ {A = ℕ} 0 1 = cc in absurd (omega arith)
 
 module _ {E : Type 0} (M : D.Machine E) where
   number-is : (c : W.Cell) (w : World) (f : ℤ → Res Why Bool) → D.numberAt M c w f ≡ numberOf c w f
@@ -51,6 +61,12 @@ pub has-more : {f : Frame} {g : ℕ} {F : List D.Frame} (ds ds′ : List Denotat
     → ((j : ℕ) → getD ds j builtinName ≡ variableOf FixedType → getD ds′ j builtinName ≡ variableOf FixedType)
     → HasFrame ds f g F → HasFrame ds′ f g F
 has-more ds ds′ h x = record { frame = x .frame; newest = x .newest; shown = x .shown; variable = h (x .frame .at) (x .variable) }
+
+pub of-more : {f : Frame} {g : ℕ} {F : List D.Frame} (ds ds′ : List Denotation)
+    → ((j : ℕ) → getD ds j builtinName ≡ variableOf FixedType → getD ds′ j builtinName ≡ variableOf FixedType)
+    → FrameOf ds f g F → FrameOf ds′ f g F
+of-more ds ds′ h (having x) = having (has-more ds ds′ h x)
+of-more ds ds′ h (without e o) = without e o
 
 -- ---- what is around a row is before it and, if it is an iterated group, less deep
 module _ (t : List ℕ) (rs : List P.Row) (s : Shown t rs) where
@@ -74,14 +90,14 @@ module _ {E : Type 0} {M : D.Machine E} {t : List ℕ} {ds : List Denotation} {f
   pub framed-more : (ds′ : List Denotation) (n : ℕ)
       → ((j : ℕ) → getD ds j builtinName ≡ variableOf FixedType → getD ds′ j builtinName ≡ variableOf FixedType)
       → Framed M t ds fs F n → Framed M t ds′ fs F n
-  framed-more ds′ n h f = record { whole = f .whole; frame = λ g a i. has-more ds ds′ h (f .frame g a i) }
+  framed-more ds′ n h f = record { whole = f .whole; frame = λ g a i. of-more ds ds′ h (f .frame g a i) }
 
   -- to what a row stands in
   pub framed-up : (n p : ℕ) → Framed M t ds fs F n → rowOf (M .rows) n .parent ≡ P.row p → Framed M t ds fs F p
   framed-up n p f e = record { whole = f .whole; frame = λ g a. f .frame g (outer n p g e a) }
 
   pub framed-own : (n p : ℕ) → Framed M t ds fs F n → rowOf (M .rows) n .parent ≡ P.row p → P.isIterated (rowOf (M .rows) p .statement) ≡ true
-      → HasFrame ds (C.frameIn t fs p) p F
+      → FrameOf ds (C.frameIn t fs p) p F
   framed-own n p f e i = f .frame p (parent n p e) i
 
   -- rows in the same place have the same groups around them
@@ -96,19 +112,19 @@ module _ {E : Type 0} {M : D.Machine E} {t : List ℕ} {ds : List Denotation} {f
   pub framed-first : (n : ℕ) → length (fs .items) ≡ 16 → rowOf (M .rows) n .parent ≡ P.nowhere → Framed M t ds fs F n
   framed-first n w e = record { whole = w; frame = λ g a i. none g a }
     where
-      none : (g : ℕ) → Around (M .rows) n g → HasFrame ds (C.frameIn t fs g) g F
+      none : (g : ℕ) → Around (M .rows) n g → FrameOf ds (C.frameIn t fs g) g F
       none g (parent _ _ h) = let z : _≡_ {A = ℕ} 0 1 = cc in absurd (omega arith)
       none g (outer _ p _ h a) = let z : _≡_ {A = ℕ} 0 1 = cc in absurd (omega arith)
 
   -- into a row that is no iterated group, or one whose frame is there
   pub framed-child : (g m : ℕ) → rowOf (M .rows) m .parent ≡ P.row g → Framed M t ds fs F g
-      → (P.isIterated (rowOf (M .rows) g .statement) ≡ true → HasFrame ds (C.frameIn t fs g) g F) → Framed M t ds fs F m
+      → (P.isIterated (rowOf (M .rows) g .statement) ≡ true → FrameOf ds (C.frameIn t fs g) g F) → Framed M t ds fs F m
   framed-child g m e f o = record { whole = f .whole; frame = λ k a i. go k a i }
     where
-      go : (k : ℕ) → Around (M .rows) m k → P.isIterated (rowOf (M .rows) k .statement) ≡ true → HasFrame ds (C.frameIn t fs k) k F
+      go : (k : ℕ) → Around (M .rows) m k → P.isIterated (rowOf (M .rows) k .statement) ≡ true → FrameOf ds (C.frameIn t fs k) k F
       go k (parent _ _ h) i =
           let z : g ≡ k = cc in
-          subst (λ (y : ℕ). P.isIterated (rowOf (M .rows) y .statement) ≡ true → HasFrame ds (C.frameIn t fs y) y F) z o i
+          subst (λ (y : ℕ). P.isIterated (rowOf (M .rows) y .statement) ≡ true → FrameOf ds (C.frameIn t fs y) y F) z o i
       go k (outer _ p _ h a) i =
           let z : p ≡ g = cc in
           f .frame k (rw z at a) i
@@ -116,6 +132,38 @@ module _ {E : Type 0} {M : D.Machine E} {t : List ℕ} {ds : List Denotation} {f
   pub framed-child-plain : (g m : ℕ) → rowOf (M .rows) m .parent ≡ P.row g → Framed M t ds fs F g → P.isIterated (rowOf (M .rows) g .statement) ≡ false
       → Framed M t ds fs F m
   framed-child-plain g m e f i = framed-child g m e f (λ j. let z : _≡_ {A = ℕ} 0 1 = cc in absurd (omega arith))
+
+-- ---- no group was entered yet, wherever the row stands
+idle : (g : ℕ) → cond (C.leadsTo (C.noFrame .group) g) C.noFrame C.noFrame ≡ C.noFrame
+unfolding C.leadsTo C.noFrame
+idle g = refl
+
+none-as : (xs : List Frame) (k g : ℕ) → (k < 16 → getD xs k C.blankFrame ≡ C.noFrame) → C.frameAt xs k g ≡ C.noFrame
+unfolding C.frameAt
+none-as xs k g h = go (ltb k 16) refl
+  where
+    go : (o : Bool) → ltb k 16 ≡ o → cond o (cond (C.leadsTo (getD xs k C.blankFrame .group) g) (getD xs k C.blankFrame) C.noFrame) C.noFrame ≡ C.noFrame
+    go true e = rw (h (ltb-true k 16 e)) (idle g)
+    go false e = refl
+
+none-in : (t : List ℕ) (g : ℕ) → C.frameIn t C.noFrames g ≡ C.noFrame
+unfolding C.frameIn C.noFrames
+none-in t g = none-as _ (rowIn t g .depth) g (λ l. getD-replicate 16 (rowIn t g .depth) C.noFrame C.blankFrame l)
+
+none-once : C.noFrame .«is_once» ≡ true
+unfolding C.noFrame
+none-once = refl
+
+none-whole : length (C.noFrames .items) ≡ 16
+unfolding C.noFrames
+none-whole = length-replicate 16 C.noFrame
+
+none-isOnce : (g : ℕ) → D.isOnce g [] ≡ true
+unfolding D.isOnce
+none-isOnce g = refl
+
+pub framed-start : {E : Type 0} (M : D.Machine E) (t : List ℕ) (ds : List Denotation) (n : ℕ) → Framed M t ds C.noFrames [] n
+framed-start M t ds n = record { whole = none-whole; frame = λ g a i. without (rw (none-in t g) none-once) (none-isOnce g) }
 
 -- ---- a group is entered: its frame goes to its depth, and is the newest
 frame-as : (xs ys : List Frame) (k g : ℕ) → getD xs k C.blankFrame ≡ getD ys k C.blankFrame → C.frameAt xs k g ≡ C.frameAt ys k g
@@ -152,22 +200,27 @@ module _ {E : Type 0} (M : D.Machine E) (t : List ℕ) (s : Shown t (M .rows)) (
   pub has-entered : HasFrame ds (C.frameIn t (C.framesWith t fs g f) g) g (d ∷ F)
   has-entered = record { frame = d; newest = newest-first F own; shown = rw own-frame sh; variable = var }
 
-  has-outer : (k : ℕ) → k < g → HasFrame ds (C.frameIn t fs k) k F → C.frameIn t (C.framesWith t fs g f) k ≡ C.frameIn t fs k
-      → HasFrame ds (C.frameIn t (C.framesWith t fs g f) k) k (d ∷ F)
-  has-outer k l h e = record {
+  newest-other : (k : ℕ) → k < g → D.isOnce k (d ∷ F) ≡ D.isOnce k F
+  unfolding D.isOnce
+  newest-other k h = rw (own, ne-eqb g k (λ e. absurd (omega arith)))
+
+  of-outer : (k : ℕ) → k < g → FrameOf ds (C.frameIn t fs k) k F → C.frameIn t (C.framesWith t fs g f) k ≡ C.frameIn t fs k
+      → FrameOf ds (C.frameIn t (C.framesWith t fs g f) k) k (d ∷ F)
+  of-outer k l (having h) e = having (record {
     frame = h .frame;
     newest = newest-later d F (λ q. let z : g ≡ k = sym own ∙ q in omega arith) (h .newest);
     shown = rw e (h .shown);
     variable = h .variable;
-  }
+  })
+  of-outer k l (without i o) e = without (rw e i) (newest-other k l ∙ o)
 
   -- the frames around the group itself, once it is entered
   pub framed-entered : Framed M t ds (C.framesWith t fs g f) (d ∷ F) g
   framed-entered = record { whole = whole-with; frame = λ k a j.
-      has-outer k (around-before t (M .rows) s g k lg a) (fr .frame k a j) (other-frame k (around-depth t (M .rows) s g k lg a j)) }
+      of-outer k (around-before t (M .rows) s g k lg a) (fr .frame k a j) (other-frame k (around-depth t (M .rows) s g k lg a j)) }
 
   pub framed-enter : (m : ℕ) → rowOf (M .rows) m .parent ≡ P.row g → Framed M t ds (C.framesWith t fs g f) (d ∷ F) m
-  framed-enter m e = framed-child g m e framed-entered (λ _. has-entered)
+  framed-enter m e = framed-child g m e framed-entered (λ _. having has-entered)
 
 -- ---- a GOTO: the iterated groups around its label are around where the run stands
 no : (A : Type 0) → false ≡ true → A
@@ -245,7 +298,7 @@ module _ {E : Type 0} (M : D.Machine E) (t : List ℕ) (s : Shown t (M .rows)) {
   here k i = stands-up (M .rows) k n (rowOf (M .rows) n .parent) (λ g. D.groupsFrom (M .rows) (suc g) g) refl (λ q j. listed-up (M .rows) k (suc q) q j) i
 
   -- at the END of a row: the row's own frame, and those of the groups around it
-  pub end-own : D.mayGo (M .rows) n r true ≡ true → P.isIterated (rowOf (M .rows) r .statement) ≡ true → HasFrame ds (C.frameIn t fs r) r F
+  pub end-own : D.mayGo (M .rows) n r true ≡ true → P.isIterated (rowOf (M .rows) r .statement) ≡ true → FrameOf ds (C.frameIn t fs r) r F
   unfolding D.mayGo
   end-own m i = fr .frame r (here r (in-both (M .rows) r (D.groupsFrom (M .rows) (suc r) r) _ m (up-listed (M .rows) r t s i (suc r) r (omega arith) lr (itself refl)))) i
 

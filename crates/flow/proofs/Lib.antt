@@ -2,3 +2,4 @@
 pub mod Steps
 pub mod Framing
 pub mod Flows
+pub mod Arriving

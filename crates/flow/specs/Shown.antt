@@ -83,10 +83,16 @@ pub record HasFrame (ds : List W.Denotation) (f : Frame) (g : ℕ) (F : List D.F
   pub shown : FrameShown f frame
   pub variable : getD ds (frame .at) W.builtinName ≡ W.variableOf FixedType
 
--- each iterated group around a row has its frame, at its depth
+-- the frame f of the code at the group g: that of the group, or none. A procedure may stand in an iterated group, and its body
+-- runs without the group's frame
+pub data FrameOf (ds : List W.Denotation) (f : Frame) (g : ℕ) (F : List D.Frame) : Type 0 where
+  having : HasFrame ds f g F → FrameOf ds f g F
+  without : f .«is_once» ≡ true → D.isOnce g F ≡ true → FrameOf ds f g F
+
+-- the frames of the iterated groups around a row, each at its depth
 pub record Framed {E : Type 0} (M : D.Machine E) (t : List ℕ) (ds : List W.Denotation) (fs : Frames) (F : List D.Frame) (n : ℕ) : Type 0 where
   pub whole : length (fs .items) ≡ 16
-  pub frame : (g : ℕ) → Around (M .rows) n g → P.isIterated (rowOf (M .rows) g .statement) ≡ true → HasFrame ds (frameIn t fs g) g F
+  pub frame : (g : ℕ) → Around (M .rows) n g → P.isIterated (rowOf (M .rows) g .statement) ≡ true → FrameOf ds (frameIn t fs g) g F
 
 -- what the definition does with the frame of a group that is tested again
 abbrev pub numberOf : W.Cell → World → (ℤ → Res Why Bool) → Res Why Bool
