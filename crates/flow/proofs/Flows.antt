@@ -15,7 +15,7 @@ use lib.Seq.{getD-set-same, getD-set-other}
 use lib.Signed.{leZ, nonNeg}
 use Rattle.definition.specs.Choice.{when}
 use Rattle.definition.specs.Program as P
-use Rattle.definition.specs.World.{World, Res, good, bad, bind, rowOf}
+use Rattle.definition.specs.World.{Denotation, World, Res, good, bad, bind, rowOf}
 use Rattle.definition.specs.Fixed as F
 use Rattle.definition.specs.Flow as D
 use Rattle.fixed.specs.Signed.{fromStored}
@@ -33,7 +33,8 @@ use Rattle.flow.specs.declared.Walk.the-variants.{To as Arrives, Up}
 use Rattle.flow.specs.declared.Frame.{Frame}
 use Rattle.flow.specs.declared.Frames.{Frames}
 use Rattle.flow.specs.Walks as C
-use Rattle.flow.specs.Shown.{roleOf, linkOf, Stands, Shown, Around, parent, outer, Framed, toOf, FrameShown, nextFrom, walked}
+use Rattle.flow.specs.Shown.{roleOf, linkOf, Stands, Shown, parent, Framed, toOf, FrameShown, nextFrom, walked}
+use Rattle.flow.proofs.Framing.{once-of, framed-up}
 
 module _ {E : Type 0} (M : D.Machine E) (F : List D.Frame) (up : ℕ → World → Res E D.Next) (w : World) where
   -- ---- the end of what stands in a row
@@ -76,11 +77,11 @@ module _ {E : Type 0} (M : D.Machine E) (F : List D.Frame) (up : ℕ → World �
     next-as P.nowhere P.nowhere h = refl
     next-as P.nowhere (P.row g) h = h g refl
 
-    pub next-is : (n : ℕ) → n < length (M .rows) → Framed M t fs F n
+    pub next-is : {ds : List Denotation} (n : ℕ) → n < length (M .rows) → Framed M t ds fs F n
         → D.nextIn M (rowOf (M .rows) n .next) (rowOf (M .rows) n .parent) F up w ≡ walked (C.nextWalk t fs (rowIn t n .next) (rowIn t n .parent)) up w
     next-is n h f = rw (s .rows n h .next, s .rows n h .parent) (next-as (rowOf (M .rows) n .next) (rowOf (M .rows) n .parent) (λ g e.
         let k : g < n = s .tabled .before n g h e in
-        end-is g (omega arith) (f .once g (parent n g e))))
+        end-is g (omega arith) (λ i. once-of (f .frame g (parent n g e) i))))
 
     -- what the walk is in each role
     pub listed-is : (n : ℕ) → n < length (M .rows) → rowOf (M .rows) n .role ≡ P.listed
@@ -143,13 +144,10 @@ module _ (t : List ℕ) (fs : Frames) (rs : List P.Row) (n p : ℕ) where
   behind-up s h e = role-up-as (rowOf rs n .role) (rowOf rs n .next) (rowOf rs n .parent) refl
       (rw (s .rows n h .role, s .rows n h .next, s .rows n h .parent) at e)
 
-pub framed-up : {E : Type 0} (M : D.Machine E) (t : List ℕ) (fs : Frames) (F : List D.Frame) (n g : ℕ) → Framed M t fs F n → rowOf (M .rows) n .parent ≡ P.row g → Framed M t fs F g
-framed-up M t fs F n g f e = record { once = λ k a. f .once k (outer n g k e a) }
-
 -- ---- behind a row, where nothing is put out on the way
 module _ {E : Type 0} (M : D.Machine E) (quiet : (x : P.Stretch) (w : World) → M .out x w ≡ good tt w) (t : List ℕ) (s : Shown t (M .rows)) (fs : Frames) (F : List D.Frame) where
   -- one turn
-  turn-as : (x : P.Role) (n : ℕ) (up : ℕ → World → Res E D.Next) (w : World) → n < length (M .rows) → Framed M t fs F n → rowOf (M .rows) n .role ≡ x
+  turn-as : {ds : List Denotation} (x : P.Role) (n : ℕ) (up : ℕ → World → Res E D.Next) (w : World) → n < length (M .rows) → Framed M t ds fs F n → rowOf (M .rows) n .role ≡ x
       → D.behindAs M x n F up w ≡ walked (C.behindWalk t fs n) up w
   unfolding C.behindWalk C.behindAs
   turn-as P.listed n up w h f e = rw (quiet, s .rows n h .role, e) (next-is M F up w t s fs n h f)
@@ -163,7 +161,7 @@ module _ {E : Type 0} (M : D.Machine E) (quiet : (x : P.Stretch) (w : World) →
   step-as n k w up h i (Arrives x) e = refl
   step-as n k w up h i (Up p) e = i p (behind-up t fs (M .rows) n p s h e)
 
-  behind-on : (f k n : ℕ) (w : World) → n < f → n < k → n < length (M .rows) → Framed M t fs F n
+  behind-on : {ds : List Denotation} (f k n : ℕ) (w : World) → n < f → n < k → n < length (M .rows) → Framed M t ds fs F n
       → D.behindOn M F f n w ≡ good (nextFrom (C.behindOn t fs k n)) w
   unfolding D.behindOn C.behindOn
   behind-on zero k n w h i l fr = absurd (omega arith)
@@ -172,10 +170,10 @@ module _ {E : Type 0} (M : D.Machine E) (quiet : (x : P.Stretch) (w : World) →
       turn-as (rowOf (M .rows) n .role) n (λ g v. D.behindOn M F f g v) w l fr refl
       ∙ step-as n k w (λ g v. D.behindOn M F f g v) l (λ g e.
       let lt : g < n = s .tabled .before n g l e in
-      behind-on f k g w (omega arith) (omega arith) (omega arith) (framed-up M t fs F n g fr e)) (C.behindWalk t fs n) refl
+      behind-on f k g w (omega arith) (omega arith) (omega arith) (framed-up n g fr e)) (C.behindWalk t fs n) refl
 
   -- THE FUNCTION `behind` of the code is the definition's
-  pub behind-is : (n : ℕ) (w : World) → n < length (M .rows) → Framed M t fs F n → D.behind M F n w ≡ good (nextFrom (C.behindOn t fs (n + 1) n)) w
+  pub behind-is : {ds : List Denotation} (n : ℕ) (w : World) → n < length (M .rows) → Framed M t ds fs F n → D.behind M F n w ≡ good (nextFrom (C.behindOn t fs (n + 1) n)) w
   behind-is n w l fr = behind-on (suc n) (n + 1) n w (omega arith) (omega arith) l fr
 
   -- and so is `arrived` of the walk to a row, of the end of a group, of a group's beginning
@@ -185,10 +183,10 @@ module _ {E : Type 0} (M : D.Machine E) (quiet : (x : P.Stretch) (w : World) →
   arrived-as (Arrives x) w h = refl
   arrived-as (Up p) w h = h p refl
 
-  behind-at : (g p : ℕ) (w : World) → p ≡ g → g < length (M .rows) → Framed M t fs F g → D.behind M F p w ≡ good (nextFrom (C.behindOn t fs (p + 1) p)) w
+  behind-at : {ds : List Denotation} (g p : ℕ) (w : World) → p ≡ g → g < length (M .rows) → Framed M t ds fs F g → D.behind M F p w ≡ good (nextFrom (C.behindOn t fs (p + 1) p)) w
   behind-at g p w e h fr = rw e (behind-is g w h fr)
 
-  pub end-arrives : (g : ℕ) (w : World) → g < length (M .rows) → Framed M t fs F g → (P.isIterated (rowOf (M .rows) g .statement) ≡ true → C.frameIn t fs g .«is_once» ≡ D.isOnce g F)
+  pub end-arrives : {ds : List Denotation} (g : ℕ) (w : World) → g < length (M .rows) → Framed M t ds fs F g → (P.isIterated (rowOf (M .rows) g .statement) ≡ true → C.frameIn t fs g .«is_once» ≡ D.isOnce g F)
       → D.endOf M F g w ≡ good (nextFrom (C.arrivedAt t fs (C.endWalk t fs g))) w
   unfolding C.endWalk
   end-arrives g w h fr o = end-is M F (λ k v. D.behind M F k v) w t s fs g h o
@@ -200,7 +198,7 @@ module _ {E : Type 0} (M : D.Machine E) (quiet : (x : P.Stretch) (w : World) →
   first-as (P.row m) g w h = refl
   first-as P.nowhere g w h = h
 
-  pub first-arrives : (g : ℕ) (w : World) → g < length (M .rows) → Framed M t fs F g → (P.isIterated (rowOf (M .rows) g .statement) ≡ true → C.frameIn t fs g .«is_once» ≡ D.isOnce g F)
+  pub first-arrives : {ds : List Denotation} (g : ℕ) (w : World) → g < length (M .rows) → Framed M t ds fs F g → (P.isIterated (rowOf (M .rows) g .statement) ≡ true → C.frameIn t fs g .«is_once» ≡ D.isOnce g F)
       → D.firstIn M (rowOf (M .rows) g .child) g F w ≡ good (nextFrom (C.arrivedAt t fs (C.firstWalk t fs g))) w
   unfolding C.firstWalk
   first-arrives g w h fr o = rw (s .rows g h .child) (first-as (rowOf (M .rows) g .child) g w (end-arrives g w h fr o))
@@ -273,7 +271,7 @@ module _ (t : List ℕ) (rs : List P.Row) (s : Shown t rs) where
   unfolding C.parentAt
   parent-at n h = s .rows n h .parent
 
-  iterated-at : (n : ℕ) → n < length rs → C.iteratedAt t n ≡ P.isIterated (rowOf rs n .statement)
+  pub iterated-at : (n : ℕ) → n < length rs → C.iteratedAt t n ≡ P.isIterated (rowOf rs n .statement)
   unfolding C.iteratedAt
   iterated-at n h = rw (s .tabled .kind n h) (iterated-as (rowOf rs n .statement))
 
@@ -346,183 +344,3 @@ module _ (t : List ℕ) (rs : List P.Row) (s : Shown t rs) where
     may-go-is r false l = rw (parent-at r l) (go-link 2048 (λ g. D.groupsFrom rs (suc g) g) (rowOf rs r .parent) (λ p e.
         let m : p < r = s .tabled .before r p l e in
         go-from (suc p) 2048 p (omega arith) (omega arith) (omega arith)))
-
--- ---- the frames: what is around a row is before it and, if it is an iterated group, less deep
-module _ (t : List ℕ) (rs : List P.Row) (s : Shown t rs) where
-  pub around-before : (n g : ℕ) → n < length rs → Around rs n g → g < n
-  around-before n g h (parent _ _ e) = s .tabled .before n g h e
-  around-before n g h (outer _ p _ e a) =
-      let k : p < n = s .tabled .before n p h e in
-      let l : g < p = around-before p g (omega arith) a in
-      omega arith
-
-  pub around-depth : (n g : ℕ) → n < length rs → Around rs n g → P.isIterated (rowOf rs g .statement) ≡ true → rowIn t g .depth < rowIn t n .depth
-  around-depth n g h (parent _ _ e) i = s .tabled .inner n g h e i
-  around-depth n g h (outer _ p _ e a) i =
-      let k : p < n = s .tabled .before n p h e in
-      let l : rowIn t g .depth < rowIn t p .depth = around-depth p g (omega arith) a i in
-      let m : rowIn t p .depth ≤ rowIn t n .depth = s .tabled .level n p h e in
-      omega arith
-
--- rows in the same place have the same groups around them
-pub framed-same : {E : Type 0} (M : D.Machine E) (t : List ℕ) (fs : Frames) (F : List D.Frame) (n m : ℕ) → rowOf (M .rows) m .parent ≡ rowOf (M .rows) n .parent → Framed M t fs F n → Framed M t fs F m
-framed-same M t fs F n m e f = record { once = λ g a. f .once g (moved g a) }
-  where
-    moved : (g : ℕ) → Around (M .rows) m g → Around (M .rows) n g
-    moved g (parent _ _ h) = parent n g (sym e ∙ h)
-    moved g (outer _ p _ h a) = outer n p g (sym e ∙ h) a
-
--- nothing is around a row of the first list
-pub framed-first : {E : Type 0} (M : D.Machine E) (t : List ℕ) (fs : Frames) (F : List D.Frame) (n : ℕ) → rowOf (M .rows) n .parent ≡ P.nowhere → Framed M t fs F n
-framed-first M t fs F n e = record { once = λ g a i. none g a }
-  where
-    none : (g : ℕ) → Around (M .rows) n g → C.frameIn t fs g .«is_once» ≡ D.isOnce g F
-    none g (parent _ _ h) = let z : _≡_ {A = ℕ} 0 1 = cc in absurd (omega arith)
-    none g (outer _ p _ h a) = let z : _≡_ {A = ℕ} 0 1 = cc in absurd (omega arith)
-
-frame-as : (xs ys : List Frame) (k g : ℕ) → getD xs k C.blankFrame ≡ getD ys k C.blankFrame → C.frameAt xs k g ≡ C.frameAt ys k g
-unfolding C.frameAt
-frame-as xs ys k g e = rw e
-
--- ---- a group is entered: its frame goes to its depth, and is the newest
-module _ {E : Type 0} (M : D.Machine E) (t : List ℕ) (s : Shown t (M .rows)) (fs : Frames) (F : List D.Frame) (whole : length (fs .items) ≡ 16)
-    (g : ℕ) (lg : g < length (M .rows)) (i : P.isIterated (rowOf (M .rows) g .statement) ≡ true) (f : Frame) (d : D.Frame) (sh : FrameShown f d) (own : d .group ≡ g) where
-  deep : rowIn t g .depth < 16
-  deep = s .tabled .shallow g lg i
-
-  items-are : C.framesWith t fs g f .items ≡ set (fs .items) (rowIn t g .depth) f
-  unfolding C.framesWith
-  items-are = rw (lt-ltb (rowIn t g .depth) 16 deep)
-
-  own-frame : C.frameIn t (C.framesWith t fs g f) g ≡ f
-  unfolding C.frameIn C.frameAt C.leadsTo
-  own-frame =
-      let e : getD (set (fs .items) (rowIn t g .depth) f) (rowIn t g .depth) C.blankFrame ≡ f = getD-set-same (fs .items) (rowIn t g .depth) f C.blankFrame (omega (arith, deep, whole)) in
-      rw (items-are, e, lt-ltb (rowIn t g .depth) 16 deep, sh .group, own, eq-eqb g g refl)
-
-  other-frame : (k : ℕ) → rowIn t k .depth < rowIn t g .depth → C.frameIn t (C.framesWith t fs g f) k ≡ C.frameIn t fs k
-  unfolding C.frameIn
-  other-frame k h =
-      let e : getD (set (fs .items) (rowIn t g .depth) f) (rowIn t k .depth) C.blankFrame ≡ getD (fs .items) (rowIn t k .depth) C.blankFrame =
-      getD-set-other (fs .items) (rowIn t g .depth) (rowIn t k .depth) f C.blankFrame (λ q. absurd (omega arith)) in
-      rw items-are (frame-as (set (fs .items) (rowIn t g .depth) f) (fs .items) (rowIn t k .depth) k e)
-
-  newest-own : D.isOnce g (d ∷ F) ≡ d .isOnce
-  unfolding D.isOnce
-  newest-own = rw (eq-eqb (d .group) g own)
-
-  newest-other : (k : ℕ) → k < g → D.isOnce k (d ∷ F) ≡ D.isOnce k F
-  unfolding D.isOnce
-  newest-other k h = rw (own, ne-eqb g k (λ e. absurd (omega arith)))
-
-  once-in : Framed M t fs F g → (k : ℕ) → Around (M .rows) g k → P.isIterated (rowOf (M .rows) k .statement) ≡ true
-      → C.frameIn t (C.framesWith t fs g f) k .«is_once» ≡ D.isOnce k (d ∷ F)
-  once-in fr k a j = rw (other-frame k (around-depth t (M .rows) s g k lg a j), newest-other k (around-before t (M .rows) s g k lg a)) (fr .once k a j)
-
-  pub framed-enter : (m : ℕ) → rowOf (M .rows) m .parent ≡ P.row g → Framed M t fs F g → Framed M t (C.framesWith t fs g f) (d ∷ F) m
-  framed-enter m e fr = record { once = λ k a j. go k a j }
-    where
-      go : (k : ℕ) → Around (M .rows) m k → P.isIterated (rowOf (M .rows) k .statement) ≡ true → C.frameIn t (C.framesWith t fs g f) k .«is_once» ≡ D.isOnce k (d ∷ F)
-      go k (parent _ _ h) j =
-          let z : k ≡ g = cc in
-          rw (z, own-frame, newest-own) (sh .once)
-      go k (outer _ p _ h a) j =
-          let z : p ≡ g = cc in
-          once-in fr k (rw z at a) j
-
--- ---- a GOTO: the iterated groups around its label are around where the run stands
-no : (A : Type 0) → false ≡ true → A
-no A e = let z : _≡_ {A = ℕ} 0 1 = cc in absurd (omega arith)
-
--- one of the groups from a row upwards: the row itself, or one around it
-pub data Within (rs : List P.Row) (p k : ℕ) : Type 0 where
-  itself : k ≡ p → Within rs p k
-  outside : Around rs p k → Within rs p k
-
-module _ (rs : List P.Row) (k : ℕ) where
-  stands-up : (p : ℕ) (x : P.Link) (from : ℕ → List ℕ) → rowOf rs p .parent ≡ x → ((q : ℕ) → D.isIn k (from q) ≡ true → Within rs q k)
-      → D.isIn k (D.groupsUp x from) ≡ true → Around rs p k
-  unfolding D.isIn
-  stands-up p P.nowhere from e h i = no _ i
-  stands-up p (P.row q) from e h i = go (h q i)
-    where
-      go : Within rs q k → Around rs p k
-      go (itself f) = parent p k (rw f e)
-      go (outside a) = outer p q k e a
-
-  listed-up : (f p : ℕ) → D.isIn k (D.groupsFrom rs f p) ≡ true → Within rs p k
-  unfolding D.groupsFrom D.isIn
-  listed-up zero p i = no _ i
-  listed-up (suc f) p i = one (λ j. outside (stands-up p (rowOf rs p .parent) (λ q. D.groupsFrom rs f q) refl (λ q l. listed-up f q l) j)) (P.isIterated (rowOf rs p .statement)) i
-    where
-      two : (D.isIn k (D.groupsUp (rowOf rs p .parent) (λ q. D.groupsFrom rs f q)) ≡ true → Within rs p k)
-          → (o : Bool) → eqb k p ≡ o → (o || D.isIn k (D.groupsUp (rowOf rs p .parent) (λ q. D.groupsFrom rs f q))) ≡ true → Within rs p k
-      two up true e j = itself (eqb-true k p e)
-      two up false e j = up j
-
-      one : (D.isIn k (D.groupsUp (rowOf rs p .parent) (λ q. D.groupsFrom rs f q)) ≡ true → Within rs p k) → (t : Bool)
-          → D.isIn k (cond t (p ∷ D.groupsUp (rowOf rs p .parent) (λ q. D.groupsFrom rs f q)) (D.groupsUp (rowOf rs p .parent) (λ q. D.groupsFrom rs f q))) ≡ true → Within rs p k
-      one up true j = two up (eqb k p) refl j
-      one up false j = up j
-
-  -- and back, for an iterated group
-  in-either : (p : ℕ) (t : Bool) (l : List ℕ) → D.isIn k l ≡ true → D.isIn k (cond t (p ∷ l) l) ≡ true
-  unfolding D.isIn
-  in-either p true l i = go (eqb k p)
-    where
-      go : (o : Bool) → (o || D.isIn k l) ≡ true
-      go true = refl
-      go false = i
-  in-either p false l i = i
-
-  in-first : (l : List ℕ) → D.isIn k (k ∷ l) ≡ true
-  unfolding D.isIn
-  in-first l = rw (eq-eqb k k refl)
-
-  up-listed : (t : List ℕ) → Shown t rs → P.isIterated (rowOf rs k .statement) ≡ true → (f p : ℕ) → p < f → p < length rs → Within rs p k → D.isIn k (D.groupsFrom rs f p) ≡ true
-  unfolding D.groupsFrom
-  up-listed t s i zero p h l a = absurd (omega arith)
-  up-listed t s i (suc f) p h l (itself e) = rw (← e, i) (in-first (D.groupsUp (rowOf rs k .parent) (λ q. D.groupsFrom rs f q)))
-  up-listed t s i (suc f) p h l (outside (parent _ _ e)) =
-      let m : k < p = s .tabled .before p k l e in
-      in-either p (P.isIterated (rowOf rs p .statement)) (D.groupsUp (rowOf rs p .parent) (λ q. D.groupsFrom rs f q)) (rw e (up-listed t s i f k (omega arith) (omega arith) (itself refl)))
-  up-listed t s i (suc f) p h l (outside (outer _ q _ e a)) =
-      let m : q < p = s .tabled .before p q l e in
-      in-either p (P.isIterated (rowOf rs p .statement)) (D.groupsUp (rowOf rs p .parent) (λ q. D.groupsFrom rs f q)) (rw e (up-listed t s i f q (omega arith) (omega arith) (outside a)))
-
-  in-both : (xs ys : List ℕ) → D.areIn xs ys ≡ true → D.isIn k xs ≡ true → D.isIn k ys ≡ true
-  unfolding D.areIn D.isIn
-  in-both [] ys h i = no _ i
-  in-both (x ∷ xs) ys h i = go (λ h i. in-both xs ys h i) (D.isIn x ys) refl h (eqb k x) refl i
-    where
-      go : (D.areIn xs ys ≡ true → D.isIn k xs ≡ true → D.isIn k ys ≡ true)
-          → (a : Bool) → D.isIn x ys ≡ a → (a && D.areIn xs ys) ≡ true → (o : Bool) → eqb k x ≡ o → (o || D.isIn k xs) ≡ true → D.isIn k ys ≡ true
-      go rest true e h true f i = rw (eqb-true k x f) e
-      go rest true e h false f i = rest h i
-      go rest false e h o f i = no _ h
-
-module _ {E : Type 0} (M : D.Machine E) (t : List ℕ) (s : Shown t (M .rows)) (fs : Frames) (F : List D.Frame) (n r : ℕ) (ln : n < length (M .rows)) (lr : r < length (M .rows)) (fr : Framed M t fs F n) where
-  here : (k : ℕ) → D.isIn k (D.groupsAround (M .rows) (rowOf (M .rows) n .parent)) ≡ true → Around (M .rows) n k
-  here k i = stands-up (M .rows) k n (rowOf (M .rows) n .parent) (λ g. D.groupsFrom (M .rows) (suc g) g) refl (λ q j. listed-up (M .rows) k (suc q) q j) i
-
-  -- at the END of a row: the row's own frame, and those of the groups around it
-  pub end-own : D.mayGo (M .rows) n r true ≡ true → P.isIterated (rowOf (M .rows) r .statement) ≡ true → C.frameIn t fs r .«is_once» ≡ D.isOnce r F
-  unfolding D.mayGo
-  end-own m i = fr .once r (here r (in-both (M .rows) r (D.groupsFrom (M .rows) (suc r) r) _ m (up-listed (M .rows) r t s i (suc r) r (omega arith) lr (itself refl)))) i
-
-  pub framed-end : D.mayGo (M .rows) n r true ≡ true → Framed M t fs F r
-  unfolding D.mayGo
-  framed-end m = record { once = λ k a i. fr .once k (here k (in-both (M .rows) k (D.groupsFrom (M .rows) (suc r) r) _ m (up-listed (M .rows) k t s i (suc r) r (omega arith) lr (outside a)))) i }
-
-  -- at a row
-  around-label : (k : ℕ) → P.isIterated (rowOf (M .rows) k .statement) ≡ true → Around (M .rows) r k → D.isIn k (D.groupsAround (M .rows) (rowOf (M .rows) r .parent)) ≡ true
-  around-label k i (parent _ _ e) =
-      let m : k < r = s .tabled .before r k lr e in
-      rw e (up-listed (M .rows) k t s i (suc k) k (omega arith) (omega arith) (itself refl))
-  around-label k i (outer _ p _ e a) =
-      let m : p < r = s .tabled .before r p lr e in
-      rw e (up-listed (M .rows) k t s i (suc p) p (omega arith) (omega arith) (outside a))
-
-  pub framed-goto : D.mayGo (M .rows) n r false ≡ true → Framed M t fs F r
-  unfolding D.mayGo
-  framed-goto m = record { once = λ k a i. fr .once k (here k (in-both (M .rows) k (D.groupsAround (M .rows) (rowOf (M .rows) r .parent)) _ m (around-label k i a))) i }
