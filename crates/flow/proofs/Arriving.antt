@@ -223,10 +223,10 @@ entered-walk-stands M t ds fs F s l g h i f d sh own var fr = first-walk-stands 
 -- ---- names are declared, and the frames stand as they did
 module _ {E : Type 0} {M : D.Machine E} {t : List ℕ} {ds : List Denotation} {fs : Frames} {F : List D.Frame} (ds′ : List Denotation)
     (h : (j : ℕ) → getD ds j builtinName ≡ variableOf FixedType → getD ds′ j builtinName ≡ variableOf FixedType) where
-  row-more : (n : ℕ) → AtRow M t ds fs F n → AtRow M t ds′ fs F n
+  pub row-more : (n : ℕ) → AtRow M t ds fs F n → AtRow M t ds′ fs F n
   row-more n r = record { within = r .within; framed = framed-more ds′ n h (r .framed) }
 
-  test-more : (g : ℕ) → AtTest M t ds fs F g → AtTest M t ds′ fs F g
+  pub test-more : (g : ℕ) → AtTest M t ds fs F g → AtTest M t ds′ fs F g
   test-more g r = record { within = r .within; framed = framed-more ds′ g h (r .framed); iterated = r .iterated; own = has-more ds ds′ h (r .own) }
 
   pub next-more : (x : Next) → AtNext M t ds fs F x → AtNext M t ds′ fs F x
