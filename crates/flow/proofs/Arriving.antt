@@ -2,7 +2,7 @@
 -- Assumes nothing.
 use mathlib.Core.Path.{_≡_, refl, sym, ap, subst, _∙_}
 use mathlib.Core.Bool.{Bool, true, false, cond}
-use mathlib.Core.List.{List}
+use mathlib.Core.List.{List, _∷_}
 use Prim.Native.Nat.{ℕ, zero, suc, _+_, _<_, _≤_}
 use native.Mathlib.Omega.{arith}
 use lib.ListN.{length, getD}
@@ -18,10 +18,11 @@ use Rattle.flow.specs.declared.Next.{Next}
 use Rattle.flow.specs.declared.Next.the-variants.{Begin, Again, Over}
 use Rattle.flow.specs.declared.Walk.{Walk}
 use Rattle.flow.specs.declared.Walk.the-variants.{To as Arrives, Up}
+use Rattle.flow.specs.declared.Frame.{Frame}
 use Rattle.flow.specs.declared.Frames.{Frames}
 use Rattle.flow.specs.Walks as C
-use Rattle.flow.specs.Shown.{roleOf, linkOf, Shown, HasFrame, FrameOf, Framed, StandsIn, Linked, AtRow, AtTest, AtNext, AtWalk}
-use Rattle.flow.proofs.Framing.{has-again, has-more, framed-more, framed-up, framed-own, framed-same, framed-child, framed-child-plain, framed-goto, framed-end, end-own}
+use Rattle.flow.specs.Shown.{roleOf, linkOf, Shown, FrameShown, FrameOf, having, Framed, Linked, AtRow, AtTest, AtNext, AtWalk}
+use Rattle.flow.proofs.Framing.{has-again, has-more, has-entered, framed-more, framed-entered, framed-up, framed-own, framed-same, framed-child, framed-child-plain, framed-goto, framed-end, end-own}
 use Rattle.flow.proofs.Flows.{iterated-at, may-go-is}
 
 -- ---- the kind of a row, from the table
@@ -171,6 +172,10 @@ module _ {E : Type 0} (M : D.Machine E) (t : List ℕ) (ds : List Denotation) (f
         (λ m e. record { within = l .other n m h e .within; framed = framed-child-plain n m (l .other n m h e .parent) f i })
         (record { within = h; framed = f }))
 
+    -- into a group that is tested again
+    pub tested-walk-stands : (g : ℕ) → AtTest M t ds fs F g → AtWalk M t ds fs F (C.firstWalk t fs g)
+    tested-walk-stands g r = first-walk-stands g (r .within) (r .framed) (λ _. having (r .own))
+
     -- to a label of row r, or of its END, from row n
     pub landing-walk-stands : (n r : ℕ) (c : Bool) → n < length (M .rows) → r < length (M .rows) → Framed M t ds fs F n → D.mayGo (M .rows) n r c ≡ true
         → AtWalk M t ds fs F (C.landingWalk t fs r c)
@@ -208,13 +213,20 @@ module _ {E : Type 0} (M : D.Machine E) (t : List ℕ) (ds : List Denotation) (f
         → C.mayGoOn t n 2048 (C.labelFrom t r c) ≡ true → AtNext M t ds fs F (C.arrivedAt t fs (C.landingWalk t fs r c))
     landing-stands n r c b h k f m = arrived-stands (C.landingWalk t fs r c) (landing-code-stands n r c b h k f m)
 
+-- into a group that is entered: its frame f goes to its depth, and d is the newest
+pub entered-walk-stands : {E : Type 0} (M : D.Machine E) (t : List ℕ) (ds : List Denotation) (fs : Frames) (F : List D.Frame) → Shown t (M .rows) → Linked (M .rows)
+    → (g : ℕ) → g < length (M .rows) → P.isIterated (rowOf (M .rows) g .statement) ≡ true → (f : Frame) (d : D.Frame) → FrameShown f d → d .group ≡ g
+    → getD ds (d .at) builtinName ≡ variableOf FixedType → Framed M t ds fs F g → AtWalk M t ds (C.framesWith t fs g f) (d ∷ F) (C.firstWalk t (C.framesWith t fs g f) g)
+entered-walk-stands M t ds fs F s l g h i f d sh own var fr = first-walk-stands M t ds (C.framesWith t fs g f) (d ∷ F) s l g h
+    (framed-entered M t s ds fs F g h i f d sh own var fr) (λ _. having (has-entered M t s ds fs F g h i f d sh own var fr))
+
 -- ---- names are declared, and the frames stand as they did
 module _ {E : Type 0} {M : D.Machine E} {t : List ℕ} {ds : List Denotation} {fs : Frames} {F : List D.Frame} (ds′ : List Denotation)
     (h : (j : ℕ) → getD ds j builtinName ≡ variableOf FixedType → getD ds′ j builtinName ≡ variableOf FixedType) where
-  row-more : (n : ℕ) → AtRow M t ds fs F n → AtRow M t ds′ fs F n
+  pub row-more : (n : ℕ) → AtRow M t ds fs F n → AtRow M t ds′ fs F n
   row-more n r = record { within = r .within; framed = framed-more ds′ n h (r .framed) }
 
-  test-more : (g : ℕ) → AtTest M t ds fs F g → AtTest M t ds′ fs F g
+  pub test-more : (g : ℕ) → AtTest M t ds fs F g → AtTest M t ds′ fs F g
   test-more g r = record { within = r .within; framed = framed-more ds′ g h (r .framed); iterated = r .iterated; own = has-more ds ds′ h (r .own) }
 
   pub next-more : (x : Next) → AtNext M t ds fs F x → AtNext M t ds′ fs F x

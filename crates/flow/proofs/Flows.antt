@@ -2,17 +2,14 @@
 -- the definition goes, and a GOTO may go where it may.
 -- Assumes nothing.
 use mathlib.Core.Path.{_≡_, refl, sym, ap, _∙_}
-use mathlib.Core.Bool.{Bool, true, false, cond, not, _&&_, _||_}
-use mathlib.Core.List.{List, [], _∷_}
-use Prim.Native.Nat.{ℕ, zero, suc, _+_, _-_, _<_, _≤_}
-use native.Mathlib.Numerals.{add-one}
+use mathlib.Core.Bool.{Bool, true, false, cond, _&&_}
+use mathlib.Core.List.{List, _∷_}
+use Prim.Native.Nat.{ℕ, zero, suc, _+_, _<_, _≤_}
 use native.Mathlib.Omega.{arith}
-use borrow.Author.Tests.{lt-ltb, eq-eqb, ne-eqb, eqb-true, eqb-false}
+use borrow.Author.Tests.{eq-eqb, ne-eqb, eqb-true, eqb-false}
 use lib.Dec.{eqb}
 use lib.IntN.{ℤ, pos, negsuc}
-use lib.ListN.{length, getD, set}
-use lib.Seq.{getD-set-same, getD-set-other}
-use lib.Signed.{leZ, nonNeg}
+use lib.ListN.{length}
 use Rattle.definition.specs.Choice.{when}
 use Rattle.definition.specs.Program as P
 use Rattle.definition.specs.World.{Denotation, World, Res, good, bad, bind, rowOf}
@@ -21,19 +18,20 @@ use Rattle.definition.specs.Flow as D
 use Rattle.fixed.specs.Signed.{fromStored}
 use Rattle.rows.specs.declared.Statement.{Statement}
 use Rattle.rows.specs.declared.Statement.the-variants.{Null, Declare, Procedure, Assign, Conditional, Group, Iterated, Goto, Include, Activate, Deactivate, Return}
+use Rattle.rows.specs.declared.Role.{Role}
 use Rattle.rows.specs.declared.Link.{Link}
 use Rattle.rows.specs.declared.Link.the-variants.{Nowhere, To}
 use Rattle.rows.specs.declared.Row.{Row}
 use Rattle.rows.specs.Table.{rowIn}
 use Rattle.rows.specs.Tabled.{kindOf}
 use Rattle.flow.specs.declared.Next.{Next}
-use Rattle.flow.specs.declared.Next.the-variants.{Begin, Again, Over}
+use Rattle.flow.specs.declared.Next.the-variants.{Again}
 use Rattle.flow.specs.declared.Walk.{Walk}
 use Rattle.flow.specs.declared.Walk.the-variants.{To as Arrives, Up}
 use Rattle.flow.specs.declared.Frame.{Frame}
 use Rattle.flow.specs.declared.Frames.{Frames}
 use Rattle.flow.specs.Walks as C
-use Rattle.flow.specs.Shown.{roleOf, linkOf, Stands, Shown, parent, Framed, toOf, FrameShown, nextFrom, walked}
+use Rattle.flow.specs.Shown.{roleOf, linkOf, Shown, parent, Framed, toOf, FrameShown, nextFrom, walked, outBehind}
 use Rattle.flow.proofs.Framing.{once-of, framed-up}
 
 module _ {E : Type 0} (M : D.Machine E) (F : List D.Frame) (up : ℕ → World → Res E D.Next) (w : World) where
@@ -344,3 +342,62 @@ module _ (t : List ℕ) (rs : List P.Row) (s : Shown t rs) where
     may-go-is r false l = rw (parent-at r l) (go-link 2048 (λ g. D.groupsFrom rs (suc g) g) (rowOf rs r .parent) (λ p e.
         let m : p < r = s .tabled .before r p l e in
         go-from (suc p) 2048 p (omega arith) (omega arith) (omega arith)))
+
+-- ---- behind a row, whatever is put out on the way: one turn, and then behind what the row stands in
+module _ {E : Type 0} (M : D.Machine E) (F : List D.Frame) where
+  module _ (up up′ : ℕ → World → Res E D.Next) where
+    next-same : (x p : P.Link) (w : World) → ((g : ℕ) → p ≡ P.row g → up g w ≡ up′ g w) → D.nextIn M x p F up w ≡ D.nextIn M x p F up′ w
+    next-same (P.row m) p w h = refl
+    next-same P.nowhere P.nowhere w h = refl
+    next-same P.nowhere (P.row g) w h = ap (λ (z : Res E D.Next). D.endIn M (rowOf (M .rows) g .statement) g F (λ _. z) w) (h g refl)
+
+    out-same : (r : Res E (Unit {0})) (x p : P.Link) → ((g : ℕ) → p ≡ P.row g → (w : World) → up g w ≡ up′ g w)
+        → bind r (λ _ v. D.nextIn M x p F up v) ≡ bind r (λ _ v. D.nextIn M x p F up′ v)
+    out-same (good u w) x p h = next-same x p w (λ g e. h g e w)
+    out-same (bad e u) x p h = refl
+
+    up-same : (p : P.Link) (w : World) → ((g : ℕ) → p ≡ P.row g → up g w ≡ up′ g w) → D.upFrom M p up w ≡ D.upFrom M p up′ w
+    up-same P.nowhere w h = refl
+    up-same (P.row g) w h = h g refl
+
+    turn-same : (r : P.Role) (n : ℕ) (w : World) → ((g : ℕ) → rowOf (M .rows) n .parent ≡ P.row g → (v : World) → up g v ≡ up′ g v)
+        → D.behindAs M r n F up w ≡ D.behindAs M r n F up′ w
+    turn-same P.listed n w h = out-same (M .out (rowOf (M .rows) n .text) w) (rowOf (M .rows) n .next) (rowOf (M .rows) n .parent) h
+    turn-same P.thenPart n w h = up-same (rowOf (M .rows) n .parent) w (λ g e. h g e w)
+    turn-same P.elsePart n w h = up-same (rowOf (M .rows) n .parent) w (λ g e. h g e w)
+
+  module _ (t : List ℕ) (s : Shown t (M .rows)) where
+    turns-same : (f k n : ℕ) (w : World) → n < f → n < k → n < length (M .rows) → D.behindOn M F f n w ≡ D.behindOn M F k n w
+    unfolding D.behindOn
+    turns-same zero k n w h i l = absurd (omega arith)
+    turns-same (suc f) zero n w h i l = absurd (omega arith)
+    turns-same (suc f) (suc k) n w h i l = turn-same (λ g v. D.behindOn M F f g v) (λ g v. D.behindOn M F k g v) (rowOf (M .rows) n .role) n w (λ g e v.
+        let lt : g < n = s .tabled .before n g l e in
+        turns-same f k g v (omega arith) (omega arith) (omega arith))
+
+    pub behind-turn : (n : ℕ) (w : World) → n < length (M .rows) → D.behind M F n w ≡ D.behindAs M (rowOf (M .rows) n .role) n F (λ g v. D.behind M F g v) w
+    unfolding D.behindOn
+    behind-turn n w l = turn-same (λ g v. D.behindOn M F n g v) (λ g v. D.behind M F g v) (rowOf (M .rows) n .role) n w (λ g e v.
+        let lt : g < n = s .tabled .before n g l e in
+        turns-same n (suc g) g v (omega arith) (omega arith) (omega arith))
+
+    -- THE TURN of the code's walk: what is put out, and then where the walk leads
+    out-turn : (fs : Frames) (n : ℕ) (r : Res E (Unit {0})) → ((v : World) → D.nextIn M (rowOf (M .rows) n .next) (rowOf (M .rows) n .parent) F (λ g y. D.behind M F g y) v
+        ≡ walked (C.behindWalk t fs n) (λ g y. D.behind M F g y) v)
+        → bind r (λ _ v. D.nextIn M (rowOf (M .rows) n .next) (rowOf (M .rows) n .parent) F (λ g y. D.behind M F g y) v) ≡ bind r (λ _ v. walked (C.behindWalk t fs n) (λ g y. D.behind M F g y) v)
+    out-turn fs n (good u w) h = h w
+    out-turn fs n (bad e u) h = refl
+
+    role-turn : {ds : List Denotation} (fs : Frames) (x : P.Role) (n : ℕ) (w : World) → n < length (M .rows) → Framed M t ds fs F n → rowOf (M .rows) n .role ≡ x
+        → D.behindAs M x n F (λ g v. D.behind M F g v) w
+        ≡ bind (outBehind M (roleOf x) (rowOf (M .rows) n .text) w) (λ _ v. walked (C.behindWalk t fs n) (λ g y. D.behind M F g y) v)
+    unfolding C.behindWalk C.behindAs
+    role-turn fs P.listed n w h f e = out-turn fs n (M .out (rowOf (M .rows) n .text) w) (λ v.
+        next-is M F (λ g y. D.behind M F g y) v t s fs n h f ∙ ap (λ (z : Walk). walked z (λ g y. D.behind M F g y) v) (sym (listed-is M F (λ g y. D.behind M F g y) v t s fs n h e)))
+    role-turn fs P.thenPart n w h f e = rw (s .rows n h .role, e) (up-is M F (λ g v. D.behind M F g v) w t s fs n h)
+    role-turn fs P.elsePart n w h f e = rw (s .rows n h .role, e) (up-is M F (λ g v. D.behind M F g v) w t s fs n h)
+
+    pub behind-walks : {ds : List Denotation} (fs : Frames) (n : ℕ) (w : World) → n < length (M .rows) → Framed M t ds fs F n
+        → D.behind M F n w ≡ bind (outBehind M (rowIn t n .role) (rowOf (M .rows) n .text) w) (λ _ v. walked (C.behindWalk t fs n) (λ g y. D.behind M F g y) v)
+    behind-walks fs n w h f = behind-turn n w h ∙ role-turn fs (rowOf (M .rows) n .role) n w h f refl
+        ∙ ap (λ (z : Role). bind (outBehind M z (rowOf (M .rows) n .text) w) (λ _ v. walked (C.behindWalk t fs n) (λ g y. D.behind M F g y) v)) (sym (s .rows n h .role))

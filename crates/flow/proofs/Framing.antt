@@ -8,20 +8,22 @@ use Prim.Native.Nat.{ℕ, zero, suc, _<_, _≤_}
 use native.Mathlib.Omega.{arith}
 use borrow.Author.Tests.{lt-ltb, ltb-true, eq-eqb, ne-eqb, eqb-true}
 use lib.Dec.{eqb, ltb}
-use lib.IntN.{ℤ}
+use lib.IntN.{ℤ, pos}
 use lib.ListN.{length, getD, set, length-set, length-replicate, getD-replicate}
 use lib.Seq.{getD-set-same, getD-set-other}
 use Rattle.definition.specs.declared.ValueType.the-variants.{FixedType}
 use Rattle.definition.specs.declared.Why.{Why}
+use Rattle.definition.specs.Expressions.{Tree}
+use Rattle.definition.specs.Values.{fixed}
 use Rattle.definition.specs.Program as P
 use Rattle.definition.specs.World as W
-use Rattle.definition.specs.World.{Denotation, builtinName, variableOf, World, Res, rowOf}
+use Rattle.definition.specs.World.{Denotation, builtinName, variableOf, World, Res, good, bad, bind, rowOf}
 use Rattle.definition.specs.Flow as D
 use Rattle.rows.specs.Table.{rowIn}
 use Rattle.flow.specs.declared.Frame.{Frame}
 use Rattle.flow.specs.declared.Frames.{Frames}
 use Rattle.flow.specs.Walks as C
-use Rattle.flow.specs.Shown.{Shown, Around, parent, outer, FrameShown, Newest, newest-first, newest-later, HasFrame, FrameOf, having, without, Framed, numberOf, steppedOn}
+use Rattle.flow.specs.Shown.{Shown, Around, parent, outer, FrameShown, Newest, newest-first, newest-later, HasFrame, FrameOf, having, without, Framed, Owns, numberOf, steppedOn}
 
 -- ---- the newest frame of a group
 newest-once : (g : ℕ) (d : D.Frame) (F : List D.Frame) → Newest g d F → d .isOnce ≡ D.isOnce g F
@@ -216,11 +218,53 @@ module _ {E : Type 0} (M : D.Machine E) (t : List ℕ) (s : Shown t (M .rows)) (
 
   -- the frames around the group itself, once it is entered
   pub framed-entered : Framed M t ds (C.framesWith t fs g f) (d ∷ F) g
-  framed-entered = record { whole = whole-with; frame = λ k a j.
-      of-outer k (around-before t (M .rows) s g k lg a) (fr .frame k a j) (other-frame k (around-depth t (M .rows) s g k lg a j)) }
+  framed-entered = record {
+    whole = whole-with;
+    frame = λ k a j.
+        of-outer k (around-before t (M .rows) s g k lg a) (fr .frame k a j) (other-frame k (around-depth t (M .rows) s g k lg a j));
+  }
 
   pub framed-enter : (m : ℕ) → rowOf (M .rows) m .parent ≡ P.row g → Framed M t ds (C.framesWith t fs g f) (d ∷ F) m
   framed-enter m e = framed-child g m e framed-entered (λ _. having has-entered)
+
+-- ---- the frame that DO makes is the group's, whatever BY and TO
+module _ {E : Type 0} (M : D.Machine E) where
+  bounded-as : (r : Res Why ℤ) (k : ℤ → D.Frame) (g a : ℕ) → ((z : ℤ) → Owns g a (k z)) → (d : D.Frame) (v : World) → bind r (λ z y. good (k z) y) ≡ good d v → Owns g a d
+  bounded-as (good z y) k g a h d v e = let q : k z ≡ d = cc in subst (λ (x : D.Frame). Owns g a x) q (h z)
+  bounded-as (bad w u) k g a h d v e = let z : _≡_ {A = ℕ} 0 1 = cc in absurd (omega arith)
+
+  bounded-own : (b : P.Bound) (f : D.Frame) (w : World) (g a : ℕ) → Owns g a f → (d : D.Frame) (v : World) → D.bounded M b f w ≡ good d v → Owns g a d
+  bounded-own (P.by x) f w g a o d v e = bounded-as (D.number M x w) (λ z. record { group = f .group; at = f .at; step = z; to = f .to; isOnce = false }) g a
+      (λ z. record { group = o .group; variable = o .variable }) d v e
+  bounded-own (P.upto x) f w g a o d v e = bounded-as (D.number M x w) (λ z. record { group = f .group; at = f .at; step = f .step; to = D.toAt z; isOnce = false }) g a
+      (λ z. record { group = o .group; variable = o .variable }) d v e
+
+  then-own : (r : Res Why D.Frame) (k : D.Frame → World → Res Why D.Frame) (g a : ℕ) → ((d : D.Frame) (v : World) → r ≡ good d v → Owns g a d)
+      → ((f : D.Frame) (w : World) → Owns g a f → (d : D.Frame) (v : World) → k f w ≡ good d v → Owns g a d) → (d : D.Frame) (v : World) → bind r k ≡ good d v → Owns g a d
+  then-own (good f y) k g a h i d v e = i f y (h f y refl) d v e
+  then-own (bad w u) k g a h i d v e = let z : _≡_ {A = ℕ} 0 1 = cc in absurd (omega arith)
+
+  bounds-own : (bs : List P.Bound) (f : D.Frame) (w : World) (g a : ℕ) → Owns g a f → (d : D.Frame) (v : World) → D.bounds M bs f w ≡ good d v → Owns g a d
+  unfolding D.bounds
+  bounds-own [] f w g a o d v e = let q : f ≡ d = cc in subst (λ (x : D.Frame). Owns g a x) q o
+  bounds-own (b ∷ bs) f w g a o d v e = then-own (D.bounded M b f w) (λ x y. D.bounds M bs x y) g a (bounded-own b f w g a o) (λ x y p. bounds-own bs x y g a p) d v e
+
+  started-as : (r : Res Why D.Frame) (z : ℤ) (g a : ℕ) → ((d : D.Frame) (v : World) → r ≡ good d v → Owns g a d) → (st : D.Started) (u : World)
+      → bind r (λ f v. good (record { frame = f; begins = D.passes f z }) (W.store a (fixed z) v)) ≡ good st u → Owns g a (st .frame)
+  started-as (good f v) z g a h st u e =
+      let q : _≡_ {A = D.Started} (record { frame = f; begins = D.passes f z }) st = cc in
+      subst (λ (x : D.Started). Owns g a (x .frame)) q (h f v refl)
+  started-as (bad w n) z g a h st u e = let y : _≡_ {A = ℕ} 0 1 = cc in absurd (omega arith)
+
+  start-as : (r : Res Why ℤ) (bs : List P.Bound) (g a : ℕ) (st : D.Started) (u : World)
+      → bind r (λ z y. bind (D.bounds M bs (record { group = g; at = a; step = pos 1; to = D.noTo; isOnce = true }) y) λ f v.
+      good (record { frame = f; begins = D.passes f z }) (W.store a (fixed z) v)) ≡ good st u → Owns g a (st .frame)
+  start-as (good z y) bs g a st u e = started-as (D.bounds M bs (record { group = g; at = a; step = pos 1; to = D.noTo; isOnce = true }) y) z g a
+      (bounds-own bs (record { group = g; at = a; step = pos 1; to = D.noTo; isOnce = true }) y g a (record { group = refl; variable = refl })) st u e
+  start-as (bad w n) bs g a st u e = let y : _≡_ {A = ℕ} 0 1 = cc in absurd (omega arith)
+
+  pub start-own : (g a : ℕ) (x : Tree) (bs : List P.Bound) (w : World) (st : D.Started) (u : World) → D.startAs M FixedType g a x bs w ≡ good st u → Owns g a (st .frame)
+  start-own g a x bs w st u e = start-as (D.number M x w) bs g a st u e
 
 -- ---- a GOTO: the iterated groups around its label are around where the run stands
 no : (A : Type 0) → false ≡ true → A

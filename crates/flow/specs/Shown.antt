@@ -94,6 +94,11 @@ pub record Framed {E : Type 0} (M : D.Machine E) (t : List ℕ) (ds : List W.Den
   pub whole : length (fs .items) ≡ 16
   pub frame : (g : ℕ) → Around (M .rows) n g → P.isIterated (rowOf (M .rows) g .statement) ≡ true → FrameOf ds (frameIn t fs g) g F
 
+-- the frame d is one of the group g, with the variable at a
+pub record Owns (g a : ℕ) (d : D.Frame) : Type 0 where
+  pub group : d .group ≡ g
+  pub variable : d .at ≡ a
+
 -- what the definition does with the frame of a group that is tested again
 abbrev pub numberOf : W.Cell → World → (ℤ → Res Why Bool) → Res Why Bool
 numberOf W.noValue w f = bad NoValue (w .used)
@@ -113,6 +118,12 @@ nextFrom Over = D.noNext
 abbrev pub walked : {E : Type 0} → Walk → (ℕ → World → Res E D.Next) → World → Res E D.Next
 walked (Arrives x) up w = good (nextFrom x) w
 walked (Up g) up w = up g w
+
+-- what is put out behind a row: nothing behind an alternative
+abbrev pub outBehind : {E : Type 0} → D.Machine E → Role → P.Stretch → World → Res E (Unit {0})
+outBehind M Listed x w = M .out x w
+outBehind M ThenPart x w = good tt w
+outBehind M ElsePart x w = good tt w
 
 -- ---- where the links of rows lead: to a row that is there, in the same place or inside
 pub record StandsIn (rs : List P.Row) (m : ℕ) (p : P.Link) : Type 0 where
