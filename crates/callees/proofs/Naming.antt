@@ -85,7 +85,7 @@ module _ (d t : List ℕ) (n : ℕ) where
   abbrev here : W.World
   here = namesWorld d t n
 
-  address-is : (l : List ℕ) (k : W.Owner) → addressOf l k here ≡ addressIn l k 0 (identifiersFrom d t 0 n)
+  pub address-is : (l : List ℕ) (k : W.Owner) → addressOf l k here ≡ addressIn l k 0 (identifiersFrom d t 0 n)
   unfolding namesWorld
   address-is l k = refl
 
@@ -98,11 +98,11 @@ module _ (d t : List ℕ) (n : ℕ) where
   unfolding seenFrom namesWorld
   seen-is l k = or-global (addressIn l k 0 (identifiersFrom d t 0 n)) l
 
-  denotation-is : (a : ℕ) → a < n → W.denotation a here ≡ denotationOf (nameIn t a .denotation)
+  pub denotation-is : (a : ℕ) → a < n → W.denotation a here ≡ denotationOf (nameIn t a .denotation)
   unfolding namesWorld
   denotation-is a h = rw zero-add at (denotations-at t 0 n a h)
 
-  low-own : (l : List ℕ) (k : W.Owner) (a : ℕ) → addressIn l k 0 (identifiersFrom d t 0 n) ≡ W.address a → a < n
+  pub low-own : (l : List ℕ) (k : W.Owner) (a : ℕ) → addressIn l k 0 (identifiersFrom d t 0 n) ≡ W.address a → a < n
   low-own l k a e = omega (arith, address-low l k 0 (identifiersFrom d t 0 n) a e, ids-length d t 0 n)
 
   low-seen : (l : List ℕ) (k : W.Owner) (a : ℕ) → seenIn d t n l k ≡ W.address a → a < n
@@ -112,11 +112,11 @@ module _ (d t : List ℕ) (n : ℕ) where
       by (W.address b) f = low-own l k a (f ∙ (rw f at e))
       by W.unknown f = low-own l W.everyone a (rw f at e)
 
-  known-is : (x : W.Address) (f : Found) (a : Address) → f ≡ foundFor x → f ≡ Known a → x ≡ W.address (a .0)
+  pub known-is : (x : W.Address) (f : Found) (a : Address) → f ≡ foundFor x → f ≡ Known a → x ≡ W.address (a .0)
   known-is (W.address b) f a e g = let h : Known (record { 0 = b }) ≡ Known a = sym e ∙ g in let k : record { 0 = b } ≡ a = cc in ap (λ (y : Address). W.address (y .0)) k
   known-is W.unknown f a e g = absurd (let z : _≡_ {A = ℕ} 0 1 = cc in omega arith)
 
-  unknown-is : (x : W.Address) (f : Found) → f ≡ foundFor x → f ≡ Unknown → x ≡ W.unknown
+  pub unknown-is : (x : W.Address) (f : Found) → f ≡ foundFor x → f ≡ Unknown → x ≡ W.unknown
   unknown-is (W.address b) f e g = absurd (let z : _≡_ {A = ℕ} 0 1 = cc in omega arith)
   unknown-is W.unknown f e g = refl
 

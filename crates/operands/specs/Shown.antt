@@ -47,12 +47,15 @@ Stated s at (D.activate ns) = Unit {0}
 Stated s at (D.deactivate ns) = Unit {0}
 Stated s at (D.return x) = (q : ℕ) × (e : ℕ) × (expectSign "(" s at ≡ read q) × (wholeExpression s q ≡ read (parsed x e))
 
--- the rows of each member are its part of the table, in the body of the member; every body that a name of B has is among them
+-- the rows of each member are its part of the table, in the body of the member; every body that a name of B has is among them, and
+-- every row that a label of a procedure leads to
 pub record RowsShown (deck rows : List ℕ) (starts : Starts) (B : World) : Type 0 where
   pub stated : (m r : ℕ) → IsRow m r B → Stated (bodyIn deck m) (rowIn (partIn rows starts m) r .content) (rowOf (rowsOf m B) r .statement)
   pub shown : (m : ℕ) → F.Shown (partIn rows starts m) (rowsOf m B)
+  pub linked : (m : ℕ) → F.Linked (rowsOf m B)
   pub few : (m : ℕ) → length (rowsOf m B) ≤ 2048
   pub bodies : (a m r : ℕ) (x : Bool) → getD (B .denotations) a W.builtinName ≡ W.entryOf x (W.bodyAt m r) → IsRow m r B × ((ns : List (List ℕ)) × (v : ValueType) × (rowOf (rowsOf m B) r .statement ≡ D.procedure ns v))
+  pub labels : (l : List ℕ) (m k a q r : ℕ) (x : Bool) → W.addressOf l (W.procedureAt m k) B ≡ W.address a → getD (B .denotations) a W.builtinName ≡ W.labelAt q r x → IsRow m r B
 
 -- ---- THE SCENE: what every evaluation asks of the rooms
 pub record Shows (deck rows names c l h w : List ℕ) (u : ℕ) (x : Scene) (m : Meter) (B : World) : Type 0 where
