@@ -469,7 +469,14 @@ pub fn jump_in(
 {
     let r = row_at(part, n);
     let owner = c.owner;
-    let j = jump_label(deck, s, names, c.names, owner, token_at(s, r.content as usize));
+    let j = jump_label(
+        deck,
+        s,
+        names,
+        c.names,
+        owner,
+        token_at(s, r.content as usize),
+    );
     match j {
         Jump::To(l) => {
             let p = l.place;

@@ -97,12 +97,13 @@ module _ (w : List ℕ) (u n : ℕ) (k : Held) (f : Value) (to : ℕ) (m : Meter
   stood i j = ga .so (record { room = i; top = j })
 
   substr-done : SubstrDone w u n k f to m w′ (evaluatedFor g to m)
-  substr-done = record
-    { is = λ i j B c l h. res-given B c l h w′ u g to m ∙ ap (λ (a : Val.Answer Val.Value). ask a (worldIn B c l h (m .used))) (stood i j .is) ∙ sym (R.put-is u (Val.substr vs) (worldIn B c l h (m .used))) ∙ ap (λ (a : List Val.Value). put u (Val.substr a) (worldIn B c l h (m .used))) (sym e)
-    ; end = given-end g to m
-    ; below = λ i j. stood i j .below
-    ; fits = λ i j. given-fits w u to m (Val.substr vs) w′ g (omega (arith, j)) (stood i j)
-    ; limit = given-meter g to m }
+  substr-done = record {
+    is = λ i j B c l h. res-given B c l h w′ u g to m ∙ ap (λ (a : Val.Answer Val.Value). ask a (worldIn B c l h (m .used))) (stood i j .is) ∙ sym (R.put-is u (Val.substr vs) (worldIn B c l h (m .used))) ∙ ap (λ (a : List Val.Value). put u (Val.substr a) (worldIn B c l h (m .used))) (sym e);
+    end = given-end g to m;
+    below = λ i j. stood i j .below;
+    fits = λ i j. given-fits w u to m (Val.substr vs) w′ g (omega (arith, j)) (stood i j);
+    limit = given-meter g to m;
+  }
 
 module _ (w : List ℕ) (u n : ℕ) (k : Held) (f : Value) (to : ℕ) (m : Meter) (a : Fixed) (fa : FixedHeld k 1 a) (w′ : List ℕ) (g : Given) (r : Evaluated) (re : r ≡ evaluatedFor g to m) where
   pub substr-two : n < 3 → O.Gave w u (sizeFor f) (stacked u (Val.substr (valueIn w u f ∷ Val.fixed (a .value) ∷ []))) w′ g → SubstrDone w u n k f to m w′ r

@@ -174,6 +174,7 @@ meant-denotes (W.address b) n w a t e = by (W.denotation b w) refl e
     builtin : (v : Bool) → Ev.aVariable a t ≡ cond v Ev.theSubstr Ev.noSuch → getD (w .denotations) a builtinName ≡ variableOf t
     builtin true f = absurd (let z : _≡_ {A = ℕ} 0 1 = cc in omega arith)
     builtin false f = absurd (let z : _≡_ {A = ℕ} 0 1 = cc in omega arith)
+
     by : (d : W.Denotation) → W.denotation b w ≡ d → Ev.aVariable a t ≡ Ev.meantBy d b n → getD (w .denotations) a builtinName ≡ variableOf t
     by (variableOf v) g f = let h : a ≡ b = cc in let k : t ≡ v = cc in rw (h, k) g
     by (entryOf v c) g f = absurd (let z : _≡_ {A = ℕ} 0 1 = cc in omega arith)
@@ -230,14 +231,15 @@ plain-variable-is run a t u w = refl
 
 module _ (c l h w : List ℕ) (u to : ℕ) (m : Meter) (y : Meant) where
   pub plain-variable : (a : ℕ) (t : ValueType) → y ≡ M.AVariable a t → (w′ : List ℕ) (g : Given) → VariableIs c l h w a t u w′ g → (r : Evaluated) → r ≡ evaluatedFor g to m → PlainIs c l h w u m y to w′ r
-  plain-variable a t e w′ g k r f = rw (e, f) record
-    { is = λ _ z q x B j.
+  plain-variable a t e w′ g k r f = rw (e, f) record {
+    is = λ _ z q x B j.
         let d : W.valueAt a (worldIn B c l h (m .used)) ≡ cellIn c l h t a = rw zero-add at (values-at (B .denotations) 0 a t c l h (variable-denotes a t B j)) in
-        res-given B c l h w′ u g to m ∙ ap (λ (i : Val.Answer Val.Value). ask i (worldIn B c l h (m .used))) (k .is z q) ∙ read-ask (cellIn c l h t a) u (worldIn B c l h (m .used)) ∙ sym (plain-variable-is (runIn x) a t u (worldIn B c l h (m .used)) ∙ ap (λ (i : W.Cell). readCell i u (worldIn B c l h (m .used))) d)
-    ; end = given-end g to m
-    ; below = k .below
-    ; fits = λ z q. given-size w′ u g to m (cellIn c l h t a) q (k .is z q)
-    ; limit = given-meter g to m }
+        res-given B c l h w′ u g to m ∙ ap (λ (i : Val.Answer Val.Value). ask i (worldIn B c l h (m .used))) (k .is z q) ∙ read-ask (cellIn c l h t a) u (worldIn B c l h (m .used)) ∙ sym (plain-variable-is (runIn x) a t u (worldIn B c l h (m .used)) ∙ ap (λ (i : W.Cell). readCell i u (worldIn B c l h (m .used))) d);
+    end = given-end g to m;
+    below = k .below;
+    fits = λ z q. given-size w′ u g to m (cellIn c l h t a) q (k .is z q);
+    limit = given-meter g to m;
+  }
 
   pub plain-entry : (b : Rattle.names.specs.declared.Body.Body) → y ≡ M.AnEntry b → PlainIs c l h w u m y to w (Failed WrongName m)
   plain-entry b e = rw e record { is = λ i z q x B j. true-false i; end = refl; below = below-same u w; fits = λ z q. omega (arith, q); limit = refl }
@@ -258,12 +260,13 @@ module _ (w : List ℕ) (u v : ℕ) (x : Value) (to : ℕ) (m : Meter) (F : Res 
   given-fits (Fails y) s₁ = omega (arith, k)
 
   pub stood-turns : Turns w u v (Is x to m) F w′ (evaluatedFor g to m)
-  stood-turns = record
-    { is = λ B c l h. res-given B c l h w′ u g to m ∙ ap (λ (i : Val.Answer Val.Value). ask i (worldIn B c l h (m .used))) (s .is) ∙ sym (R.put-is u A (worldIn B c l h (m .used))) ∙ sym (f B c l h)
-    ; end = λ q j. let d : to ≡ q = end-is x to q m j in rw (← d) (given-end g to m)
-    ; below = s .below
-    ; fits = given-fits g s
-    ; limit = ap (λ (i : Meter). i .limit) (given-meter g to m) }
+  stood-turns = record {
+    is = λ B c l h. res-given B c l h w′ u g to m ∙ ap (λ (i : Val.Answer Val.Value). ask i (worldIn B c l h (m .used))) (s .is) ∙ sym (R.put-is u A (worldIn B c l h (m .used))) ∙ sym (f B c l h);
+    end = λ q j. let d : to ≡ q = end-is x to q m j in rw (← d) (given-end g to m);
+    below = s .below;
+    fits = given-fits g s;
+    limit = ap (λ (i : Meter). i .limit) (given-meter g to m);
+  }
 
 -- what was refused stays so
 pub failed-turns : (w : List ℕ) (u v : ℕ) (e : Why) (m : Meter) (F : Res Why Val.Value → Res Why Val.Value) → ((n : ℕ) → F (bad e n) ≡ bad e n) → u ≤ 65536 → Turns w u v (Failed e m) F w (Failed e m)

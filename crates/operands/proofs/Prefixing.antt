@@ -154,10 +154,11 @@ module _ (all : Signs) (first i : ℕ) (o : Prefix) (n : length (all .items) ≡
 
   pub sign-set : (v : ℕ) → v ≡ codeOf o → first ≤ i → i - first < 256 → WithSign all first i o (record { items = set (all .items) (i - first) v })
   unfolding signIn
-  sign-set v ev g h = record
-    { size = set-size (all .items) (i - first) v ∙ n
-    ; here = λ j k e. let f : j ≡ i - first = omega (arith, e) in rw (lt-ltb j 256 k, f, getD-set-same (all .items) (i - first) v 0 (omega (arith, h, n)), ev) (of-code o)
-    ; other = λ j e. rw (getD-set-other (all .items) (i - first) j v 0 (λ f. e (omega (arith, f, g)))) }
+  sign-set v ev g h = record {
+    size = set-size (all .items) (i - first) v ∙ n;
+    here = λ j k e. let f : j ≡ i - first = omega (arith, e) in rw (lt-ltb j 256 k, f, getD-set-same (all .items) (i - first) v 0 (omega (arith, h, n)), ev) (of-code o);
+    other = λ j e. rw (getD-set-other (all .items) (i - first) j v 0 (λ f. e (omega (arith, f, g))));
+  }
 
 -- ---- behind a block
 pub behind-not : (first i : ℕ) → i < first → false ≡ leb (first + 256) i
@@ -228,12 +229,13 @@ module _ (s : List ℕ) (from first : ℕ) where
         here-is = rw add-zero at (st .rest 0) ∙ rw after
 
         pub signing-more : Signing b (i + 1) q
-        signing-more = record
-          { low = omega (arith, o)
-          ; size = ws .size
-          ; taken = λ j k l. by j k l (ltb (first + j) i) refl
-          ; total = st .total ∙ (let g : length (signsAt (length s - i) s at) ≡ suc (length (signsAt (length s - (i + 1)) s q)) = ap length after in omega (arith, g))
-          ; rest = λ k. let g : i + 1 + k ≡ i + suc k = omega arith in rw g (st .rest (suc k) ∙ ap (λ (l : List Prefix). getD l (suc k) Positive) after) }
+        signing-more = record {
+          low = omega (arith, o);
+          size = ws .size;
+          taken = λ j k l. by j k l (ltb (first + j) i) refl;
+          total = st .total ∙ (let g : length (signsAt (length s - i) s at) ≡ suc (length (signsAt (length s - (i + 1)) s q)) = ap length after in omega (arith, g));
+          rest = λ k. let g : i + 1 + k ≡ i + suc k = omega arith in rw g (st .rest (suc k) ∙ ap (λ (l : List Prefix). getD l (suc k) Positive) after);
+        }
           where
             by : (j : ℕ) → j < 256 → first + j < i + 1 → (v : Bool) → ltb (first + j) i ≡ v → signIn b j ≡ getD (allSigns s from) (first + j) Positive
             by j k l true g = ws .other j (λ h. omega (arith, h, ltb-true (first + j) i g)) ∙ st .taken j k (ltb-true (first + j) i g)
@@ -258,8 +260,10 @@ module _ (w₀ : List ℕ) (u : ℕ) (all : Signs) (n : ℕ) (v : Value) where
   module _ (i : ℕ) (x : Value) (w : List ℕ) (b : Blocking i x w) where
     pub block-done : i ≤ 0 → BlockDone w₀ u all n v w (Gives x)
     unfolding givenIn
-    block-done h = record { so = λ r. let k : Blocked i x w = b .so r in let e : i ≡ 0 = omega (arith, h) in let f : n - 0 ≡ n = omega arith in
-        record { is = rw (e, f) at (k .is); below = k .below; fits = λ y g. let j : x ≡ y = cc in rw (← j) (k .fits) } }
+    block-done h = record {
+      so = λ r. let k : Blocked i x w = b .so r in let e : i ≡ 0 = omega (arith, h) in let f : n - 0 ≡ n = omega arith in
+          record { is = rw (e, f) at (k .is); below = k .below; fits = λ y g. let j : x ≡ y = cc in rw (← j) (k .fits) };
+    }
 
     module _ (h : 0 < i) (o : Prefix) (eo : o ≡ signIn all (i - 1)) (w′ : List ℕ) (g : Given) (ga : O.Gave w u (sizeFor x) (stacked u (Val.prefixed o (valueIn w u x))) w′ g) where
       stood : Ready w₀ u (sizeFor v) → Stood w u (stacked u (Val.prefixed o (valueIn w u x))) w′ g
@@ -270,19 +274,24 @@ module _ (w₀ : List ℕ) (u : ℕ) (all : Signs) (n : ℕ) (v : Value) where
 
       pub block-more : (y : Value) → g ≡ Gives y → length w′ ≡ length w → Blocking (i - 1) y w′
       unfolding givenIn
-      block-more y e l = record
-        { low = omega (arith, b .low); size = l ∙ b .size
-        ; so = λ r. record { is = rw e at (all-is r); below = stood r .below ∙ b .so r .below; fits = stood-fits w u (Val.prefixed o (valueIn w u x)) w′ y (rw e at (stood r)) } }
+      block-more y e l = record {
+        low = omega (arith, b .low);
+        size = l ∙ b .size;
+        so = λ r. record { is = rw e at (all-is r); below = stood r .below ∙ b .so r .below; fits = stood-fits w u (Val.prefixed o (valueIn w u x)) w′ y (rw e at (stood r)) };
+      }
 
       pub block-fails : (y : Why) → g ≡ Fails y → BlockDone w₀ u all n v w′ (Fails y)
       unfolding givenIn
-      block-fails y e = record { so = λ r.
-          let a : Val.fails y ≡ prefixedAll u (signsIn all (i - 1) (n - (i - 1))) (Val.gives (valueIn w₀ u v)) = rw e at (all-is r) in
-          let c : signsIn all 0 n ≡ signsIn all 0 (i - 1) ++ signsIn all (i - 1) (n - (i - 1)) = (let d : i - 1 + (n - (i - 1)) ≡ n = omega (arith, b .low) in rw (d, zero-add) at (signs-split all 0 (i - 1) (n - (i - 1)))) in
-          record
-            { is = sym (ap (λ (l : List Prefix). prefixedAll u l (Val.gives (valueIn w₀ u v))) c ∙ all-append u (signsIn all 0 (i - 1)) (signsIn all (i - 1) (n - (i - 1))) (Val.gives (valueIn w₀ u v)) ∙ ap (prefixedAll u (signsIn all 0 (i - 1))) (sym a) ∙ all-fails u (signsIn all 0 (i - 1)) y)
-            ; below = stood r .below ∙ b .so r .below
-            ; fits = λ z f. absurd (let q : _≡_ {A = ℕ} 0 1 = cc in omega arith) } }
+      block-fails y e = record {
+        so = λ r.
+            let a : Val.fails y ≡ prefixedAll u (signsIn all (i - 1) (n - (i - 1))) (Val.gives (valueIn w₀ u v)) = rw e at (all-is r) in
+            let c : signsIn all 0 n ≡ signsIn all 0 (i - 1) ++ signsIn all (i - 1) (n - (i - 1)) = (let d : i - 1 + (n - (i - 1)) ≡ n = omega (arith, b .low) in rw (d, zero-add) at (signs-split all 0 (i - 1) (n - (i - 1)))) in
+            record {
+              is = sym (ap (λ (l : List Prefix). prefixedAll u l (Val.gives (valueIn w₀ u v))) c ∙ all-append u (signsIn all 0 (i - 1)) (signsIn all (i - 1) (n - (i - 1))) (Val.gives (valueIn w₀ u v)) ∙ ap (prefixedAll u (signsIn all 0 (i - 1))) (sym a) ∙ all-fails u (signsIn all 0 (i - 1)) y);
+              below = stood r .below ∙ b .so r .below;
+              fits = λ z f. absurd (let q : _≡_ {A = ℕ} 0 1 = cc in omega arith);
+            };
+      }
 
 -- ---- all blocks
 module _ (s : List ℕ) (from n : ℕ) (w₀ : List ℕ) (u : ℕ) (v : Value) where
@@ -306,9 +315,14 @@ module _ (s : List ℕ) (from n : ℕ) (w₀ : List ℕ) (u : ℕ) (v : Value) w
   module _ (i : ℕ) (x : Value) (w : List ℕ) (b : Prefixing i x w) where
     pub prefixing-done : i ≤ 0 → AllDone s from n w₀ u v w (Gives x)
     unfolding givenIn
-    prefixing-done h = record { so = λ r e. let k : Prefixed i x w = b .so r e in let f : i ≡ 0 = omega (arith, h) in let g : n - 0 ≡ n = omega arith in
-        record { is = (let q : Val.gives (valueIn w u x) ≡ prefixedAll u (pick ss 0 n) (Val.gives (valueIn w₀ u v)) = rw (f, g) at (k .is) in q ∙ ap (λ (l : List Prefix). prefixedAll u l (Val.gives (valueIn w₀ u v))) (ap (pick ss 0) e ∙ pick-all ss))
-               ; below = k .below; fits = λ y g. let j : x ≡ y = cc in rw (← j) (k .fits) } }
+    prefixing-done h = record {
+      so = λ r e. let k : Prefixed i x w = b .so r e in let f : i ≡ 0 = omega (arith, h) in let g : n - 0 ≡ n = omega arith in
+          record {
+            is = (let q : Val.gives (valueIn w u x) ≡ prefixedAll u (pick ss 0 n) (Val.gives (valueIn w₀ u v)) = rw (f, g) at (k .is) in q ∙ ap (λ (l : List Prefix). prefixedAll u l (Val.gives (valueIn w₀ u v))) (ap (pick ss 0) e ∙ pick-all ss));
+            below = k .below;
+            fits = λ y g. let j : x ≡ y = cc in rw (← j) (k .fits);
+          };
+    }
 
     module _ (h : 0 < i) (z : ℕ) (small : z ≤ 256) (some : z ≤ i) (all : Signs) (sf : SignsFrom s from (i - z) all) (w′ : List ℕ) (g : Given) (bd : BlockDone w u all z x w′ g) where
       block : n ≡ length ss → signsIn all 0 z ≡ pick ss (i - z) z
@@ -325,19 +339,24 @@ module _ (s : List ℕ) (from n : ℕ) (w₀ : List ℕ) (u : ℕ) (v : Value) w
 
       pub prefixing-more : (y : Value) → g ≡ Gives y → length w′ ≡ length w → Prefixing (i - z) y w′
       unfolding givenIn
-      prefixing-more y e l = record
-        { low = omega (arith, b .low); size = l ∙ b .size
-        ; so = λ r f. record { is = rw e at (all-by r f); below = applied r f .below ∙ b .so r f .below; fits = applied r f .fits y e } }
+      prefixing-more y e l = record {
+        low = omega (arith, b .low);
+        size = l ∙ b .size;
+        so = λ r f. record { is = rw e at (all-by r f); below = applied r f .below ∙ b .so r f .below; fits = applied r f .fits y e };
+      }
 
       pub prefixing-fails : (y : Why) → g ≡ Fails y → AllDone s from n w₀ u v w′ (Fails y)
       unfolding givenIn
-      prefixing-fails y e = record { so = λ r f.
-          let a : Val.fails y ≡ prefixedAll u (pick ss (i - z) (n - (i - z))) (Val.gives (valueIn w₀ u v)) = rw e at (all-by r f) in
-          let c : ss ≡ pick ss 0 (i - z) ++ pick ss (i - z) (n - (i - z)) = (let d : i - z + (n - (i - z)) ≡ n = omega (arith, b .low) in sym (pick-all ss) ∙ ap (pick ss 0) (sym f) ∙ rw (d, zero-add) at (pick-split ss 0 (i - z) (n - (i - z)))) in
-          record
-            { is = sym (ap (λ (l : List Prefix). prefixedAll u l (Val.gives (valueIn w₀ u v))) c ∙ all-append u (pick ss 0 (i - z)) (pick ss (i - z) (n - (i - z))) (Val.gives (valueIn w₀ u v)) ∙ ap (prefixedAll u (pick ss 0 (i - z))) (sym a) ∙ all-fails u (pick ss 0 (i - z)) y)
-            ; below = applied r f .below ∙ b .so r f .below
-            ; fits = λ q j. absurd (let p : _≡_ {A = ℕ} 0 1 = cc in omega arith) } }
+      prefixing-fails y e = record {
+        so = λ r f.
+            let a : Val.fails y ≡ prefixedAll u (pick ss (i - z) (n - (i - z))) (Val.gives (valueIn w₀ u v)) = rw e at (all-by r f) in
+            let c : ss ≡ pick ss 0 (i - z) ++ pick ss (i - z) (n - (i - z)) = (let d : i - z + (n - (i - z)) ≡ n = omega (arith, b .low) in sym (pick-all ss) ∙ ap (pick ss 0) (sym f) ∙ rw (d, zero-add) at (pick-split ss 0 (i - z) (n - (i - z)))) in
+            record {
+              is = sym (ap (λ (l : List Prefix). prefixedAll u l (Val.gives (valueIn w₀ u v))) c ∙ all-append u (pick ss 0 (i - z)) (pick ss (i - z) (n - (i - z))) (Val.gives (valueIn w₀ u v)) ∙ ap (prefixedAll u (pick ss 0 (i - z))) (sym a) ∙ all-fails u (pick ss 0 (i - z)) y);
+              below = applied r f .below ∙ b .so r f .below;
+              fits = λ q j. absurd (let p : _≡_ {A = ℕ} 0 1 = cc in omega arith);
+            };
+      }
 
     -- with the size that the code has
     abbrev last : ℕ
@@ -379,12 +398,13 @@ module _ (s : List ℕ) (from : ℕ) (w : List ℕ) (u n : ℕ) (y : Evaluated) 
     turns : 65536 ≤ length w → u + sizeFor v ≤ 65536 → n ≡ length (allSigns s from) → Turns w u u (Is v to m) (prefixedBy u (allSigns s from)) w′ (evaluatedFor g to m)
     turns a b c =
         let k : Applied w u (allSigns s from) v w′ g = ad .so (record { room = a; top = b }) c in
-        record
-          { is = λ B cc ll hh. res-given B cc ll hh w′ u g to m ∙ ap (λ (i : Val.Answer Val.Value). ask i (worldIn B cc ll hh (m .used))) (k .is) ∙ sym (by-ask u (allSigns s from) (Val.gives (valueIn w u v)) (worldIn B cc ll hh (m .used)))
-          ; end = λ q j. let d : to ≡ q = end-is v to q m j in rw (← d) (given-end g to m)
-          ; below = k .below
-          ; fits = fits g (k .fits)
-          ; limit = ap (λ (i : Meter). i .limit) (given-meter g to m) }
+        record {
+          is = λ B cc ll hh. res-given B cc ll hh w′ u g to m ∙ ap (λ (i : Val.Answer Val.Value). ask i (worldIn B cc ll hh (m .used))) (k .is) ∙ sym (by-ask u (allSigns s from) (Val.gives (valueIn w u v)) (worldIn B cc ll hh (m .used)));
+          end = λ q j. let d : to ≡ q = end-is v to q m j in rw (← d) (given-end g to m);
+          below = k .below;
+          fits = fits g (k .fits);
+          limit = ap (λ (i : Meter). i .limit) (given-meter g to m);
+        }
       where
         fits : (g₁ : Given) → ((y : Value) → g₁ ≡ Gives y → u + sizeFor y ≤ 65536) → u + sizeOf (evaluatedFor g₁ to m) ≤ 65536
         fits (Gives z) h = h z refl
@@ -465,10 +485,12 @@ module _ (s : List ℕ) (from left : ℕ) where
             omega (arith, b, a .total)
 
         pub counting-last : v ≡ false → CountIs s from left (n + 1)
-        counting-last d = record { is = λ p t e r.
-            let a : Counted p t n at = k .is p t e r in
-            let i : IsRead (insideOf left s p at) (next p (length s - (n + 1))) (parsed (a .tree) (a .end)) = first p t a in
-            last-by d p t a (i .first) (i .is) (isSign "," (tokenAt s (i .first .to) .token)) refl (rw (end-of p (i .first) (i .is)) (comma false d)) (i .rest) }
+        counting-last d = record {
+          is = λ p t e r.
+              let a : Counted p t n at = k .is p t e r in
+              let i : IsRead (insideOf left s p at) (next p (length s - (n + 1))) (parsed (a .tree) (a .end)) = first p t a in
+              last-by d p t a (i .first) (i .is) (isSign "," (tokenAt s (i .first .to) .token)) refl (rw (end-of p (i .first) (i .is)) (comma false d)) (i .rest);
+        }
 
         more-by : v ≡ true → (p : ℕ) (t : Tree) (a : Counted p t n at) (z : Parsed) → insideOf left s p at ≡ read z → (b : Bool) → isSign "," (tokenAt s (z .to) .token) ≡ b → b ≡ true
             → when b (λ _. then (E.arguments (insideOf left s p) s (length s - (n + 1)) (tokenAt s (z .to) .to)) λ r. read (parsed (more (z .tree) (r .tree)) (r .to))) (λ _. then (expectSign ")" s (z .to)) λ e. read (parsed (more (z .tree) none) e)) ≡ read (parsed (a .tree) (a .end)) → Counted p t (n + 1) (l .to)
@@ -481,7 +503,10 @@ module _ (s : List ℕ) (from left : ℕ) where
             record { tree = r .first .tree; end = r .first .to; same = rw f (r .is); total = omega (arith, b, a .total) }
 
         pub counting-more : v ≡ true → Counting (n + 1) (l .to)
-        counting-more d = record { low = omega (arith, o); is = λ p t e r.
-            let a : Counted p t n at = k .is p t e r in
-            let i : IsRead (insideOf left s p at) (next p (length s - (n + 1))) (parsed (a .tree) (a .end)) = first p t a in
-            more-by d p t a (i .first) (i .is) (isSign "," (tokenAt s (i .first .to) .token)) refl (rw (end-of p (i .first) (i .is)) (comma true d)) (i .rest) }
+        counting-more d = record {
+          low = omega (arith, o);
+          is = λ p t e r.
+              let a : Counted p t n at = k .is p t e r in
+              let i : IsRead (insideOf left s p at) (next p (length s - (n + 1))) (parsed (a .tree) (a .end)) = first p t a in
+              more-by d p t a (i .first) (i .is) (isSign "," (tokenAt s (i .first .to) .token)) refl (rw (end-of p (i .first) (i .is)) (comma true d)) (i .rest);
+        }

@@ -130,11 +130,12 @@ stop-is inside s (suc f) at x t e q r = record { first = t; is = rw q r; count =
 
 next-is : (inside : ℕ → Reader) (s : List ℕ) (f at : ℕ) (x : Scene) (t : Tree) (e : ℕ) (o : Prefix) → prefixOf (tokenAt s at .token) ≡ is o → Operand inside s f (tokenAt s at .to) x t e → Operand inside s (suc f) at x (unary o t) e
 unfolding prefixes signsAt prefixedBy
-next-is inside s f at x t e o q k = record
-  { first = k .first
-  ; is = rw q (k .is)
-  ; count = rw q (ap suc (k .count))
-  ; value = λ u w. value-unary x o t u w ∙ rw (q, k .value u w) }
+next-is inside s f at x t e o q k = record {
+  first = k .first;
+  is = rw q (k .is);
+  count = rw q (ap suc (k .count));
+  value = λ u w. value-unary x o t u w ∙ rw (q, k .value u w);
+}
 
 -- of the operator o and what was read behind it
 operand-with : (inside : ℕ → Reader) (s : List ℕ) (f at : ℕ) (x : Scene) (z : Parsed) (o : Prefix) → prefixOf (tokenAt s at .token) ≡ is o → (y : Parsed) → Operand inside s f (tokenAt s at .to) x (y .tree) (y .to) → _≡_ {A = Reading Parsed} (read (parsed (unary o (y .tree)) (y .to))) (read z) → Operand inside s (suc f) at x (z .tree) (z .to)
