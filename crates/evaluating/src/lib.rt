@@ -1,377 +1,97 @@
-// The value of an expression, which is read again from the source, and the procedures that it calls. `u` is the bytes of the
-// unfinished values that wait in the work room; `left` the parentheses that may still be opened.
+// The value of an expression, which is read again from the source, the procedures that it calls, and the statements that evaluate.
+// `u` is the bytes of the unfinished values that wait in the work room.
+ghost use mathlib.Core.Path.{_≡_};
+ghost use Prim.Native.Nat.{suc, _-_};
+ghost use Rattle.definition.specs.Tokens.{tokenAt};
+ghost use Rattle.definition.specs.Expressions as E;
+ghost use Rattle.tokens.specs.Answer.{spelling};
+ghost use Rattle.expressions.specs.Check.{insideOf, primitiveAt, operandIn, levelsIn};
+ghost use Rattle.evaluating.specs.Cycle.{Evaluates, Chains, NameIs, ListedIs, TakenIs, CallIs, BodyIs};
+ghost use Rattle.evaluating.specs.Statements.{AssignIs, TestIs, BoundedIs, BoundsIs, StartIs, StatementIs, TurnIs};
+use bodies::Bound;
+use bodies::Done;
+use bodies::Started;
+use bodies::Step;
+use bodies::Tested;
+use bodies::Turned;
+use bodies::Variable;
+use bodies::Widened;
+use bodies::Word;
+use bodies::bound_of;
+use bodies::bound_word;
+use bodies::bounded_by;
+use bodies::control_address;
+use bodies::into_group;
+use bodies::jump_in;
+use bodies::new_frame;
+use bodies::on_again;
+use bodies::on_behind;
+use bodies::on_return;
+use bodies::on_start;
+use bodies::on_test;
+use bodies::set_off;
+use bodies::stepped;
+use bodies::stored;
+use bodies::target_at;
+use bodies::truth_of;
+use bodies::with_step;
 use callees::Called;
 use callees::Callee;
 use callees::Held;
 use callees::Meant;
-use callees::ParameterAt;
-use callees::Running;
 use callees::callee_of;
-use callees::fixed_held;
 use callees::is_running;
 use callees::meant_by;
 use callees::nothing_held;
-use callees::parameter_at;
 use callees::started;
 use callees::store_all;
-use callees::store_value;
-use callees::variable_value;
 use callees::with_held;
 use deck::body;
-use definition::Operator;
-use definition::Prefix;
-use definition::ValueType;
 use definition::Why;
 use expressions::InfixAt;
 use expressions::LEVELS;
-use expressions::PrefixAt;
 use expressions::infix_at;
 use expressions::past_prefixes;
-use expressions::prefix_at;
-use fixed::Answer;
-use fixed::Fixed;
 use flow::Frame;
 use flow::Frames;
 use flow::Next;
 use limits::Nesting;
 use meter::Meter;
-use names::Denotation;
-use names::Found;
-use names::Label;
 use names::Owner;
 use names::Place;
-use names::find;
-use names::name_at;
-use names::seen_from;
-use operators::Given;
-use operators::NumberGiven;
-use operators::Truth;
+use operands::Aim;
+use operands::Evaluated;
+use operands::Scene;
+use operands::Target;
+use operands::aim_of;
+use operands::closed;
+use operands::count_arguments;
+use operands::first_kept;
+use operands::first_parameter;
+use operands::integer_value;
+use operands::one_more;
+use operands::plain_value;
+use operands::prefixes_done;
+use operands::string_value;
+use operands::substr_of;
+use operands::up_to;
+use operands::wanted_count;
+use operands::wish_for;
+use operands::with_infix;
+use operands::with_wish;
 use operators::Value;
 use operators::above;
-use operators::convert;
-use operators::holds;
-use operators::infixed;
-use operators::prefixed;
 use operators::size_of;
-use operators::subject;
-use operators::substr_part;
-use operators::substr_rest;
-use operators::to_fixed;
 use rows::Link;
-use rows::Starts;
 use rows::Statement;
 use rows::part_of;
 use rows::row_at;
-use store::Number;
-use store::number_at;
-use store::store_number;
 use tokens::Kind;
 use tokens::Lexeme;
-use tokens::content_size;
 use tokens::is_sign;
-use tokens::is_word;
 use tokens::token_at;
-use tokens::unquote;
-use values::NumberAnswer;
-use values::constant_number;
 
-// Who sees names: how many there are, where the rows of each member start, from which scope names are seen, and which procedures are
-// running.
-pub struct Scene {
-    pub names: u16,
-    pub starts: Starts,
-    pub owner: Owner,
-    pub running: Running,
-}
-
-// A value at u and the place past its expression, or why there is none; and the steps.
-pub enum Evaluated {
-    Is(Value, usize, Meter),
-    Failed(Why, Meter),
-}
-
-fn given_up_to(g: Given, to: usize, m: Meter) -> Evaluated {
-    match g {
-        Given::Gives(v) => Evaluated::Is(v, to, m),
-        Given::Fails(w) => Evaluated::Failed(w, m),
-    }
-}
-
-fn span(t: Lexeme) -> usize {
-    if t.to < t.from {
-        return 0;
-    }
-    t.to - t.from
-}
-
-// ---- constants
-
-fn integer_value(s: &[u8], t: Lexeme, m: Meter) -> Evaluated {
-    let x = constant_number(s, t.from, span(t));
-    match x {
-        NumberAnswer::Is(n) => Evaluated::Is(Value::Number(n), t.to, m),
-        NumberAnswer::NoConversion => Evaluated::Failed(Why::NoConversion, m),
-        NumberAnswer::OutOfRange => Evaluated::Failed(Why::OutOfRange, m),
-    }
-}
-
-fn string_value(
-    s: &[u8],
-    t: Lexeme,
-    is_bits: bool,
-    work: &mut [u8],
-    u: usize,
-    m: Meter,
-) -> Evaluated {
-    let n = content_size(s, t.from);
-    if limits::Value::LONGEST < n {
-        return Evaluated::Failed(Why::TooLong, m);
-    }
-    if operators::fits(u, n) {
-        unquote(s, t.from, work, u);
-        if is_bits {
-            return Evaluated::Is(Value::Bits(n), t.to, m);
-        }
-        return Evaluated::Is(Value::Characters(n), t.to, m);
-    }
-    Evaluated::Failed(Why::TooLong, m)
-}
-
-// ---- operators
-
-// The operator with its two sides, of which the second was evaluated last.
-fn with_infix(work: &mut [u8], u: usize, o: Operator, x: Value, y: Evaluated) -> Evaluated {
-    match y {
-        Evaluated::Is(v, to, m) => given_up_to(infixed(work, u, o, x, v), to, m),
-        Evaluated::Failed(w, m) => Evaluated::Failed(w, m),
-    }
-}
-
-// How many prefix operators are kept at once.
-const BLOCK: usize = 256;
-
-struct Sign {
-    prefix: Prefix,
-}
-
-struct Signs {
-    items: [Sign; 256],
-}
-
-fn no_signs() -> Signs {
-    let plus = Sign {
-        prefix: Prefix::Positive,
-    };
-    Signs { items: [plus; 256] }
-}
-
-// With the operator number i of a block.
-fn with_sign(all: Signs, i: usize, o: Prefix) -> Signs {
-    let mut more = all;
-    if i < 256 {
-        more.items[i] = Sign { prefix: o };
-    }
-    more
-}
-
-// The operators from number `first` on, of those that begin at a place.
-fn signs_from(s: &[u8], from: usize, first: usize) -> Signs {
-    let mut all = no_signs();
-    let mut at = from;
-    let mut i: usize = 0;
-    while i < s.len() {
-        let next = prefix_at(s, at);
-        match next {
-            PrefixAt::Is(o, q) => {
-                if first <= i {
-                    if BLOCK <= i - first {
-                        return all;
-                    }
-                    all = with_sign(all, i - first, o);
-                }
-                at = q;
-            }
-            PrefixAt::Other => {
-                return all;
-            }
-        }
-        i += 1;
-    }
-    all
-}
-
-fn sign_at(all: Signs, i: usize) -> Prefix {
-    if i < 256 {
-        let x = all.items[i];
-        return x.prefix;
-    }
-    Prefix::Positive
-}
-
-// Applies the last n operators of a block, the last first.
-fn with_block(work: &mut [u8], u: usize, all: Signs, n: usize, v: Value) -> Given {
-    let mut x = v;
-    let mut i = n;
-    while 0 < i {
-        i -= 1;
-        let g = prefixed(work, u, sign_at(all, i), x);
-        match g {
-            Given::Gives(y) => {
-                x = y;
-            }
-            Given::Fails(w) => {
-                return Given::Fails(w);
-            }
-        }
-    }
-    Given::Gives(x)
-}
-
-// Applies n prefix operators that begin at a place, the last first, a block at a time: each block is read again from the start.
-fn with_prefixes(s: &[u8], from: usize, n: usize, work: &mut [u8], u: usize, v: Value) -> Given {
-    let mut x = v;
-    let mut rest = n;
-    while 0 < rest {
-        let size = (rest - 1) % BLOCK + 1;
-        rest -= size;
-        let g = with_block(work, u, signs_from(s, from, rest), size, x);
-        match g {
-            Given::Gives(y) => {
-                x = y;
-            }
-            Given::Fails(w) => {
-                return Given::Fails(w);
-            }
-        }
-    }
-    Given::Gives(x)
-}
-
-fn prefixes_done(
-    s: &[u8],
-    from: usize,
-    n: usize,
-    work: &mut [u8],
-    u: usize,
-    x: Evaluated,
-) -> Evaluated {
-    match x {
-        Evaluated::Is(v, to, m) => given_up_to(with_prefixes(s, from, n, work, u, v), to, m),
-        Evaluated::Failed(w, m) => Evaluated::Failed(w, m),
-    }
-}
-
-// ---- arguments
-
-// How many arguments stand from behind `(` on.
-fn count_arguments(s: &[u8], from: usize) -> usize {
-    let mut at = from;
-    let mut open: usize = 0;
-    let mut n: usize = 1;
-    let mut turns = s.len();
-    while 0 < turns {
-        turns -= 1;
-        let t = token_at(s, at);
-        if is_sign(s, t, b"(") {
-            open = one_more(open);
-        } else if is_sign(s, t, b")") {
-            if open < 1 {
-                return n;
-            }
-            open -= 1;
-        } else if open < 1 {
-            if is_sign(s, t, b",") {
-                n = one_more(n);
-            }
-        }
-        at = t.to;
-    }
-    n
-}
-
-fn one_more(n: usize) -> usize {
-    if n < 1_000_000 {
-        return n + 1;
-    }
-    n
-}
-
-// What an argument is to be made: of a parameter's type, or what SUBSTR is taken of.
-enum Wish {
-    As(ValueType),
-    AsSubject,
-}
-
-// Whose arguments are taken: those of a procedure, or of SUBSTR.
-enum Target {
-    Entry(Callee),
-    Substr(usize),
-}
-
-// The wish for the next argument, and where the next parameter is listed.
-struct Wished {
-    wish: Wish,
-    to: usize,
-}
-
-fn wish_for(deck: &[u8], names: &[u16], count: u16, t: Target, i: usize, at: usize) -> Wished {
-    match t {
-        Target::Entry(c) => {
-            let p = c.place;
-            let x = parameter_at(deck, body(deck, p.member), names, count, p, at);
-            match x {
-                ParameterAt::Is(y) => {
-                    let value_type = y.value_type;
-                    Wished {
-                        wish: Wish::As(value_type),
-                        to: y.to,
-                    }
-                }
-                ParameterAt::Wrong => Wished {
-                    wish: Wish::AsSubject,
-                    to: at,
-                },
-            }
-        }
-        Target::Substr(_) => {
-            if i < 1 {
-                return Wished {
-                    wish: Wish::AsSubject,
-                    to: 0,
-                };
-            }
-            Wished {
-                wish: Wish::As(ValueType::FixedType),
-                to: 0,
-            }
-        }
-    }
-}
-
-fn first_parameter(t: Target) -> usize {
-    match t {
-        Target::Entry(c) => c.list,
-        Target::Substr(_) => 0,
-    }
-}
-
-fn wanted_count(t: Target) -> usize {
-    match t {
-        Target::Entry(c) => c.count,
-        Target::Substr(n) => n,
-    }
-}
-
-// An argument that was evaluated, made what is wished for.
-fn with_wish(work: &mut [u8], u: usize, w: Wish, x: Evaluated) -> Evaluated {
-    match x {
-        Evaluated::Is(v, to, m) => match w {
-            Wish::As(t) => given_up_to(convert(work, u, t, v), to, m),
-            Wish::AsSubject => given_up_to(subject(work, u, v), to, m),
-        },
-        Evaluated::Failed(y, m) => Evaluated::Failed(y, m),
-    }
-}
+// ---- expressions and calls: `left` is the parentheses that may still be opened
 
 // The arguments that wait, the first of them, and the place past their list.
 struct Taken {
@@ -384,102 +104,6 @@ enum Outcome {
     Upto(usize, Meter),
     Failed(Why, Meter),
 }
-
-fn first_kept(i: usize, first: Value, v: Value) -> Value {
-    if i < 1 {
-        return v;
-    }
-    first
-}
-
-// The value of a call with the place past it.
-fn up_to(x: Evaluated, to: usize) -> Evaluated {
-    match x {
-        Evaluated::Is(v, _, m) => Evaluated::Is(v, to, m),
-        Evaluated::Failed(w, m) => Evaluated::Failed(w, m),
-    }
-}
-
-// SUBSTR of the arguments that wait above u.
-fn substr_of(
-    work: &mut [u8],
-    u: usize,
-    n: usize,
-    held: Held,
-    first: Value,
-    to: usize,
-    m: Meter,
-) -> Evaluated {
-    if n < 3 {
-        return given_up_to(substr_rest(work, u, first, fixed_held(held, 1)), to, m);
-    }
-    given_up_to(
-        substr_part(work, u, first, fixed_held(held, 1), fixed_held(held, 2)),
-        to,
-        m,
-    )
-}
-
-// ---- what a name without a list gives that is no entry
-
-fn plain_value(
-    cells: &[u32],
-    low: &[u8],
-    high: &[u8],
-    work: &mut [u8],
-    x: Meant,
-    u: usize,
-    to: usize,
-    m: Meter,
-) -> Evaluated {
-    match x {
-        Meant::AVariable(a, t) => given_up_to(
-            variable_value(cells, low, high, work, a, t, u),
-            to,
-            m,
-        ),
-        Meant::AnEntry(_) => Evaluated::Failed(Why::WrongName, m),
-        Meant::TheSubstr => Evaluated::Failed(Why::WrongArguments, m),
-        Meant::NoSuch => Evaluated::Failed(Why::WrongName, m),
-    }
-}
-
-// Whose arguments a list of n takes, or why none does: 6, then 11.
-enum Aim {
-    At(Target),
-    Fails(Why),
-}
-
-fn aim_of(deck: &[u8], rows: &[u16], names: &[u16], c: Scene, x: Meant, n: usize) -> Aim {
-    match x {
-        Meant::AVariable(_, _) => Aim::Fails(Why::WrongName),
-        Meant::AnEntry(b) => {
-            let starts = c.starts;
-            let z = callee_of(deck, rows, starts, names, c.names, b);
-            match z {
-                Called::Is(y) => {
-                    if y.count == n {
-                        return Aim::At(Target::Entry(y));
-                    }
-                    Aim::Fails(Why::WrongArguments)
-                }
-                Called::Fails(w) => Aim::Fails(w),
-            }
-        }
-        Meant::TheSubstr => {
-            if n == 2 {
-                return Aim::At(Target::Substr(n));
-            }
-            if n == 3 {
-                return Aim::At(Target::Substr(n));
-            }
-            Aim::Fails(Why::WrongArguments)
-        }
-        Meant::NoSuch => Aim::Fails(Why::WrongName),
-    }
-}
-
-// ---- the cycle: expressions, calls, bodies
 
 // What stands behind a parenthesis.
 fn inside(
@@ -496,7 +120,9 @@ fn inside(
     u: usize,
     c: Scene,
     m: Meter,
-) -> Evaluated {
+) -> Evaluated
+    ensures { λ r. ⌜ Evaluates (now (deck .entry)) (now (rows .entry)) (now (names .entry)) (now (cells .entry)) (now (low .entry)) (now (high .entry)) (now (work .entry)) u c m (now (cells .exit)) (now (low .exit)) (now (high .exit)) (now (work .exit)) r (insideOf left (now (s .entry)) 0 at) ⌝ }
+{
     if left < 1 {
         return Evaluated::Failed(Why::OverLimit, m);
     }
@@ -534,7 +160,9 @@ fn arguments(
     u: usize,
     c: Scene,
     m0: Meter,
-) -> Taken {
+) -> Taken
+    ensures { λ r. ⌜ TakenIs (now (deck .entry)) (now (s .entry)) (now (rows .entry)) (now (names .entry)) (now (cells .entry)) (now (low .entry)) (now (high .entry)) (now (work .entry)) from left u t c m0 (now (cells .exit)) (now (low .exit)) (now (high .exit)) (now (work .exit)) (r .first) (r .held) (r .outcome) ⌝ }
+{
     let mut held = nothing_held();
     let mut first = Value::Characters(0);
     let mut at = from;
@@ -606,9 +234,12 @@ fn listed_name(
     u: usize,
     c: Scene,
     m: Meter,
-) -> Evaluated {
-    let n = count_arguments(s, at);
-    let aim = aim_of(deck, rows, names, c, x, n);
+) -> Evaluated
+    ensures { λ r. ⌜ ListedIs (now (deck .entry)) (now (s .entry)) (now (rows .entry)) (now (names .entry)) (now (cells .entry)) (now (low .entry)) (now (high .entry)) (now (work .entry)) at left u c m x (now (cells .exit)) (now (low .exit)) (now (high .exit)) (now (work .exit)) r ⌝ }
+{
+    let n = count_arguments(s, at, left);
+    let starts = c.starts;
+    let aim = aim_of(deck, rows, starts, names, c.names, x, n);
     match aim {
         Aim::At(t) => {
             let taken = arguments(
@@ -659,7 +290,9 @@ fn plain_name(
     u: usize,
     c: Scene,
     m: Meter,
-) -> Evaluated {
+) -> Evaluated
+    ensures { λ r. ⌜ NameIs (now (deck .entry)) (now (rows .entry)) (now (names .entry)) (now (cells .entry)) (now (low .entry)) (now (high .entry)) (now (work .entry)) u c m x to (now (cells .exit)) (now (low .exit)) (now (high .exit)) (now (work .exit)) r ⌝ }
+{
     match x {
         Meant::AnEntry(b) => {
             let starts = c.starts;
@@ -709,7 +342,9 @@ fn reference(
     u: usize,
     c: Scene,
     m: Meter,
-) -> Evaluated {
+) -> Evaluated
+    ensures { λ r. ⌜ Evaluates (now (deck .entry)) (now (rows .entry)) (now (names .entry)) (now (cells .entry)) (now (low .entry)) (now (high .entry)) (now (work .entry)) u c m (now (cells .exit)) (now (low .exit)) (now (high .exit)) (now (work .exit)) r (E.referenceAt (insideOf left (now (s .entry))) (now (s .entry)) (record { spelling = spelling (now (s .entry)) t; place = t .from; to = t .to }) (tokenAt (now (s .entry)) (t .to))) ⌝ }
+{
     let owner = c.owner;
     let x = meant_by(deck, s, names, c.names, owner, t.from, t.to);
     let next = token_at(s, t.to);
@@ -734,17 +369,6 @@ fn reference(
     plain_name(deck, rows, names, cells, low, high, work, x, t.to, u, c, m)
 }
 
-// The place past the parenthesis that closes.
-fn closed(s: &[u8], x: Evaluated) -> Evaluated {
-    match x {
-        Evaluated::Is(v, e, m) => {
-            let t = token_at(s, e);
-            Evaluated::Is(v, t.to, m)
-        }
-        Evaluated::Failed(w, m) => Evaluated::Failed(w, m),
-    }
-}
-
 fn primitive(
     deck: &[u8],
     s: &[u8],
@@ -759,7 +383,9 @@ fn primitive(
     u: usize,
     c: Scene,
     m: Meter,
-) -> Evaluated {
+) -> Evaluated
+    ensures { λ r. ⌜ Evaluates (now (deck .entry)) (now (rows .entry)) (now (names .entry)) (now (cells .entry)) (now (low .entry)) (now (high .entry)) (now (work .entry)) u c m (now (cells .exit)) (now (low .exit)) (now (high .exit)) (now (work .exit)) r (primitiveAt (insideOf left (now (s .entry))) (now (s .entry)) at) ⌝ }
+{
     let t = token_at(s, at);
     let kind = t.kind;
     match kind {
@@ -819,7 +445,9 @@ fn operand(
     u: usize,
     c: Scene,
     m: Meter,
-) -> Evaluated {
+) -> Evaluated
+    ensures { λ r. ⌜ Evaluates (now (deck .entry)) (now (rows .entry)) (now (names .entry)) (now (cells .entry)) (now (low .entry)) (now (high .entry)) (now (work .entry)) u c m (now (cells .exit)) (now (low .exit)) (now (high .exit)) (now (work .exit)) r (operandIn left (now (s .entry)) at) ⌝ }
+{
     let p = past_prefixes(s, at);
     let x = primitive(
         deck,
@@ -856,11 +484,13 @@ fn chain(
     u: usize,
     c: Scene,
     m0: Meter,
-) -> Evaluated {
+) -> Evaluated
+    ensures { λ r. ⌜ Chains (now (deck .entry)) (now (rows .entry)) (now (names .entry)) (now (s .entry)) (now (cells .entry)) (now (low .entry)) (now (high .entry)) (now (work .entry)) v from level left u c m0 (now (cells .exit)) (now (low .exit)) (now (high .exit)) (now (work .exit)) r ⌝ }
+{
     let mut x = v;
     let mut at = from;
     let mut m = m0;
-    let mut turns = s.len();
+    let mut turns = s.len() + 1;
     while 0 < turns {
         turns -= 1;
         let next = infix_at(s, at, level);
@@ -919,7 +549,9 @@ fn levels(
     u: usize,
     c: Scene,
     m: Meter,
-) -> Evaluated {
+) -> Evaluated
+    ensures { λ r. ⌜ Evaluates (now (deck .entry)) (now (rows .entry)) (now (names .entry)) (now (cells .entry)) (now (low .entry)) (now (high .entry)) (now (work .entry)) u c m (now (cells .exit)) (now (low .exit)) (now (high .exit)) (now (work .exit)) r (levelsIn left (now (s .entry)) n at) ⌝ }
+{
     if n < 1 {
         return operand(
             deck,
@@ -991,7 +623,9 @@ pub fn evaluate(
     u: usize,
     c: Scene,
     m: Meter,
-) -> Evaluated {
+) -> Evaluated
+    ensures { λ r. ⌜ Evaluates (now (deck .entry)) (now (rows .entry)) (now (names .entry)) (now (cells .entry)) (now (low .entry)) (now (high .entry)) (now (work .entry)) u c m (now (cells .exit)) (now (low .exit)) (now (high .exit)) (now (work .exit)) r (E.wholeExpression (now (s .entry)) at) ⌝ }
+{
     levels(
         deck,
         s,
@@ -1024,7 +658,9 @@ pub fn call(
     u: usize,
     c: Scene,
     m: Meter,
-) -> Evaluated {
+) -> Evaluated
+    ensures { λ r. ⌜ CallIs (now (deck .entry)) (now (rows .entry)) (now (names .entry)) (now (cells .entry)) (now (low .entry)) (now (high .entry)) (now (work .entry)) u c m y held (now (cells .exit)) (now (low .exit)) (now (high .exit)) (now (work .exit)) r ⌝ }
+{
     let p = y.place;
     let running = c.running;
     if is_running(running, p) {
@@ -1060,69 +696,6 @@ pub fn call(
 
 // ---- statements that evaluate, in members and in procedures; a row stands in the body s
 
-// A statement that was done, and the steps.
-pub enum Done {
-    Good(Meter),
-    Bad(Why, Meter),
-}
-
-// A variable that a statement sets, or that there is none.
-pub enum Variable {
-    At(u16, ValueType),
-    None,
-}
-
-// The variable whose name stands at a place; "a target is tested before its expression".
-pub fn target_at(
-    deck: &[u8],
-    s: &[u8],
-    names: &[u16],
-    count: u16,
-    owner: Owner,
-    t: Lexeme,
-) -> Variable {
-    let found = seen_from(deck, names, count, s, t.from, span(t), owner);
-    match found {
-        Found::Unknown => Variable::None,
-        Found::Known(a) => {
-            let x = name_at(names, a);
-            let d = x.denotation;
-            match d {
-                Denotation::Variable(k) => Variable::At(a.0, k),
-                Denotation::EntryName(_) => Variable::None,
-                Denotation::LabelName(_) => Variable::None,
-                Denotation::Builtin => Variable::None,
-            }
-        }
-    }
-}
-
-// Stores what was evaluated, made of the variable's type.
-fn stored(
-    cells: &mut [u32],
-    low: &mut [u8],
-    high: &mut [u8],
-    work: &mut [u8],
-    a: u16,
-    k: ValueType,
-    u: usize,
-    x: Evaluated,
-) -> Done {
-    match x {
-        Evaluated::Is(v, _, m) => {
-            let g = convert(work, u, k, v);
-            match g {
-                Given::Gives(y) => {
-                    store_value(cells, low, high, work, a, u, y);
-                    Done::Good(m)
-                }
-                Given::Fails(w) => Done::Bad(w, m),
-            }
-        }
-        Evaluated::Failed(w, m) => Done::Bad(w, m),
-    }
-}
-
 // The assignment whose target stands at a place.
 pub fn assign(
     deck: &[u8],
@@ -1137,7 +710,9 @@ pub fn assign(
     u: usize,
     c: Scene,
     m: Meter,
-) -> Done {
+) -> Done
+    ensures { λ r. ⌜ AssignIs (now (deck .entry)) (now (s .entry)) (now (rows .entry)) (now (names .entry)) (now (cells .entry)) (now (low .entry)) (now (high .entry)) (now (work .entry)) at u c m (now (cells .exit)) (now (low .exit)) (now (high .exit)) (now (work .exit)) r ⌝ }
+{
     let t = token_at(s, at);
     let owner = c.owner;
     let target = target_at(deck, s, names, c.names, owner, t);
@@ -1164,25 +739,6 @@ pub fn assign(
     }
 }
 
-// Whether an IF holds, and the steps.
-pub enum Tested {
-    Is(bool, Meter),
-    Bad(Why, Meter),
-}
-
-fn truth_of(work: &mut [u8], u: usize, x: Evaluated) -> Tested {
-    match x {
-        Evaluated::Is(v, _, m) => {
-            let t = holds(work, u, v);
-            match t {
-                Truth::Is(b) => Tested::Is(b, m),
-                Truth::Fails(w) => Tested::Bad(w, m),
-            }
-        }
-        Evaluated::Failed(w, m) => Tested::Bad(w, m),
-    }
-}
-
 // The IF whose expression stands at a place.
 pub fn test(
     deck: &[u8],
@@ -1197,91 +753,45 @@ pub fn test(
     u: usize,
     c: Scene,
     m: Meter,
-) -> Tested {
+) -> Tested
+    ensures { λ r. ⌜ TestIs (now (deck .entry)) (now (s .entry)) (now (rows .entry)) (now (names .entry)) (now (cells .entry)) (now (low .entry)) (now (high .entry)) (now (work .entry)) at u c m (now (cells .exit)) (now (low .exit)) (now (high .exit)) (now (work .exit)) r ⌝ }
+{
     let x = evaluate(deck, s, rows, names, cells, low, high, work, at, u, c, m);
     truth_of(work, u, x)
 }
 
-// ---- DO
-
-// A number as stored and the place past its expression.
-pub enum Bound {
-    Is(Fixed, usize, Meter),
-    Bad(Why, Meter),
-}
-
-fn bound_of(work: &[u8], u: usize, x: Evaluated) -> Bound {
+// BY or TO, if one stands behind the place that an iterated group is read to.
+fn bounded(
+    deck: &[u8],
+    s: &[u8],
+    rows: &[u16],
+    names: &[u16],
+    cells: &mut [u32],
+    low: &mut [u8],
+    high: &mut [u8],
+    work: &mut [u8],
+    x: Widened,
+    u: usize,
+    c: Scene,
+) -> Widened
+    ensures { λ r. ⌜ BoundedIs (now (deck .entry)) (now (s .entry)) (now (rows .entry)) (now (names .entry)) (now (cells .entry)) (now (low .entry)) (now (high .entry)) (now (work .entry)) u c x (now (cells .exit)) (now (low .exit)) (now (high .exit)) (now (work .exit)) r ⌝ }
+{
     match x {
-        Evaluated::Is(v, e, m) => {
-            let n = to_fixed(work, u, v);
-            match n {
-                NumberGiven::Is(y) => Bound::Is(y, e, m),
-                NumberGiven::Fails(w) => Bound::Bad(w, m),
+        Widened::Is(f, at, m) => {
+            let w = bound_word(s, at);
+            match w {
+                Word::Of(side, q) => {
+                    let e = evaluate(deck, s, rows, names, cells, low, high, work, q, u, c, m);
+                    bounded_by(f, side, bound_of(work, u, e))
+                }
+                Word::Neither => Widened::Is(f, at, m),
             }
         }
-        Evaluated::Failed(w, m) => Bound::Bad(w, m),
+        Widened::Bad(w, m) => Widened::Bad(w, m),
     }
 }
 
-// BY or TO that stands at a place.
-enum Word {
-    By(usize),
-    Upto(usize),
-    Neither,
-}
-
-fn bound_word(s: &[u8], at: usize) -> Word {
-    let t = token_at(s, at);
-    if is_word(s, t, b"BY") {
-        return Word::By(t.to);
-    }
-    if is_word(s, t, b"TO") {
-        return Word::Upto(t.to);
-    }
-    Word::Neither
-}
-
-// An iterated group that starts: its frame, whether its first pass begins.
-pub enum Started {
-    Is(Frame, bool, Meter),
-    Bad(Why, Meter),
-}
-
-fn with_by(f: Frame, x: Fixed) -> Frame {
-    let group = f.group;
-    Frame {
-        group,
-        address: f.address,
-        step: x.stored(),
-        limit: f.limit,
-        is_once: false,
-    }
-}
-
-fn with_to(f: Frame, x: Fixed) -> Frame {
-    let group = f.group;
-    Frame {
-        group,
-        address: f.address,
-        step: f.step,
-        limit: x.stored(),
-        is_once: false,
-    }
-}
-
-// "BY absent is 1."
-fn new_frame(g: u16, a: u16) -> Frame {
-    let one = Fixed { value: 1 };
-    Frame {
-        group: Link::To(g),
-        address: a,
-        step: one.stored(),
-        limit: 0,
-        is_once: true,
-    }
-}
-
-// BY and TO as written, from a place on, each before the next.
+// BY and TO as written, each before the next; then the variable is set to the number b.
 fn bounds(
     deck: &[u8],
     s: &[u8],
@@ -1291,72 +801,20 @@ fn bounds(
     low: &mut [u8],
     high: &mut [u8],
     work: &mut [u8],
-    from: usize,
-    frame: Frame,
-    x: Fixed,
+    f: Frame,
+    b: Bound,
     u: usize,
     c: Scene,
-    m0: Meter,
-) -> Started {
-    let mut f = frame;
-    let mut at = from;
-    let mut m = m0;
-    let mut turns: usize = 2;
-    while 0 < turns {
-        turns -= 1;
-        let w = bound_word(s, at);
-        let to = word_place(w, at);
-        if is_bound(w) {
-            let e = evaluate(deck, s, rows, names, cells, low, high, work, to, u, c, m);
-            let b = bound_of(work, u, e);
-            match b {
-                Bound::Is(y, q, k) => {
-                    f = with_bound(f, w, y);
-                    at = q;
-                    m = k;
-                }
-                Bound::Bad(why, k) => {
-                    return Started::Bad(why, k);
-                }
-            }
+) -> Started
+    ensures { λ r. ⌜ BoundsIs (now (deck .entry)) (now (s .entry)) (now (rows .entry)) (now (names .entry)) (now (cells .entry)) (now (low .entry)) (now (high .entry)) (now (work .entry)) f b u c (now (cells .exit)) (now (low .exit)) (now (high .exit)) (now (work .exit)) r ⌝ }
+{
+    match b {
+        Bound::Is(x, q, m) => {
+            let one = bounded(deck, s, rows, names, cells, low, high, work, Widened::Is(f, q, m), u, c);
+            let two = bounded(deck, s, rows, names, cells, low, high, work, one, u, c);
+            set_off(cells, x, two)
         }
-    }
-    store_number(cells, f.address, x);
-    Started::Is(f, flow::passes(f, x), m)
-}
-
-fn is_bound(w: Word) -> bool {
-    match w {
-        Word::By(_) => true,
-        Word::Upto(_) => true,
-        Word::Neither => false,
-    }
-}
-
-fn word_place(w: Word, at: usize) -> usize {
-    match w {
-        Word::By(q) => q,
-        Word::Upto(q) => q,
-        Word::Neither => at,
-    }
-}
-
-fn with_bound(f: Frame, w: Word, x: Fixed) -> Frame {
-    match w {
-        Word::By(_) => with_by(f, x),
-        Word::Upto(_) => with_to(f, x),
-        Word::Neither => f,
-    }
-}
-
-// "The control variable is FIXED, else 6."
-fn control_address(v: Variable) -> Link {
-    match v {
-        Variable::At(a, k) => match k {
-            ValueType::FixedType => Link::To(a),
-            ValueType::CharacterType => Link::Nowhere,
-        },
-        Variable::None => Link::Nowhere,
+        Bound::Bad(w, m) => Started::Bad(w, m),
     }
 }
 
@@ -1375,234 +833,24 @@ pub fn start(
     u: usize,
     c: Scene,
     m: Meter,
-) -> Started {
+) -> Started
+    ensures { λ r. ⌜ StartIs (now (deck .entry)) (now (s .entry)) (now (rows .entry)) (now (names .entry)) (now (cells .entry)) (now (low .entry)) (now (high .entry)) (now (work .entry)) g at u c m (now (cells .exit)) (now (low .exit)) (now (high .exit)) (now (work .exit)) r ⌝ }
+{
     let t = token_at(s, at);
     let owner = c.owner;
     let v = control_address(target_at(deck, s, names, c.names, owner, t));
     match v {
         Link::To(a) => {
             let sign = token_at(s, t.to);
-            let e = evaluate(
-                deck,
-                s,
-                rows,
-                names,
-                cells,
-                low,
-                high,
-                work,
-                sign.to,
-                u,
-                c,
-                m,
-            );
+            let e = evaluate(deck, s, rows, names, cells, low, high, work, sign.to, u, c, m);
             let b = bound_of(work, u, e);
-            match b {
-                Bound::Is(x, q, k) => {
-                    bounds(
-                        deck,
-                        s,
-                        rows,
-                        names,
-                        cells,
-                        low,
-                        high,
-                        work,
-                        q,
-                        new_frame(g, a),
-                        x,
-                        u,
-                        c,
-                        k,
-                    )
-                }
-                Bound::Bad(w, k) => Started::Bad(w, k),
-            }
+            bounds(deck, s, rows, names, cells, low, high, work, new_frame(g, a), b, u, c)
         }
         Link::Nowhere => Started::Bad(Why::WrongName, m),
     }
 }
 
-// The next test of an iterated group: the variable as the body left it is stepped, then the step is charged, then it is tested.
-pub fn stepped(cells: &mut [u32], f: Frame, m: Meter) -> Tested {
-    let group = f.group;
-    match group {
-        Link::Nowhere => Tested::Is(false, m),
-        Link::To(_) => {
-            let x = number_at(cells, f.address);
-            match x {
-                Number::Holds(n) => stepped_by(cells, f, n, Fixed::from_stored(f.step), m),
-                Number::NoNumber => Tested::Bad(Why::NoValue, m),
-            }
-        }
-    }
-}
-
-fn stepped_by(cells: &mut [u32], f: Frame, x: Fixed, by: Answer, m: Meter) -> Tested {
-    let y = summed(x, by);
-    match y {
-        Answer::Is(n) => {
-            store_number(cells, f.address, n);
-            let paid = m.charged();
-            let k = paid.meter;
-            if paid.paid {
-                return Tested::Is(flow::passes(f, n), k);
-            }
-            Tested::Bad(Why::NoStep, k)
-        }
-        Answer::OutOfRange => Tested::Bad(Why::OutOfRange, m),
-        Answer::ZeroDivisor => Tested::Bad(Why::OutOfRange, m),
-    }
-}
-
-fn summed(x: Fixed, by: Answer) -> Answer {
-    match by {
-        Answer::Is(n) => x.add(n),
-        Answer::OutOfRange => Answer::OutOfRange,
-        Answer::ZeroDivisor => Answer::OutOfRange,
-    }
-}
-
 // ---- bodies of procedures; `part` is the rows of the member
-
-// What comes behind a statement of a body: another, the value of RETURN, or a refusal.
-enum Step {
-    On(Next, Meter),
-    Gave(Value, Meter),
-    Bad(Why, Meter),
-}
-
-struct Turned {
-    frames: Frames,
-    step: Step,
-}
-
-fn with_step(frames: Frames, step: Step) -> Turned {
-    Turned { frames, step }
-}
-
-fn on_behind(part: &[u16], fs: Frames, n: u16, d: Done) -> Turned {
-    match d {
-        Done::Good(m) => with_step(fs, Step::On(flow::behind(part, fs, n), m)),
-        Done::Bad(w, m) => with_step(fs, Step::Bad(w, m)),
-    }
-}
-
-fn on_test(part: &[u16], fs: Frames, n: u16, t: Tested) -> Turned {
-    match t {
-        Tested::Is(b, m) => {
-            let next = flow::arrived(part, fs, flow::chosen(part, n, b));
-            with_step(fs, Step::On(next, m))
-        }
-        Tested::Bad(w, m) => with_step(fs, Step::Bad(w, m)),
-    }
-}
-
-fn into_group(part: &[u16], fs: Frames, g: u16) -> Next {
-    flow::arrived(part, fs, flow::first_in(part, fs, g))
-}
-
-fn on_start(part: &[u16], fs: Frames, g: u16, x: Started) -> Turned {
-    match x {
-        Started::Is(f, begins, m) => {
-            if begins {
-                let inner = flow::with_frame(part, fs, g, f);
-                return with_step(inner, Step::On(into_group(part, inner, g), m));
-            }
-            with_step(fs, Step::On(flow::behind(part, fs, g), m))
-        }
-        Started::Bad(w, m) => with_step(fs, Step::Bad(w, m)),
-    }
-}
-
-fn on_again(part: &[u16], fs: Frames, g: u16, t: Tested) -> Turned {
-    match t {
-        Tested::Is(b, m) => {
-            if b {
-                return with_step(fs, Step::On(into_group(part, fs, g), m));
-            }
-            with_step(fs, Step::On(flow::behind(part, fs, g), m))
-        }
-        Tested::Bad(w, m) => with_step(fs, Step::Bad(w, m)),
-    }
-}
-
-fn on_return(work: &mut [u8], fs: Frames, u: usize, t: ValueType, x: Evaluated) -> Turned {
-    match x {
-        Evaluated::Is(v, _, m) => {
-            let g = convert(work, u, t, v);
-            match g {
-                Given::Gives(y) => with_step(fs, Step::Gave(y, m)),
-                Given::Fails(w) => with_step(fs, Step::Bad(w, m)),
-            }
-        }
-        Evaluated::Failed(w, m) => with_step(fs, Step::Bad(w, m)),
-    }
-}
-
-// A label that GOTO names, or why it may not.
-enum Jump {
-    To(Label),
-    Bad(Why),
-}
-
-fn label_of(names: &[u16], a: names::Address, otherwise: Why, is_local: bool) -> Jump {
-    let x = name_at(names, a);
-    let d = x.denotation;
-    match d {
-        Denotation::LabelName(l) => {
-            if is_local {
-                return Jump::To(l);
-            }
-            Jump::Bad(otherwise)
-        }
-        Denotation::Variable(_) => Jump::Bad(Why::WrongName),
-        Denotation::EntryName(_) => Jump::Bad(Why::WrongName),
-        Denotation::Builtin => Jump::Bad(Why::WrongName),
-    }
-}
-
-// "local names first, every global label is 13"
-fn jump_label(deck: &[u8], s: &[u8], names: &[u16], c: Scene, t: Lexeme) -> Jump {
-    let owner = c.owner;
-    let local = find(deck, names, c.names, s, t.from, span(t), owner);
-    match local {
-        Found::Known(a) => label_of(names, a, Why::WrongGoto, true),
-        Found::Unknown => {
-            let global = find(deck, names, c.names, s, t.from, span(t), Owner::Everyone);
-            match global {
-                Found::Known(a) => label_of(names, a, Why::WrongGoto, false),
-                Found::Unknown => Jump::Bad(Why::WrongName),
-            }
-        }
-    }
-}
-
-// The GOTO of row n in a procedure.
-fn jump_in(
-    deck: &[u8],
-    s: &[u8],
-    part: &[u16],
-    names: &[u16],
-    fs: Frames,
-    n: u16,
-    c: Scene,
-    m: Meter,
-) -> Turned {
-    let r = row_at(part, n);
-    let j = jump_label(deck, s, names, c, token_at(s, r.content as usize));
-    match j {
-        Jump::To(l) => {
-            let p = l.place;
-            if flow::may_go(part, n, p.row, l.is_end) {
-                let next = flow::arrived(part, fs, flow::landing(part, fs, l));
-                return with_step(fs, Step::On(next, m));
-            }
-            with_step(fs, Step::Bad(Why::WrongGoto, m))
-        }
-        Jump::Bad(w) => with_step(fs, Step::Bad(w, m)),
-    }
-}
 
 // The statement of row n in the procedure at p, whose step is charged.
 fn body_statement(
@@ -1621,7 +869,9 @@ fn body_statement(
     u: usize,
     c: Scene,
     m: Meter,
-) -> Turned {
+) -> Turned
+    ensures { λ r. ⌜ StatementIs (now (deck .entry)) (now (s .entry)) (now (part .entry)) (now (rows .entry)) (now (names .entry)) (now (cells .entry)) (now (low .entry)) (now (high .entry)) (now (work .entry)) p n fs u c m (now (cells .exit)) (now (low .exit)) (now (high .exit)) (now (work .exit)) r ⌝ }
+{
     let r = row_at(part, n);
     let at = r.content as usize;
     let x = r.statement;
@@ -1686,7 +936,9 @@ fn body_turn(
     u: usize,
     c: Scene,
     m: Meter,
-) -> Turned {
+) -> Turned
+    ensures { λ r. ⌜ TurnIs (now (deck .entry)) (now (s .entry)) (now (part .entry)) (now (rows .entry)) (now (names .entry)) (now (cells .entry)) (now (low .entry)) (now (high .entry)) (now (work .entry)) p next fs u c m (now (cells .exit)) (now (low .exit)) (now (high .exit)) (now (work .exit)) r ⌝ }
+{
     match next {
         Next::Begin(n) => {
             let paid = m.charged();
@@ -1721,7 +973,9 @@ fn body_turn(
 }
 
 // One turn more than there are steps left, since each charges one.
-pub fn turns_left(m: Meter) -> usize {
+pub fn turns_left(m: Meter) -> usize
+    ensures { λ r. ⌜ r ≡ suc (m .limit - m .used) ⌝ }
+{
     if m.limit < m.used {
         return 1;
     }
@@ -1743,7 +997,9 @@ fn run_body(
     u: usize,
     c: Scene,
     m0: Meter,
-) -> Evaluated {
+) -> Evaluated
+    ensures { λ r. ⌜ BodyIs (now (deck .entry)) (now (s .entry)) (now (part .entry)) (now (rows .entry)) (now (names .entry)) (now (cells .entry)) (now (low .entry)) (now (high .entry)) (now (work .entry)) u c m0 p (now (cells .exit)) (now (low .exit)) (now (high .exit)) (now (work .exit)) r ⌝ }
+{
     let r = row_at(part, p.row);
     let child = r.child;
     let mut next = flow::first_of(child);

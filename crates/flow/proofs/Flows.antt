@@ -175,7 +175,7 @@ module _ {E : Type 0} (M : D.Machine E) (quiet : (x : P.Stretch) (w : World) →
   behind-is n w l fr = behind-on (suc n) (n + 1) n w (omega arith) (omega arith) l fr
 
   -- and so is `arrived` of the walk to a row, of the end of a group, of a group's beginning
-  arrived-as : (x : Walk) (w : World) → ((p : ℕ) → x ≡ Up p → D.behind M F p w ≡ good (nextFrom (C.behindOn t fs (p + 1) p)) w)
+  pub arrived-as : (x : Walk) (w : World) → ((p : ℕ) → x ≡ Up p → D.behind M F p w ≡ good (nextFrom (C.behindOn t fs (p + 1) p)) w)
       → walked x (λ g v. D.behind M F g v) w ≡ good (nextFrom (C.arrivedAt t fs x)) w
   unfolding C.arrivedAt
   arrived-as (Arrives x) w h = refl

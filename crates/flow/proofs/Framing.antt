@@ -244,7 +244,7 @@ module _ {E : Type 0} (M : D.Machine E) where
   then-own (good f y) k g a h i d v e = i f y (h f y refl) d v e
   then-own (bad w u) k g a h i d v e = let z : _≡_ {A = ℕ} 0 1 = cc in absurd (omega arith)
 
-  bounds-own : (bs : List P.Bound) (f : D.Frame) (w : World) (g a : ℕ) → Owns g a f → (d : D.Frame) (v : World) → D.bounds M bs f w ≡ good d v → Owns g a d
+  pub bounds-own : (bs : List P.Bound) (f : D.Frame) (w : World) (g a : ℕ) → Owns g a f → (d : D.Frame) (v : World) → D.bounds M bs f w ≡ good d v → Owns g a d
   unfolding D.bounds
   bounds-own [] f w g a o d v e = let q : f ≡ d = cc in subst (λ (x : D.Frame). Owns g a x) q o
   bounds-own (b ∷ bs) f w g a o d v e = then-own (D.bounded M b f w) (λ x y. D.bounds M bs x y) g a (bounded-own b f w g a o) (λ x y p. bounds-own bs x y g a p) d v e

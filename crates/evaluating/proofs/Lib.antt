@@ -1,0 +1,5 @@
+pub mod Cycle
+pub mod Arguing
+pub mod Calling
+pub mod Entries
+pub mod Listing

@@ -1,0 +1,3 @@
+-- What the contracts of `evaluating` cite.
+pub mod Cycle
+pub mod Statements
