@@ -175,8 +175,8 @@ module _ {E : Type 0} (M₁ : Machine E) (x : Scene) (u : ℕ) (sv : Serves M₁
   start-as CharacterType g a t bs w = refl
   start-as FixedType g a t bs w = rw (number-same t w) (by (F.number (sceneMachine x u) t w))
     where
-      by : (R : Res Why ℤ) → bind R (λ z y. bind (F.bounds M₁ bs (record { group = g; at = a; step = pos 1; to = F.noTo; isOnce = true }) y) λ f v. good (record { frame = f; begins = F.passes f z }) (W.store a (Val.fixed z) v))
-          ≡ bind R (λ z y. bind (F.bounds (sceneMachine x u) bs (record { group = g; at = a; step = pos 1; to = F.noTo; isOnce = true }) y) λ f v. good (record { frame = f; begins = F.passes f z }) (W.store a (Val.fixed z) v))
+      by : (R : Res Why ℤ) → bind {B = F.Started} R (λ z y. bind (F.bounds M₁ bs (record { group = g; at = a; step = pos 1; to = F.noTo; isOnce = true }) y) λ f v. good (record { frame = f; begins = F.passes f z }) (W.store a (Val.fixed z) v))
+          ≡ bind {B = F.Started} R (λ z y. bind (F.bounds (sceneMachine x u) bs (record { group = g; at = a; step = pos 1; to = F.noTo; isOnce = true }) y) λ f v. good (record { frame = f; begins = F.passes f z }) (W.store a (Val.fixed z) v))
       by (good z y) = rw (bounds-same bs (record { group = g; at = a; step = pos 1; to = F.noTo; isOnce = true }) y)
       by (bad e n) = refl
 

@@ -7,6 +7,7 @@ use Rattle.bodies.proofs.on_again.Lts as lts
 use Rattle.bodies.proofs.into_group.Reads as into-group-reads
 use Rattle.bodies.proofs.with_step.Reads as with-step-reads
 use Rattle.flow.proofs.behind.Reads as behind-reads
+use denote.Ref.{now}
 use Rattle.bodies.proofs.Going.{again-in, again-out, again-bad}
 
 enum-known-t : tie.Need-enum-known-t
@@ -19,7 +20,7 @@ with-step-requires : tie.Need-with-step-requires
 with-step-requires c κs = search needs
 
 returns : tie.Need-returns
-returns c = search again-in
+returns c = again-in (now (c .before .before .before .before .before .before .before .args .part)) (c .before .before .before .before .before .before .before .args .fs) (c .before .before .before .before .before .before .before .args .g) (c .before .before .before .before .before .before .before .args .t) _ _ (c .before .before .before .before .t .given .1) (c .before .before .if1 .taken) _ (c .before .into-group .ensures) _ (c .with-step .ensures)
 
 behind-requires : tie.Need-behind-requires
 behind-requires c κs = search needs
@@ -34,10 +35,10 @@ with-step-requires-3 : tie.Need-with-step-requires-3
 with-step-requires-3 c κs = search needs
 
 returns-2 : tie.Need-returns-2
-returns-2 c = search again-out
+returns-2 c = again-out (now (c .before .before .before .before .before .before .before .args .part)) (c .before .before .before .before .before .before .before .args .fs) (c .before .before .before .before .before .before .before .args .g) (c .before .before .before .before .before .before .before .args .t) _ _ (c .before .before .before .before .t .given .1) (c .before .before .if1 .left) _ (c .before .behind .ensures) _ (c .with-step2 .ensures)
 
 returns-3 : tie.Need-returns-3
-returns-3 c = search again-bad
+returns-3 c = again-bad (now (c .before .before .before .before .before .args .part)) (c .before .before .before .before .before .args .fs) (c .before .before .before .before .before .args .g) (c .before .before .before .before .before .args .t) _ _ (c .before .before .t2 .given .1) _ (c .with-step3 .ensures)
 
 pub on-again-spec : {M : Type 1} → statement M
 on-again-spec =
