@@ -1,7 +1,7 @@
 -- What statements do with the value of their expression: assignment, IF, a number of DO, RETURN.
 -- Assumes nothing.
 use mathlib.Core.Path.{_≡_, refl, sym, ap, _∙_}
-use mathlib.Core.Bool.{Bool, true, false}
+use mathlib.Core.Bool.{Bool, true}
 use mathlib.Core.List.{List, [], _∷_}
 use Prim.Native.Nat.{ℕ, _+_, _-_, _≤_}
 use lib.IntN.{ℤ, pos}
@@ -95,10 +95,13 @@ module _ (c l h w : List ℕ) (a : ℕ) (k : ValueType) (u : ℕ) (x : Evaluated
     typed y eg i j f = convert-typed k (valueIn w u v) w′ u y f (rw eg at (stood i j .is))
 
     pub stored-some : (y : Value) → g ≡ Gives y → (c′ l′ h′ : List ℕ) → ValueStored c l h w′ a u y c′ l′ h′ → StoredIs c l h w a k u x c′ l′ h′ w′ (Dn.Good m)
-    stored-some y eg c′ l′ h′ vs = rw e record { is = λ B s d i j f lm.
-        let ty : Typed k y = typed y eg i j f in
-        (ap (λ (W₁ : World). good tt W₁) (stored-world B c l h c′ l′ h′ a (m .used) (valueIn w′ u y) (vs .is (B .denotations) k s d ty)) ∙ sym (good-by y eg i j (worldIn B c l h (m .used)))
-        , record { below = stood i j .below; limit = lm; slots = vs .slots (B .denotations) k s d ty }) }
+    stored-some y eg c′ l′ h′ vs = rw e record {
+      is = λ B s d i j f lm.
+          let ty : Typed k y = typed y eg i j f in (
+            ap (λ (W₁ : World). good tt W₁) (stored-world B c l h c′ l′ h′ a (m .used) (valueIn w′ u y) (vs .is (B .denotations) k s d ty)) ∙ sym (good-by y eg i j (worldIn B c l h (m .used))),
+            record { below = stood i j .below; limit = lm; slots = vs .slots (B .denotations) k s d ty },
+          );
+    }
 
 -- ---- a truth
 module _ (w : List ℕ) (u : ℕ) (x : Evaluated) where

@@ -1,6 +1,6 @@
 -- The bounds of an iterated group, its frame and its start.
 -- Assumes nothing.
-use mathlib.Core.Path.{_≡_, refl, sym, ap, _∙_}
+use mathlib.Core.Path.{_≡_, refl, ap, _∙_}
 use mathlib.Core.Bool.{Bool, true, false}
 use mathlib.Core.List.{List, [], _∷_}
 use Prim.Native.Nat.{ℕ, _+_}
@@ -31,7 +31,7 @@ use Rattle.flow.specs.Shown.{FrameShown, toOf}
 use Rattle.flow.proofs.Flows.{passes-is}
 use Rattle.operators.specs.declared.Value.the-variants as Vl
 use Rattle.operators.specs.Stands.{valueIn}
-use Rattle.callees.specs.Shown.{withValues, worldIn, Slots}
+use Rattle.callees.specs.Shown.{worldIn, Slots}
 use Rattle.callees.specs.Answer.{ValueStored}
 use Rattle.callees.proofs.Storing.{stored-number}
 use Rattle.bodies.specs.declared.Variable.{Variable}

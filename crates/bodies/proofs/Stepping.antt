@@ -1,21 +1,19 @@
 -- An iterated group that is tested again: the variable is stepped, the step is charged, then it is tested.
 -- Assumes nothing.
-use mathlib.Core.Path.{_≡_, refl, sym, ap, subst, _∙_}
+use mathlib.Core.Path.{_≡_, refl, sym, ap, _∙_}
 use mathlib.Core.Bool.{Bool, true, false, cond}
 use mathlib.Core.List.{List, [], _∷_}
-use Prim.Native.Nat.{ℕ, zero, suc, _+_, _-_, _<_, _≤_}
+use Prim.Native.Nat.{ℕ, _+_}
 use native.Mathlib.Nat.{zero-add}
 use native.Mathlib.Omega.{arith}
-use lib.Dec.{eqb}
 use lib.IntN.{ℤ}
-use lib.ListN.{length, getD, set}
-use Rattle.definition.specs.Choice.{when}
+use lib.ListN.{getD}
 use Rattle.definition.specs.Room.{over}
 use Rattle.definition.specs.Fixed as Fx
 use Rattle.definition.specs.Steps.{isLeft, usedAfter}
 use Rattle.definition.specs.Values as Val
 use Rattle.definition.specs.World as W
-use Rattle.definition.specs.World.{World, Res, good, bad, bind, ask, variableOf, builtinName}
+use Rattle.definition.specs.World.{World, Res, good, bad, bind}
 use Rattle.definition.specs.Flow as F
 use Rattle.definition.specs.Flow.{Machine}
 use Rattle.definition.specs.declared.Why.{Why}
@@ -29,25 +27,21 @@ use Rattle.fixed.specs.Signed.{storedOf, fromStored}
 use Rattle.meter.specs.declared.Meter.{Meter}
 use Rattle.meter.specs.declared.Charged.{Charged}
 use Rattle.meter.specs.Charges.{Charges}
-use Rattle.rows.specs.declared.Link.{Link}
 use Rattle.rows.specs.declared.Link.the-variants as L
 use Rattle.flow.specs.declared.Frame.{Frame}
 use Rattle.flow.specs.Walks.{passesBy}
-use Rattle.flow.specs.Shown.{FrameShown, numberOf, steppedOn}
+use Rattle.flow.specs.Shown.{numberOf, steppedOn}
 use Rattle.flow.proofs.Flows.{passes-is}
 use Rattle.store.specs.declared.Number.{Number}
 use Rattle.store.specs.declared.Number.the-variants as N
 use Rattle.store.specs.Cells.{cellIn, numberCell}
-use Rattle.operators.specs.declared.Value.the-variants as Vl
-use Rattle.operators.specs.Stands.{valueIn}
-use Rattle.callees.specs.Shown.{valuesFrom, withValues, worldIn, Slots}
-use Rattle.callees.specs.Answer.{ValueStored}
-use Rattle.callees.proofs.Storing.{stored-number}
+use Rattle.callees.specs.Shown.{valuesFrom, worldIn, Slots}
 use Rattle.bodies.specs.declared.Tested.{Tested}
 use Rattle.bodies.specs.declared.Tested.the-variants as Te
 use Rattle.bodies.specs.Deeds.{testedIn, testedMeter}
 use Rattle.bodies.specs.Groups.{addedOn, SummedIs, Framing, SteppedBy, SteppedIs}
 use Rattle.operands.proofs.Leaves.{values-at}
+use Rattle.bodies.proofs.Grouping.{number-world, number-slots}
 
 clash : {A : Type 0} → _≡_ {A = ℕ} 0 1 → A
 clash z = absurd (omega arith)
@@ -69,6 +63,7 @@ sum-range x y z e = by _ e
     of : (v : ℤ) (b : Bool) → Fx.inRange v ≡ b → Fx.is z ≡ cond b (Fx.is v) Fx.outOfRange → Fx.inRange z ≡ true
     of v true f g = let h : z ≡ v = cc in rw h f
     of v false f g = clash (cc)
+
     by : (v : ℤ) → Fx.is z ≡ Fx.ranged v → Fx.inRange z ≡ true
     by v f = of v (Fx.inRange v) refl f
 
@@ -79,6 +74,7 @@ no-zero x y e = by _ e
     of : (v : ℤ) (b : Bool) → Fx.zeroDivisor ≡ cond b (Fx.is v) Fx.outOfRange → {T : Type 0} → T
     of v true g = clash (cc)
     of v false g = clash (cc)
+
     by : (v : ℤ) → Fx.zeroDivisor ≡ Fx.ranged v → {T : Type 0} → T
     by v f = of v (Fx.inRange v) f
 
@@ -108,9 +104,11 @@ module _ (c : List ℕ) (f : Frame) (x : Fixed) (by : Answer) (m : Meter) (y : A
   added-no d w g e = rw e
 
   pub added-range : y ≡ A.OutOfRange → SteppedBy c f x by m c (Te.Bad OutOfRange m)
-  added-range e = record { is = λ B l h d fr g.
-      let k : Fx.outOfRange ≡ Fx.sum (x .value) (d .step) = ap resultOf (sym e) ∙ sum-is B l h d fr g in
-      (sym (added-no d (worldIn B c l h (m .used)) OutOfRange (ap Val.fromFixed (sym k))), fr .limit, fr .slots) }
+  added-range e = record {
+    is = λ B l h d fr g.
+        let k : Fx.outOfRange ≡ Fx.sum (x .value) (d .step) = ap resultOf (sym e) ∙ sum-is B l h d fr g in
+        (sym (added-no d (worldIn B c l h (m .used)) OutOfRange (ap Val.fromFixed (sym k))), fr .limit, fr .slots);
+  }
 
   pub added-zero : y ≡ A.ZeroDivisor → SteppedBy c f x by m c (Te.Bad OutOfRange m)
   added-zero e = record { is = λ B l h d fr g. no-zero (x .value) (d .step) (ap resultOf (sym e) ∙ sum-is B l h d fr g) }
@@ -119,38 +117,42 @@ module _ (c : List ℕ) (f : Frame) (x : Fixed) (by : Answer) (m : Meter) (y : A
     number : (B : World) (l h : List ℕ) (d : F.Frame) → Framing B c l h f m d → resultOf by ≡ fromStored (f .step) → Fx.is (n .value) ≡ Fx.sum (x .value) (d .step)
     number B l h d fr g = ap resultOf (sym e) ∙ sum-is B l h d fr g
 
-    stored : (l h : List ℕ) → ValueStored c l h [] (f .address) 0 (Vl.Number n) c′ l h
-    stored l h = stored-number c l h [] (f .address) 0 (Vl.Number n) n refl c′ ec
-
     values : (B : World) (l h : List ℕ) (d : F.Frame) (fr : Framing B c l h f m d) → Fx.inRange (n .value) ≡ true → (k : ℕ) → worldIn B c′ l h k ≡ W.store (d .at) (Val.fixed (n .value)) (worldIn B c l h k)
-    unfolding valueIn
-    values B l h d fr r k = ap (λ (i : List W.Cell). withValues i k B) (stored l h .is (B .denotations) FixedType (fr .slots) (fr .variable) r ∙ ap (λ (i : ℕ). set (valuesFrom (B .denotations) 0 c l h) i (W.holds (Val.fixed (n .value)))) (fr .frame .address))
+    values B l h d fr r k = number-world B c l h (f .address) n c′ ec (fr .slots) (fr .variable) r k ∙ ap (λ (i : ℕ). W.store i (Val.fixed (n .value)) (worldIn B c l h k)) (fr .frame .address)
 
     added-is : (d : F.Frame) (w : World) → Fx.is (n .value) ≡ Fx.sum (x .value) (d .step) → addedOn d (x .value) w ≡ bind (W.charge (W.store (d .at) (Val.fixed (n .value)) w)) (λ _ z. good (F.passes d (n .value)) z)
     unfolding addedOn
     added-is d w g = rw (← g)
 
     pub added-paid : p .paid ≡ true → (b : Bool) → b ≡ passesBy (fromStored (f .limit)) (fromStored (f .step)) (n .value) → SteppedBy c f x by m c′ (Te.Is b (p .meter))
-    added-paid pd b eb = record { is = λ B l h d fr g.
-        let nu : Fx.is (n .value) ≡ Fx.sum (x .value) (d .step) = number B l h d fr g in
-        let rg : Fx.inRange (n .value) ≡ true = sum-range (x .value) (d .step) (n .value) nu in
-        let W₁ : World = W.store (d .at) (Val.fixed (n .value)) (worldIn B c l h (m .used)) in
-        let lf : isLeft (B .limit) (m .used) ≡ true = ap (λ (i : ℕ). isLeft i (m .used)) (sym (fr .limit)) ∙ sym (ch .paid) ∙ pd in
-        let us : usedAfter (B .limit) (m .used) ≡ p .meter .used = ap (λ (i : ℕ). usedAfter i (m .used)) (sym (fr .limit)) ∙ sym (ch .used) in
-        let ps : F.passes d (n .value) ≡ b = sym (eb ∙ passes-is nothing-runs f d (n .value) (fr .frame)) in
-        (sym (added-is d (worldIn B c l h (m .used)) nu ∙ ap (λ (i : Res Why (Unit {0})). bind i (λ _ z. good (F.passes d (n .value)) z)) (charge-left W₁ lf) ∙ ap (λ (i : ℕ). good (F.passes d (n .value)) (W.withUsed i W₁)) us ∙ ap (λ (i : Bool). good i (W.withUsed (p .meter .used) W₁)) ps ∙ ap (λ (i : World). good b i) (sym (values B l h d fr rg (p .meter .used))))
-        , ch .limit ∙ fr .limit, stored l h .slots (B .denotations) FixedType (fr .slots) (fr .variable) rg) }
+    added-paid pd b eb = record {
+      is = λ B l h d fr g.
+          let nu : Fx.is (n .value) ≡ Fx.sum (x .value) (d .step) = number B l h d fr g in
+          let rg : Fx.inRange (n .value) ≡ true = sum-range (x .value) (d .step) (n .value) nu in
+          let W₁ : World = W.store (d .at) (Val.fixed (n .value)) (worldIn B c l h (m .used)) in
+          let lf : isLeft (B .limit) (m .used) ≡ true = ap (λ (i : ℕ). isLeft i (m .used)) (sym (fr .limit)) ∙ sym (ch .paid) ∙ pd in
+          let us : usedAfter (B .limit) (m .used) ≡ p .meter .used = ap (λ (i : ℕ). usedAfter i (m .used)) (sym (fr .limit)) ∙ sym (ch .used) in
+          let ps : F.passes d (n .value) ≡ b = sym (eb ∙ passes-is nothing-runs f d (n .value) (fr .frame)) in (
+            sym (added-is d (worldIn B c l h (m .used)) nu ∙ ap (λ (i : Res Why (Unit {0})). bind i (λ _ z. good (F.passes d (n .value)) z)) (charge-left W₁ lf) ∙ ap (λ (i : ℕ). good (F.passes d (n .value)) (W.withUsed i W₁)) us ∙ ap (λ (i : Bool). good i (W.withUsed (p .meter .used) W₁)) ps ∙ ap (λ (i : World). good b i) (sym (values B l h d fr rg (p .meter .used)))),
+            ch .limit ∙ fr .limit,
+            number-slots B c l h (f .address) n c′ ec (fr .slots) (fr .variable) rg,
+          );
+    }
 
     pub added-due : p .paid ≡ false → SteppedBy c f x by m c′ (Te.Bad NoStep (p .meter))
-    added-due pd = record { is = λ B l h d fr g.
-        let nu : Fx.is (n .value) ≡ Fx.sum (x .value) (d .step) = number B l h d fr g in
-        let rg : Fx.inRange (n .value) ≡ true = sum-range (x .value) (d .step) (n .value) nu in
-        let W₁ : World = W.store (d .at) (Val.fixed (n .value)) (worldIn B c l h (m .used)) in
-        let lf : isLeft (m .limit) (m .used) ≡ false = sym (ch .paid) ∙ pd in
-        let lg : isLeft (B .limit) (m .used) ≡ false = ap (λ (i : ℕ). isLeft i (m .used)) (sym (fr .limit)) ∙ lf in
-        let us : p .meter .used ≡ m .used = ch .used ∙ after (m .limit) (m .used) lf in
-        (sym (added-is d (worldIn B c l h (m .used)) nu ∙ ap (λ (i : Res Why (Unit {0})). bind i (λ _ z. good (F.passes d (n .value)) z)) (charge-none W₁ lg) ∙ ap (λ (i : ℕ). bad NoStep i) (sym us))
-        , ch .limit ∙ fr .limit, stored l h .slots (B .denotations) FixedType (fr .slots) (fr .variable) rg) }
+    added-due pd = record {
+      is = λ B l h d fr g.
+          let nu : Fx.is (n .value) ≡ Fx.sum (x .value) (d .step) = number B l h d fr g in
+          let rg : Fx.inRange (n .value) ≡ true = sum-range (x .value) (d .step) (n .value) nu in
+          let W₁ : World = W.store (d .at) (Val.fixed (n .value)) (worldIn B c l h (m .used)) in
+          let lf : isLeft (m .limit) (m .used) ≡ false = sym (ch .paid) ∙ pd in
+          let lg : isLeft (B .limit) (m .used) ≡ false = ap (λ (i : ℕ). isLeft i (m .used)) (sym (fr .limit)) ∙ lf in
+          let us : p .meter .used ≡ m .used = ch .used ∙ after (m .limit) (m .used) lf in (
+            sym (added-is d (worldIn B c l h (m .used)) nu ∙ ap (λ (i : Res Why (Unit {0})). bind i (λ _ z. good (F.passes d (n .value)) z)) (charge-none W₁ lg) ∙ ap (λ (i : ℕ). bad NoStep i) (sym us)),
+            ch .limit ∙ fr .limit,
+            number-slots B c l h (f .address) n c′ ec (fr .slots) (fr .variable) rg,
+          );
+    }
 
 -- ---- by the frame
 stepped-cell : (d : F.Frame) (w : World) (v : W.Cell) → W.valueAt (d .at) w ≡ v → steppedOn d w ≡ numberOf v w (λ z. addedOn d z w)
@@ -170,6 +172,8 @@ module _ (c : List ℕ) (f : Frame) (m : Meter) where
     stepped-none g = record { is = λ B l h d fr. (sym (stepped-cell d (worldIn B c l h (m .used)) W.noValue (cell B l h d fr ∙ rw g)), fr .limit, fr .slots) }
 
     pub stepped-some : (n : Fixed) → x ≡ N.Holds n → (by : Answer) → resultOf by ≡ fromStored (f .step) → (c′ : List ℕ) (r : Tested) → SteppedBy c f n by m c′ r → SteppedIs c f m c′ r
-    stepped-some n g by eb c′ r sb = record { is = λ B l h d fr.
-        let k : (testedIn B c′ l h r ≡ addedOn d (n .value) (worldIn B c l h (m .used))) × (testedMeter r .limit ≡ B .limit) × Slots (B .denotations) c′ l h = sb .is B l h d fr eb in
-        (k .0 ∙ sym (stepped-cell d (worldIn B c l h (m .used)) (W.holds (Val.fixed (n .value))) (cell B l h d fr ∙ rw g)), k .1, k .2) }
+    stepped-some n g by eb c′ r sb = record {
+      is = λ B l h d fr.
+          let k : (testedIn B c′ l h r ≡ addedOn d (n .value) (worldIn B c l h (m .used))) × (testedMeter r .limit ≡ B .limit) × Slots (B .denotations) c′ l h = sb .is B l h d fr eb in
+          (k .0 ∙ sym (stepped-cell d (worldIn B c l h (m .used)) (W.holds (Val.fixed (n .value))) (cell B l h d fr ∙ rw g)), k .1, k .2);
+    }
