@@ -1,34 +1,32 @@
 -- What a statement does with the value of its expression: assignment, IF, a number of DO.
-use Prim.Native.Nat.{ℕ, zero, suc, _+_, _-_, _≤_}
-use mathlib.Core.Bool.{Bool, true, false}
+use Prim.Native.Nat.{ℕ, _+_, _-_, _≤_}
+use mathlib.Core.Bool.{Bool}
 use mathlib.Core.Path.{_≡_}
-use mathlib.Core.List.{List, [], _∷_}
+use mathlib.Core.List.{List, []}
 use lib.IntN.{ℤ}
 use lib.ListN.{length, getD}
 use Rattle.definition.specs.Expressions.{Tree}
 use Rattle.definition.specs.Lists.{part}
 use Rattle.definition.specs.Values as Val
 use Rattle.definition.specs.World as W
-use Rattle.definition.specs.World.{World, Res, good, bad, bind, ask, Owner, variableOf, builtinName}
+use Rattle.definition.specs.World.{World, Res, good, bad, bind, ask, variableOf, builtinName}
 use Rattle.definition.specs.Evaluate as Ev
 use Rattle.definition.specs.Evaluate.{put}
 use Rattle.definition.specs.Flow as F
 use Rattle.definition.specs.Flow.{Machine}
 use Rattle.definition.specs.declared.Why.{Why}
 use Rattle.definition.specs.declared.Why.the-variants.{WrongName}
-use Rattle.fixed.specs.declared.Fixed.{Fixed}
 use Rattle.names.specs.declared.Owner.{Owner as Owned}
 use Rattle.callees.specs.declared.Meant.{Meant}
 use Rattle.callees.specs.declared.Meant.the-variants as M
 use Rattle.callees.specs.Answer.{meantFor}
 use Rattle.definition.specs.declared.ValueType.{ValueType}
-use Rattle.definition.specs.declared.ValueType.the-variants.{FixedType, CharacterType}
 use Rattle.definition.proofs.Ranges.{Fine}
 use Rattle.meter.specs.declared.Meter.{Meter}
 use Rattle.names.specs.Table.{ownerOf}
 use Rattle.tokens.specs.declared.Lexeme.{Lexeme}
 use Rattle.operators.specs.declared.Value.{Value}
-use Rattle.operators.specs.Stands.{sizeFor, valueIn}
+use Rattle.operators.specs.Stands.{valueIn}
 use Rattle.callees.specs.Shown.{namesWorld, worldIn, Slots}
 use Rattle.operands.specs.declared.Scene.{Scene}
 use Rattle.operands.specs.declared.Evaluated.{Evaluated}

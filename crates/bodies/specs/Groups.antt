@@ -4,13 +4,13 @@ use mathlib.Core.Bool.{Bool, true, false, cond}
 use mathlib.Core.Path.{_≡_}
 use mathlib.Core.List.{List, [], _∷_}
 use lib.IntN.{ℤ, pos}
-use lib.ListN.{length, getD}
+use lib.ListN.{getD}
 use Rattle.definition.specs.Fixed as Fx
 use Rattle.definition.specs.Room.{over}
 use Rattle.definition.specs.Tokens.{tokenAt, isWord}
 use Rattle.definition.specs.Values as Val
 use Rattle.definition.specs.World as W
-use Rattle.definition.specs.World.{World, Res, good, bad, bind, ask, variableOf, builtinName}
+use Rattle.definition.specs.World.{World, Res, good, bind, ask, variableOf, builtinName}
 use Rattle.definition.specs.Flow as F
 use Rattle.definition.specs.declared.Why.{Why}
 use Rattle.definition.specs.declared.ValueType.{ValueType}

@@ -1,13 +1,17 @@
 -- GOTO in a body: "local names first, every global label is 13".
 use Prim.Native.Nat.{ℕ, _-_}
-use mathlib.Core.Bool.{Bool, cond}
+use mathlib.Core.Bool.{cond}
 use mathlib.Core.Path.{_≡_}
 use mathlib.Core.List.{List}
 use Rattle.definition.specs.Lists.{part}
+use Rattle.definition.specs.Program as P
 use Rattle.definition.specs.Values as Val
 use Rattle.definition.specs.World as W
-use Rattle.definition.specs.World.{World, Address, address, unknown, variableOf, entryOf, labelAt, builtinName, everyone, addressOf, denotation}
+use Rattle.definition.specs.World.{World, Res, bad, Address, address, unknown, variableOf, entryOf, labelAt, builtinName, everyone, addressOf, denotation}
+use Rattle.definition.specs.Flow as F
 use Rattle.definition.specs.Flow.{Target}
+use Rattle.definition.specs.Calls.{jumpTo}
+use Rattle.definition.specs.declared.Why.{Why}
 use Rattle.definition.specs.declared.Why.the-variants.{WrongName, WrongGoto}
 use Rattle.meter.specs.declared.Meter.{Meter}
 use Rattle.names.specs.declared.Owner.{Owner}
@@ -50,6 +54,11 @@ outTarget unknown w = Val.fails WrongName
 abbrev pub targetFor : Address → List ℕ → World → Val.Answer Target
 targetFor (address a) l w = localTarget (denotation a w)
 targetFor unknown l w = outTarget (addressOf l everyone w) w
+
+-- the definition's jump to it from row n of rs
+abbrev pub jumpBy : Val.Answer Target → List P.Row → ℕ → World → Res Why F.Jump
+jumpBy (Val.gives q) rs n w = jumpTo rs n (q .row) (q .isEnd) w
+jumpBy (Val.fails e) rs n w = bad e (w .used)
 
 -- ---- of the name l in the scope o; the names are those of the table
 abbrev pub targetIn : List ℕ → List ℕ → ℕ → W.Owner → List ℕ → Val.Answer Target

@@ -1,14 +1,12 @@
 -- Where control goes behind a statement of a body, by the rows t of its member and the frames.
 use Prim.Native.Nat.{ℕ, _+_}
-use mathlib.Core.Bool.{Bool, true, false, cond}
+use mathlib.Core.Bool.{Bool, cond}
 use mathlib.Core.Path.{_≡_}
 use mathlib.Core.List.{List}
 use Rattle.definition.specs.declared.ValueType.{ValueType}
-use Rattle.flow.specs.declared.Frame.{Frame}
 use Rattle.flow.specs.declared.Frames.{Frames}
 use Rattle.flow.specs.declared.Next.{Next}
 use Rattle.flow.specs.Walks.{framesWith, behindOn, arrivedAt, firstWalk}
-use Rattle.meter.specs.declared.Meter.{Meter}
 use Rattle.operands.specs.declared.Evaluated.{Evaluated}
 use Rattle.operands.specs.declared.Evaluated.the-variants.{Is, Failed}
 use Rattle.operands.specs.declared.Wish.the-variants as Wi

@@ -1,0 +1,5 @@
+pub mod Doing
+pub mod Grouping
+pub mod Stepping
+pub mod Going
+pub mod Jumping
