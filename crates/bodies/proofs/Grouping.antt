@@ -38,6 +38,8 @@ use Rattle.bodies.specs.declared.Variable.{Variable}
 use Rattle.bodies.specs.declared.Variable.the-variants as Va
 use Rattle.bodies.specs.declared.Bound.{Bound}
 use Rattle.bodies.specs.declared.Bound.the-variants as Bo
+use Rattle.bodies.specs.declared.Side.{Side}
+use Rattle.bodies.specs.declared.Side.the-variants as Si
 use Rattle.bodies.specs.declared.Word.{Word}
 use Rattle.bodies.specs.declared.Word.the-variants as Wo
 use Rattle.bodies.specs.declared.Widened.{Widened}
@@ -52,7 +54,7 @@ module _ (s : List ℕ) (at : ℕ) (t : Lexeme) (lex : Lexed s at t) (a : Bool) 
   by-is : a ≡ isWord "BY" (tokenAt s at .token)
   by-is = ha ∙ is-word s at t lex "BY" (66 ∷ 89 ∷ []) refl
 
-  pub word-by : a ≡ true → Wo.By (t .to) ≡ wordAt s at
+  pub word-by : a ≡ true → Wo.Of Si.By (t .to) ≡ wordAt s at
   unfolding wordAt
   word-by e = rw (lex .to, ← by-is, e)
 
@@ -60,7 +62,7 @@ module _ (s : List ℕ) (at : ℕ) (t : Lexeme) (lex : Lexed s at t) (a : Bool) 
     to-is : b ≡ isWord "TO" (tokenAt s at .token)
     to-is = hb ∙ is-word s at t lex "TO" (84 ∷ 79 ∷ []) refl
 
-    pub word-upto : b ≡ true → Wo.Upto (t .to) ≡ wordAt s at
+    pub word-upto : b ≡ true → Wo.Of Si.Upto (t .to) ≡ wordAt s at
     unfolding wordAt
     word-upto e = rw (lex .to, ← by-is, na, ← to-is, e)
 
@@ -80,16 +82,16 @@ to-frame f x n e = rw e
 pub new-frame : (g a n : ℕ) → n ≡ storedOf (pos 1) → record { group = L.To g; address = a; step = n; limit = 0; «is_once» = true } ≡ firstFrame g a
 new-frame g a n e = rw e
 
-pub with-by : (f : Frame) (w : Word) (q : ℕ) (x : Fixed) → w ≡ Wo.By q → (r : Frame) → r ≡ frameBy f (storedOf (x .value)) → r ≡ frameWith f w (storedOf (x .value))
-with-by f w q x e r h = rw e h
+pub with-by : (f : Frame) (w : Side) (x : Fixed) → w ≡ Si.By → (r : Frame) → r ≡ frameBy f (storedOf (x .value)) → r ≡ frameWith f w (storedOf (x .value))
+with-by f w x e r h = rw e h
 
-pub with-to : (f : Frame) (w : Word) (q : ℕ) (x : Fixed) → w ≡ Wo.Upto q → (r : Frame) → r ≡ frameTo f (storedOf (x .value)) → r ≡ frameWith f w (storedOf (x .value))
-with-to f w q x e r h = rw e h
+pub with-to : (f : Frame) (w : Side) (x : Fixed) → w ≡ Si.Upto → (r : Frame) → r ≡ frameTo f (storedOf (x .value)) → r ≡ frameWith f w (storedOf (x .value))
+with-to f w x e r h = rw e h
 
-pub widened-some : (f : Frame) (w : Word) (b : Bound) (x : Fixed) (q : ℕ) (m : Meter) → b ≡ Bo.Is x q m → (r : Frame) → r ≡ frameWith f w (storedOf (x .value)) → Wd.Is r q m ≡ widenedBy f w b
+pub widened-some : (f : Frame) (w : Side) (b : Bound) (x : Fixed) (q : ℕ) (m : Meter) → b ≡ Bo.Is x q m → (r : Frame) → r ≡ frameWith f w (storedOf (x .value)) → Wd.Is r q m ≡ widenedBy f w b
 widened-some f w b x q m e r h = rw (e, h)
 
-pub widened-none : (f : Frame) (w : Word) (b : Bound) (y : Why) (m : Meter) → b ≡ Bo.Bad y m → Wd.Bad y m ≡ widenedBy f w b
+pub widened-none : (f : Frame) (w : Side) (b : Bound) (y : Why) (m : Meter) → b ≡ Bo.Bad y m → Wd.Bad y m ≡ widenedBy f w b
 widened-none f w b y m e = rw e
 
 -- ---- the control variable

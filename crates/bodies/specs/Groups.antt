@@ -31,6 +31,8 @@ use Rattle.bodies.specs.declared.Variable.the-variants as Va
 use Rattle.bodies.specs.declared.Tested.{Tested}
 use Rattle.bodies.specs.declared.Bound.{Bound}
 use Rattle.bodies.specs.declared.Bound.the-variants as Bo
+use Rattle.bodies.specs.declared.Side.{Side}
+use Rattle.bodies.specs.declared.Side.the-variants as Si
 use Rattle.bodies.specs.declared.Word.{Word}
 use Rattle.bodies.specs.declared.Word.the-variants as Wo
 use Rattle.bodies.specs.declared.Widened.{Widened}
@@ -42,7 +44,7 @@ use Rattle.bodies.specs.Deeds.{testedIn, testedMeter}
 -- ---- bounds
 -- BY or TO that stands behind a place, and the place behind it
 unfoldable pub wordAt : List ℕ → ℕ → Word
-wordAt s at = cond (isWord "BY" (tokenAt s at .token)) (Wo.By (tokenAt s at .to)) (cond (isWord "TO" (tokenAt s at .token)) (Wo.Upto (tokenAt s at .to)) Wo.Neither)
+wordAt s at = cond (isWord "BY" (tokenAt s at .token)) (Wo.Of Si.By (tokenAt s at .to)) (cond (isWord "TO" (tokenAt s at .token)) (Wo.Of Si.Upto (tokenAt s at .to)) Wo.Neither)
 
 -- a frame with a number as stored; the first has BY 1
 abbrev pub frameBy : Frame → ℕ → Frame
@@ -54,14 +56,13 @@ frameTo f n = record { group = f .group; address = f .address; step = f .step; l
 abbrev pub firstFrame : ℕ → ℕ → Frame
 firstFrame g a = record { group = L.To g; address = a; step = storedOf (pos 1); limit = 0; «is_once» = true }
 
-abbrev pub frameWith : Frame → Word → ℕ → Frame
-frameWith f (Wo.By q) n = frameBy f n
-frameWith f (Wo.Upto q) n = frameTo f n
-frameWith f Wo.Neither n = f
+abbrev pub frameWith : Frame → Side → ℕ → Frame
+frameWith f Si.By n = frameBy f n
+frameWith f Si.Upto n = frameTo f n
 
-abbrev pub widenedBy : Frame → Word → Bound → Widened
-widenedBy f w (Bo.Is x q m) = Wd.Is (frameWith f w (storedOf (x .value))) q m
-widenedBy f w (Bo.Bad e m) = Wd.Bad e m
+abbrev pub widenedBy : Frame → Side → Bound → Widened
+widenedBy f a (Bo.Is x q m) = Wd.Is (frameWith f a (storedOf (x .value))) q m
+widenedBy f a (Bo.Bad e m) = Wd.Bad e m
 
 -- "The control variable is FIXED, else 6."
 abbrev pub controlAs : ValueType → ℕ → Link

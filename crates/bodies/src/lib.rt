@@ -154,9 +154,14 @@ pub fn bound_of(work: &[u8], u: usize, x: Evaluated) -> Bound
 
 // BY or TO that stands at a place.
 pub enum Word {
-    By(usize),
-    Upto(usize),
+    Of(Side, usize),
     Neither,
+}
+
+// What a bound is: the step, or what the variable goes up to.
+pub enum Side {
+    By,
+    Upto,
 }
 
 pub fn bound_word(s: &[u8], at: usize) -> Word
@@ -164,10 +169,10 @@ pub fn bound_word(s: &[u8], at: usize) -> Word
 {
     let t = token_at(s, at);
     if is_word(s, t, b"BY") {
-        return Word::By(t.to);
+        return Word::Of(Side::By, t.to);
     }
     if is_word(s, t, b"TO") {
-        return Word::Upto(t.to);
+        return Word::Of(Side::Upto, t.to);
     }
     Word::Neither
 }
@@ -218,23 +223,21 @@ pub fn new_frame(g: u16, a: u16) -> Frame
     }
 }
 
-// The frame with the number of BY or TO, which w names.
-fn with_bound(f: Frame, w: Word, x: Fixed) -> Frame
-    ensures { λ r. ⌜ r ≡ frameWith f w (storedOf (x .value)) ⌝ }
+fn with_bound(f: Frame, a: Side, x: Fixed) -> Frame
+    ensures { λ r. ⌜ r ≡ frameWith f a (storedOf (x .value)) ⌝ }
 {
-    match w {
-        Word::By(_) => with_by(f, x),
-        Word::Upto(_) => with_to(f, x),
-        Word::Neither => f,
+    match a {
+        Side::By => with_by(f, x),
+        Side::Upto => with_to(f, x),
     }
 }
 
 // The frame with a bound that was evaluated.
-pub fn bounded_by(f: Frame, w: Word, x: Bound) -> Widened
-    ensures { λ r. ⌜ r ≡ widenedBy f w x ⌝ }
+pub fn bounded_by(f: Frame, a: Side, x: Bound) -> Widened
+    ensures { λ r. ⌜ r ≡ widenedBy f a x ⌝ }
 {
     match x {
-        Bound::Is(y, q, m) => Widened::Is(with_bound(f, w, y), q, m),
+        Bound::Is(y, q, m) => Widened::Is(with_bound(f, a, y), q, m),
         Bound::Bad(why, m) => Widened::Bad(why, m),
     }
 }

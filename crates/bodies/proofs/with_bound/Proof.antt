@@ -20,27 +20,12 @@ enum-told-2 c = search needs
 with-to-requires : tie.Need-with-to-requires
 with-to-requires c κs = search needs
 
-enum-told-3 : tie.Need-enum-told-3
-enum-told-3 c = search needs
-
 returns : tie.Need-returns
 returns c = search with-by
 
 returns-2 : tie.Need-returns-2
 returns-2 c = search with-to
 
-returns-3 : tie.Need-returns-3
-returns-3 c = search needs
-
 pub with-bound-spec : {M : Type 1} → statement M
 with-bound-spec =
-    tie.close
-    (tie.spec
-    enum-told
-    with-by-requires
-    enum-told-2
-    with-to-requires
-    enum-told-3
-    returns
-    returns-2
-    returns-3)
+    tie.close (tie.spec enum-told with-by-requires enum-told-2 with-to-requires returns returns-2)
