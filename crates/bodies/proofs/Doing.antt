@@ -4,8 +4,10 @@ use mathlib.Core.Path.{_≡_, refl, sym, ap, _∙_}
 use mathlib.Core.Bool.{Bool, true}
 use mathlib.Core.List.{List, [], _∷_}
 use Prim.Native.Nat.{ℕ, _+_, _-_, _≤_}
+use native.Mathlib.Omega.{arith}
 use lib.IntN.{ℤ, pos}
 use lib.ListN.{length, set}
+use Rattle.definition.specs.Fixed as Fx
 use Rattle.definition.specs.Lists.{part}
 use Rattle.definition.specs.Expressions.{Tree}
 use Rattle.definition.specs.Program as D
@@ -18,7 +20,8 @@ use Rattle.definition.specs.Flow.{Machine}
 use Rattle.definition.specs.declared.Why.{Why}
 use Rattle.definition.specs.declared.ValueType.{ValueType}
 use Rattle.definition.specs.declared.ValueType.the-variants.{FixedType, CharacterType}
-use Rattle.definition.proofs.Ranges.{Fine}
+use Rattle.definition.proofs.Keeping as Gv
+use Rattle.definition.proofs.Ranges.{Small, Fine, toFixed-small}
 use Rattle.fixed.specs.declared.Fixed.{Fixed}
 use Rattle.meter.specs.declared.Meter.{Meter}
 use Rattle.tokens.specs.declared.Lexeme.{Lexeme}
@@ -136,6 +139,19 @@ module _ (w : List ℕ) (u : ℕ) (x : Evaluated) where
     pub bound-fails : (f : Why) → n ≡ Ng.Fails f → BoundIs w u x (Bo.Bad f m)
     unfolding numberOn numberFor
     bound-fails f en = rw e record { is = λ B c l h. ap (λ (r : Val.Answer ℤ). ask r (worldIn B c l h (m .used))) (rw en at ga); end = λ p j. refl; limit = refl }
+
+-- a number that was evaluated is in its range
+given-it : {A : Type 0} {P : A → Type 0} {a : A} → Gv.Gives P (Val.gives a) → P a
+given-it (Gv.given h) = h
+
+bound-by : (a : Val.Answer ℤ) → Gv.Gives Small a → (z : ℤ) (W₁ W₂ : World) → good z W₁ ≡ ask a W₂ → Fx.inRange z ≡ true
+bound-by (Val.gives y) k z W₁ W₂ e = let f : z ≡ y = cc in rw f (given-it k)
+bound-by (Val.fails q) k z W₁ W₂ e = absurd (let f : _≡_ {A = ℕ} 0 1 = cc in omega arith)
+
+pub bound-range : (B : World) (c l h w : List ℕ) (u : ℕ) (x : Evaluated) (y : Fixed) (q : ℕ) (m : Meter) → BoundIs w u x (Bo.Is y q m) → FineIn w u x → Fx.inRange (y .value) ≡ true
+unfolding numberOn
+bound-range B c l h w u (Is v e k) y q m b f = bound-by (Val.toFixed (valueIn w u v)) (toFixed-small (valueIn w u v) f) (y .value) (worldIn B c l h (m .used)) (worldIn B c l h (k .used)) (b .is B c l h)
+bound-range B c l h w u (Failed e k) y q m b f = absurd (let g : good (y .value) (worldIn B c l h (m .used)) ≡ bad e (k .used) = b .is B c l h in let z : _≡_ {A = ℕ} 0 1 = cc in omega arith)
 
 -- ---- any machine that serves the scene
 pub truth-same : {E : Type 0} (M₁ : Machine E) (x : Scene) (u : ℕ) → Serves M₁ x u → (t : Tree) (W₁ : World) → F.truth M₁ t W₁ ≡ F.truth (sceneMachine x u) t W₁

@@ -13,8 +13,9 @@ use Rattle.definition.specs.Room.{over}
 use Rattle.definition.specs.Tokens.{tokenAt, isWord}
 use Rattle.definition.specs.Values as Val
 use Rattle.definition.specs.World as W
-use Rattle.definition.specs.World.{World, variableOf, builtinName}
+use Rattle.definition.specs.World.{World, good, bad, variableOf, builtinName}
 use Rattle.definition.specs.declared.Why.{Why}
+use Rattle.definition.specs.declared.Why.the-variants.{NoStep}
 use Rattle.definition.specs.declared.ValueType.{ValueType}
 use Rattle.definition.specs.declared.ValueType.the-variants.{FixedType, CharacterType}
 use Rattle.fixed.specs.declared.Fixed.{Fixed}
@@ -126,6 +127,14 @@ module _ (B : World) (c l h : List ℕ) (a : ℕ) (x : Fixed) (c′ : List ℕ) 
   pub number-slots : Slots (B .denotations) c′ l h
   number-slots = stored .slots (B .denotations) FixedType s v r
 
+-- ---- whether a pass begins, as the definition says
+-- a machine, whichever: it plays no part
+nothing-runs : Machine Why
+nothing-runs = record { rows = []; owner = W.everyone; fault = λ r e. e; value = λ t w. bad NoStep 0; waiting = 0; out = λ s w. good tt w; act = λ n w. good F.passed w; jump = λ n t w. bad NoStep 0 }
+
+pub passes-shown : (f : Frame) (d : F.Frame) (z : ℤ) → FrameShown f d → passesBy (fromStored (f .limit)) (fromStored (f .step)) z ≡ F.passes d z
+passes-shown f d z k = passes-is nothing-runs f d z k
+
 -- ---- a group that has set off
 module _ (B : World) (c l h : List ℕ) (x : Fixed) (w : Widened) (c′ : List ℕ) (r : Started) (so : SetOff c x w c′ r) (f : Frame) (q : ℕ) (m : Meter) (e : w ≡ Wd.Is f q m) where
   cells-off : c′ ≡ over c (f .address + 0) (storedOf (x .value) ∷ [])
@@ -142,9 +151,8 @@ module _ (B : World) (c l h : List ℕ) (x : Fixed) (w : Widened) (c′ : List �
   off-is : r ≡ Sd.Is f (passesBy (fromStored (f .limit)) (fromStored (f .step)) (x .value)) m
   off-is = rw e at (so .is)
 
-  -- whether its first pass begins, as the definition says; the machine plays no part
-  pub off-passes : {E : Type 0} (M : Machine E) (d : F.Frame) → FrameShown f d → r ≡ Sd.Is f (F.passes d (x .value)) m
-  off-passes M d k = off-is ∙ ap (λ (b : Bool). Sd.Is f b m) (passes-is M f d (x .value) k)
+  pub off-passes : (d : F.Frame) → FrameShown f d → r ≡ Sd.Is f (F.passes d (x .value)) m
+  off-passes d k = off-is ∙ ap (λ (b : Bool). Sd.Is f b m) (passes-shown f d (x .value) k)
 
 -- ---- what the frames stand for
 no-limit : toOf (fromStored 0) ≡ F.noTo

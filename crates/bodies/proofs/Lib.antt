@@ -1,3 +1,4 @@
+-- Laws that belong to no one function.
 pub mod Doing
 pub mod Grouping
 pub mod Stepping

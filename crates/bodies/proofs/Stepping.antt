@@ -15,7 +15,6 @@ use Rattle.definition.specs.Values as Val
 use Rattle.definition.specs.World as W
 use Rattle.definition.specs.World.{World, Res, good, bad, bind}
 use Rattle.definition.specs.Flow as F
-use Rattle.definition.specs.Flow.{Machine}
 use Rattle.definition.specs.declared.Why.{Why}
 use Rattle.definition.specs.declared.Why.the-variants.{NoValue, NoStep, OutOfRange}
 use Rattle.definition.specs.declared.ValueType.the-variants.{FixedType}
@@ -31,7 +30,6 @@ use Rattle.rows.specs.declared.Link.the-variants as L
 use Rattle.flow.specs.declared.Frame.{Frame}
 use Rattle.flow.specs.Walks.{passesBy}
 use Rattle.flow.specs.Shown.{numberOf, steppedOn}
-use Rattle.flow.proofs.Flows.{passes-is}
 use Rattle.store.specs.declared.Number.{Number}
 use Rattle.store.specs.declared.Number.the-variants as N
 use Rattle.store.specs.Cells.{cellIn, numberCell}
@@ -41,7 +39,7 @@ use Rattle.bodies.specs.declared.Tested.the-variants as Te
 use Rattle.bodies.specs.Deeds.{testedIn, testedMeter}
 use Rattle.bodies.specs.Groups.{addedOn, SummedIs, Framing, SteppedBy, SteppedIs}
 use Rattle.operands.proofs.Leaves.{values-at}
-use Rattle.bodies.proofs.Grouping.{number-world, number-slots}
+use Rattle.bodies.proofs.Grouping.{number-world, number-slots, passes-shown}
 
 clash : {A : Type 0} → _≡_ {A = ℕ} 0 1 → A
 clash z = absurd (omega arith)
@@ -77,10 +75,6 @@ no-zero x y e = by _ e
 
     by : (v : ℤ) → Fx.zeroDivisor ≡ Fx.ranged v → {T : Type 0} → T
     by v f = of v (Fx.inRange v) f
-
--- a machine, whichever
-nothing-runs : Machine Why
-nothing-runs = record { rows = []; owner = W.everyone; fault = λ r e. e; value = λ t w. bad NoStep 0; waiting = 0; out = λ s w. good tt w; act = λ n w. good F.passed w; jump = λ n t w. bad NoStep 0 }
 
 after : (l n : ℕ) → isLeft l n ≡ false → usedAfter l n ≡ n
 unfolding usedAfter
@@ -132,7 +126,7 @@ module _ (c : List ℕ) (f : Frame) (x : Fixed) (by : Answer) (m : Meter) (y : A
           let W₁ : World = W.store (d .at) (Val.fixed (n .value)) (worldIn B c l h (m .used)) in
           let lf : isLeft (B .limit) (m .used) ≡ true = ap (λ (i : ℕ). isLeft i (m .used)) (sym (fr .limit)) ∙ sym (ch .paid) ∙ pd in
           let us : usedAfter (B .limit) (m .used) ≡ p .meter .used = ap (λ (i : ℕ). usedAfter i (m .used)) (sym (fr .limit)) ∙ sym (ch .used) in
-          let ps : F.passes d (n .value) ≡ b = sym (eb ∙ passes-is nothing-runs f d (n .value) (fr .frame)) in (
+          let ps : F.passes d (n .value) ≡ b = sym (eb ∙ passes-shown f d (n .value) (fr .frame)) in (
             sym (added-is d (worldIn B c l h (m .used)) nu ∙ ap (λ (i : Res Why (Unit {0})). bind i (λ _ z. good (F.passes d (n .value)) z)) (charge-left W₁ lf) ∙ ap (λ (i : ℕ). good (F.passes d (n .value)) (W.withUsed i W₁)) us ∙ ap (λ (i : Bool). good i (W.withUsed (p .meter .used) W₁)) ps ∙ ap (λ (i : World). good b i) (sym (values B l h d fr rg (p .meter .used)))),
             ch .limit ∙ fr .limit,
             number-slots B c l h (f .address) n c′ ec (fr .slots) (fr .variable) rg,
