@@ -3,19 +3,17 @@
 use mathlib.Core.Path.{_≡_, refl, sym, ap, subst, _∙_}
 use mathlib.Core.Bool.{Bool, true, false, cond}
 use mathlib.Core.List.{List, [], _∷_, _++_}
-use Prim.Native.Nat.{ℕ, zero, suc, _+_, _-_, _%_, _<_, _≤_}
-use native.Mathlib.Nat.{add-zero, zero-add, add-suc, suc-add, mod-eq-of-lt}
+use Prim.Native.Nat.{ℕ, zero, suc, _+_, _-_, _<_, _≤_}
+use native.Mathlib.Nat.{zero-add}
 use native.Mathlib.Numerals.{add-one}
 use native.Mathlib.Omega.{arith}
-use borrow.Author.Tests.{lt-ltb, le-ltb, ltb-true, ltb-false}
+use borrow.Author.Tests.{lt-ltb, le-ltb}
 use lib.Dec.{ltb}
-use lib.ListN.{length, getD, set, take}
+use lib.ListN.{length}
 use Rattle.definition.specs.Choice.{when}
-use Rattle.definition.specs.Lists.{part}
-use Rattle.definition.specs.Fixed as F
 use Rattle.definition.specs.Tokens.{tokenAt, isSign}
 use Rattle.definition.specs.Expressions as E
-use Rattle.definition.specs.Expressions.{Reading, read, refused, then, Parsed, parsed, Tree, more, none, expectSign}
+use Rattle.definition.specs.Expressions.{Reading, read, then, Parsed, parsed, Tree, more, none, expectSign}
 use Rattle.definition.specs.Values as Val
 use Rattle.definition.specs.World.{World, Res, good, bad, bind, ask}
 use Rattle.definition.specs.Evaluate as Ev
@@ -25,9 +23,6 @@ use Rattle.definition.specs.declared.Why.the-variants.{Syntax}
 use Rattle.definition.specs.declared.ValueType.{ValueType}
 use Rattle.definition.specs.declared.ValueType.the-variants.{FixedType, CharacterType}
 use Rattle.definition.proofs.Ranges.{Fine}
-use Rattle.fixed.specs.declared.Fixed.{Fixed}
-use Rattle.fixed.specs.Signed.{storedOf, fromStored}
-use Rattle.fixed.proofs.Magnitude.{stored-back}
 use Rattle.meter.specs.declared.Meter.{Meter}
 use Rattle.tokens.specs.declared.Lexeme.{Lexeme}
 use Rattle.tokens.specs.Answer.{Lexed}
@@ -35,39 +30,25 @@ use Rattle.names.specs.Table.{ownerOf}
 use Rattle.expressions.specs.Check.{insideOf}
 use Rattle.operators.specs.declared.Value.{Value}
 use Rattle.operators.specs.declared.Value.the-variants.{Number, Characters, Bits}
-use Rattle.operators.specs.declared.Given.{Given}
-use Rattle.operators.specs.declared.Given.the-variants.{Gives, Fails}
-use Rattle.operators.specs.Stands.{sizeFor, valueIn, givenIn, stacked, asSubject, topOf, Ready, Stood}
-use Rattle.operators.specs.Stands as O
-use Rattle.operators.proofs.Room.{part-below, top-in}
-use Rattle.operators.proofs.Callers.{below-less}
+use Rattle.operators.specs.Stands.{sizeFor, valueIn, stacked, topOf}
+use Rattle.operators.proofs.Room.{top-in}
 use Rattle.operators.proofs.Callers as R
 use Rattle.callees.specs.declared.Held.{Held}
-use Rattle.callees.specs.declared.Callee.{Callee}
-use Rattle.callees.specs.declared.ParameterAt.{ParameterAt}
-use Rattle.callees.specs.declared.ParameterAt.the-variants as P
-use Rattle.callees.specs.declared.Parameter.{Parameter}
-use Rattle.callees.specs.Shown.{namesWorld, worldIn, Slots, Typed}
-use Rattle.callees.specs.Answer.{ownerAt, spelledAt, parameterFor, parameterOf, ParameterIs, Names, heldNumber, HeldWith, heldAt, numberOf, fixedIn, FixedHeld, heldIn, heldSize}
-use Rattle.callees.proofs.Listing.{First, first-of}
-use Rattle.deck.specs.Answer.{bodyIn}
+use Rattle.callees.specs.Shown.{worldIn, Slots, Typed}
+use Rattle.callees.specs.Answer.{HeldWith, heldIn, heldSize}
 use Rattle.operands.specs.declared.Scene.{Scene}
 use Rattle.operands.specs.declared.Evaluated.{Evaluated}
 use Rattle.operands.specs.declared.Evaluated.the-variants.{Is, Failed}
-use Rattle.operands.specs.declared.Wish.{Wish}
-use Rattle.operands.specs.declared.Wish.the-variants as Wi
 use Rattle.operands.specs.declared.Wished.{Wished}
 use Rattle.operands.specs.declared.Target.{Target}
-use Rattle.operands.specs.declared.Target.the-variants as T
-use Rattle.evaluating.specs.declared.Outcome.{Outcome}
 use Rattle.evaluating.specs.declared.Outcome.the-variants as Oc
 use Rattle.operands.specs.Shown.{Shows}
-use Rattle.operands.specs.Answer.{Below, resIn, sizeOf, meterOf, withEnd, Gave, runIn, valueOf, evaluatedFor, Turns}
+use Rattle.operands.specs.Answer.{Below, resIn, sizeOf, meterOf, withEnd, Gave, runIn, valueOf, Turns}
 use Rattle.evaluating.specs.Cycle.{Evaluates}
-use Rattle.operands.specs.Takes.{wishFor, wishedOn, WithWish, substrFrom, Coming, WishIs, firstListed, wantedBy, Path, substrValues, SubstrDone}
-use Rattle.evaluating.specs.Cycle.{Waits, ArgsAs, meterIn, Args, TakenIs}
+use Rattle.operands.specs.Takes.{wishFor, wishedOn, WithWish, Coming, WishIs, firstListed, wantedBy, Path}
+use Rattle.evaluating.specs.Cycle.{Args, TakenIs}
 use Rattle.operands.proofs.Trees.{never, read-same, IsRead, then-read, inside-same, expect-is}
-use Rattle.operands.proofs.Leaves.{end-is, below-then, value-size, res-given, given-end, given-meter, stood-turns, failed-turns}
+use Rattle.operands.proofs.Leaves.{end-is, below-then, value-size}
 use Rattle.operands.proofs.Ranging.{value-fine, convert-typed}
 use Rattle.evaluating.proofs.Cycle.{shows-as}
 use Rattle.operands.proofs.Taking.{One, path-place, path-kept, path-more, subject-first, held-other, held-size, held-typed}

@@ -1,15 +1,15 @@
 -- The start of an iterated group: its variable, its numbers, its frame.
 -- Assumes nothing.
 use mathlib.Core.Path.{_≡_, refl, sym, ap, subst, _∙_}
-use mathlib.Core.Bool.{Bool, true, false, cond}
+use mathlib.Core.Bool.{Bool, true, false}
 use mathlib.Core.List.{List, [], _∷_}
-use Prim.Native.Nat.{ℕ, zero, suc, _+_, _-_, _<_, _≤_}
+use Prim.Native.Nat.{ℕ, _-_, _≤_}
 use native.Mathlib.Omega.{arith}
 use lib.IntN.{ℤ, pos}
 use lib.ListN.{length, getD}
 use Rattle.definition.specs.Fixed.{inRange}
 use Rattle.definition.specs.Tokens.{tokenAt, isWord}
-use Rattle.definition.specs.Expressions.{read, Tree, parsed, Named, nameAt, expectSign, wholeExpression}
+use Rattle.definition.specs.Expressions.{read, Tree, parsed, wholeExpression}
 use Rattle.definition.specs.Lists.{part}
 use Rattle.definition.specs.Program as D
 use Rattle.definition.specs.Values as Val
@@ -18,10 +18,8 @@ use Rattle.definition.specs.World.{World, Res, good, bad, bind, ask, variableOf
 use Rattle.definition.specs.Evaluate as Ev
 use Rattle.definition.specs.Evaluate.{meant}
 use Rattle.definition.specs.Flow as F
-use Rattle.definition.specs.Flow.{Machine}
 use Rattle.definition.specs.declared.Why.{Why}
 use Rattle.definition.specs.declared.Why.the-variants.{WrongName}
-use Rattle.definition.specs.declared.ValueType.{ValueType}
 use Rattle.definition.specs.declared.ValueType.the-variants.{FixedType, CharacterType}
 use Rattle.definition.proofs.Keeping.{Gives, given}
 use Rattle.definition.proofs.Ranges.{Fine, Small, toFixed-small}
@@ -34,7 +32,7 @@ use Rattle.rows.specs.declared.Link.{Link}
 use Rattle.rows.specs.declared.Link.the-variants as L
 use Rattle.callees.specs.declared.Meant.{Meant}
 use Rattle.callees.specs.declared.Meant.the-variants as M
-use Rattle.callees.specs.Shown.{worldIn, Slots}
+use Rattle.callees.specs.Shown.{worldIn}
 use Rattle.callees.specs.Answer.{meantFor}
 use Rattle.callees.proofs.Listing.{name-is}
 use Rattle.flow.specs.declared.Frame.{Frame}
@@ -42,14 +40,12 @@ use Rattle.flow.specs.Shown.{FrameShown, Owns}
 use Rattle.flow.proofs.Framing.{bounds-own}
 use Rattle.operands.specs.declared.Scene.{Scene}
 use Rattle.operands.specs.declared.Evaluated.{Evaluated}
-use Rattle.operands.specs.declared.Evaluated.the-variants.{Is, Failed}
-use Rattle.operands.specs.Shown.{Stated, Bounded, Shows}
-use Rattle.operands.specs.Answer.{Below, resIn, Gave, valueOf, Means}
+use Rattle.operands.specs.Shown.{Bounded, Shows}
+use Rattle.operands.specs.Answer.{Gave, valueOf}
 use Rattle.operands.proofs.Trees.{expect-is}
 use Rattle.operands.proofs.Leaves.{variable-denotes}
 use Rattle.operands.proofs.Ranging.{value-fine}
 use Rattle.bodies.specs.declared.Variable.{Variable}
-use Rattle.bodies.specs.declared.Variable.the-variants as Va
 use Rattle.bodies.specs.declared.Bound.{Bound}
 use Rattle.bodies.specs.declared.Bound.the-variants as Bo
 use Rattle.bodies.specs.declared.Side.{Side}
@@ -61,11 +57,11 @@ use Rattle.bodies.specs.declared.Widened.the-variants as Wd
 use Rattle.bodies.specs.declared.Started.{Started}
 use Rattle.bodies.specs.declared.Started.the-variants as Sd
 use Rattle.bodies.specs.Deeds.{sceneMachine, Leaves, variableFor, TargetIs, boundIn, boundMeter, boundEnd, numberOn, BoundIs}
-use Rattle.bodies.specs.Groups.{wordAt, firstFrame, widenedBy, controlAs, controlOf, SetOff}
+use Rattle.bodies.specs.Groups.{wordAt, firstFrame, widenedBy, controlOf, SetOff}
 use Rattle.bodies.proofs.Grouping.{first-shown, by-shown, to-shown, off-world, off-slots, off-passes}
 use Rattle.evaluating.specs.Cycle.{Evaluates}
 use Rattle.evaluating.specs.Statements.{WidensAs, widenedMeter, boundedOn, boundsLeft, BoundedIs, StartsAs, startedMeter, boundsOn, BoundsIs, StartIs}
-use Rattle.evaluating.proofs.Stating.{onMeant, meant-cond, spelled, means, meant-now, none-by, at-by}
+use Rattle.evaluating.proofs.Stating.{onMeant, meant-cond, spelled, means, meant-now}
 
 clash : {A : Type 0} → _≡_ {A = ℕ} 0 1 → A
 clash z = absurd (omega arith)
@@ -259,7 +255,7 @@ module _ (deck s rows names c l h w : List ℕ) (f : Frame) (b : Bound) (u : ℕ
           let own : Owns (d .group) (d .at) d₂ = bounds-own (sceneMachine x u) bs d (worldIn B c l h (m .used)) (d .group) (d .at) (record { group = refl; variable = refl }) d₂ (worldIn B c₂ l₂ h₂ (m₂ .used)) (g .2) in
           let ad : f₂ .address ≡ d .at = g .1 .address ∙ own .variable in
           let va₂ : getD (B .denotations) (f₂ .address) builtinName ≡ variableOf FixedType = rw ad va in
-          let er : r ≡ Sd.Is f₂ (F.passes d₂ (z .value)) m₂ = off-passes B c₂ l₂ h₂ z y₂ c₃ r so f₂ q₂ m₂ i (sceneMachine x u) d₂ (g .1) in
+          let er : r ≡ Sd.Is f₂ (F.passes d₂ (z .value)) m₂ = off-passes B c₂ l₂ h₂ z y₂ c₃ r so f₂ q₂ m₂ i d₂ (g .1) in
           let ew : worldIn B c₃ l₂ h₂ (m₂ .used) ≡ W.store (d .at) (Val.fixed (z .value)) (worldIn B c₂ l₂ h₂ (m₂ .used)) =
                 off-world B c₂ l₂ h₂ z y₂ c₃ r so f₂ q₂ m₂ i (lv .slots) va₂ iz (m₂ .used) ∙ ap (λ (j : ℕ). W.store j (Val.fixed (z .value)) (worldIn B c₂ l₂ h₂ (m₂ .used))) ad in
           let R : bind all begins ≡ good (record { frame = d₂; begins = F.passes d₂ (z .value) }) (worldIn B c₃ l₂ h₂ (m₂ .used)) =
@@ -357,8 +353,8 @@ module _ (deck s rows names c l h w : List ℕ) (g at u : ℕ) (x : Scene) (m : 
       abbrev newest : F.Frame
       newest = record { group = g; at = a; step = pos 1; to = F.noTo; isOnce = true }
 
-      gave : Gave B u w c₁ l₁ h₁ w₁ b k (valueOf x tr u now)
-      gave = eb .is B sh tr k rd
+      value : Gave B u w c₁ l₁ h₁ w₁ b k (valueOf x tr u now)
+      value = eb .is B sh tr k rd
 
       whole : F.startAt (sceneMachine x u) (seenFrom (ownerOf (x .owner)) nm now) g tr bs now ≡ bind (numberOn (valueOf x tr u now)) (λ z v. boundsOn x u bs newest z v)
       whole = started B sh nm tr bs es ∙ ap (λ (j : Meant). onMeant (meantFor j) (λ i q. F.startAs (sceneMachine x u) q g i tr bs now) now) is-fixed
@@ -367,25 +363,25 @@ module _ (deck s rows names c l h w : List ℕ) (g at u : ℕ) (x : Scene) (m : 
       variable : getD (B .denotations) a builtinName ≡ variableOf FixedType
       variable = variable-denotes a FixedType B (record { scope = ownerOf (x .owner); spelling = nm; is = ap meantFor (sym is-fixed) ∙ means deck s rows names c l h w at u x m t lex y ti B sh nm es })
 
-      number : boundIn B c₁ l₁ h₁ n ≡ numberOn (valueOf x tr u now)
-      number = bi .is B c₁ l₁ h₁ ∙ ap numberOn (gave .is)
+      first : boundIn B c₁ l₁ h₁ n ≡ numberOn (valueOf x tr u now)
+      first = bi .is B c₁ l₁ h₁ ∙ ap numberOn (value .is)
 
       by : (n₁ : Bound) → n ≡ n₁ → StartsAs B c₂ l₂ h₂ (F.startAt (sceneMachine x u) (seenFrom (ownerOf (x .owner)) nm now) g tr bs now) r × Leaves B u w c₂ l₂ h₂ w₂ (startedMeter r)
       by (Bo.Bad q m₁) i =
           let st : (r ≡ Sd.Bad q m₁) × (c₂ ≡ c₁) × (l₂ ≡ l₁) × (h₂ ≡ h₁) × (w₂ ≡ w₁) = bo .stays q m₁ i in
-          let nu : bad q (m₁ .used) ≡ numberOn (valueOf x tr u now) = rw i at number in
-          let lm : m₁ .limit ≡ B .limit = ap (λ (j : Meter). j .limit) (rw i at (bi .limit)) ∙ gave .limit in
-          rw (st .0, st .1, st .2, st .3, st .4) (whole ∙ rw (← nu), record { below = gave .below; limit = lm; slots = gave .slots })
+          let nu : bad q (m₁ .used) ≡ numberOn (valueOf x tr u now) = rw i at first in
+          let lm : m₁ .limit ≡ B .limit = ap (λ (j : Meter). j .limit) (rw i at (bi .limit)) ∙ value .limit in
+          rw (st .0, st .1, st .2, st .3, st .4) (whole ∙ rw (← nu), record { below = value .below; limit = lm; slots = value .slots })
       by (Bo.Is z q m₁) i =
-          let nu : good (z .value) (worldIn B c₁ l₁ h₁ (m₁ .used)) ≡ numberOn (valueOf x tr u now) = rw i at number in
-          let pl : Bo.Is z q m₁ ≡ Bo.Is z k m₁ = rw i at (bi .end k (gave .end)) in
+          let nu : good (z .value) (worldIn B c₁ l₁ h₁ (m₁ .used)) ≡ numberOn (valueOf x tr u now) = rw i at first in
+          let pl : Bo.Is z q m₁ ≡ Bo.Is z k m₁ = rw i at (bi .end k (value .end)) in
           let qk : q ≡ k = cc in
-          let lm : m₁ .limit ≡ B .limit = ap (λ (j : Meter). j .limit) (rw i at (bi .limit)) ∙ gave .limit in
+          let lm : m₁ .limit ≡ B .limit = ap (λ (j : Meter). j .limit) (rw i at (bi .limit)) ∙ value .limit in
           let iz : inRange (z .value) ≡ true = number-range (valueOf x tr u now) (z .value) (worldIn B c₁ l₁ h₁ (m₁ .used)) nu (λ a₁ v₂ j. value-fine B c l h x tr u (m .used) a₁ v₂ (sh .slots) j) in
-          let sh₁ : Shows deck rows names c₁ l₁ h₁ w₁ u x m₁ B = record { named = sh .named; rowed = sh .rowed; slots = gave .slots; work = omega (arith, z₁, sh .work); taken = sh .taken; limit = lm; left = sh .left } in
+          let sh₁ : Shows deck rows names c₁ l₁ h₁ w₁ u x m₁ B = record { named = sh .named; rowed = sh .rowed; slots = value .slots; work = omega (arith, z₁, sh .work); taken = sh .taken; limit = lm; left = sh .left } in
           let G : StartsAs B c₂ l₂ h₂ (boundsOn x u bs newest (z .value) (worldIn B c₁ l₁ h₁ (m₁ .used))) r × Leaves B u w₁ c₂ l₂ h₂ w₂ (startedMeter r) = bo .goes z q m₁ i B sh₁ iz bs newest few (rw qk bd) (rw ef (first-shown g a)) variable in
           let R : boundsOn x u bs newest (z .value) (worldIn B c₁ l₁ h₁ (m₁ .used)) ≡ F.startAt (sceneMachine x u) (seenFrom (ownerOf (x .owner)) nm now) g tr bs now = sym (whole ∙ rw (← nu)) in
-          (subst (λ (j : Res Why F.Started). StartsAs B c₂ l₂ h₂ j r) R (G .0), record { below = G .1 .below ∙ gave .below; limit = G .1 .limit; slots = G .1 .slots })
+          (subst (λ (j : Res Why F.Started). StartsAs B c₂ l₂ h₂ j r) R (G .0), record { below = G .1 .below ∙ value .below; limit = G .1 .limit; slots = G .1 .slots })
 
     pub start-done : StartIs deck s rows names c l h w g at u x m c₂ l₂ h₂ w₂ r
     start-done = record { is = λ B sh nm tr bs st.

@@ -1,14 +1,14 @@
 -- A call: 12, then 15, then the body.
 -- Assumes nothing.
-use mathlib.Core.Path.{_≡_, refl, sym, ap, subst, _∙_}
+use mathlib.Core.Path.{_≡_, refl, sym, ap, _∙_}
 use mathlib.Core.Bool.{Bool, true, false}
 use mathlib.Core.List.{List, [], _∷_}
-use Prim.Native.Nat.{ℕ, zero, suc, _+_, _-_, _<_, _≤_}
+use Prim.Native.Nat.{ℕ, zero, suc, _-_, _<_, _≤_}
 use native.Mathlib.Omega.{arith}
-use lib.ListN.{length, set}
+use lib.ListN.{set}
 use Rattle.definition.specs.Values as Val
 use Rattle.definition.specs.World as W
-use Rattle.definition.specs.World.{World, Res, good, bad}
+use Rattle.definition.specs.World.{World, Res, bad}
 use Rattle.definition.specs.Evaluate as Ev
 use Rattle.definition.specs.Calls as C
 use Rattle.definition.specs.Calls.{isRunning, storeAll, bodyRun, calls}
@@ -17,7 +17,6 @@ use Rattle.definition.specs.declared.Why.the-variants.{WronglyRun, TooDeep}
 use Rattle.deck.specs.Answer.{bodyIn}
 use Rattle.rows.specs.Parts.{partIn}
 use Rattle.meter.specs.declared.Meter.{Meter}
-use Rattle.names.specs.declared.Place.{Place}
 use Rattle.names.specs.declared.Owner.the-variants.{Procedure}
 use Rattle.callees.specs.declared.Callee.{Callee}
 use Rattle.callees.specs.declared.Held.{Held}
@@ -26,7 +25,7 @@ use Rattle.callees.specs.Shown.{denotationsFrom, valuesFrom, withValues, worldI
 use Rattle.callees.specs.Answer.{onOf, placeOf, StartedIs, Waiting, heldFrom, storeCells, AllStored}
 use Rattle.operands.specs.declared.Scene.{Scene}
 use Rattle.operands.specs.declared.Evaluated.{Evaluated}
-use Rattle.operands.specs.declared.Evaluated.the-variants.{Is, Failed}
+use Rattle.operands.specs.declared.Evaluated.the-variants.{Failed}
 use Rattle.operands.specs.Shown.{Shows}
 use Rattle.operands.specs.Answer.{Gave, runIn}
 use Rattle.evaluating.specs.Cycle.{CalleeShown, CallIs, BodyIs}

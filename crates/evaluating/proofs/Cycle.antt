@@ -3,19 +3,17 @@
 use mathlib.Core.Path.{_≡_, refl, sym, ap, subst, _∙_}
 use mathlib.Core.Bool.{Bool, true, false, cond}
 use mathlib.Core.List.{List, [], _∷_}
-use Prim.Native.Nat.{ℕ, zero, suc, _+_, _-_, _<_, _≤_}
+use Prim.Native.Nat.{ℕ, suc, _+_, _-_, _<_, _≤_}
 use native.Mathlib.Omega.{arith}
-use borrow.Author.Tests.{le-leb, lt-leb, leb-true}
 use lib.Dec.{leb}
 use lib.ListN.{length}
 use Rattle.definition.specs.Choice.{when}
 use Rattle.definition.specs.Tokens as T
 use Rattle.definition.specs.Tokens.{tokenAt, isSign}
 use Rattle.definition.specs.Expressions as E
-use Rattle.definition.specs.Expressions.{Reading, read, refused, then, Parsed, parsed, Reader, Tree, binary, Maybe, is, noOperator, infixOf, expectSign, Named, nameOf, referenceAt, primitive, chain, levels, wholeExpression}
+use Rattle.definition.specs.Expressions.{Reading, read, refused, then, Parsed, parsed, Reader, Tree, binary, Maybe, is, noOperator, infixOf, expectSign, Named, referenceAt, primitive, chain, levels, wholeExpression}
 use Rattle.definition.specs.Values as Val
-use Rattle.definition.specs.World as W
-use Rattle.definition.specs.World.{World, Owner, Res, good, bad, bind}
+use Rattle.definition.specs.World.{World, Res, good}
 use Rattle.definition.specs.Evaluate as Ev
 use Rattle.definition.specs.Evaluate.{evaluate, meant, plainName, listedName}
 use Rattle.definition.specs.declared.Why.{Why}
@@ -50,7 +48,7 @@ use Rattle.operands.specs.Shown.{Shows}
 use Rattle.operands.specs.Answer.{Below, resIn, sizeOf, meterOf, withEnd, Gave, runIn, valueOf, infixOn, Turns, WithInfix, signsAt, prefixedBy, PrefixesDone, ConstantIs, IntegerIs, stringTree, ClosedIs, Means, isEntry, PlainIs}
 use Rattle.evaluating.specs.Cycle.{Evaluates, Chains, NameIs, ListedIs}
 use Rattle.operands.proofs.Trees.{never, read-same, IsRead, then-read, levels-first, levels-zero, chain-more, chain-done, chain-none, value-binary, strict, Operand, operand-is, inside-same, inside-none, inside-is, expression-is, expect-is}
-use Rattle.operands.proofs.Leaves.{true-false, end-is, below-same, below-then, value-below, value-size}
+use Rattle.operands.proofs.Leaves.{end-is, below-same, below-then, value-below, value-size}
 
 -- ---- the scene after an answer
 module _ (deck rows names c l h w : List ℕ) (u : ℕ) (x : Scene) (m : Meter) (B : World) (sh : Shows deck rows names c l h w u x m B) where

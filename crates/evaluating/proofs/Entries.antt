@@ -3,7 +3,7 @@
 use mathlib.Core.Path.{_≡_, refl, sym, ap, subst, _∙_}
 use mathlib.Core.Bool.{Bool, true, false, cond}
 use mathlib.Core.List.{List, [], _∷_}
-use Prim.Native.Nat.{ℕ, zero, suc, _+_, _-_, _<_, _≤_}
+use Prim.Native.Nat.{ℕ, _-_, _≤_}
 use native.Mathlib.Omega.{arith}
 use borrow.Author.Tests.{ne-eqb}
 use lib.Dec.{eqb}
@@ -13,7 +13,7 @@ use Rattle.definition.specs.Program as D
 use Rattle.definition.specs.Tokens.{tokenAt, isSign}
 use Rattle.definition.specs.Values as Val
 use Rattle.definition.specs.World as W
-use Rattle.definition.specs.World.{World, Res, good, bad, bind, ask, variableOf, entryOf, labelAt, builtinName, bodyAt, noBody, seenFrom, rowOf, rowsOf}
+use Rattle.definition.specs.World.{World, Res, bad, variableOf, entryOf, labelAt, builtinName, bodyAt, noBody, seenFrom, rowOf, rowsOf}
 use Rattle.definition.specs.Evaluate as Ev
 use Rattle.definition.specs.Evaluate.{meant, plainName, callee, listedIn}
 use Rattle.definition.specs.declared.Why.{Why}
@@ -32,16 +32,16 @@ use Rattle.callees.specs.declared.Called.{Called}
 use Rattle.callees.specs.declared.Called.the-variants as K
 use Rattle.callees.specs.declared.Held.{Held}
 use Rattle.callees.specs.Shown.{namesWorld, worldIn}
-use Rattle.callees.specs.Answer.{meantFor, ownerAt, Listed, Names, HeadedBy, Headed, calledFor, CalleeIs, CalleeOf, heldFrom, Waiting}
+use Rattle.callees.specs.Answer.{ownerAt, Names, HeadedBy, calledFor, CalleeOf, heldFrom}
 use Rattle.callees.proofs.Naming.{parameters-there}
 use Rattle.operands.specs.declared.Scene.{Scene}
 use Rattle.operands.specs.declared.Evaluated.{Evaluated}
 use Rattle.operands.specs.declared.Evaluated.the-variants.{Is, Failed}
 use Rattle.operands.specs.Shown.{IsRow, Stated, Shows}
-use Rattle.operands.specs.Answer.{resIn, sizeOf, meterOf, withEnd, Gave, runIn, Means}
+use Rattle.operands.specs.Answer.{withEnd, Gave, runIn, Means}
 use Rattle.rows.specs.Parts.{partIn}
 use Rattle.evaluating.specs.Cycle.{NameIs, IsProcedure, CalleeShown, CallIs}
-use Rattle.operands.proofs.Leaves.{true-false, below-same}
+use Rattle.operands.proofs.Leaves.{below-same}
 
 -- ---- where an entry is declared
 pub record Declared (w : World) (b : W.Body) : Type 0 where

@@ -1,20 +1,17 @@
 -- Statements that evaluate: assignment and IF.
 -- Assumes nothing.
-use mathlib.Core.Path.{_≡_, refl, sym, ap, subst, _∙_}
+use mathlib.Core.Path.{_≡_, refl, sym, ap, _∙_}
 use mathlib.Core.Bool.{Bool, true, false, cond}
-use mathlib.Core.List.{List, [], _∷_}
-use Prim.Native.Nat.{ℕ, zero, suc, _+_, _-_, _<_, _≤_}
+use mathlib.Core.List.{List}
+use Prim.Native.Nat.{ℕ, _-_, _≤_}
 use native.Mathlib.Omega.{arith}
-use lib.IntN.{ℤ}
-use lib.ListN.{length, getD, set, take}
+use lib.ListN.{length, getD}
 use Rattle.definition.specs.Lists.{part}
 use Rattle.definition.specs.Tokens.{tokenAt}
-use Rattle.definition.specs.Expressions as X
-use Rattle.definition.specs.Expressions.{Reading, read, Tree, parsed, Named, nameAt, expectSign, wholeExpression}
-use Rattle.definition.specs.Program as D
+use Rattle.definition.specs.Expressions.{read, Tree, parsed, Named, nameAt, expectSign, wholeExpression}
 use Rattle.definition.specs.Values as Val
 use Rattle.definition.specs.World as W
-use Rattle.definition.specs.World.{World, Res, good, bad, bind, ask, Owner, variableOf, entryOf, labelAt, builtinName, seenFrom, addressOf}
+use Rattle.definition.specs.World.{World, Res, good, bad, bind, variableOf, entryOf, labelAt, builtinName, seenFrom}
 use Rattle.definition.specs.Evaluate as Ev
 use Rattle.definition.specs.Evaluate.{put, meant}
 use Rattle.definition.specs.Flow as F
@@ -22,60 +19,31 @@ use Rattle.definition.specs.Flow.{Machine}
 use Rattle.definition.specs.declared.Why.{Why}
 use Rattle.definition.specs.declared.Why.the-variants.{WrongName}
 use Rattle.definition.specs.declared.ValueType.{ValueType}
-use Rattle.definition.specs.declared.ValueType.the-variants.{FixedType, CharacterType}
-use Rattle.definition.proofs.Ranges.{Fine}
-use Rattle.fixed.specs.declared.Fixed.{Fixed}
 use Rattle.meter.specs.declared.Meter.{Meter}
 use Rattle.tokens.specs.declared.Lexeme.{Lexeme}
 use Rattle.tokens.specs.Answer.{Lexed}
-use Rattle.names.specs.Table.{ownerOf, identifiersFrom, nameIn, denotationOf}
-use Rattle.names.specs.declared.Owner.{Owner as Owned}
-use Rattle.names.specs.declared.Body.{Body}
+use Rattle.names.specs.Table.{ownerOf}
 use Rattle.callees.specs.declared.Meant.{Meant}
 use Rattle.callees.specs.declared.Meant.the-variants as M
 use Rattle.callees.specs.Answer.{meantFor}
 use Rattle.callees.proofs.Naming.{meant-there}
-use Rattle.rows.specs.declared.Statement.the-variants as S
-use Rattle.operators.specs.declared.Value.{Value}
-use Rattle.operators.specs.declared.Given.{Given}
-use Rattle.operators.specs.declared.Given.the-variants.{Gives, Fails}
-use Rattle.operators.specs.declared.Truth.{Truth}
-use Rattle.operators.specs.declared.Truth.the-variants as Tr
-use Rattle.operators.specs.declared.NumberGiven.{NumberGiven}
-use Rattle.operators.specs.declared.NumberGiven.the-variants as Ng
-use Rattle.operators.specs.Stands.{sizeFor, valueIn, givenIn, numberFor, truthFor, stacked, asBit, heldBy, Ready, Stood, Told}
-use Rattle.operators.specs.Stands as O
-use Rattle.operators.proofs.Callers as R
-use Rattle.callees.specs.Shown.{denotationsFrom, namesWorld, valuesFrom, withValues, worldIn, Slots, Typed}
-use Rattle.callees.specs.Answer.{spelledAt, ValueStored}
-use Rattle.callees.proofs.Listing.{name-is, IsNamed}
+use Rattle.callees.specs.Shown.{namesWorld, worldIn}
+use Rattle.callees.proofs.Listing.{name-is}
 use Rattle.operands.specs.declared.Scene.{Scene}
 use Rattle.operands.specs.declared.Evaluated.{Evaluated}
-use Rattle.operands.specs.declared.Evaluated.the-variants.{Is, Failed}
 use Rattle.bodies.specs.declared.Done.{Done}
 use Rattle.bodies.specs.declared.Done.the-variants as Dn
 use Rattle.bodies.specs.declared.Variable.{Variable}
 use Rattle.bodies.specs.declared.Variable.the-variants as Va
 use Rattle.bodies.specs.declared.Tested.{Tested}
-use Rattle.bodies.specs.declared.Tested.the-variants as Te
-use Rattle.bodies.specs.declared.Bound.{Bound}
-use Rattle.bodies.specs.declared.Bound.the-variants as Bo
-use Rattle.bodies.specs.declared.Step.the-variants as St
-use Rattle.bodies.specs.declared.Turned.{Turned}
-use Rattle.operands.specs.declared.Wish.the-variants as Wi
-use Rattle.flow.specs.declared.Frames.{Frames}
-use Rattle.operands.proofs.Taking.{wish-type, wish-none}
-use Rattle.operands.specs.Shown.{Stated, Shows}
-use Rattle.operands.specs.Answer.{Below, resIn, sizeOf, meterOf, withEnd, Gave, valueOf}
+use Rattle.operands.specs.Shown.{Shows}
+use Rattle.operands.specs.Answer.{resIn, Gave, valueOf}
 use Rattle.evaluating.specs.Cycle.{Evaluates}
-use Rattle.bodies.specs.Deeds.{Serves, sceneMachine, Leaves, variableFor, TargetIs, doneIn, doneMeter, storedOn, FineIn, StoredIs, testedIn, testedMeter, truthOn, TruthIs, boundIn, boundMeter, boundEnd, numberOn, BoundIs}
+use Rattle.bodies.specs.Deeds.{sceneMachine, Leaves, variableFor, TargetIs, doneIn, doneMeter, storedOn, StoredIs, testedIn, testedMeter, truthOn, TruthIs}
 use Rattle.evaluating.specs.Statements.{AssignIs, TestIs}
-use Rattle.bodies.specs.Ways.{ReturnIs}
 use Rattle.operands.proofs.Trees.{expect-is}
 use Rattle.bodies.proofs.Doing.{gave-fine}
-use Rattle.operands.specs.Answer.{Means}
-use Rattle.operands.proofs.Leaves.{end-is, variable-denotes, given-some, given-none}
-use Rattle.operands.proofs.Ranging.{value-fine, convert-typed}
+use Rattle.operands.proofs.Leaves.{variable-denotes}
 
 clash : {A : Type 0} → _≡_ {A = ℕ} 0 1 → A
 clash z = absurd (omega arith)
