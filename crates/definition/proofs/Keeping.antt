@@ -484,7 +484,7 @@ module _ {Sound : World → Type 0} {Of : Value → Type 0} {Left : ℕ → Type
   stored-all (p ∷ ps) [] e h = h
   stored-all (p ∷ ps) (v ∷ vs) {w} e h = stored-all ps vs (e .1) (laws .stored (p .at) v w (e .0) h)
 
-  act-leaves : (s : Statement) (t : Type′) (u : ℕ) (value : Tree → World → Res Why Value) → ((x : Tree) (w : World) → Sound w → Leaves Of (value x w)) → {w : World} → Sound w → Leaves (OfDeed Of) (actIn s t u value w)
+  pub act-leaves : (s : Statement) (t : Type′) (u : ℕ) (value : Tree → World → Res Why Value) → ((x : Tree) (w : World) → Sound w → Leaves Of (value x w)) → {w : World} → Sound w → Leaves (OfDeed Of) (actIn s t u value w)
   act-leaves null t u value k h = leaves tt h
   act-leaves (declare ns) t u value k h = leaves tt h
   act-leaves (procedure ns x) t u value k h = leaves tt h
@@ -514,7 +514,7 @@ module _ {Sound : World → Type 0} {Of : Value → Type 0} {Left : ℕ → Type
   jump-out (address a) h = search jump-global
   jump-out unknown h = halt h
 
-  jump-in : (x : Address) (t : List ℕ) (rs : List Row) (n : ℕ) {w : World} → Sound w → Leaves Any (jumpIn x t rs n w)
+  pub jump-in : (x : Address) (t : List ℕ) (rs : List Row) (n : ℕ) {w : World} → Sound w → Leaves Any (jumpIn x t rs n w)
   jump-in (address a) t rs n h = search jump-local
   jump-in unknown t rs n h = search jump-out
 

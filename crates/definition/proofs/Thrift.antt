@@ -9,16 +9,17 @@ use Rattle.definition.specs.Limits.{includeLevels}
 use Rattle.definition.specs.Deck.{isSound}
 use Rattle.definition.specs.Reading.{readMember}
 use Rattle.definition.specs.Expressions.{Tree}
+use Rattle.definition.specs.Program.{Statement, Row}
 use Rattle.definition.specs.Values.{Value}
-use Rattle.definition.specs.World.{Owner, World, Res, good, bad}
+use Rattle.definition.specs.World.{Owner, procedureAt, World, Res, good, bad, addressOf, rowOf}
 use Rattle.definition.specs.Names.{Entering}
 use Rattle.definition.specs.Evaluate.{Callee, evaluate}
-use Rattle.definition.specs.Flow.{End, ran, returned, went}
-use Rattle.definition.specs.Calls.{Place, calls}
+use Rattle.definition.specs.Flow.{Frame, End, ran, returned, went, statement}
+use Rattle.definition.specs.Calls.{Place, bodyMachine, calls}
 use Rattle.definition.specs.Run.{Stop, bodyOf}
 use Rattle.definition.specs.Expansion.{Expansion, result, runMain, mainWorld, expansion}
 use Rattle.definition.proofs.Choices.{when-has}
-use Rattle.definition.proofs.Keeping.{Any, any-all, Laws, valueless, Leaves, leaves, stops, evaluate-leaves, calls-leaves, SoundEntering, entered-sound, unreadable-any, enter-leaves}
+use Rattle.definition.proofs.Keeping.{Any, any-all, Laws, valueless, Leaves, leaves, stops, passes, evaluate-leaves, statement-leaves, act-leaves, jump-in, calls-leaves, SoundEntering, entered-sound, unreadable-any, enter-leaves}
 use Rattle.definition.proofs.Members.{text-out, member-leaves}
 
 -- the steps charged after a part of the run
@@ -56,6 +57,16 @@ module _ (w : World) (h : w .used ≤ w .limit) where
 
   pub calls-used : (n : ℕ) (ps : List Place) (c : Callee) (vs : List Value) (u : ℕ) → Spent (w .used) (w .limit) (usedBy (calls n ps c vs u w))
   calls-used n ps c vs u = spent-by (w .used) (w .limit) (calls-leaves (thrift (w .used) (w .limit)) n ps c vs u w (any-all vs) begun)
+
+  -- of a procedure's body
+  pub statement-used : (n : ℕ) (ps : List Place) (m r u : ℕ) (rs : List Row) (s : Statement) (fs : List Frame) (k : ℕ) → Spent (w .used) (w .limit) (usedBy (statement (bodyMachine (calls n ps) m r u rs) s fs k w))
+  unfolding bodyMachine
+  statement-used n ps m r u rs s fs k =
+      let laws : Laws (Kept (w .used) (w .limit)) Any (Spent (w .used) (w .limit)) = thrift (w .used) (w .limit) in
+      spent-by (w .used) (w .limit) (statement-leaves laws (bodyMachine (calls n ps) m r u rs) Any (λ j. tt) (λ j. tt)
+      (λ x v i. evaluate-leaves laws (calls n ps) (calls-leaves laws n ps) (procedureAt m r) x u v i) (λ y v _ i. passes laws i)
+      (λ j v i. act-leaves laws (rowOf rs j .statement) _ u _ (λ x z q. evaluate-leaves laws (calls n ps) (calls-leaves laws n ps) (procedureAt m r) x u z q) i)
+      (λ j t v i. jump-in laws (addressOf t (procedureAt m r) v) t rs j i) s fs k begun)
 
 -- ---- THE EXPANSION
 result-used : (r : Res Stop End) → result r .steps ≡ usedBy r
