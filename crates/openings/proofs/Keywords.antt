@@ -1,7 +1,7 @@
--- What a statement opens is known by the word that it begins with, before it is read.
+-- What a statement opens is known by the word that it begins with, before it is read, and by what it is.
 -- Assumes nothing.
-use mathlib.Core.Path.{_≡_, refl}
-use mathlib.Core.Bool.{Bool, true, false}
+use mathlib.Core.Path.{_≡_, refl, sym, subst}
+use mathlib.Core.Bool.{Bool, true, false, false≢true}
 use mathlib.Core.List.{List, [], _∷_, _++_}
 use Prim.Native.Nat.{ℕ, zero, suc}
 use Prim.Native.String as Str
@@ -19,17 +19,80 @@ use Rattle.definition.specs.declared.ValueType.{ValueType}
 use Rattle.definition.specs.declared.ValueType.the-variants.{FixedType, CharacterType}
 use Rattle.definition.specs.declared.Why.the-variants.{OverLimit}
 use Rattle.statements.specs.declared.Keyword.the-variants as K
-use Rattle.statements.specs.Clauses.{goClause}
+use Rattle.statements.specs.Clauses.{goClause, typeIn}
 use Rattle.openings.specs.Open.{opensBy, otherAt}
 
+-- ---- by what it is
+abbrev pub opensOf : P.Statement → St.Opens
+opensOf P.null = St.opensNothing
+opensOf (P.declare ns) = St.opensNothing
+opensOf (P.procedure ns t) = St.opensBody
+opensOf (P.assign n t) = St.opensNothing
+opensOf (P.conditional t) = St.opensThen
+opensOf P.group = St.opensGroup
+opensOf (P.iterated n t bs) = St.opensGroup
+opensOf (P.goto n) = St.opensNothing
+opensOf (P.include ns) = St.opensNothing
+opensOf (P.activate ns) = St.opensNothing
+opensOf (P.deactivate ns) = St.opensNothing
+opensOf (P.return t) = St.opensNothing
+
+pub iterated-opens : (x : P.Statement) → P.isIterated x ≡ true → opensOf x ≡ St.opensGroup
+unfolding P.isIterated
+iterated-opens P.null e = absurd (false≢true e)
+iterated-opens (P.declare ns) e = absurd (false≢true e)
+iterated-opens (P.procedure ns t) e = absurd (false≢true e)
+iterated-opens (P.assign n t) e = absurd (false≢true e)
+iterated-opens (P.conditional t) e = absurd (false≢true e)
+iterated-opens P.group e = absurd (false≢true e)
+iterated-opens (P.iterated n t bs) e = refl
+iterated-opens (P.goto n) e = absurd (false≢true e)
+iterated-opens (P.include ns) e = absurd (false≢true e)
+iterated-opens (P.activate ns) e = absurd (false≢true e)
+iterated-opens (P.deactivate ns) e = absurd (false≢true e)
+iterated-opens (P.return t) e = absurd (false≢true e)
+
+-- only a procedure has a type of its own
+abbrev pub NoBody : St.Opens → Type 0
+NoBody St.opensNothing = Unit {0}
+NoBody St.opensGroup = Unit {0}
+NoBody St.opensBody = ⊥
+NoBody St.opensThen = Unit {0}
+
+type-plain : (x : P.Statement) → NoBody (opensOf x) → FixedType ≡ typeIn x
+type-plain P.null h = refl
+type-plain (P.declare ns) h = refl
+type-plain (P.procedure ns t) h = absurd h
+type-plain (P.assign n t) h = refl
+type-plain (P.conditional t) h = refl
+type-plain P.group h = refl
+type-plain (P.iterated n t bs) h = refl
+type-plain (P.goto n) h = refl
+type-plain (P.include ns) h = refl
+type-plain (P.activate ns) h = refl
+type-plain (P.deactivate ns) h = refl
+type-plain (P.return t) h = refl
+
 -- a clause that was read opens o
+pub record OpensBoth (o : St.Opens) (c : St.Clause) : Type 0 where
+  pub opens : c .opens ≡ o
+  pub statement : opensOf (c .statement) ≡ o
+
 abbrev pub OpensSo : St.Opens → Reading St.Clause → Type 0
-OpensSo o (read c) = c .opens ≡ o
+OpensSo o (read c) = OpensBoth o c
 OpensSo o (refused w p) = Unit {0}
 
 abbrev pub DeclaresSo : St.Opens → St.Declaring → Type 0
-DeclaresSo o (St.declared c ds) = c .opens ≡ o
+DeclaresSo o (St.declared c ds) = OpensBoth o c
 DeclaresSo o (St.undeclared w p ds) = Unit {0}
+
+pub type-so : (o : St.Opens) → NoBody o → (R : Reading St.Clause) → OpensSo o R → (c : St.Clause) → R ≡ read c → FixedType ≡ typeIn (c .statement)
+type-so o h R so c e =
+    let b : OpensBoth o c = subst (OpensSo o) e so in
+    type-plain (c .statement) (subst NoBody (sym (b .statement)) h)
+
+both : (x : P.Statement) (o : St.Opens) (to : ℕ) → opensOf x ≡ o → OpensBoth o (St.clause x o to)
+both x o to h = record { opens = refl; statement = h }
 
 module _ (o : St.Opens) where
   after : {A : Type 0} (R : Reading A) (F : A → Reading St.Clause) → ((a : A) → OpensSo o (F a)) → OpensSo o (then R F)
@@ -77,20 +140,20 @@ module _ (o : St.Opens) where
       (declared-either (Tk.isWord "FIXED" t) (λ _. found (P.variable FixedType) to) _ (f (P.variable FixedType) to)
       (declared-either (Tk.isWord "BUILTIN" t) (λ _. found P.builtin to) absent (f P.builtin to) g))
 
-ended-so : (s : List ℕ) (x : P.Statement) (at : ℕ) → OpensSo St.opensNothing (St.ended s x at)
+ended-so : (s : List ℕ) (x : P.Statement) (at : ℕ) → opensOf x ≡ St.opensNothing → OpensSo St.opensNothing (St.ended s x at)
 unfolding St.ended
-ended-so s x at = after St.opensNothing (expectSign ";" s at) (λ e. read (St.clause x St.opensNothing e)) (λ e. refl)
+ended-so s x at h = after St.opensNothing (expectSign ";" s at) (λ e. read (St.clause x St.opensNothing e)) (λ e. both x St.opensNothing e h)
 
 pub if-so : (b : Bool) (s : List ℕ) (at : ℕ) → OpensSo (opensBy K.If) (St.ifClause b s at)
 unfolding St.ifClause
-if-so b s at = after St.opensThen (wholeExpression s at) _ λ r. after St.opensThen (St.thenWord b s (r .to)) (λ e. read (St.clause (P.conditional (r .tree)) St.opensThen e)) (λ e. refl)
+if-so b s at = after St.opensThen (wholeExpression s at) _ λ r. after St.opensThen (St.thenWord b s (r .to)) (λ e. read (St.clause (P.conditional (r .tree)) St.opensThen e)) (λ e. both (P.conditional (r .tree)) St.opensThen e refl)
 
-module _ (s : List ℕ) (make : List P.Bound → P.Statement) where
+module _ (s : List ℕ) (make : List P.Bound → P.Statement) (h : (bs : List P.Bound) → opensOf (make bs) ≡ St.opensGroup) where
   abbrev lastOf : List P.Bound → ℕ → Reading St.Clause
   lastOf bs e = then (expectSign ";" s e) λ q. read (St.clause (make bs) St.opensGroup q)
 
   last-so : (bs : List P.Bound) (e : ℕ) → OpensSo St.opensGroup (lastOf bs e)
-  last-so bs e = after St.opensGroup (expectSign ";" s e) (λ q. read (St.clause (make bs) St.opensGroup q)) (λ q. refl)
+  last-so bs e = after St.opensGroup (expectSign ";" s e) (λ q. read (St.clause (make bs) St.opensGroup q)) (λ q. both (make bs) St.opensGroup q (h bs))
 
   bounds-so : (at : ℕ) → OpensSo St.opensGroup (St.doBounds s make at)
   unfolding St.doBounds
@@ -104,12 +167,12 @@ pub do-so : (s : List ℕ) (from to : ℕ) (st : D.State) → OpensSo (opensBy K
 unfolding D.doAt St.doClause
 do-so s from to st =
     so-either St.opensGroup (ltb (D.depth (st .opened)) openGroups) (λ _. St.doClause s to) (λ _. refused OverLimit from)
-    (so-either St.opensGroup (Tk.isSign ";" (tokenAt s to .token)) (λ _. read (St.clause P.group St.opensGroup (tokenAt s to .to))) _ refl
-    (after St.opensGroup (nameAt s to) _ λ n. after St.opensGroup (expectSign "=" s (n .to)) _ λ e. after St.opensGroup (wholeExpression s e) _ λ r. bounds-so s (P.iterated (n .spelling) (r .tree)) (r .to))) tt
+    (so-either St.opensGroup (Tk.isSign ";" (tokenAt s to .token)) (λ _. read (St.clause P.group St.opensGroup (tokenAt s to .to))) _ (both P.group St.opensGroup (tokenAt s to .to) refl)
+    (after St.opensGroup (nameAt s to) _ λ n. after St.opensGroup (expectSign "=" s (n .to)) _ λ e. after St.opensGroup (wholeExpression s e) _ λ r. bounds-so s (P.iterated (n .spelling) (r .tree)) (λ bs. refl) (r .to))) tt
 
 pub goto-so : (s : List ℕ) (at : ℕ) → OpensSo (opensBy K.Goto) (St.gotoClause s at)
 unfolding St.gotoClause
-goto-so s at = after St.opensNothing (nameAt s at) (λ n. St.ended s (P.goto (n .spelling)) (n .to)) (λ n. ended-so s (P.goto (n .spelling)) (n .to))
+goto-so s at = after St.opensNothing (nameAt s at) (λ n. St.ended s (P.goto (n .spelling)) (n .to)) (λ n. ended-so s (P.goto (n .spelling)) (n .to) refl)
 
 pub go-so : (s : List ℕ) (at : ℕ) → OpensSo (opensBy K.Go) (goClause s at)
 unfolding goClause
@@ -117,13 +180,13 @@ go-so s at = after St.opensNothing (expectWord "TO" s at) (St.gotoClause s) (got
 
 list-so : {A : Type 0} (each : List ℕ → ℕ → (A → ℕ → Reading St.Clause) → Reading St.Clause) (make : List A → P.Statement) (s : List ℕ)
     → ((at : ℕ) (F : A → ℕ → Reading St.Clause) → ((x : A) (e : ℕ) → OpensSo St.opensNothing (F x e)) → OpensSo St.opensNothing (each s at F))
-    → (f : ℕ) (xs : List A) (at : ℕ) → OpensSo St.opensNothing (St.listOf each make s f xs at)
+    → ((xs : List A) → opensOf (make xs) ≡ St.opensNothing) → (f : ℕ) (xs : List A) (at : ℕ) → OpensSo St.opensNothing (St.listOf each make s f xs at)
 unfolding St.listOf
-list-so each make s h zero xs at = tt
-list-so each make s h (suc f) xs at =
+list-so each make s h k zero xs at = tt
+list-so each make s h k (suc f) xs at =
     h at _ λ x e.
     so-either St.opensNothing (Tk.isSign "," (tokenAt s e .token)) (λ _. St.listOf each make s f (xs ++ x ∷ []) (tokenAt s e .to)) (λ _. St.ended s (make (xs ++ x ∷ [])) e)
-    (list-so each make s h f (xs ++ x ∷ []) (tokenAt s e .to)) (ended-so s (make (xs ++ x ∷ [])) e)
+    (list-so each make s h k f (xs ++ x ∷ []) (tokenAt s e .to)) (ended-so s (make (xs ++ x ∷ [])) e (k (xs ++ x ∷ [])))
 
 name-so : (s : List ℕ) (at : ℕ) (F : List ℕ → ℕ → Reading St.Clause) → ((x : List ℕ) (e : ℕ) → OpensSo St.opensNothing (F x e)) → OpensSo St.opensNothing (St.eachName s at F)
 name-so s at F h = after St.opensNothing (nameAt s at) (λ n. F (n .spelling) (n .to)) (λ n. h (n .spelling) (n .to))
@@ -137,34 +200,34 @@ activation-so s at F h =
 
 pub include-so : (s : List ℕ) (at : ℕ) → OpensSo (opensBy K.Include) (St.includeClause s at)
 unfolding St.includeClause
-include-so s at = list-so St.eachName P.include s (name-so s) (length s) [] at
+include-so s at = list-so St.eachName P.include s (name-so s) (λ xs. refl) (length s) [] at
 
 pub deactivate-so : (s : List ℕ) (at : ℕ) → OpensSo (opensBy K.Deactivate) (St.deactivateClause s at)
 unfolding St.deactivateClause
-deactivate-so s at = list-so St.eachName P.deactivate s (name-so s) (length s) [] at
+deactivate-so s at = list-so St.eachName P.deactivate s (name-so s) (λ xs. refl) (length s) [] at
 
 pub activate-so : (s : List ℕ) (at : ℕ) → OpensSo (opensBy K.Activate) (St.activateClause s at)
 unfolding St.activateClause
-activate-so s at = list-so St.eachActivation P.activate s (activation-so s) (length s) [] at
+activate-so s at = list-so St.eachActivation P.activate s (activation-so s) (λ xs. refl) (length s) [] at
 
 pub return-so : (s : List ℕ) (at : ℕ) → OpensSo (opensBy K.Return) (St.returnClause s at)
 unfolding St.returnClause
 return-so s at =
     after St.opensNothing (expectSign "(" s at) _ λ e. after St.opensNothing (wholeExpression s e) _ λ r.
-    after St.opensNothing (expectSign ")" s (r .to)) (λ q. St.ended s (P.return (r .tree)) q) (λ q. ended-so s (P.return (r .tree)) q)
+    after St.opensNothing (expectSign ")" s (r .to)) (λ q. St.ended s (P.return (r .tree)) q) (λ q. ended-so s (P.return (r .tree)) q refl)
 
 pub other-so : (s w : List ℕ) (u : Tk.Lexeme) → OpensSo (opensBy K.Other) (otherAt s w u)
 unfolding otherAt St.assignment
 other-so s w u =
     so-either St.opensNothing (Tk.isSign "=" (u .token)) (λ _. St.assignment s w (u .to)) _
-    (after St.opensNothing (wholeExpression s (u .to)) (λ r. St.ended s (P.assign w (r .tree)) (r .to)) (λ r. ended-so s (P.assign w (r .tree)) (r .to))) tt
+    (after St.opensNothing (wholeExpression s (u .to)) (λ r. St.ended s (P.assign w (r .tree)) (r .to)) (λ r. ended-so s (P.assign w (r .tree)) (r .to) refl)) tt
 
 -- ---- DECLARE and PROCEDURE
 next-so : (s : List ℕ) (again : List P.Declared → ℕ → St.Declaring) → ((ds : List P.Declared) (e : ℕ) → DeclaresSo St.opensNothing (again ds e)) → (ds : List P.Declared) (e : ℕ) → DeclaresSo St.opensNothing (St.declareNext s again ds e)
 unfolding St.declareNext
 next-so s again h ds e =
     declared-either St.opensNothing (Tk.isSign "," (tokenAt s e .token)) (λ _. again ds (tokenAt s e .to)) _ (h ds (tokenAt s e .to))
-    (declared-after St.opensNothing ds (expectSign ";" s e) (λ q. St.declared (St.clause (P.declare (St.spellings ds)) St.opensNothing q) ds) (λ q. refl))
+    (declared-after St.opensNothing ds (expectSign ";" s e) (λ q. St.declared (St.clause (P.declare (St.spellings ds)) St.opensNothing q) ds) (λ q. both (P.declare (St.spellings ds)) St.opensNothing q refl))
 
 item-so : (k : P.Scope) (s : List ℕ) (ds : List P.Declared) (ns : List Named) (e : ℕ) (next : List P.Declared → ℕ → St.Declaring) → ((cs : List P.Declared) (q : ℕ) → DeclaresSo St.opensNothing (next cs q)) → DeclaresSo St.opensNothing (St.declareNames k s ds ns e next)
 unfolding St.declareNames
@@ -181,9 +244,9 @@ declare-so k s (suc f) ds at =
     (declared-after St.opensNothing ds (nameAt s at) (λ n. St.declareNames k s ds (n ∷ []) (n .to) (St.declareNext s (St.declareFrom k s f)))
     (λ n. item-so k s ds (n ∷ []) (n .to) (St.declareNext s (St.declareFrom k s f)) (next-so s (St.declareFrom k s f) (λ cs q. declare-so k s f cs q))))
 
-type-so : (s : List ℕ) (at : ℕ) (f : ValueType → ℕ → St.Declaring) (ds : List P.Declared) → ((t : ValueType) (e : ℕ) → DeclaresSo St.opensBody (f t e)) → DeclaresSo St.opensBody (St.returnsType s at f ds)
+returns-so : (s : List ℕ) (at : ℕ) (f : ValueType → ℕ → St.Declaring) (ds : List P.Declared) → ((t : ValueType) (e : ℕ) → DeclaresSo St.opensBody (f t e)) → DeclaresSo St.opensBody (St.returnsType s at f ds)
 unfolding St.returnsType
-type-so s at f ds h =
+returns-so s at f ds h =
     declared-after St.opensBody ds (expectWord "RETURNS" s at) _ λ e. declared-after St.opensBody ds (expectSign "(" s e) _ λ q.
     declared-either St.opensBody (St.isCharacter (tokenAt s q .token)) (λ _. f CharacterType (tokenAt s q .to)) _ (h CharacterType (tokenAt s q .to))
     (declared-after St.opensBody ds (expectWord "FIXED" s q) (f FixedType) (h FixedType))
@@ -191,9 +254,9 @@ type-so s at f ds h =
 head-so : (k : P.Scope) (s : List ℕ) (ns : List Named) (at : ℕ) → DeclaresSo St.opensBody (St.procedureHead k s ns at)
 unfolding St.procedureHead
 head-so k s ns at =
-    type-so s at _ (St.means k P.parameter ns) λ t e.
+    returns-so s at _ (St.means k P.parameter ns) λ t e.
     declared-after St.opensBody (St.means k P.parameter ns) (expectSign ")" s e) _ λ q.
-    declared-after St.opensBody (St.means k P.parameter ns) (expectSign ";" s q) (λ z. St.declared (St.clause (P.procedure (St.spellings (St.means k P.parameter ns)) t) St.opensBody z) (St.means k P.parameter ns)) (λ z. refl)
+    declared-after St.opensBody (St.means k P.parameter ns) (expectSign ";" s q) (λ z. St.declared (St.clause (P.procedure (St.spellings (St.means k P.parameter ns)) t) St.opensBody z) (St.means k P.parameter ns)) (λ z. both (P.procedure (St.spellings (St.means k P.parameter ns)) t) St.opensBody z refl)
 
 pub procedure-so : (k : P.Scope) (s : List ℕ) (at : ℕ) → DeclaresSo (opensBy K.Procedure) (St.procedureClause k s at)
 unfolding St.procedureClause

@@ -41,7 +41,7 @@ use Rattle.reading.specs.declared.Next.the-variants as Nx
 use Rattle.reading.specs.State.{rowsFrom, stateOf, turnOf, withTally, turned, stateIn, begunIn, Sits, Does, Over, Starts, Counts, early, Fits, Way, does, stops, Takes, fromState, Clauses}
 use Rattle.reading.specs.Labelled.{LabelsIf}
 use Rattle.reading.specs.Sentences.{Comes, isFull, Clausal, ByToken, EndsLong, EndsAt}
-use Rattle.reading.proofs.Rows.{rows-length}
+use Rattle.reading.proofs.Rows.{rows-length, marks-none}
 use Rattle.reading.proofs.Overfull.{clause-begins}
 use Rattle.reading.proofs.Parameters.{AllPlain, whole-plain, plain-means}
 
@@ -247,6 +247,7 @@ module _ (d s t n : List ℕ) (x : State) (p at : ℕ) (l : Labels) (hl : Labels
         few = subst (λ (z : Turned). z .state .entered + z .state .rows ≤ 2048) (sym h) (i .few);
         own = subst (λ (z : Turned). Own (x .tally .member) (z .state .scope)) (sym h) (i .ready .own);
         size = refl;
+        marks = marks-none s t (x .rows) (x .opened) (r .state .rows) (omega (arith, ap (λ (z : Turned). z .state .rows) h));
       };
     }
 
@@ -269,6 +270,7 @@ module _ (d s t n : List ℕ) (x : State) (p at : ℕ) (l : Labels) (hl : Labels
               few = subst (λ (z : State). z .entered + z .rows ≤ 2048) (sym (hy .rest)) (i .few);
               own = subst (λ (z : State). Own (x .tally .member) (z .scope)) (sym (hy .rest)) (i .ready .own);
               size = refl;
+              marks = marks-none s t (x .rows) (x .opened) (y .rows) (omega (arith, ap (λ (z : State). z .rows) (hy .rest)));
             }));
       }
 
@@ -295,5 +297,6 @@ module _ (d s t n : List ℕ) (x : State) (p at : ℕ) (l : Labels) (hl : Labels
               few = omega (arith, q .before, q .few, leb-false 2048 (x .entered + x .rows) (low .0));
               own = subst (λ (v : ℕ). Own v (r .state .scope)) (en .member) (q .own);
               size = q .size;
+              marks = q .marks;
             });
       }

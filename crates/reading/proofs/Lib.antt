@@ -8,6 +8,7 @@ pub mod Parameters
 pub mod Owners
 pub mod Labelling
 pub mod Turning
+pub mod Walking
 pub mod Standing
 pub mod Closing
 pub mod Rescoping

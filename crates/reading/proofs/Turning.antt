@@ -32,7 +32,7 @@ use Rattle.expressions.specs.declared.NamedAt.{NamedAt}
 use Rattle.expressions.specs.declared.NamedAt.the-variants as Word
 use Rattle.expressions.specs.Check.{namedFor}
 use Rattle.rows.specs.declared.Stretch.{Stretch}
-use Rattle.rows.specs.Table.{stretchNumbers}
+use Rattle.rows.specs.Table.{stretchNumbers, rowIn}
 use Rattle.rows.specs.declared.Link.the-variants as L
 use Rattle.names.specs.declared.Owner.the-variants.{Everyone}
 use Rattle.entering.specs.declared.Mark.{Mark}
@@ -52,9 +52,9 @@ use Rattle.reading.specs.declared.Source.{Source}
 use Rattle.reading.specs.declared.Mode.{Mode}
 use Rattle.reading.specs.declared.Mode.the-variants as Md
 use Rattle.reading.specs.declared.Next.the-variants as Nx
-use Rattle.reading.specs.State.{stretchOf, rowsFrom, stateOf, turnOf, modeOf, Stand, Placed, Keeps, turned, stretchAt, Leads, stateIn, begunIn, Sits, Goes, Stops, Does, Starts, behind, opens, Over, Way, Counts, early, last, does, stops, Takes, fromState, Clauses, LowEnd, Texts, Inners, Alternatives, Follows, Turns, Low, Begins, sourceOf}
+use Rattle.reading.specs.State.{stretchOf, rowsFrom, stateOf, turnOf, modeOf, Stand, Placed, Keeps, turned, stretchAt, Alike, Marks, Leads, stateIn, begunIn, Sits, Goes, Stops, Does, Starts, behind, opens, Over, Way, Counts, early, last, does, stops, Takes, fromState, Clauses, LowEnd, Texts, Inners, Alternatives, Follows, Turns, Low, Begins, sourceOf}
 use Rattle.reading.specs.Sentences.{EndsBody}
-use Rattle.reading.proofs.Rows.{rows-length, text-set}
+use Rattle.reading.proofs.Rows.{rows-length, text-set, alike-over, marks-none, marks-after}
 
 -- ---- where nothing is read, all stays
 module _ (d s t n : List ℕ) (x : State) (h : Sits d s t n x) where
@@ -66,6 +66,7 @@ module _ (d s t n : List ℕ) (x : State) (h : Sits d s t n x) where
     few = h .few;
     own = h .ready .own;
     size = refl;
+    marks = marks-none s t (x .rows) (x .opened) (x .rows) (omega arith);
   }
 
   pub stay-early : (w : Why) (p : ℕ) → Counts (x .entered) w p [] (fromState s t x)
@@ -84,6 +85,7 @@ module _ (d s t n : List ℕ) (x : State) (h : Sits d s t n x) where
     few = h .few;
     own = h .ready .own;
     size = refl;
+    marks = marks-none s t (x .rows) (x .opened) (x .rows) (omega arith);
   }
 
 -- ---- BEHIND A TEXT
@@ -193,7 +195,7 @@ opened-length s o = by (o .count)
     by (suc n) = ap suc (by n)
 
 -- from a state that only a text changed
-module _ (d s t u n : List ℕ) (x y : State) (he : y .entered ≡ x .entered) (hk : y .tally ≡ x .tally) (hu : length u ≡ length t) where
+module _ (d s t u n : List ℕ) (x y : State) (he : y .entered ≡ x .entered) (hk : y .tally ≡ x .tally) (hu : length u ≡ length t) (hr : y .rows ≡ x .rows) (ho : y .opened ≡ x .opened) (ha : (i : ℕ) → Alike (rowIn u i) (rowIn t i)) where
   takes-from : (X : D.Turn) (t′ n′ : List ℕ) (r : Turned) → Takes d s u n y X t′ n′ r → Takes d s t n x X t′ n′ r
   takes-from X t′ n′ r h = record {
     way = subst (λ (k : Tally). Way d s n (x .entered) k X t′ n′ r) hk (subst (λ (e : ℕ). Way d s n e (y .tally) X t′ n′ r) he (h .way));
@@ -201,10 +203,12 @@ module _ (d s t u n : List ℕ) (x y : State) (he : y .entered ≡ x .entered) (
     few = h .few;
     own = subst (λ (k : Tally). Own (k .member) (r .state .scope)) hk (h .own);
     size = h .size ∙ hu;
+    marks = marks-after s t u (x .rows) (x .opened) t′ (r .state .rows) ha
+        (subst (λ (k : ℕ). Marks s u k (x .opened) t′ (r .state .rows)) hr (subst (λ (o : Opened). Marks s u (y .rows) o t′ (r .state .rows)) ho (h .marks)));
   }
 
-  sits-from : y .rows ≡ x .rows → y .opened ≡ x .opened → (Own (x .tally .member) (x .scope) → Own (x .tally .member) (y .scope)) → Sits d s t n x → Sits d s u n y
-  sits-from hr ho hw h =
+  sits-from : (Own (x .tally .member) (x .scope) → Own (x .tally .member) (y .scope)) → Sits d s t n x → Sits d s u n y
+  sits-from hw h =
       let own : Own (x .tally .member) (y .scope) = hw (h .ready .own) in
       record {
         ready = subst (λ (k : Tally). Ready d s n k (y .scope)) (sym hk) (record { roomy = h .ready .roomy; lies = h .ready .lies; own = own });
@@ -227,8 +231,8 @@ module _ (d s t n : List ℕ) (x : State) (m : Mode) (at : ℕ) (t′ n′ : Lis
     so = λ h l k.
         let from : y .from ≡ at = text-from s at z e y (h .short) l he hz hy in
         let to : y .to ≡ endFor s e = text-to s at z e y (h .short) l he hz hy in
-        takes-from d s t u n x led (a .keeps .entered) (a .keeps .tally) (a .size) (D.turn s D.leadingText at (stateOf s t [] x)) t′ n′ r
-        (b .so (sits-from d s t u n x led (a .keeps .entered) (a .keeps .tally) (a .size) (a .rows) (a .opened) (a .keeps .own) h)
+        takes-from d s t u n x led (a .keeps .entered) (a .keeps .tally) (a .size) (a .rows) (a .opened) (a .marks) (D.turn s D.leadingText at (stateOf s t [] x)) t′ n′ r
+        (b .so (sits-from d s t u n x led (a .keeps .entered) (a .keeps .tally) (a .size) (a .rows) (a .opened) (a .marks) (a .keeps .own) h)
         (textEnd (suc (length s)) s at) (λ p. D.leadIn (openedOf s (x .opened)) at p (stateOf s t [] x)) he (text-low s at z e y (h .short) l he hz hy)
         (sym (a .is s [] (h .placed) ∙ ap (λ (i : ℕ). D.leadIn (openedOf s (x .opened)) i (y .to) (stateOf s t [] x)) from ∙ ap (λ (i : ℕ). D.leadIn (openedOf s (x .opened)) at i (stateOf s t [] x)) to))
         (ap length (lead-opened (openedOf s (x .opened)) at 0 (stateOf s t [] x)) ∙ opened-length s (x .opened) ∙ sym (ap (λ (w : Opened). w .count) (a .opened))));
@@ -243,8 +247,9 @@ module _ (d s t n : List ℕ) (x : State) (m : Mode) (at : ℕ) (t′ n′ : Lis
         let to : y .to ≡ endFor s e = text-to s at z e y (h .short) l he hz hy in
         let size : length u ≡ length t = ap length hu ∙ length-over t (16 * k + 12) (stretchNumbers y) in
         let rows : rowsFrom s u 0 (x .rows) ≡ D.change k (D.setText (D.stretch (y .from) (y .to))) (rowsFrom s t 0 (x .rows)) = ap (λ (w : List ℕ). rowsFrom s w 0 (x .rows)) hu ∙ text-set t k s (x .rows) f (omega (arith, h .placed .own, h .placed .room)) y in
-        takes-from d s t u n x x refl refl size (D.turn s (D.textBehind k) at (stateOf s t [] x)) t′ n′ r
-        (b .so (sits-from d s t u n x x refl refl size refl refl (λ w. w) h)
+        let same : (i : ℕ) → Alike (rowIn u i) (rowIn t i) = λ i. subst (λ (w : List ℕ). Alike (rowIn w i) (rowIn t i)) (sym hu) (alike-over t (stretchNumbers y) k 12 i (omega arith) (omega arith)) in
+        takes-from d s t u n x x refl refl size refl refl same (D.turn s (D.textBehind k) at (stateOf s t [] x)) t′ n′ r
+        (b .so (sits-from d s t u n x x refl refl size refl refl same (λ w. w) h)
         (textEnd (suc (length s)) s at) (λ p. D.withRows (D.change k (D.setText (D.stretch at p)) (rowsFrom s t 0 (x .rows))) (stateOf s t [] x)) he (text-low s at z e y (h .short) l he hz hy)
         (sym (ap (λ (w : List P.Row). D.withRows w (stateOf s t [] x)) (rows ∙ ap (λ (i : ℕ). D.change k (D.setText (D.stretch i (y .to))) (rowsFrom s t 0 (x .rows))) from ∙ ap (λ (i : ℕ). D.change k (D.setText (D.stretch at i)) (rowsFrom s t 0 (x .rows))) to)))
         (opened-length s (x .opened)));

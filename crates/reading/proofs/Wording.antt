@@ -44,7 +44,7 @@ use Rattle.statements.specs.declared.Clause.{Clause}
 use Rattle.statements.specs.declared.Read.{Read}
 use Rattle.statements.specs.declared.Read.the-variants as Rd
 use Rattle.statements.specs.declared.Declaring.{Declaring}
-use Rattle.statements.specs.Clauses.{scopeOf, isInside, opensFor, Own, readFor, readProcedure, isRead, plainFor, doKind, goClause, clauseIn, namesIn, parameterTwice, tallyTwice, procedureTally, DeclaresIf, Declares, Heads}
+use Rattle.statements.specs.Clauses.{scopeOf, isInside, opensFor, Own, readFor, readProcedure, isRead, plainFor, doKind, goClause, clauseIn, typeIn, namesIn, parameterTwice, tallyTwice, procedureTally, DeclaresIf, Declares, Heads}
 use Rattle.statements.specs.Again.{statementAt}
 use Rattle.statements.proofs.Listed.{entered-none}
 use Rattle.statements.proofs.Rereading.{again-goto, again-include, again-activate, again-deactivate, again-return, again-do, again-go, again-if, again-assign}
@@ -52,7 +52,7 @@ use Rattle.openings.specs.declared.Opened.{Opened}
 use Rattle.openings.specs.Open.{openedOf, labelled, opensBy, otherAt, otherFor, nullFor, byKeyword, Deep}
 use Rattle.openings.proofs.Laws.{name-kind}
 use Rattle.openings.proofs.Ends.{inside-is}
-use Rattle.openings.proofs.Keywords.{OpensSo, DeclaresSo, if-so, do-so, goto-so, go-so, include-so, deactivate-so, activate-so, return-so, other-so, declare-so, procedure-so}
+use Rattle.openings.proofs.Keywords.{OpensSo, DeclaresSo, NoBody, type-so, if-so, do-so, goto-so, go-so, include-so, deactivate-so, activate-so, return-so, other-so, declare-so, procedure-so}
 use Rattle.reading.specs.declared.State.{State}
 use Rattle.reading.specs.declared.Next.the-variants as Nx
 use Rattle.reading.specs.declared.Turned.{Turned}
@@ -117,12 +117,13 @@ module _ (d s t n : List ℕ) (x : State) (l : Lexeme) (from p labels : ℕ) (ns
       let tk : Taken s t (withTally x z) p t′ r ns [] es (read c) = h .is (read c) ns [] es g placed (i .room) (omega (arith, i .sits .placed .deep)) (i .place) (i .labelled) in
       record {
         names = es;
-        comes = subst (λ (a : St.Opens). Comes d s n x (St.means (scopeOf (x .scope)) (D.labelMeaning a (x .rows)) ns ++ es) (St.means (scopeOf (x .scope)) (P.label 0) ns ++ es) es (D.taken s p ns (fromState s t x) c es) t′ n′ r) so
+        comes = subst (λ (a : St.Opens). Comes d s n x (St.means (scopeOf (x .scope)) (D.labelMeaning a (x .rows)) ns ++ es) (St.means (scopeOf (x .scope)) (P.label 0) ns ++ es) es (D.taken s p ns (fromState s t x) c es) t′ n′ r) (so .opens)
             (comes-onward d s n x ds (St.means (scopeOf (x .scope)) (P.label 0) ns ++ es) es t′ n′ r (D.taken s p ns (fromState s t x) c es) on tk (subst (λ (u : Tally). Entered d n (x .tally) (bookWhole (x .tally .member) [] es) n′ u) (sym (h .keeps .tally)) e));
         before = h .keeps .entered;
         few = h .rows (i .room);
         own = kept;
         size = h .size;
+        marks = h .marks (read c) g placed (i .room);
       }
   clausal (St.undeclared w q es) g so e =
       let tk : Taken s t (withTally x z) p t′ r ns [] es (refused w q) = h .is (refused w q) ns [] es g placed (i .room) (omega (arith, i .sits .placed .deep)) (i .place) (i .labelled) in
@@ -139,6 +140,7 @@ module _ (d s t n : List ℕ) (x : State) (l : Lexeme) (from p labels : ℕ) (ns
         few = h .rows (i .room);
         own = kept;
         size = h .size;
+        marks = h .marks (refused w q) g placed (i .room);
       }
 
 -- without names
@@ -149,10 +151,10 @@ module _ (d s t n : List ℕ) (x : State) (l : Lexeme) (from p labels : ℕ) (ns
   clausal-read (refused w q) g so = clausal d s t n x l from p labels ns i o t′ n r (x .tally) y h refl (St.undeclared w q []) g tt (refl, refl)
 
 -- ---- what is read again
-stood-for : (s : List ℕ) (k : Statement) (c : ℕ) (v : ValueType) (R : Reading St.Clause) → ((x : St.Clause) → R ≡ read x → c < 65536) → ((x : St.Clause) → R ≡ read x → statementAt s k c ≡ x .statement) → Stood s (readFor k c v R) R
+stood-for : (s : List ℕ) (k : Statement) (c : ℕ) (v : ValueType) (R : Reading St.Clause) → ((x : St.Clause) → R ≡ read x → c < 65536) → ((x : St.Clause) → R ≡ read x → statementAt s k c ≡ x .statement) → ((x : St.Clause) → R ≡ read x → v ≡ typeIn (x .statement)) → Stood s (readFor k c v R) R
 unfolding readFor
-stood-for s k c v (read x) lc f = record { statement = f x refl; content = lc x refl; opens = refl; to = refl }
-stood-for s k c v (refused w q) lc f = (refl, refl)
+stood-for s k c v (read x) lc f g = record { statement = f x refl; content = lc x refl; opens = refl; to = refl; type = g x refl }
+stood-for s k c v (refused w q) lc f g = (refl, refl)
 
 real-name : (t : Tk.Token) → D.isName t ≡ true → Real t
 real-name (Tk.word w) e = tt
@@ -201,7 +203,7 @@ unfolding St.assignment St.ended readFor
 assign-stood s w at c lc f = by-tree (wholeExpression s at) f
   where
     by-sign : (T : Tree) (Q : Reading ℕ) → ((z : St.Clause) → then Q (λ e. read (St.clause (P.assign w T) St.opensNothing e)) ≡ read z → statementAt s S.Assign c ≡ z .statement) → Stood s (readFor S.Assign c FixedType (then Q (λ e. read (St.clause (P.assign [] T) St.opensNothing e)))) (then Q (λ e. read (St.clause (P.assign w T) St.opensNothing e)))
-    by-sign T (read e) g = record { statement = g (St.clause (P.assign w T) St.opensNothing e) refl; content = lc; opens = refl; to = refl }
+    by-sign T (read e) g = record { statement = g (St.clause (P.assign w T) St.opensNothing e) refl; content = lc; opens = refl; to = refl; type = refl }
     by-sign T (refused v q) g = (refl, refl)
 
     by-tree : (R : Reading Parsed) → ((z : St.Clause) → then R (λ r. then (expectSign ";" s (r .to)) (λ e. read (St.clause (P.assign w (r .tree)) St.opensNothing e))) ≡ read z → statementAt s S.Assign c ≡ z .statement)
@@ -247,53 +249,54 @@ module _ (d s t n : List ℕ) (x : State) (k : Keyword) (l : Lexeme) (from p lab
   at-word : (F : ℕ → Read) → y ≡ F (l .to) → Lexed s from l → y ≡ F (tokenAt s from .to)
   at-word F e lex = e ∙ ap F (lex .to)
 
-  plain : (kind : Statement) (R : ℕ → Reading St.Clause) (F : ℕ → Read) → ((c : ℕ) → F c ≡ readFor kind c FixedType (R c)) → ((c : ℕ) (z : St.Clause) → R c ≡ read z → statementAt s kind c ≡ z .statement) → y ≡ F (l .to)
+  plain : (o : St.Opens) → NoBody o → (kind : Statement) (R : ℕ → Reading St.Clause) → ((c : ℕ) → OpensSo o (R c)) → (F : ℕ → Read) → ((c : ℕ) → F c ≡ readFor kind c FixedType (R c)) → ((c : ℕ) (z : St.Clause) → R c ≡ read z → statementAt s kind c ≡ z .statement) → y ≡ F (l .to)
       → (ns : List Named) → Begun d s t n x l from p labels ns → isWordKind (l .kind) ≡ true → l .to - l .from ≤ 31 → Stood s y (R (tokenAt s from .to))
-  plain kind R F g a e ns i w c = subst (λ (u : Read). Stood s u (R (tokenAt s from .to))) (sym (at-word F e (i .lexed) ∙ g (tokenAt s from .to))) (stood-for s kind (tokenAt s from .to) FixedType (R (tokenAt s from .to)) (λ z q. word-end d s t n x l from p labels ns i w) (a (tokenAt s from .to)))
+  plain o nb kind R so F g a e ns i w c = subst (λ (u : Read). Stood s u (R (tokenAt s from .to))) (sym (at-word F e (i .lexed) ∙ g (tokenAt s from .to))) (stood-for s kind (tokenAt s from .to) FixedType (R (tokenAt s from .to)) (λ z q. word-end d s t n x l from p labels ns i w) (a (tokenAt s from .to)) (type-so o nb (R (tokenAt s from .to)) (so (tokenAt s from .to))))
 
   pub word-goto : (b : Bool) → k ≡ K.Goto → y ≡ plainFor k b s (l .from) (l .to) → ByWord d s t n x k l from p labels t′ n r
   unfolding plainFor
-  word-goto b e f = by K.Goto e (St.gotoClause s (tokenAt s from .to)) (goto-so s (tokenAt s from .to)) (plain S.Goto (St.gotoClause s) (λ c. plainFor K.Goto b s (l .from) c) (λ c. refl) (λ c z. again-goto s c z) (rw e at f)) (λ ns. refl)
+  word-goto b e f = by K.Goto e (St.gotoClause s (tokenAt s from .to)) (goto-so s (tokenAt s from .to)) (plain St.opensNothing tt S.Goto (St.gotoClause s) (goto-so s) (λ c. plainFor K.Goto b s (l .from) c) (λ c. refl) (λ c z. again-goto s c z) (rw e at f)) (λ ns. refl)
 
   pub word-include : (b : Bool) → k ≡ K.Include → y ≡ plainFor k b s (l .from) (l .to) → ByWord d s t n x k l from p labels t′ n r
   unfolding plainFor
-  word-include b e f = by K.Include e (St.includeClause s (tokenAt s from .to)) (include-so s (tokenAt s from .to)) (plain S.Include (St.includeClause s) (λ c. plainFor K.Include b s (l .from) c) (λ c. refl) (λ c z. again-include s c z) (rw e at f)) (λ ns. refl)
+  word-include b e f = by K.Include e (St.includeClause s (tokenAt s from .to)) (include-so s (tokenAt s from .to)) (plain St.opensNothing tt S.Include (St.includeClause s) (include-so s) (λ c. plainFor K.Include b s (l .from) c) (λ c. refl) (λ c z. again-include s c z) (rw e at f)) (λ ns. refl)
 
   pub word-activate : (b : Bool) → k ≡ K.Activate → y ≡ plainFor k b s (l .from) (l .to) → ByWord d s t n x k l from p labels t′ n r
   unfolding plainFor
-  word-activate b e f = by K.Activate e (St.activateClause s (tokenAt s from .to)) (activate-so s (tokenAt s from .to)) (plain S.Activate (St.activateClause s) (λ c. plainFor K.Activate b s (l .from) c) (λ c. refl) (λ c z. again-activate s c z) (rw e at f)) (λ ns. refl)
+  word-activate b e f = by K.Activate e (St.activateClause s (tokenAt s from .to)) (activate-so s (tokenAt s from .to)) (plain St.opensNothing tt S.Activate (St.activateClause s) (activate-so s) (λ c. plainFor K.Activate b s (l .from) c) (λ c. refl) (λ c z. again-activate s c z) (rw e at f)) (λ ns. refl)
 
   pub word-deactivate : (b : Bool) → k ≡ K.Deactivate → y ≡ plainFor k b s (l .from) (l .to) → ByWord d s t n x k l from p labels t′ n r
   unfolding plainFor
-  word-deactivate b e f = by K.Deactivate e (St.deactivateClause s (tokenAt s from .to)) (deactivate-so s (tokenAt s from .to)) (plain S.Deactivate (St.deactivateClause s) (λ c. plainFor K.Deactivate b s (l .from) c) (λ c. refl) (λ c z. again-deactivate s c z) (rw e at f)) (λ ns. refl)
+  word-deactivate b e f = by K.Deactivate e (St.deactivateClause s (tokenAt s from .to)) (deactivate-so s (tokenAt s from .to)) (plain St.opensNothing tt S.Deactivate (St.deactivateClause s) (deactivate-so s) (λ c. plainFor K.Deactivate b s (l .from) c) (λ c. refl) (λ c z. again-deactivate s c z) (rw e at f)) (λ ns. refl)
 
   pub word-return : (b : Bool) → k ≡ K.Return → y ≡ plainFor k b s (l .from) (l .to) → ByWord d s t n x k l from p labels t′ n r
   unfolding plainFor
-  word-return b e f = by K.Return e (St.returnClause s (tokenAt s from .to)) (return-so s (tokenAt s from .to)) (plain S.Return (St.returnClause s) (λ c. plainFor K.Return b s (l .from) c) (λ c. refl) (λ c z. again-return s c z) (rw e at f)) (λ ns. refl)
+  word-return b e f = by K.Return e (St.returnClause s (tokenAt s from .to)) (return-so s (tokenAt s from .to)) (plain St.opensNothing tt S.Return (St.returnClause s) (return-so s) (λ c. plainFor K.Return b s (l .from) c) (λ c. refl) (λ c z. again-return s c z) (rw e at f)) (λ ns. refl)
 
-  stands : (kind : Statement) (c : ℕ) (R : Reading St.Clause) → y ≡ readFor kind c FixedType R → ((z : St.Clause) → R ≡ read z → c < 65536) → ((z : St.Clause) → R ≡ read z → statementAt s kind c ≡ z .statement) → Stood s y R
-  stands kind c R e lc a = subst (λ (u : Read). Stood s u R) (sym e) (stood-for s kind c FixedType R lc a)
+  stands : (o : St.Opens) → NoBody o → (kind : Statement) (c : ℕ) (R : Reading St.Clause) → OpensSo o R → y ≡ readFor kind c FixedType R → ((z : St.Clause) → R ≡ read z → c < 65536) → ((z : St.Clause) → R ≡ read z → statementAt s kind c ≡ z .statement) → Stood s y R
+  stands o nb kind c R so e lc a = subst (λ (u : Read). Stood s u R) (sym e) (stood-for s kind c FixedType R lc a (type-so o nb R so))
 
   pub word-if : (b : Bool) → k ≡ K.If → b ≡ isInside (x .scope) → y ≡ plainFor k b s (l .from) (l .to) → ByWord d s t n x k l from p labels t′ n r
   unfolding plainFor stateOf
   word-if b e hb f =
       by K.If e (St.ifClause (D.isInside (scopeOf (x .scope))) s (tokenAt s from .to)) (if-so (D.isInside (scopeOf (x .scope))) s (tokenAt s from .to))
-      (plain S.Conditional (St.ifClause (D.isInside (scopeOf (x .scope))) s) (λ c. plainFor K.If b s (l .from) c) (λ c. ap (λ (u : Bool). readFor S.Conditional c FixedType (St.ifClause u s c)) (hb ∙ sym (inside-is (x .scope))))
+      (plain St.opensThen tt S.Conditional (St.ifClause (D.isInside (scopeOf (x .scope))) s) (if-so (D.isInside (scopeOf (x .scope))) s) (λ c. plainFor K.If b s (l .from) c) (λ c. ap (λ (u : Bool). readFor S.Conditional c FixedType (St.ifClause u s c)) (hb ∙ sym (inside-is (x .scope))))
       (λ c z. again-if s c z (D.isInside (scopeOf (x .scope)))) (rw e at f)) (λ ns. refl)
 
   pub word-go : (b : Bool) → k ≡ K.Go → y ≡ plainFor k b s (l .from) (l .to) → ByWord d s t n x k l from p labels t′ n r
   unfolding plainFor
   word-go b e f =
       by K.Go e (goClause s (tokenAt s from .to)) (go-so s (tokenAt s from .to))
-      (λ ns i w c. stands S.Goto (tokenAt s (tokenAt s from .to) .to) (goClause s (tokenAt s from .to)) (at-word (λ q. plainFor K.Go b s (l .from) q) (rw e at f) (i .lexed))
+      (λ ns i w c. stands St.opensNothing tt S.Goto (tokenAt s (tokenAt s from .to) .to) (goClause s (tokenAt s from .to)) (go-so s (tokenAt s from .to)) (at-word (λ q. plainFor K.Go b s (l .from) q) (rw e at f) (i .lexed))
       (λ z h. let q : tokenAt s (tokenAt s from .to) .to ≤ length s = go-end s (tokenAt s from .to) z h in omega (arith, q, i .sits .short)) (λ z. again-go s (tokenAt s from .to) z)) (λ ns. refl)
 
   pub word-do : (b : Bool) (m : ℕ) → k ≡ K.Do → Deep (x .opened) m → m < 16 → y ≡ plainFor k b s (l .from) (l .to) → ByWord d s t n x k l from p labels t′ n r
   unfolding plainFor stateOf
   word-do b m e deep low f =
       let there : D.doAt s (tokenAt s from .from) (tokenAt s from .to) (fromState s t x) ≡ St.doClause s (tokenAt s from .to) = do-there s (tokenAt s from .from) (tokenAt s from .to) (fromState s t x) m (deep .is s) low in
-      by K.Do e (St.doClause s (tokenAt s from .to)) (subst (OpensSo (opensBy K.Do)) there (do-so s (tokenAt s from .from) (tokenAt s from .to) (fromState s t x)))
-      (λ ns i w c. stands (doKind s (tokenAt s from .to)) (tokenAt s from .to) (St.doClause s (tokenAt s from .to)) (at-word (λ q. plainFor K.Do b s (l .from) q) (rw e at f) (i .lexed))
+      let so : OpensSo St.opensGroup (St.doClause s (tokenAt s from .to)) = subst (OpensSo St.opensGroup) there (do-so s (tokenAt s from .from) (tokenAt s from .to) (fromState s t x)) in
+      by K.Do e (St.doClause s (tokenAt s from .to)) so
+      (λ ns i w c. stands St.opensGroup tt (doKind s (tokenAt s from .to)) (tokenAt s from .to) (St.doClause s (tokenAt s from .to)) so (at-word (λ q. plainFor K.Do b s (l .from) q) (rw e at f) (i .lexed))
       (λ z h. word-end d s t n x l from p labels ns i w) (λ z. again-do s (tokenAt s from .to) z))
       (λ ns. ap (D.takeRead s p ns (fromState s t x)) there)
 
@@ -319,6 +322,10 @@ names-plain : (d n : List ℕ) (x : State) (n′ : List ℕ) (z : Tally) (Q : St
 names-plain d n x n′ z (St.declared c es) a h = entered-plain d n (x .tally) es n′ z a h
 names-plain d n x n′ z (St.undeclared w q es) a h = (ap (λ (b : Book). b .identifiers) (h .book), ap (λ (b : Book). b .past) (h .book))
 
+declares-open : (o : St.Opens) (Q : St.Declaring) → DeclaresSo o Q → OpensSo o (clauseIn Q)
+declares-open o (St.declared c es) h = h
+declares-open o (St.undeclared w q es) h = tt
+
 pub word-declare : (d s t n : List ℕ) (x : State) (k : Keyword) (l : Lexeme) (from p labels : ℕ) (t′ n′ : List ℕ) (r : Turned) (a : Declaring) → k ≡ K.Declare → DeclaresIf d s n (x .tally) (x .scope) (l .to) n′ a
     → TakesAs s t (withTally x (a .tally)) (a .read) p labels t′ r → ByWord d s t n x k l from p labels t′ n′ r
 unfolding stateOf
@@ -327,7 +334,8 @@ word-declare d s t n x k l from p labels t′ n′ r a e hd h = rw e (record {
       let Q : St.Declaring = St.declareFrom (scopeOf (x .scope)) s (length s) [] (tokenAt s from .to) in
       let g : Declares d s n (x .tally) (x .scope) (tokenAt s from .to) n′ a = subst (λ (q : ℕ). Declares d s n (x .tally) (x .scope) q n′ a) (i .lexed .to) (hd .is (i .sits .ready)) in
       clausal d s t n x l from p labels ns i (opensBy K.Declare) t′ n′ r (a .tally) (a .read) h (g .entered .member) Q
-      (subst (λ (u : Read). Stood s u (clauseIn Q)) (sym (g .is)) (stood-for s S.Declare (tokenAt s from .to) FixedType (clauseIn Q) (λ z q. word-end d s t n x l from p labels ns i w) (λ z q. again-declare-in s (tokenAt s from .to) z (x .scope) q)))
+      (subst (λ (u : Read). Stood s u (clauseIn Q)) (sym (g .is)) (stood-for s S.Declare (tokenAt s from .to) FixedType (clauseIn Q) (λ z q. word-end d s t n x l from p labels ns i w) (λ z q. again-declare-in s (tokenAt s from .to) z (x .scope) q)
+      (type-so St.opensNothing tt (clauseIn Q) (declares-open St.opensNothing Q (declare-so (scopeOf (x .scope)) s (length s) [] (tokenAt s from .to))))))
       (declare-so (scopeOf (x .scope)) s (length s) [] (tokenAt s from .to))
       (names-plain d n x n′ (a .tally) Q (declare-plain s (scopeOf (x .scope)) (length s) [] (tokenAt s from .to) tt) (g .entered));
 })
@@ -349,7 +357,7 @@ procedure-keeps s at r x = by (isRead r && isSpelled (bytesOf "(") (tokenAt s at
 
 stood-procedure : (s : List ℕ) (c : ℕ) (Q : St.Declaring) → c < 65536 → ((z : St.Clause) → clauseIn Q ≡ read z → statementAt s S.Procedure c ≡ z .statement) → Stood s (readProcedure c Q) (clauseIn Q)
 unfolding readProcedure
-stood-procedure s c (St.declared z es) lc f = record { statement = f z refl; content = lc; opens = refl; to = refl }
+stood-procedure s c (St.declared z es) lc f = record { statement = f z refl; content = lc; opens = refl; to = refl; type = refl }
 stood-procedure s c (St.undeclared w q es) lc f = (refl, refl)
 
 module _ (d s n : List ℕ) (x : State) (m c : ℕ) (ro : Roomy n (x .tally)) (y : Read) (hy : y ≡ readProcedure c (St.procedureClause (P.inside m) s c)) where

@@ -32,7 +32,7 @@ use Rattle.statements.specs.declared.Clause.{Clause}
 use Rattle.statements.specs.declared.Opens.{Opens}
 use Rattle.statements.specs.declared.Read.{Read}
 use Rattle.statements.specs.declared.Read.the-variants as Rd
-use Rattle.statements.specs.Clauses.{scopeOf, opensFor, Own, Ready}
+use Rattle.statements.specs.Clauses.{scopeOf, opensFor, Own, Ready, typeIn}
 use Rattle.statements.specs.Again.{statementAt}
 use Rattle.openings.specs.declared.Where.{Where}
 use Rattle.openings.specs.declared.Where.the-variants as Wh
@@ -157,6 +157,22 @@ pub record Keeps (x r : State) : Type 0 where
   pub tally : r .tally ≡ x .tally
   pub own : Own (x .tally .member) (x .scope) → Own (x .tally .member) (r .scope)
 
+-- ---- what the table has of a row beside its links and texts, and what the definition does not have: depth and type
+pub record Alike (a b : Row) : Type 0 where
+  pub statement : a .statement ≡ b .statement
+  pub content : a .content ≡ b .content
+  pub type : a .«value_type» ≡ b .«value_type»
+  pub depth : a .depth ≡ b .depth
+
+abbrev pub Typed : List ℕ → Row → Type 0
+Typed s x = x .«value_type» ≡ typeIn (statementAt s (x .statement) (x .content))
+
+-- the k rows of t are those of t′, which has n; a new one is as deep as what was open, and has the type of its statement
+pub record Marks (s t : List ℕ) (k : ℕ) (o : Opened) (t′ : List ℕ) (n : ℕ) : Type 0 where
+  pub kept : (i : ℕ) → i < k → Alike (rowIn t′ i) (rowIn t i)
+  pub depth : (i : ℕ) → k ≤ i → i < n → rowIn t′ i .depth ≡ D.depth (openedOf s o)
+  pub type : (i : ℕ) → k ≤ i → i < n → Typed s (rowIn t′ i)
+
 -- ---- the link to a new row n: from the last of its list, or from what it stands in
 abbrev pub linkAt : List ℕ → ℕ → ℕ → ℕ → List ℕ
 linkAt t k j n = over t (16 * k + j) (linkNumber (L.To n) ∷ [])
@@ -181,6 +197,8 @@ pub record Adds (t : List ℕ) (x : State) (c : Clause) (p : ℕ) (t′ : List �
   pub deep : 0 < x .opened .count → x .opened .count ≤ 20 → r .opened .count ≡ x .opened .count
   pub keeps : Keeps x r
   pub size : length t′ ≡ length t
+  pub marks : (s : List ℕ) → Placed s t x → x .rows < 1024 → c .content < 65536 → c .«value_type» ≡ typeIn (statementAt s (c .statement) (c .content))
+      → Marks s t (x .rows) (x .opened) t′ (r .rows)
 
 -- the text that the program or a group begins with
 pub record Leads (t : List ℕ) (x : State) (y : Stretch) (t′ : List ℕ) (r : State) : Type 0 where
@@ -190,6 +208,7 @@ pub record Leads (t : List ℕ) (x : State) (y : Stretch) (t′ : List ℕ) (r :
   pub rows : r .rows ≡ x .rows
   pub keeps : Keeps x r
   pub size : length t′ ≡ length t
+  pub marks : (i : ℕ) → Alike (rowIn t′ i) (rowIn t i)
 
 -- ---- behind a statement: of any rows and declarations
 pub record Ends (s : List ℕ) (x : State) (n e : ℕ) (r : Turned) : Type 0 where
@@ -213,6 +232,7 @@ pub record Again (s : List ℕ) (c : Clause) (x : St.Clause) : Type 0 where
   pub content : c .content < 65536
   pub opens : c .opens ≡ opensFor (x .opens)
   pub to : c .to ≡ x .to
+  pub type : c .«value_type» ≡ typeIn (x .statement)
 
 abbrev pub Stood : List ℕ → Read → Reading St.Clause → Type 0
 Stood s (Rd.Is c) (read x) = Again s c x
@@ -231,6 +251,7 @@ pub record TakesAs (s t : List ℕ) (x : State) (y : Read) (p labels : ℕ) (t�
   pub rows : x .rows < 1024 → r .state .rows ≤ suc (x .rows)
   pub keeps : Keeps x (r .state)
   pub size : length t′ ≡ length t
+  pub marks : (R : Reading St.Clause) → Stood s y R → Placed s t x → x .rows < 1024 → Marks s t (x .rows) (x .opened) t′ (r .state .rows)
 
 -- ---- what the definition's turn leaves: its state, and the sentence that it stopped at
 abbrev pub stateIn : D.Turn → D.State
@@ -307,6 +328,7 @@ pub record Takes (d s t n : List ℕ) (x : State) (X : D.Turn) (t′ n′ : List
   pub few : r .state .entered + r .state .rows ≤ 2048
   pub own : Own (x .tally .member) (r .state .scope)
   pub size : length t′ ≡ length t
+  pub marks : Marks s t (x .rows) (x .opened) t′ (r .state .rows)
 
 abbrev pub fromState : List ℕ → List ℕ → State → D.State
 fromState s t x = stateOf s t [] x
