@@ -23,7 +23,7 @@ use Rattle.names.specs.declared.Owner.{Owner}
 use Rattle.names.specs.declared.Owner.the-variants.{Everyone}
 use Rattle.entering.specs.declared.Tally.{Tally}
 use Rattle.statements.specs.declared.Clause.{Clause}
-use Rattle.statements.specs.Clauses.{scopeOf, Own, typeIn}
+use Rattle.statements.specs.Clauses.{scopeOf, Own}
 use Rattle.statements.specs.Again.{statementAt}
 use Rattle.openings.specs.declared.Where.{Where}
 use Rattle.openings.specs.declared.Where.the-variants as Wh
@@ -33,8 +33,8 @@ use Rattle.openings.specs.Open.{linkOf, roleOf, whereOf, lastOf, openOf, openFr
 use Rattle.openings.proofs.Stacked.{opened-size}
 use Rattle.reading.specs.declared.State.{State}
 use Rattle.reading.specs.declared.Mode.the-variants as Md
-use Rattle.reading.specs.State.{stretchOf, rowOf, rowsFrom, stateOf, modeOf, Within, Inside, Low, Around, Stand, Placed, After, Keeps, stretchAt, Alike, Typed, Marks, linkAt, linkLast, linkIn, Adds, Leads}
-use Rattle.reading.proofs.Rows.{rows-length, row-size, row-added, row-linked, row-there, next-set, child-set, other-set, lead-set, text-set, alike-self, alike-over}
+use Rattle.reading.specs.State.{stretchOf, rowOf, rowsFrom, stateOf, modeOf, Within, Inside, Low, Around, Stand, Placed, After, Keeps, stretchAt, Alike, Tells, Typed, Marks, linkAt, linkLast, linkIn, Adds, Leads}
+use Rattle.reading.proofs.Rows.{rows-length, row-size, row-added, row-linked, row-there, next-set, child-set, other-set, lead-set, text-set, alike-self, alike-over, typed-alike}
 
 -- ---- leaves
 pub stretch-is : (a b x y : ℕ) → x ≡ a % 65536 → y ≡ b % 65536 → _≡_ {A = Stretch} (record { from = x; to = y }) (stretchAt a b)
@@ -270,9 +270,6 @@ marks-added s t u v n m x o b small w hm hu ls hv hd ht =
       depth = λ i h q. let e : n ≡ i = omega (arith, hm) in subst (λ (z : ℕ). rowIn v z .depth ≡ D.depth (openedOf s b)) e (here .depth ∙ hd);
       type = λ i h q. let e : n ≡ i = omega (arith, hm) in subst (λ (z : ℕ). Typed s (rowIn v z)) e (typed-alike s (rowIn v n) x here ht);
     }
-  where
-    typed-alike : (s : List ℕ) (a b : Row) → Alike a b → Typed s b → Typed s a
-    typed-alike s a b h e = h .type ∙ e ∙ sym (ap (λ (z : Statement). typeIn (statementAt s z (a .content))) (h .statement) ∙ ap (λ (z : ℕ). typeIn (statementAt s (b .statement) z)) (h .content))
 
 pub adds : (t u v : List ℕ) (x : State) (c : Clause) (p q e d : ℕ) (o : Open) (par : Link) (ro : Role) (a b : Stretch) (m : ℕ) (f : Link) (z : Opened) (k : ℕ)
     → u ≡ over t (16 * x .rows) (numbersOf (record { statement = c .statement; place = q; content = e; «value_type» = c .«value_type»; depth = d; parent = par; role = ro; next = L.Nowhere; child = L.Nowhere; other = L.Nowhere; lead = a; text = b }))
@@ -305,7 +302,7 @@ adds t u v x c p q e d o par ro a b m f z k hu hv ho hq he hd hk hp hr ha hb hm 
       let same : e ≡ c .content = he ∙ mod-eq-of-lt lc in
       marks-added s t u v (x .rows) m (rowFrom c q e d par ro a b) o (x .opened) small (g .room) (hm .is (omega (arith, small))) hu
       (record { parent = parent-low s o par (x .rows) hp low small; next = refl; child = refl; other = refl }) hv
-      (hd ∙ mod-eq-of-lt few ∙ hk .is s) (ty ∙ ap (λ (i : ℕ). typeIn (statementAt s (c .statement) i)) (sym same));
+      (hd ∙ mod-eq-of-lt few ∙ hk .is s) (subst (λ (i : ℕ). Tells s (c .statement) i (c .«value_type»)) (sym same) ty);
 }
 
 -- ---- THE TEXT that the program or a group begins with

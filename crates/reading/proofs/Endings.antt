@@ -19,6 +19,7 @@ use Rattle.statements.specs.declared.Opens.{Opens}
 use Rattle.statements.specs.declared.Opens.the-variants as O
 use Rattle.statements.specs.declared.Read.{Read}
 use Rattle.statements.specs.declared.Read.the-variants as Rd
+use Rattle.rows.specs.Tabled.{kindOf}
 use Rattle.statements.specs.Clauses.{scopeOf, isInside, opensFor, Own, typeIn}
 use Rattle.statements.specs.Again.{statementAt}
 use Rattle.openings.specs.declared.Where.{Where}
@@ -310,7 +311,8 @@ module _ (s t : List ℕ) (x : State) (p labels : ℕ) (t′ : List ℕ) (r : Tu
 
       marked : (R : Reading St.Clause) → Stood s (Rd.Is c) R → Placed s t x → x .rows < 1024 → Marks s t (x .rows) (x .opened) t′ (r .state .rows)
       marked (read z) g q small =
-          subst (λ (m : ℕ). Marks s t (x .rows) (x .opened) t′ m) (sym (some .rows)) (h .marks s q small (g .content) (g .type ∙ ap typeIn (sym (g .statement))))
+          subst (λ (m : ℕ). Marks s t (x .rows) (x .opened) t′ m) (sym (some .rows)) (h .marks s q small (g .content)
+          (record { kind = g .kind ∙ ap kindOf (sym (g .statement)); type = g .type ∙ ap typeIn (sym (g .statement)) }))
       marked (refused w e) g q small = absurd g
 
       by : (R : Reading St.Clause) (ns : List Named) (ds es : List P.Declared) → Stood s (Rd.Is c) R → Placed s t x → x .rows < 1024 → x .opened .count < 20 → p < 65536

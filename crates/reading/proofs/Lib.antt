@@ -9,6 +9,7 @@ pub mod Owners
 pub mod Labelling
 pub mod Turning
 pub mod Walking
+pub mod Nested
 pub mod Standing
 pub mod Closing
 pub mod Rescoping

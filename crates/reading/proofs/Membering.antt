@@ -7,6 +7,7 @@ use mathlib.Core.List.{List, [], _∷_, _++_}
 use mathlib.Core.Path.{_≡_, refl, sym, ap, subst, _∙_}
 use lib.Dec.{ltb}
 use lib.ListN.{length}
+use Rattle.definition.specs.Deck.{lineAt}
 use Rattle.definition.specs.Limits.{enteredSentences}
 use Rattle.definition.specs.Program as P
 use Rattle.definition.specs.Reading as D
@@ -15,6 +16,8 @@ use Rattle.definition.specs.Names as N
 use Rattle.definition.specs.declared.Why.{Why}
 use Rattle.definition.specs.declared.Why.the-variants.{Syntax, OverLimit}
 use Rattle.deck.specs.Answer.{bodyIn}
+use Rattle.rows.specs.Table.{rowIn}
+use Rattle.rows.specs.Tabled.{Tabled}
 use Rattle.entering.specs.declared.Mark.{Mark}
 use Rattle.entering.specs.declared.Mark.the-variants.{Unmarked, Marked}
 use Rattle.entering.specs.declared.Tally.{Tally}
@@ -33,7 +36,7 @@ use Rattle.reading.specs.declared.Mode.the-variants as Md
 use Rattle.reading.specs.declared.Next.{Next}
 use Rattle.reading.specs.declared.Next.the-variants as Nx
 use Rattle.reading.specs.State as T
-use Rattle.reading.specs.State.{rowsFrom, stateOf, modeOf, nextOf, turnOf, stateIn, Sits, Goes, Stops, Does, Over, Counts, early, last, Fits, Way, does, stops, Takes, fromState, Follows, Turns, Begins, Enough, sourceOf, Reads}
+use Rattle.reading.specs.State.{rowsFrom, stateOf, modeOf, nextOf, turnOf, stateIn, Typed, Sits, Goes, Stops, Does, Over, Counts, early, last, Fits, Way, does, stops, Takes, fromState, Follows, Turns, Begins, Enough, sourceOf, Reads}
 use Rattle.reading.specs.Members.{namesOf, Has, Enters, goes-in, stays-out, baseOf, Fresh, Whole, Membered, Members}
 use Rattle.reading.proofs.Rows.{rows-length}
 use Rattle.reading.proofs.Turning.{opened-length}
@@ -42,7 +45,8 @@ use Rattle.reading.proofs.Owners.{Kept, OwnTurn, going, names-turn, who
 use Rattle.reading.proofs.Parameters.{Owned, Almost, almost-self, whole-almost, fault-either}
 use Rattle.reading.proofs.Growth as G
 use Rattle.reading.proofs.Growth.{Sentence, decides-past, all-entered, last-entered}
-use Rattle.reading.proofs.Standing.{Well, WellFor, WellTurn, turn-well, start-well, Ongoing, goes-on}
+use Rattle.reading.proofs.Nested.{Nested, Deep, DeepTurn, turn-deep, nested-by, deep-by, start-deep, depthIn, depthFrom, from-old, from-new, from-marks, types-on, tabled}
+use Rattle.reading.proofs.Standing.{Well, WellFor, WellTurn, shallow, turn-well, start-well, Ongoing, goes-on}
 use Rattle.reading.proofs.Bounds.{InTurn, turn-in}
 
 -- ---- THE LOOP: f turns are left, of the member m whose body is s; b are the names before it
@@ -52,6 +56,8 @@ pub record Going (d s : List ℕ) (m entered : ℕ) (b : Book) (t n : List ℕ) 
   pub within : at ≤ length s
   pub well : Well (fromState s t x)
   pub fit : WellFor (modeOf mode) (fromState s t x)
+  pub deep : Deep (depthIn t) (fromState s t x)
+  pub typed : (i : ℕ) → i < x .rows → Typed s (rowIn t i)
   pub member : x .tally .member ≡ m
   pub before : x .entered ≡ entered
   pub done : List P.Declared
@@ -68,10 +74,10 @@ well-first : (st : D.State) → st ≡ D.start → WellFor D.leadingText st
 unfolding D.depth
 well-first st e = rw e (omega arith)
 
-pub loop-start : (d t n : List ℕ) (m entered names : ℕ) (s : List ℕ) → s ≡ bodyIn d m → (base : ℕ) → base ≡ baseOf d m → (x : State) → Begins m base entered names x → (f : ℕ) → Enough s f
+pub loop-start : (d t n : List ℕ) (m entered names : ℕ) (s : List ℕ) → s ≡ bodyIn d m → (p base : ℕ) → p ≡ lineAt d m .offset → base ≡ p % 65536 → (x : State) → Begins m base entered names x → (f : ℕ) → Enough s f
     → Loop d t n m entered names s t n x Md.Leading 0 f
 unfolding bookOf bookWhole D.readMember
-loop-start d t n m entered names s hs base hb x h f e = record {
+loop-start d t n m entered names s hs p base hp hb x h f e = record {
   body = hs;
   so = λ k.
       let y : x .tally ≡ tallyOf m base names Unmarked Unmarked = h .tally in
@@ -80,7 +86,7 @@ loop-start d t n m entered names s hs base hb x h f e = record {
         sits = record {
           ready = record {
             roomy = subst (λ (z : Tally). Roomy n z) (sym y) (record { size = k .room; few = k .few });
-            lies = subst (λ (z : Tally). Lies d s (z .base)) (sym y) (subst (λ (i : ℕ). Lies d s i) (sym hb) (k .lies));
+            lies = subst (λ (z : Tally). Lies d s (z .base)) (sym y) (subst (λ (i : ℕ). Lies d s i) (sym (hb ∙ ap (λ (i : ℕ). i % 65536) hp)) (k .lies));
             own = rw (h .scope) tt;
           };
           few = omega (arith, h .entered, h .rows, k .sentences);
@@ -91,6 +97,8 @@ loop-start d t n m entered names s hs base hb x h f e = record {
         within = omega arith;
         well = subst Well (sym (h .is s t)) start-well;
         fit = well-first (fromState s t x) (h .is s t);
+        deep = subst (Deep (depthIn t)) (sym (h .is s t)) (start-deep (depthIn t));
+        typed = λ i l. absurd (omega (arith, h .rows));
         member = ap (λ (z : Tally). z .member) y;
         before = h .entered;
         done = [];
@@ -123,6 +131,21 @@ module _ (d s : List ℕ) (m entered : ℕ) (b : Book) (t n : List ℕ) (x : Sta
   well-turn : WellTurn X
   well-turn = turn-well s (modeOf mode) at (fromState s t x) (h .well) (h .fit)
 
+  -- new rows are as deep as what is open
+  abbrev depths : ℕ → ℕ
+  depths = depthFrom t (x .rows) (D.depth (openedOf s (x .opened)))
+
+  deep-turn : DeepTurn depths X
+  unfolding stateOf
+  deep-turn =
+      let n : length (rowsFrom s t 0 (x .rows)) ≡ x .rows = rows-length s t 0 (x .rows) in
+      turn-deep depths s (modeOf mode) at (fromState s t x)
+      (deep-by (depthIn t) depths (fromState s t x) (λ i l. from-old t (x .rows) (D.depth (openedOf s (x .opened))) i (omega (arith, l, n))) (h .deep))
+      (ap depths n ∙ from-new t (x .rows) (D.depth (openedOf s (x .opened)))) some-open (shallow (modeOf mode) (fromState s t x) (h .fit))
+
+  deep-rows : (t′ n′ : List ℕ) (r : Turned) → Takes d s t n x X t′ n′ r → (i : ℕ) → i < length (rowsFrom s t′ 0 (r .state .rows)) → depths i ≡ depthIn t′ i
+  deep-rows t′ n′ r k i l = from-marks s t (x .rows) (x .opened) t′ (r .state .rows) (k .marks) i (omega (arith, l, rows-length s t′ 0 (r .state .rows)))
+
   module _ (t′ n′ : List ℕ) (r : Turned) (k : Takes d s t n x X t′ n′ r) where
     module _ (m′ : Mode) (e : ℕ) (hn : r .next ≡ Nx.Go m′ e) where
       going-on : {y : D.Mode} {q : ℕ} {u : D.State} → OwnTurn (x .rows) (D.go y q u) → Kept (x .rows) u
@@ -134,6 +157,7 @@ module _ (d s : List ℕ) (m entered : ℕ) (b : Book) (t n : List ℕ) (x : Sta
           let on : Ongoing d s t′ n′ (r .state) m′ = goes-on d s t n x X t′ n′ r m′ e (h .sits) k g hn well-turn in
           let w : WellTurn (D.go (modeOf m′) e u) = subst WellTurn hx well-turn in
           let v : Well (stateOf s t′ (u .declared) (r .state)) = subst Well hu (w .0) in
+          let y : Deep depths (stateOf s t′ (u .declared) (r .state)) = subst (Deep depths) hu (subst (DeepTurn depths) hx deep-turn) in
           let rows : length (u .rows) ≡ r .state .rows = ap (λ (z : D.State). length (z .rows)) hu ∙ rows-length s t′ 0 (r .state .rows) in
           record {
             sits = on .sits;
@@ -141,6 +165,8 @@ module _ (d s : List ℕ) (m entered : ℕ) (b : Book) (t n : List ℕ) (x : Sta
             within = subst (InTurn s) hx (turn-in s (modeOf mode) at (fromState s t x) (h .within));
             well = record { few = v .few; stand = v .stand; count = v .count };
             fit = fits (modeOf m′) (subst (WellFor (modeOf m′)) hu (w .1));
+            deep = deep-by depths (depthIn t′) (stateOf s t′ [] (r .state)) (deep-rows t′ n′ r k) (record { rows = y .rows; around = y .around });
+            typed = types-on s t (x .rows) (x .opened) t′ (r .state .rows) (k .marks) (h .typed);
             member = g .entered .member ∙ h .member;
             before = k .before ∙ h .before;
             done = h .done ++ u .declared;
@@ -366,13 +392,19 @@ module _ (d s n₀ : List ℕ) (m entered names : ℕ) (t n : List ℕ) (x : Sta
     finished u hx hu g y hy =
         let src : D.readMember s ≡ D.source (behind (h .done) u) [] P.sound = ends (D.finish u) hx ∙ finish-on s f (behind (h .done) u) in
         let q : Tally = r .state .tally in
+        let same : rowsFrom s t′ 0 (r .state .rows) ≡ D.readMember s .rows = ap (λ (v : D.State). v .rows) (sym hu) ∙ ap (λ (v : P.Source). v .rows) (sym src) in
+        let depths : ℕ → ℕ = depthFrom t (x .rows) (D.depth (openedOf s (x .opened))) in
         let rows : length (u .rows) ≡ r .state .rows = ap (λ (z : D.State). length (z .rows)) hu ∙ rows-length s t′ 0 (r .state .rows) in
         rw hy (record {
           whole = λ z. record {
             reads = record {
               lead = ap (λ (v : D.State). v .lead) (sym hu) ∙ ap (λ (v : P.Source). v .lead) (sym src);
               first = ap (λ (v : D.State). v .first) (sym hu) ∙ ap (λ (v : P.Source). v .first) (sym src);
-              rows = ap (λ (v : D.State). v .rows) (sym hu) ∙ ap (λ (v : P.Source). v .rows) (sym src);
+              rows = same;
+              tabled = subst (Tabled t′) same (tabled s t′ (r .state .rows)
+                  (nested-by depths (depthIn t′) (rowsFrom s t′ 0 (r .state .rows)) (deep-rows d s m entered b t n x mode at f h t′ n′ r k)
+                  (subst (λ (v : D.State). Nested depths (v .rows)) hu (subst (DeepTurn depths) hx (deep-turn d s m entered b t n x mode at f h))))
+                  (types-on s t (x .rows) (x .opened) t′ (r .state .rows) (k .marks) (h .typed)));
               names = unmarked q (sound-clean (q .past) (q .second) z) ∙ whole-names u hx g ∙ ap (λ (v : P.Source). bookWhole m [] (v .declared) b) (sym src);
             };
             few = g .entered .roomy .few;

@@ -15,11 +15,15 @@ use Rattle.definition.specs.Program as P
 use Rattle.definition.specs.Reading as D
 use Rattle.rows.specs.declared.Link.the-variants.{To}
 use Rattle.rows.specs.declared.Stretch.{Stretch}
+use Rattle.rows.specs.declared.Statement.{Statement}
 use Rattle.rows.specs.declared.Row.{Row}
+use Rattle.rows.specs.Tabled.{kindOf}
 use Rattle.rows.specs.Table.{linkNumber, stretchNumbers, numbersOf, statementIn, typeIn, rowIn}
 use Rattle.rows.proofs.Laws.{kept, Links, row-back, row-other}
+use Rattle.statements.specs.Clauses as Cl
+use Rattle.statements.specs.Again.{statementAt}
 use Rattle.openings.specs.declared.Opened.{Opened}
-use Rattle.reading.specs.State.{stretchOf, rowOf, rowsFrom, Alike, Marks}
+use Rattle.reading.specs.State.{stretchOf, rowOf, rowsFrom, Alike, Typed, Marks}
 
 -- ---- lists of rows by number
 module _ (s t u : List ℕ) where
@@ -208,6 +212,11 @@ alike-over t xs k j i l w = record { statement = ap statementIn (cell 0 (lit< tt
 
     cell : (c : ℕ) → c < 5 → getD (over t (16 * k + j) xs) (16 * i + c) 0 ≡ getD t (16 * i + c) 0
     cell = by (ltb k i) refl
+
+pub typed-alike : (s : List ℕ) (a b : Row) → Alike a b → Typed s b → Typed s a
+typed-alike s a b h e =
+    let same : statementAt s (a .statement) (a .content) ≡ statementAt s (b .statement) (b .content) = ap (λ (z : Statement). statementAt s z (a .content)) (h .statement) ∙ ap (statementAt s (b .statement)) (h .content) in
+    record { kind = h .statement ∙ e .kind ∙ ap kindOf (sym same); type = h .type ∙ e .type ∙ ap Cl.typeIn (sym same) }
 
 -- so of a turn that adds no row
 pub marks-none : (s t : List ℕ) (k : ℕ) (o : Opened) (n : ℕ) → n ≤ k → Marks s t k o t n

@@ -196,7 +196,7 @@ module _ (s : List ℕ) where
   steps = record {
     stops = λ w p begun st. tt;
     finishes = λ st h. tt;
-    takes = λ p ns st c es h d small o r. taken-well p ns st h d small c es r;
+    takes = λ k p ns st c es h d small o r. taken-well p ns st h d small c es r;
     ends = ends;
     relinks = λ k g st r h. record { few = omega (arith, change-length k g (st .rows), h .few); stand = subst (λ (m : ℕ). Stand m (st .opened)) (sym (change-length k g (st .rows))) (h .stand); count = h .count };
     leads = λ x st h. record { few = h .few; stand = h .stand; count = h .count };

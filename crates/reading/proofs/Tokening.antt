@@ -19,6 +19,7 @@ use Rattle.definition.specs.declared.Why.the-variants.{Syntax, OverLimit}
 use Rattle.tokens.specs.declared.Lexeme.{Lexeme}
 use Rattle.tokens.specs.Answer.{Lexed, spelling, isWordKind, isWordIn, isSignIn}
 use Rattle.tokens.proofs.Lexemes.{is-sign}
+use Rattle.rows.specs.declared.Statement.the-variants as S
 use Rattle.statements.specs.declared.Keyword.{Keyword}
 use Rattle.statements.specs.declared.Keyword.the-variants as K
 use Rattle.statements.specs.declared.Read.{Read}
@@ -67,7 +68,7 @@ module _ (d s t n : List ℕ) (x : State) (k : Keyword) (l : Lexeme) (from p lab
   wrong : (w : Why) → r ≡ turned x (Nx.Stop w (l .from)) → ((ns : List Named) → Lexed s from l → D.byToken (tokenAt s from .token) s p ns (tokenAt s from) (fromState s t x) ≡ D.untaken p ns (fromState s t x) w (l .from) []) → ByToken d s t n x k l from p labels t n r
   wrong w hr f = record {
     so = λ ns c i hk hc. subst (λ (X : D.Turn). Clausal d s t n x (D.labelMeaning (opensBy k) (x .rows)) ns X t n r) (sym (f ns (i .lexed)))
-        (clausal-read d s t n x l from p labels ns i (opensBy k) t r (Rd.Refused w (l .from)) (takes-refused s t x p labels r (Rd.Refused w (l .from)) w (l .from) refl hr) (refused w (l .from)) (refl, refl) tt);
+        (clausal-read d s t n x l from p labels ns i S.Null (opensBy k) t r (Rd.Refused w (l .from)) (takes-refused s t x p labels r (Rd.Refused w (l .from)) w (l .from) refl hr) (refused w (l .from)) (refl, refl) tt);
   }
 
   pub token-too-long : (m : ℕ) → v ≡ true → m ≡ l .to - l .from → 31 < m → r ≡ turned x (Nx.Stop OverLimit (l .from)) → ByToken d s t n x k l from p labels t n r
@@ -79,7 +80,7 @@ module _ (d s t n : List ℕ) (x : State) (k : Keyword) (l : Lexeme) (from p lab
 
     null-stood : (y : Read) → y ≡ nullFor (l .from) (l .to) → l .from < 65536 → Stood s y (read (St.clause P.null St.opensNothing (l .to)))
     unfolding nullFor readFor statementAt
-    null-stood y hy low = rw hy (record { statement = refl; content = low; opens = refl; to = refl; type = refl })
+    null-stood y hy low = rw hy (record { statement = refl; content = low; opens = refl; to = refl; kind = refl; type = refl })
 
     pub token-empty : (y : Read) (t′ : List ℕ) → g ≡ true → y ≡ nullFor (l .from) (l .to) → TakesAs s t x y p labels t′ r → ByToken d s t n x k l from p labels t′ n r
     token-empty y t′ f hy h = record {
@@ -87,5 +88,5 @@ module _ (d s t n : List ℕ) (x : State) (k : Keyword) (l : Lexeme) (from p lab
           let b : (tokenAt s from .from < tokenAt s from .to) × (tokenAt s from .to ≤ length s) = token-on s from .some (sign-real ";" (tokenAt s from .token) (sym (is-sign s from l (i .lexed) ";" (59 ∷ []) refl) ∙ sym hg ∙ f)) in
           let z : k ≡ K.Other = hk ∙ no-keyword s (D.kindOf (openedOf s (x .opened))) (D.isInside (scopeOf (x .scope))) l c (sym hv ∙ e) in
           subst (λ (X : D.Turn). Clausal d s t n x (D.labelMeaning (opensBy k) (x .rows)) ns X t′ n r) (sym (token-null s p ns (fromState s t x) from l (i .lexed) (sym hv ∙ e) (sym hg ∙ f)))
-          (clausal-read d s t n x l from p labels ns i (opensBy k) t′ r y h (read (St.clause P.null St.opensNothing (l .to))) (null-stood y hy (omega (arith, b .0, b .1, i .lexed .from, i .sits .short))) (record { opens = ap opensBy (sym z); statement = ap opensBy (sym z) }));
+          (clausal-read d s t n x l from p labels ns i S.Null (opensBy k) t′ r y h (read (St.clause P.null St.opensNothing (l .to))) (null-stood y hy (omega (arith, b .0, b .1, i .lexed .from, i .sits .short))) (record { opens = ap opensBy (sym z); statement = ap opensBy (sym z); kind = refl }));
     }

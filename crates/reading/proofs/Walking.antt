@@ -18,7 +18,9 @@ use Rattle.definition.specs.Reading as D
 use Rattle.definition.specs.declared.Why.{Why}
 use Rattle.definition.specs.declared.Why.the-variants.{Syntax, OverLimit}
 use Rattle.definition.proofs.Choices.{when-has, cond-has}
-use Rattle.statements.specs.Clauses.{goClause}
+use Rattle.rows.specs.declared.Statement.{Statement}
+use Rattle.rows.specs.declared.Statement.the-variants as S
+use Rattle.statements.specs.Clauses.{goClause, doKind}
 use Rattle.openings.specs.Open.{otherAt}
 use Rattle.openings.proofs.Keywords.{OpensBoth, OpensSo, DeclaresSo, if-so, do-so, goto-so, go-so, include-so, activate-so, deactivate-so, return-so, other-so, declare-so, procedure-so}
 
@@ -57,7 +59,7 @@ Shallow D.inner st = D.depth (st .opened) ≤ 16
 pub record Steps (s : List ℕ) (G : D.State → Type 0) (Q : D.Turn → Type 0) : Type 0 where
   pub stops : (w : Why) (p : ℕ) (begun : List ℕ) (st : D.State) → Q (D.stop w p begun st)
   pub finishes : (st : D.State) → G st → Q (D.finish st)
-  pub takes : (p : ℕ) (ns : List Named) (st : D.State) (c : St.Clause) (es : List P.Declared) → G st → D.depth (st .opened) ≤ 16 → length (st .rows) < 1024 → OpensBoth (c .opens) c → Room (c .opens) st → Q (D.taken s p ns st c es)
+  pub takes : (k : Statement) (p : ℕ) (ns : List Named) (st : D.State) (c : St.Clause) (es : List P.Declared) → G st → D.depth (st .opened) ≤ 16 → length (st .rows) < 1024 → OpensBoth k (c .opens) c → Room (c .opens) st → Q (D.taken s p ns st c es)
   pub ends : (o : D.Open) (os : List D.Open) (ns : List Named) (e : ℕ) (st : D.State) → G st → st .opened ≡ o ∷ os → Ended (o .kind) → D.depth (st .opened) ≤ 16 → Q (D.endRead s ns o os st (read e))
   pub relinks : (k : ℕ) (g : P.Row → P.Row) (st : D.State) → Relinks g → G st → G (D.withRows (D.change k g (st .rows)) st)
   pub leads : (x : P.Stretch) (st : D.State) → G st → G (D.withLead x st)
@@ -68,32 +70,32 @@ module _ (s : List ℕ) (G : D.State → Type 0) (Q : D.Turn → Type 0) (k : St
     untaken : (w : Why) (q : ℕ) (es : List P.Declared) → Q (D.untaken p ns st w q es)
     untaken w q es = k .stops w q (p ∷ []) (D.withNames (St.means (st .scope) (P.label 0) ns ++ es) st)
 
-    took : (o : St.Opens) (c : St.Clause) (es : List P.Declared) → OpensBoth o c → Room o st → Q (D.taken s p ns st c es)
-    took o c es e r = k .takes p ns st c es h d small (subst (λ (z : St.Opens). OpensBoth z c) (sym (e .opens)) e) (subst (λ (z : St.Opens). Room z st) (sym (e .opens)) r)
+    took : (i : Statement) (o : St.Opens) (c : St.Clause) (es : List P.Declared) → OpensBoth i o c → Room o st → Q (D.taken s p ns st c es)
+    took i o c es e r = k .takes i p ns st c es h d small (subst (λ (z : St.Opens). OpensBoth i z c) (sym (e .opens)) e) (subst (λ (z : St.Opens). Room z st) (sym (e .opens)) r)
 
-    take-read : (o : St.Opens) (R : Reading St.Clause) → OpensSo o R → Room o st → Q (D.takeRead s p ns st R)
-    take-read o (read c) e r = took o c [] e r
-    take-read o (refused w q) e r = untaken w q []
+    take-read : (i : Statement) (o : St.Opens) (R : Reading St.Clause) → OpensSo i o R → Room o st → Q (D.takeRead s p ns st R)
+    take-read i o (read c) e r = took i o c [] e r
+    take-read i o (refused w q) e r = untaken w q []
 
-    take-declared : (o : St.Opens) (R : St.Declaring) → DeclaresSo o R → Room o st → Q (D.takeDeclared s p ns st R)
-    take-declared o (St.declared c es) e r = took o c es e r
-    take-declared o (St.undeclared w q es) e r = untaken w q es
+    take-declared : (i : Statement) (o : St.Opens) (R : St.Declaring) → DeclaresSo i o R → Room o st → Q (D.takeDeclared s p ns st R)
+    take-declared i o (St.declared c es) e r = took i o c es e r
+    take-declared i o (St.undeclared w q es) e r = untaken w q es
 
     do-walk : (from to : ℕ) → Q (D.takeRead s p ns st (D.doAt s from to st))
     unfolding D.doAt
     do-walk from to = by (ltb (D.depth (st .opened)) openGroups) refl (do-so s from to st)
       where
-        by : (b : Bool) → ltb (D.depth (st .opened)) openGroups ≡ b → OpensSo St.opensGroup (D.doAt s from to st) → Q (D.takeRead s p ns st (D.doAt s from to st))
-        by true e o = take-read St.opensGroup (D.doAt s from to st) o (ltb-true (D.depth (st .opened)) openGroups e)
+        by : (b : Bool) → ltb (D.depth (st .opened)) openGroups ≡ b → OpensSo (doKind s to) St.opensGroup (D.doAt s from to st) → Q (D.takeRead s p ns st (D.doAt s from to st))
+        by true e o = take-read (doKind s to) St.opensGroup (D.doAt s from to st) o (ltb-true (D.depth (st .opened)) openGroups e)
         by false e o = rw e (untaken OverLimit from [])
 
     common-walk : (t : Lexeme) (g : Unit {0} → D.Turn) → Q (g tt) → Q (D.common s t st (D.takeRead s p ns st) g)
     unfolding D.common goClause
     common-walk t g i =
-        when-has Q (isWord "IF" (t .token)) _ _ (λ _. take-read St.opensThen (St.ifClause (D.isInside (st .scope)) s (t .to)) (if-so (D.isInside (st .scope)) s (t .to)) tt) λ _.
+        when-has Q (isWord "IF" (t .token)) _ _ (λ _. take-read S.Conditional St.opensThen (St.ifClause (D.isInside (st .scope)) s (t .to)) (if-so (D.isInside (st .scope)) s (t .to)) tt) λ _.
         when-has Q (isWord "DO" (t .token)) _ _ (λ _. do-walk (t .from) (t .to)) λ _.
-        when-has Q (isWord "GOTO" (t .token)) _ _ (λ _. take-read St.opensNothing (St.gotoClause s (t .to)) (goto-so s (t .to)) tt) λ _.
-        when-has Q (isWord "GO" (t .token)) _ _ (λ _. take-read St.opensNothing (goClause s (t .to)) (go-so s (t .to)) tt) λ _. i
+        when-has Q (isWord "GOTO" (t .token)) _ _ (λ _. take-read S.Goto St.opensNothing (St.gotoClause s (t .to)) (goto-so s (t .to)) tt) λ _.
+        when-has Q (isWord "GO" (t .token)) _ _ (λ _. take-read S.Goto St.opensNothing (goClause s (t .to)) (go-so s (t .to)) tt) λ _. i
 
     outside : (a : Bool) (j : P.Scope) (b c : Bool) → (a && not (D.isInside j) && b && c) ≡ true → procedures j ≡ 0
     outside false j b c e = absurd (false≢true e)
@@ -103,21 +105,21 @@ module _ (s : List ℕ) (G : D.State → Type 0) (Q : D.Turn → Type 0) (k : St
     list-walk : (t : Lexeme) (g : Unit {0} → D.Turn) → Q (g tt) → Q (D.inList s p ns t st g)
     unfolding D.inList
     list-walk t g i =
-        when-has Q (D.isList (D.kindOf (st .opened)) && D.isDeclare (t .token)) _ _ (λ _. take-declared St.opensNothing (St.declareFrom (st .scope) s (length s) [] (t .to)) (declare-so (st .scope) s (length s) [] (t .to)) tt) λ _.
+        when-has Q (D.isList (D.kindOf (st .opened)) && D.isDeclare (t .token)) _ _ (λ _. take-declared S.Declare St.opensNothing (St.declareFrom (st .scope) s (length s) [] (t .to)) (declare-so (st .scope) s (length s) [] (t .to)) tt) λ _.
         when-has Q (D.isList (D.kindOf (st .opened)) && not (D.isInside (st .scope)) && not (D.isNone ns) && D.isProcedure (t .token)) _ _
-        (λ e. take-declared St.opensBody (St.procedureClause (P.inside (length (st .rows))) s (t .to)) (procedure-so (P.inside (length (st .rows))) s (t .to)) (outside (D.isList (D.kindOf (st .opened))) (st .scope) (not (D.isNone ns)) (D.isProcedure (t .token)) e)) λ _. i
+        (λ e. take-declared S.Procedure St.opensBody (St.procedureClause (P.inside (length (st .rows))) s (t .to)) (procedure-so (P.inside (length (st .rows))) s (t .to)) (outside (D.isList (D.kindOf (st .opened))) (st .scope) (not (D.isNone ns)) (D.isProcedure (t .token)) e)) λ _. i
 
     outer-walk : (j : P.Scope) (t : Lexeme) (g : Unit {0} → D.Turn) → Q (g tt) → Q (D.outer j s t (D.takeRead s p ns st) g)
     outer-walk P.global t g i =
-        when-has Q (isWord "INCLUDE" (t .token)) _ _ (λ _. take-read St.opensNothing (St.includeClause s (t .to)) (include-so s (t .to)) tt) λ _.
-        when-has Q (isWord "ACTIVATE" (t .token) || isWord "ACT" (t .token)) _ _ (λ _. take-read St.opensNothing (St.activateClause s (t .to)) (activate-so s (t .to)) tt) λ _.
-        when-has Q (isWord "DEACTIVATE" (t .token) || isWord "DEACT" (t .token)) _ _ (λ _. take-read St.opensNothing (St.deactivateClause s (t .to)) (deactivate-so s (t .to)) tt) λ _. i
-    outer-walk (P.inside r) t g i = when-has Q (isWord "RETURN" (t .token)) _ _ (λ _. take-read St.opensNothing (St.returnClause s (t .to)) (return-so s (t .to)) tt) λ _. i
+        when-has Q (isWord "INCLUDE" (t .token)) _ _ (λ _. take-read S.Include St.opensNothing (St.includeClause s (t .to)) (include-so s (t .to)) tt) λ _.
+        when-has Q (isWord "ACTIVATE" (t .token) || isWord "ACT" (t .token)) _ _ (λ _. take-read S.Activate St.opensNothing (St.activateClause s (t .to)) (activate-so s (t .to)) tt) λ _.
+        when-has Q (isWord "DEACTIVATE" (t .token) || isWord "DEACT" (t .token)) _ _ (λ _. take-read S.Deactivate St.opensNothing (St.deactivateClause s (t .to)) (deactivate-so s (t .to)) tt) λ _. i
+    outer-walk (P.inside r) t g i = when-has Q (isWord "RETURN" (t .token)) _ _ (λ _. take-read S.Return St.opensNothing (St.returnClause s (t .to)) (return-so s (t .to)) tt) λ _. i
 
     by-word : (w : List ℕ) (t u : Lexeme) → Q (D.byWord s p ns w t u st)
     unfolding D.byWord otherAt
     by-word w t u =
-        when-has Q (isSign "=" (u .token)) _ _ (λ e. take-read St.opensNothing (St.assignment s w (u .to)) (rw e at (other-so s w u)) tt) λ _.
+        when-has Q (isSign "=" (u .token)) _ _ (λ e. take-read S.Assign St.opensNothing (St.assignment s w (u .to)) (rw e at (other-so s w u)) tt) λ _.
         common-walk t _ (outer-walk (st .scope) t _ (list-walk t _ (untaken Syntax (u .from) [])))
 
     by-name : (n : Reading Named) (t : Lexeme) → Q (D.byName n s p ns t st)
@@ -129,7 +131,7 @@ module _ (s : List ℕ) (G : D.State → Type 0) (Q : D.Turn → Type 0) (k : St
     by-token (Tk.integer w) t = untaken Syntax (t .from) []
     by-token (Tk.string w) t = untaken Syntax (t .from) []
     by-token (Tk.bits w) t = untaken Syntax (t .from) []
-    by-token (Tk.sign w) t = when-has Q (isSign ";" (Tk.sign w)) _ _ (λ _. took St.opensNothing (St.clause P.null St.opensNothing (t .to)) [] (record { opens = refl; statement = refl }) tt) λ _. untaken Syntax (t .from) []
+    by-token (Tk.sign w) t = when-has Q (isSign ";" (Tk.sign w)) _ _ (λ _. took S.Null St.opensNothing (St.clause P.null St.opensNothing (t .to)) [] (record { opens = refl; statement = refl; kind = refl }) tt) λ _. untaken Syntax (t .from) []
     by-token Tk.nothing t = untaken Syntax (t .from) []
     by-token Tk.wrong t = untaken Syntax (t .from) []
 

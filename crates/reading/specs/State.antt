@@ -12,12 +12,15 @@ use Rattle.definition.specs.Tokens.{tokenAt, TextEnd}
 use Rattle.definition.specs.Program as P
 use Rattle.definition.specs.Statements as St
 use Rattle.definition.specs.Reading as D
+use Rattle.definition.specs.declared.ValueType.{ValueType}
 use Rattle.definition.specs.declared.Why.{Why}
 use Rattle.definition.specs.declared.Why.the-variants.{Syntax, OverLimit}
 use Rattle.tokens.specs.Answer.{endingFor}
 use Rattle.tokens.specs.declared.Ending.{Ending}
 use Rattle.tokens.specs.declared.Ending.the-variants as En
 use Rattle.rows.specs.Table.{rowIn, linkNumber}
+use Rattle.rows.specs.Tabled.{Tabled, kindOf}
+use Rattle.rows.specs.declared.Statement.{Statement}
 use Rattle.rows.specs.declared.Link.{Link}
 use Rattle.rows.specs.declared.Link.the-variants as L
 use Rattle.rows.specs.declared.Stretch.{Stretch}
@@ -157,17 +160,22 @@ pub record Keeps (x r : State) : Type 0 where
   pub tally : r .tally ≡ x .tally
   pub own : Own (x .tally .member) (x .scope) → Own (x .tally .member) (r .scope)
 
--- ---- what the table has of a row beside its links and texts, and what the definition does not have: depth and type
+-- ---- what the table has of a row beside its links and texts; the definition has neither depth nor kind and type apart
 pub record Alike (a b : Row) : Type 0 where
   pub statement : a .statement ≡ b .statement
   pub content : a .content ≡ b .content
   pub type : a .«value_type» ≡ b .«value_type»
   pub depth : a .depth ≡ b .depth
 
-abbrev pub Typed : List ℕ → Row → Type 0
-Typed s x = x .«value_type» ≡ typeIn (statementAt s (x .statement) (x .content))
+-- kind and type are those of the statement that is read again at c
+pub record Tells (s : List ℕ) (k : Statement) (c : ℕ) (v : ValueType) : Type 0 where
+  pub kind : k ≡ kindOf (statementAt s k c)
+  pub type : v ≡ typeIn (statementAt s k c)
 
--- the k rows of t are those of t′, which has n; a new one is as deep as what was open, and has the type of its statement
+abbrev pub Typed : List ℕ → Row → Type 0
+Typed s x = Tells s (x .statement) (x .content) (x .«value_type»)
+
+-- the k rows of t are those of t′, which has n; a new one is as deep as what was open, and has kind and type of its statement
 pub record Marks (s t : List ℕ) (k : ℕ) (o : Opened) (t′ : List ℕ) (n : ℕ) : Type 0 where
   pub kept : (i : ℕ) → i < k → Alike (rowIn t′ i) (rowIn t i)
   pub depth : (i : ℕ) → k ≤ i → i < n → rowIn t′ i .depth ≡ D.depth (openedOf s o)
@@ -197,7 +205,7 @@ pub record Adds (t : List ℕ) (x : State) (c : Clause) (p : ℕ) (t′ : List �
   pub deep : 0 < x .opened .count → x .opened .count ≤ 20 → r .opened .count ≡ x .opened .count
   pub keeps : Keeps x r
   pub size : length t′ ≡ length t
-  pub marks : (s : List ℕ) → Placed s t x → x .rows < 1024 → c .content < 65536 → c .«value_type» ≡ typeIn (statementAt s (c .statement) (c .content))
+  pub marks : (s : List ℕ) → Placed s t x → x .rows < 1024 → c .content < 65536 → Tells s (c .statement) (c .content) (c .«value_type»)
       → Marks s t (x .rows) (x .opened) t′ (r .rows)
 
 -- the text that the program or a group begins with
@@ -232,6 +240,7 @@ pub record Again (s : List ℕ) (c : Clause) (x : St.Clause) : Type 0 where
   pub content : c .content < 65536
   pub opens : c .opens ≡ opensFor (x .opens)
   pub to : c .to ≡ x .to
+  pub kind : c .statement ≡ kindOf (x .statement)
   pub type : c .«value_type» ≡ typeIn (x .statement)
 
 abbrev pub Stood : List ℕ → Read → Reading St.Clause → Type 0
@@ -383,4 +392,5 @@ pub record Reads (s : List ℕ) (m : ℕ) (b : Book) (t′ : List ℕ) (c : Book
   pub lead : stretchOf (r .lead) ≡ D.readMember s .lead
   pub first : linkOf (r .first) ≡ D.readMember s .first
   pub rows : rowsFrom s t′ 0 (r .rows) ≡ D.readMember s .rows
+  pub tabled : Tabled t′ (D.readMember s .rows)
   pub names : c ≡ bookWhole m [] (D.readMember s .declared) b
