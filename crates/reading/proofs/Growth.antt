@@ -35,7 +35,7 @@ use Rattle.entering.specs.declared.Mark.{Mark}
 use Rattle.entering.specs.declared.Mark.the-variants.{Unmarked, Marked}
 use Rattle.entering.specs.declared.Fault.the-variants.{Faulty}
 use Rattle.entering.specs.Book.{Book, markOf, twiceOr, faultIn}
-use Rattle.entering.proofs.Order.{Entry, stays-out}
+use Rattle.entering.specs.Entry.{Entry, stays-out}
 use Rattle.reading.proofs.Frame.{withDeclared, prependSource, clauseAt-frame, read-frame}
 
 -- ---- a token does not lie before the place that it is looked for at, and one with bytes lies within the source

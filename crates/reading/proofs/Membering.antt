@@ -24,7 +24,7 @@ use Rattle.entering.specs.declared.Tally.{Tally}
 use Rattle.entering.specs.declared.Fault.{Fault}
 use Rattle.entering.specs.declared.Fault.the-variants.{Sound, Faulty}
 use Rattle.entering.specs.Book.{Book, Roomy, tallyOf, bookOf, bookAll, bookWhole, markOf, faultFor, faultIn}
-use Rattle.entering.proofs.Order as O
+use Rattle.entering.specs.Entry.{Shows, Entry, goes-in, stays-out}
 use Rattle.entering.proofs.Order.{decides, past-is}
 use Rattle.statements.specs.Clauses.{Lies}
 use Rattle.openings.specs.Open.{openedOf}
@@ -37,7 +37,7 @@ use Rattle.reading.specs.declared.Next.{Next}
 use Rattle.reading.specs.declared.Next.the-variants as Nx
 use Rattle.reading.specs.State as T
 use Rattle.reading.specs.State.{rowsFrom, stateOf, modeOf, nextOf, turnOf, stateIn, Typed, Sits, Goes, Stops, Does, Over, Counts, early, last, Fits, Way, does, stops, Takes, fromState, Follows, Turns, Begins, Enough, sourceOf, Reads}
-use Rattle.reading.specs.Members.{namesOf, Has, Enters, goes-in, stays-out, baseOf, Fresh, Whole, Membered, Members}
+use Rattle.reading.specs.Members.{namesOf, baseOf, Fresh, Whole, Membered, Members}
 use Rattle.reading.proofs.Rows.{rows-length}
 use Rattle.reading.proofs.Turning.{opened-length}
 use Rattle.reading.proofs.Frame.{withDeclared, behind, prepend, clauseAt-frame, read-turn}
@@ -237,29 +237,26 @@ sound-clean (Marked p) Unmarked z = let y : _≡_ {A = ℕ} 0 1 = cc in absurd (
 sound-clean (Marked p) (Marked q) z = let y : _≡_ {A = ℕ} 0 1 = cc in absurd (omega arith)
 
 -- what a mark is does not matter to who has the names
-enters-so : (m : ℕ) (x : P.Source) (d n : List ℕ) (k : Tally) (y : N.Entering) (f : Fault) → O.Entry m x (bookOf d n k) y f → Enters m x (namesOf d n (k .names)) y f
+enters-so : (m : ℕ) (x : P.Source) (d n : List ℕ) (k : Tally) (y : N.Entering) (f : Fault) → Entry m x (bookOf d n k) y f → Entry m x (namesOf d n (k .names)) y f
 unfolding bookOf
-enters-so m x d n k y f (O.goes-in v e h g) = goes-in v e (record { identifiers = h .identifiers; denotations = h .denotations; activities = h .activities }) g
-enters-so m x d n k y f (O.stays-out e p h g) = stays-out e p h g
+enters-so m x d n k y f (goes-in v e h g) = goes-in v e (record { identifiers = h .identifiers; denotations = h .denotations; activities = h .activities }) g
+enters-so m x d n k y f (stays-out e p h g) = stays-out e p h g
 
-stays-so : (m : ℕ) (x : P.Source) (c d : Book) (y : N.Entering) (e : Why) (i : ℕ) → c .past ≡ d .past → O.Entry m x c y (faultIn (c .past) (c .second) (Faulty e i)) → O.Entry m x d y (faultIn (d .past) (d .second) (Faulty e i))
-stays-so m x c d y e i g (O.goes-in v f j o) = absurd (faulty-in (c .past) (c .second) e i o)
-stays-so m x c d y e i g (O.stays-out v j f o) = O.stays-out v j f (fault-either (d .past) (d .second) (c .second) e i ∙ ap (λ (z : Mark). faultIn z (c .second) (Faulty e i)) (sym g) ∙ o)
-
-shows-it : (w : W.World) (b : Book) → Has w b → O.Shows w b
-shows-it w b h = record { identifiers = h .identifiers; denotations = h .denotations; activities = h .activities }
+stays-so : (m : ℕ) (x : P.Source) (c d : Book) (y : N.Entering) (e : Why) (i : ℕ) → c .past ≡ d .past → Entry m x c y (faultIn (c .past) (c .second) (Faulty e i)) → Entry m x d y (faultIn (d .past) (d .second) (Faulty e i))
+stays-so m x c d y e i g (goes-in v f j o) = absurd (faulty-in (c .past) (c .second) e i o)
+stays-so m x c d y e i g (stays-out v j f o) = stays-out v j f (fault-either (d .past) (d .second) (c .second) e i ∙ ap (λ (z : Mark). faultIn z (c .second) (Faulty e i)) (sym g) ∙ o)
 
 abbrev Decided : ℕ → List ℕ → W.World → Book → Fault → Type 0
-Decided m s w c g = O.Entry m (D.readMember s) c (N.enter m (D.readMember s) w) (faultIn (c .past) (c .second) g)
+Decided m s w c g = Entry m (D.readMember s) c (N.enter m (D.readMember s) w) (faultIn (c .past) (c .second) g)
 
-module _ (m : ℕ) (s : List ℕ) (w : W.World) (b : Book) (h : Has w b) (u : b .past ≡ Unmarked) (v : b .second ≡ Unmarked) where
+module _ (m : ℕ) (s : List ℕ) (w : W.World) (b : Book) (h : Shows w b) (u : b .past ≡ Unmarked) (v : b .second ≡ Unmarked) where
   -- the reading ended with the state st
   ended : (st : D.State) (begun : List ℕ) (g : Fault) → D.readMember s ≡ D.source st begun (faultFor g)
       → N.sooner (N.sentencesPast (enteredSentences - w .sentences) (D.source st begun (faultFor g) .begun)) (faultFor g) ≡ faultFor g → Decided m s w (bookWhole m [] (st .declared) b) g
   ended st begun g e k =
       let x : P.Source = D.source st begun (faultFor g) in
       let c : Book = bookWhole m [] (st .declared) b in
-      subst (λ (z : P.Source). O.Entry m z c (N.enter m z w) (faultIn (c .past) (c .second) g)) (sym e) (decides m x w b g (shows-it w b h) u v (sym k))
+      subst (λ (z : P.Source). Entry m z c (N.enter m z w) (faultIn (c .past) (c .second) g)) (sym e) (decides m x w b g h u v (sym k))
 
   pub ended-early : (st : D.State) (begun : List ℕ) (g : Fault) → D.readMember s ≡ D.source st begun (faultFor g) → w .sentences + length (st .rows) + length begun ≤ 2048 → Decided m s w (bookWhole m [] (st .declared) b) g
   ended-early st begun g e k = ended st begun g e (all-entered (enteredSentences - w .sentences) st begun (faultFor g) (omega (arith, k)))
@@ -269,7 +266,7 @@ module _ (m : ℕ) (s : List ℕ) (w : W.World) (b : Book) (h : Has w b) (u : b 
 
   pub ended-past : (p e : ℕ) (st : D.State) (f : ℕ) (c : Book) → D.readMember s ≡ D.readOn s f (D.clauseAt s p e st) → Sentence s p e st → w .sentences + length (st .rows) ≡ 2048 → c ≡ bookWhole m [] (st .declared) b → Decided m s w c (Faulty OverLimit p)
   ended-past p e st f c k i j l =
-      subst (λ (z : P.Source). O.Entry m z c (N.enter m z w) (faultIn (c .past) (c .second) (Faulty OverLimit p))) (sym k)
+      subst (λ (z : P.Source). Entry m z c (N.enter m z w) (faultIn (c .past) (c .second) (Faulty OverLimit p))) (sym k)
       (decides-past m w s p e st i (omega (arith, j)) f c (c .past) (c .second)
       (ap (λ (z : Book). z .past) l ∙ past-is m [] (st .declared) b (w .identifiers) (record { past = u; size = rw (h .identifiers); listed = λ i. rw (h .identifiers) })))
 
@@ -289,7 +286,7 @@ starts-at s p at (T.opens h k) = G.opens h k
 
 -- ---- what is left where it is refused
 out : (d s n₀ : List ℕ) (m entered names : ℕ) (t′ n′ : List ℕ) (x : State) (e : Why) (p : ℕ) (r : Source) → r ≡ sourceOf x (Faulty e p)
-    → ((w : W.World) → Has w (namesOf d n₀ names) → w .sentences ≡ entered → Decided m s w (bookOf d n′ (x .tally)) (Faulty e p)) → Membered d s n₀ m entered names t′ n′ r
+    → ((w : W.World) → Shows w (namesOf d n₀ names) → w .sentences ≡ entered → Decided m s w (bookOf d n′ (x .tally)) (Faulty e p)) → Membered d s n₀ m entered names t′ n′ r
 unfolding bookOf
 out d s n₀ m entered names t′ n′ x e p r hr h = rw hr (record {
   whole = λ z. absurd (faulty-in (x .tally .past) (x .tally .second) e p z);
@@ -318,7 +315,7 @@ module _ (d s n₀ : List ℕ) (m entered names : ℕ) (t n : List ℕ) (x : Sta
   ends : (Z : D.Turn) → Y ≡ Z → D.readMember s ≡ D.readOn s f (prepend (h .done) Z)
   ends Z e = sym (left-on d s m entered b t n x mode at f h) ∙ ap (λ (z : D.Turn). D.readOn s f (prepend (h .done) z)) e
 
-  module _ (e : Why) (p : ℕ) (hn : r .next ≡ Nx.Stop e p) (w : W.World) (hw : Has w b) (l : w .sentences ≡ entered) where
+  module _ (e : Why) (p : ℕ) (hn : r .next ≡ Nx.Stop e p) (w : W.World) (hw : Shows w b) (l : w .sentences ≡ entered) where
     -- the names before the refusal
     pasts : (u : D.State) (begun : List ℕ) → Y ≡ D.stop e p begun u → Stops d s n (x .tally) e p u t′ n′ r → bookWhole m [] (h .done ++ u .declared) b .past ≡ bookOf d n′ (r .state .tally) .past
     pasts u begun hx g =
