@@ -2,9 +2,9 @@
 -- is one too many, the first that is declared twice, and else the names.
 -- Assumes nothing.
 use mathlib.Core.Path.{_≡_, refl, sym, ap, subst, _∙_}
-use mathlib.Core.Bool.{Bool, true, false, cond, _&&_, _||_}
+use mathlib.Core.Bool.{Bool, true, false, cond, _||_}
 use mathlib.Core.List.{List, [], _∷_, _++_}
-use Prim.Native.Nat.{ℕ, zero, suc, _+_, _-_, _<_, _≤_}
+use Prim.Native.Nat.{ℕ, suc, _-_}
 use native.Mathlib.Omega.{arith}
 use lib.Dec.{leb, ltb}
 use lib.ListN.{length, length-append, getD}
@@ -19,7 +19,7 @@ use Rattle.entering.specs.declared.Mark.{Mark}
 use Rattle.entering.specs.declared.Mark.the-variants.{Unmarked, Marked}
 use Rattle.entering.specs.declared.Fault.{Fault}
 use Rattle.entering.specs.declared.Fault.the-variants.{Sound, Faulty}
-use Rattle.entering.specs.Book.{Book, firstOf, markOf, bookPast, bookSecond, bookMore, bookSet, bookAdd, bookJoint, bookJoin, bookAt, bookOne, listedOne, bookListed, bookWhole, faultFor, faultIn, sooner, twiceOr}
+use Rattle.entering.specs.Book.{Book, markOf, bookPast, bookSecond, bookMore, bookSet, bookAdd, bookJoint, bookJoin, bookAt, bookOne, listedOne, bookListed, bookWhole, faultFor, faultIn, sooner, twiceOr}
 use Rattle.entering.specs.Entry.{Shows, Entry, goes-in, stays-out}
 
 -- ---- a name is listed where it has an address

@@ -5,12 +5,11 @@ use mathlib.Core.List.{List, [], _∷_, _++_}
 use Prim.Native.Nat.{ℕ, zero, suc, _+_, _*_, _%_, _<_, _≤_}
 use native.Mathlib.Omega.{arith}
 use native.Mathlib.Nat.{mod-eq-of-lt, add-zero}
-use lib.ListN.{length, getD}
+use lib.ListN.{length}
 use Rattle.definition.specs.Room.{over}
 use Rattle.definition.proofs.Rooms.{length-over}
 use Rattle.definition.specs.Program as P
 use Rattle.definition.specs.Reading as D
-use Rattle.definition.specs.declared.ValueType.{ValueType}
 use Rattle.rows.specs.declared.Link.{Link}
 use Rattle.rows.specs.declared.Link.the-variants as L
 use Rattle.rows.specs.declared.Role.{Role}
@@ -21,9 +20,8 @@ use Rattle.rows.specs.Table.{linkNumber, stretchNumbers, numbersOf, rowIn}
 use Rattle.rows.proofs.Laws.{Kept, kept, Links, row-other}
 use Rattle.names.specs.declared.Owner.{Owner}
 use Rattle.names.specs.declared.Owner.the-variants.{Everyone}
-use Rattle.entering.specs.declared.Tally.{Tally}
 use Rattle.statements.specs.declared.Clause.{Clause}
-use Rattle.statements.specs.Clauses.{scopeOf, Own}
+use Rattle.statements.specs.Clauses.{scopeOf}
 use Rattle.statements.specs.Again.{statementAt}
 use Rattle.openings.specs.declared.Where.{Where}
 use Rattle.openings.specs.declared.Where.the-variants as Wh
@@ -33,8 +31,8 @@ use Rattle.openings.specs.Open.{linkOf, roleOf, whereOf, lastOf, openOf, openFr
 use Rattle.openings.proofs.Stacked.{opened-size}
 use Rattle.reading.specs.declared.State.{State}
 use Rattle.reading.specs.declared.Mode.the-variants as Md
-use Rattle.reading.specs.State.{stretchOf, rowOf, rowsFrom, stateOf, modeOf, Within, Inside, Low, Around, Stand, Placed, After, Keeps, stretchAt, Alike, Tells, Typed, Marks, linkAt, linkLast, linkIn, Adds, Leads}
-use Rattle.reading.proofs.Rows.{rows-length, row-size, row-added, row-linked, row-there, next-set, child-set, other-set, lead-set, text-set, alike-self, alike-over, typed-alike}
+use Rattle.reading.specs.State.{rowOf, rowsFrom, stateOf, modeOf, Within, Inside, Low, Around, Stand, After, stretchAt, Alike, Tells, Typed, Marks, linkAt, linkLast, linkIn, Adds, Leads}
+use Rattle.reading.proofs.Rows.{rows-length, row-size, row-added, row-linked, row-there, next-set, child-set, other-set, lead-set, alike-self, alike-over, typed-alike}
 
 -- ---- leaves
 pub stretch-is : (a b x y : ℕ) → x ≡ a % 65536 → y ≡ b % 65536 → _≡_ {A = Stretch} (record { from = x; to = y }) (stretchAt a b)

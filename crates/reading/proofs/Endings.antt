@@ -3,9 +3,8 @@
 use mathlib.Core.Path.{_≡_, refl, sym, ap, subst, _∙_}
 use mathlib.Core.Bool.{Bool, true, false, cond}
 use mathlib.Core.List.{List, [], _∷_, _++_}
-use Prim.Native.Nat.{ℕ, zero, suc, _+_, _-_, _<_, _≤_}
+use Prim.Native.Nat.{ℕ, zero, suc, _-_, _<_, _≤_}
 use native.Mathlib.Omega.{arith}
-use lib.ListN.{length}
 use Rattle.definition.specs.Expressions.{Reading, read, refused, Named}
 use Rattle.definition.specs.Program as P
 use Rattle.definition.specs.Statements as St
@@ -21,7 +20,6 @@ use Rattle.statements.specs.declared.Read.{Read}
 use Rattle.statements.specs.declared.Read.the-variants as Rd
 use Rattle.rows.specs.Tabled.{kindOf}
 use Rattle.statements.specs.Clauses.{scopeOf, isInside, opensFor, Own, typeIn}
-use Rattle.statements.specs.Again.{statementAt}
 use Rattle.openings.specs.declared.Where.{Where}
 use Rattle.openings.specs.declared.Where.the-variants as Wh
 use Rattle.openings.specs.declared.Open.{Open}
@@ -34,8 +32,8 @@ use Rattle.reading.specs.declared.Turned.{Turned}
 use Rattle.reading.specs.declared.Mode.{Mode}
 use Rattle.reading.specs.declared.Mode.the-variants as Md
 use Rattle.reading.specs.declared.Next.the-variants as Nx
-use Rattle.reading.specs.State.{rowsFrom, stateOf, turnOf, modeOf, Around, Low, Stand, Placed, Keeps, Marks, withOpened, withScope, turned, Adds, Ends, OpensIn, OpensAs, Again, Stood, Taken, TakesAs}
-use Rattle.reading.proofs.Adding.{opened-top, stand-top}
+use Rattle.reading.specs.State.{stateOf, turnOf, modeOf, Around, Stand, Placed, Keeps, Marks, withOpened, withScope, turned, Adds, Ends, OpensIn, OpensAs, Again, Stood, Taken, TakesAs}
+use Rattle.reading.proofs.Adding.{opened-top}
 use Rattle.reading.proofs.Rows.{rows-length, marks-none}
 
 -- something is open

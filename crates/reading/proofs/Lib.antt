@@ -3,7 +3,9 @@ pub mod Rows
 pub mod Adding
 pub mod Endings
 pub mod Frame
+pub mod Places
 pub mod Growth
+pub mod Counting
 pub mod Parameters
 pub mod Owners
 pub mod Labelling

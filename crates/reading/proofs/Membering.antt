@@ -23,7 +23,7 @@ use Rattle.entering.specs.declared.Mark.the-variants.{Unmarked, Marked}
 use Rattle.entering.specs.declared.Tally.{Tally}
 use Rattle.entering.specs.declared.Fault.{Fault}
 use Rattle.entering.specs.declared.Fault.the-variants.{Sound, Faulty}
-use Rattle.entering.specs.Book.{Book, Roomy, tallyOf, bookOf, bookAll, bookWhole, markOf, faultFor, faultIn}
+use Rattle.entering.specs.Book.{Book, Roomy, tallyOf, bookOf, bookAll, bookWhole, faultFor, faultIn}
 use Rattle.entering.specs.Entry.{Shows, Entry, goes-in, stays-out}
 use Rattle.entering.proofs.Order.{decides, past-is}
 use Rattle.statements.specs.Clauses.{Lies}
@@ -36,15 +36,15 @@ use Rattle.reading.specs.declared.Mode.the-variants as Md
 use Rattle.reading.specs.declared.Next.{Next}
 use Rattle.reading.specs.declared.Next.the-variants as Nx
 use Rattle.reading.specs.State as T
-use Rattle.reading.specs.State.{rowsFrom, stateOf, modeOf, nextOf, turnOf, stateIn, Typed, Sits, Goes, Stops, Does, Over, Counts, early, last, Fits, Way, does, stops, Takes, fromState, Follows, Turns, Begins, Enough, sourceOf, Reads}
-use Rattle.reading.specs.Members.{namesOf, baseOf, Fresh, Whole, Membered, Members}
+use Rattle.reading.specs.State.{rowsFrom, stateOf, modeOf, nextOf, turnOf, stateIn, Typed, Sits, Goes, Stops, Does, Over, Counts, early, last, Fits, Way, does, stops, Takes, fromState, Follows, Turns, Begins, Enough, sourceOf}
+use Rattle.reading.specs.Members.{namesOf, baseOf, Fresh, Membered, Members}
 use Rattle.reading.proofs.Rows.{rows-length}
 use Rattle.reading.proofs.Turning.{opened-length}
 use Rattle.reading.proofs.Frame.{withDeclared, behind, prepend, clauseAt-frame, read-turn}
 use Rattle.reading.proofs.Owners.{Kept, OwnTurn, going, names-turn, whole-turn, owned-turn}
-use Rattle.reading.proofs.Parameters.{Owned, Almost, almost-self, whole-almost, fault-either}
-use Rattle.reading.proofs.Growth as G
-use Rattle.reading.proofs.Growth.{Sentence, decides-past, all-entered, last-entered}
+use Rattle.reading.proofs.Parameters.{Owned, almost-self, whole-almost, fault-either}
+use Rattle.reading.proofs.Growth.{Sentence}
+use Rattle.reading.proofs.Counting.{decides-past, all-entered, last-entered}
 use Rattle.reading.proofs.Nested.{Nested, Deep, DeepTurn, turn-deep, nested-by, deep-by, start-deep, depthIn, depthFrom, from-old, from-new, from-marks, types-on, tabled}
 use Rattle.reading.proofs.Standing.{Well, WellFor, WellTurn, shallow, turn-well, start-well, Ongoing, goes-on}
 use Rattle.reading.proofs.Bounds.{InTurn, turn-in}
@@ -280,10 +280,6 @@ unfolding D.readOn
 finish-on s zero st = refl
 finish-on s (suc f) st = refl
 
-starts-at : (s : List ℕ) (p at : ℕ) → T.Starts s p at → G.Starts s p at
-starts-at s p at (T.behind h) = G.behind h
-starts-at s p at (T.opens h k) = G.opens h k
-
 -- ---- what is left where it is refused
 out : (d s n₀ : List ℕ) (m entered names : ℕ) (t′ n′ : List ℕ) (x : State) (e : Why) (p : ℕ) (r : Source) → r ≡ sourceOf x (Faulty e p)
     → ((w : W.World) → Shows w (namesOf d n₀ names) → w .sentences ≡ entered → Decided m s w (bookOf d n′ (x .tally)) (Faulty e p)) → Membered d s n₀ m entered names t′ n′ r
@@ -365,7 +361,7 @@ module _ (d s n₀ : List ℕ) (m entered names : ℕ) (t n : List ℕ) (x : Sta
         subst (λ (v : Why). Decided m s w (bookOf d n′ (r .state .tally)) (Faulty v p)) a
         (subst (λ (v : ℕ). Decided m s w (bookOf d n′ (r .state .tally)) (Faulty OverLimit v)) i
         (ended-past m s w b hw refl refl (o .place) (o .at) st f (bookOf d n′ (r .state .tally)) src
-        (record { low = o .low; starts = starts-at s (o .place) (o .at) (o .starts); some = o .some; sentence = o .sentence }) (omega (arith, l, h .before, o .full)) (c ∙ h .names)))
+        (record { low = o .low; starts = o .starts; some = o .some; sentence = o .sentence }) (omega (arith, l, h .before, o .full)) (c ∙ h .names)))
 
     by-stop : Way d s n (x .entered) (x .tally) Y t′ n′ r → Decided m s w (bookOf d n′ (r .state .tally)) (Faulty e p)
     by-stop (does c g) = does-stop Y refl c g

@@ -2,7 +2,7 @@
 -- in it, and it is not the 17th. Every turn keeps this, where a new row is as deep as what was open.
 -- Assumes nothing.
 use mathlib.Core.Path.{_≡_, refl, sym, ap, subst, _∙_}
-use mathlib.Core.Bool.{Bool, true, false, cond, false≢true}
+use mathlib.Core.Bool.{Bool, true, false, cond}
 use mathlib.Core.List.{List, [], _∷_, _++_}
 use Prim.Native.Nat.{ℕ, zero, suc, _+_, _<_, _≤_}
 use native.Mathlib.Omega.{arith}
@@ -10,7 +10,7 @@ use native.Mathlib.Nat.{add-zero}
 use borrow.Author.Tests.{ltb-true, ltb-false, lt-ltb, le-ltb}
 use lib.Dec.{ltb}
 use lib.ListN.{length, length-append, List·getD-append}
-use Rattle.definition.specs.Expressions.{read, Named}
+use Rattle.definition.specs.Expressions.{Named}
 use Rattle.definition.specs.Program as P
 use Rattle.definition.specs.Statements as St
 use Rattle.definition.specs.Reading as D
@@ -20,13 +20,13 @@ use Rattle.rows.specs.Tabled.{Tabled, kindOf}
 use Rattle.rows.specs.declared.Statement.{Statement}
 use Rattle.statements.specs.Clauses.{typeIn}
 use Rattle.openings.specs.declared.Opened.{Opened}
-use Rattle.openings.specs.Open.{openedOf, lastBy, parentIn, roleIn, firstIn, linkedIn}
-use Rattle.openings.proofs.Keywords.{opensOf, OpensBoth, iterated-opens}
+use Rattle.openings.specs.Open.{openedOf, lastBy, parentIn, roleIn, linkedIn}
+use Rattle.openings.proofs.Keywords.{OpensBoth, iterated-opens}
 use Rattle.reading.specs.State as T
 use Rattle.reading.specs.State.{rowsFrom, Typed, Marks}
 use Rattle.reading.proofs.Rows.{rows-length, typed-alike}
 use Rattle.reading.proofs.Adding.{add-in}
-use Rattle.reading.proofs.Walking.{Room, Ended, Relinks, Shallow, Steps, turn-walk}
+use Rattle.reading.proofs.Walking.{Room, Relinks, Shallow, Steps, turn-walk}
 
 -- the row k, in which something stands that is d deep
 pub record Above (f : ℕ → ℕ) (rs : List P.Row) (d k : ℕ) : Type 0 where

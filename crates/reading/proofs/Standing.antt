@@ -19,7 +19,7 @@ use Rattle.reading.specs.declared.Mode.{Mode}
 use Rattle.reading.specs.declared.Mode.the-variants as Md
 use Rattle.reading.specs.declared.Next.{Next}
 use Rattle.reading.specs.declared.Next.the-variants as Nx
-use Rattle.reading.specs.State.{rowsFrom, stateOf, modeOf, nextOf, turnOf, Low, Around, Stand, Placed, stateIn, Sits, Goes, Takes, Follows}
+use Rattle.reading.specs.State.{rowsFrom, stateOf, modeOf, nextOf, turnOf, Stand, Placed, stateIn, Sits, Goes, Takes, Follows}
 use Rattle.reading.proofs.Rows.{rows-length}
 use Rattle.reading.proofs.Adding.{stand-last}
 use Rattle.reading.proofs.Endings.{stand-some}

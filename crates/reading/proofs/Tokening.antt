@@ -1,16 +1,16 @@
 -- A statement by its first token: one law for each way out.
 -- Assumes nothing.
 use mathlib.Core.Path.{_≡_, refl, sym, ap, subst, _∙_}
-use mathlib.Core.Bool.{Bool, true, false, cond, not, _&&_, _||_}
+use mathlib.Core.Bool.{Bool, true, false, _&&_}
 use mathlib.Core.List.{List, [], _∷_}
-use Prim.Native.Nat.{ℕ, zero, suc, _-_, _<_, _≤_}
+use Prim.Native.Nat.{ℕ, _-_, _<_, _≤_}
 use native.Mathlib.Omega.{arith}
 use lib.Dec.{ltb}
 use lib.ListN.{length}
 use Rattle.definition.specs.Lists.{same}
 use Rattle.definition.specs.Tokens as Tk
 use Rattle.definition.specs.Tokens.{tokenAt}
-use Rattle.definition.specs.Expressions.{Reading, read, refused, Named}
+use Rattle.definition.specs.Expressions.{read, refused, Named}
 use Rattle.definition.specs.Program as P
 use Rattle.definition.specs.Statements as St
 use Rattle.definition.specs.Reading as D
@@ -31,9 +31,9 @@ use Rattle.openings.proofs.Sentences.{token-word, token-long, token-null, token
 use Rattle.reading.specs.declared.State.{State}
 use Rattle.reading.specs.declared.Next.the-variants as Nx
 use Rattle.reading.specs.declared.Turned.{Turned}
-use Rattle.reading.specs.State.{stateOf, turned, Again, Stood, TakesAs, fromState}
-use Rattle.reading.specs.Sentences.{Clausal, Begun, ByWord, ByToken}
-use Rattle.reading.proofs.Growth.{token-on, sign-real}
+use Rattle.reading.specs.State.{stateOf, turned, Stood, TakesAs, fromState}
+use Rattle.reading.specs.Sentences.{Clausal, ByWord, ByToken}
+use Rattle.reading.proofs.Places.{token-on, sign-real}
 use Rattle.reading.proofs.Endings.{takes-refused}
 use Rattle.reading.proofs.Wording.{clausal-read}
 

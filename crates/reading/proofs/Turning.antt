@@ -1,9 +1,9 @@
 -- A turn, from the contracts of its parts. One law for each way out.
 -- Assumes nothing.
 use mathlib.Core.Path.{_≡_, refl, sym, ap, subst, _∙_}
-use mathlib.Core.Bool.{Bool, true, false, cond, _&&_, false≢true}
-use mathlib.Core.List.{List, [], _∷_, _++_}
-use Prim.Native.Nat.{ℕ, zero, suc, _+_, _*_, _%_, _-_, _<_, _≤_}
+use mathlib.Core.Bool.{Bool, true, false, _&&_}
+use mathlib.Core.List.{List, [], _∷_}
+use Prim.Native.Nat.{ℕ, zero, suc, _+_, _*_, _<_, _≤_}
 use native.Mathlib.Omega.{arith}
 use native.Mathlib.Nat.{mod-eq-of-lt}
 use borrow.Author.Tests.{le-leb, lt-leb, leb-false}
@@ -16,8 +16,8 @@ use Rattle.definition.proofs.Rooms.{length-over}
 use Rattle.definition.specs.Tokens as Tk
 use Rattle.definition.specs.Tokens.{tokenAt, TextEnd, percentAt, atEnd, openAt, textEnd}
 use Rattle.definition.proofs.Choices.{when-has}
-use Rattle.definition.proofs.Ends.{Real, Lies, tokenAt-lies}
-use Rattle.definition.specs.Expressions.{Reading, read, refused, Named, nameAt}
+use Rattle.definition.proofs.Keeping.{and-left}
+use Rattle.definition.proofs.Ends.{Lies, tokenAt-lies}
 use Rattle.definition.specs.Program as P
 use Rattle.definition.specs.Reading as D
 use Rattle.definition.specs.declared.Why.{Why}
@@ -28,9 +28,6 @@ use Rattle.tokens.specs.declared.Ending.the-variants as En
 use Rattle.tokens.specs.declared.Lexeme.{Lexeme}
 use Rattle.tokens.proofs.Pieces.{percent-there}
 use Rattle.tokens.proofs.Lexemes.{is-sign}
-use Rattle.expressions.specs.declared.NamedAt.{NamedAt}
-use Rattle.expressions.specs.declared.NamedAt.the-variants as Word
-use Rattle.expressions.specs.Check.{namedFor}
 use Rattle.rows.specs.declared.Stretch.{Stretch}
 use Rattle.rows.specs.Table.{stretchNumbers, rowIn}
 use Rattle.rows.specs.declared.Link.the-variants as L
@@ -52,8 +49,9 @@ use Rattle.reading.specs.declared.Source.{Source}
 use Rattle.reading.specs.declared.Mode.{Mode}
 use Rattle.reading.specs.declared.Mode.the-variants as Md
 use Rattle.reading.specs.declared.Next.the-variants as Nx
-use Rattle.reading.specs.State.{stretchOf, rowsFrom, stateOf, turnOf, modeOf, Stand, Placed, Keeps, turned, stretchAt, Alike, Marks, Leads, stateIn, begunIn, Sits, Goes, Stops, Does, Starts, behind, opens, Over, Way, Counts, early, last, does, stops, Takes, fromState, Clauses, LowEnd, Texts, Inners, Alternatives, Follows, Turns, Low, Begins, sourceOf}
+use Rattle.reading.specs.State.{rowsFrom, stateOf, turnOf, Stand, turned, stretchAt, Alike, Marks, Leads, Sits, Starts, behind, opens, Way, Counts, early, last, does, Takes, fromState, Clauses, LowEnd, Texts, Inners, Alternatives, Turns, Begins, sourceOf}
 use Rattle.reading.specs.Sentences.{EndsBody}
+use Rattle.reading.proofs.Places.{begins-real, sign-real}
 use Rattle.reading.proofs.Rows.{rows-length, text-set, alike-over, marks-none, marks-after}
 
 -- ---- where nothing is read, all stays
@@ -264,24 +262,11 @@ module _ (d s t n : List ℕ) (x : State) (m : Mode) (at : ℕ) (t′ n′ : Lis
   turn-inner hm a = rw hm (record { so = λ h l f. a .so h l })
 
 -- ---- IN A PROCEDURE
-begins-real : (t : Tk.Token) → D.begins t ≡ true → Real t
-begins-real (Tk.word w) e = tt
-begins-real (Tk.integer w) e = tt
-begins-real (Tk.string w) e = tt
-begins-real (Tk.bits w) e = tt
-begins-real (Tk.sign w) e = tt
-begins-real Tk.nothing e = absurd (false≢true e)
-begins-real Tk.wrong e = absurd (false≢true e)
-
 pub body-end : (s : List ℕ) (k : Lexeme) (w : Where) (a b : Bool) → a ≡ D.isInBody (whereOf w) → a ≡ true → b ≡ isSignIn s k (37 ∷ []) → b ≡ (D.isInBody (whereOf w) && isSignIn s k (37 ∷ []))
 body-end s k w a b ha ya hb = rw (sym ha ∙ ya) hb
 
 pub no-body : (s : List ℕ) (k : Lexeme) (w : Where) (a : Bool) → a ≡ D.isInBody (whereOf w) → a ≡ false → false ≡ (D.isInBody (whereOf w) && isSignIn s k (37 ∷ []))
 no-body s k w a ha na = rw (sym ha ∙ na)
-
-both-left : (a b : Bool) → (a && b) ≡ true → a ≡ true
-both-left true b e = refl
-both-left false b e = e
 
 module _ (d s t n : List ℕ) (x : State) (at : ℕ) (k : Lexeme) (lex : Lexed s at k) (w : Where) (hw : TopKind (x .opened) w) (b : Bool) (hb : b ≡ (D.isInBody (whereOf w) && isSignIn s k (37 ∷ []))) where
   in-body : (D.isInBody (D.kindOf (openedOf s (x .opened))) && Tk.isSign "%" (tokenAt s at .token)) ≡ b
@@ -291,7 +276,7 @@ module _ (d s t n : List ℕ) (x : State) (at : ℕ) (k : Lexeme) (lex : Lexed s
   unfolding D.innerAt stateOf
   inner-end n′ r y p = record {
     so = λ h l.
-        let e : D.isInBody (D.kindOf (openedOf s (x .opened))) ≡ true = both-left (D.isInBody (D.kindOf (openedOf s (x .opened)))) (Tk.isSign "%" (tokenAt s at .token)) (in-body ∙ y) in
+        let e : D.isInBody (D.kindOf (openedOf s (x .opened))) ≡ true = and-left (D.isInBody (D.kindOf (openedOf s (x .opened)))) (Tk.isSign "%" (tokenAt s at .token)) (in-body ∙ y) in
         rw (in-body ∙ y) (subst (λ (i : ℕ). Takes d s t n x (D.procedureEnd s (D.labels s i) (fromState s t x)) t n′ r) (lex .to) (p .so t h e));
   }
 
@@ -315,15 +300,6 @@ module _ (d s t n : List ℕ) (x : State) (at : ℕ) (k : Lexeme) (lex : Lexed s
     })
 
 -- ---- AN ALTERNATIVE
-sign-real : (t : Tk.Token) → Tk.isSign "%" t ≡ true → Real t
-sign-real (Tk.word w) e = tt
-sign-real (Tk.integer w) e = tt
-sign-real (Tk.string w) e = tt
-sign-real (Tk.bits w) e = tt
-sign-real (Tk.sign w) e = tt
-sign-real Tk.nothing e = absurd (false≢true e)
-sign-real Tk.wrong e = absurd (false≢true e)
-
 -- where its statement begins
 pub record Entering (s : List ℕ) (p q : ℕ) : Type 0 where
   pub low : p < length s
@@ -340,7 +316,7 @@ enters-low s at q l (first e f) =
     }
 enters-low s at q l (enters-behind e f) =
     let z : Lies s at (tokenAt s at) = tokenAt-lies s at l in
-    let some : tokenAt s at .from < tokenAt s at .to = z .some (sign-real (tokenAt s at .token) f) in
+    let some : tokenAt s at .from < tokenAt s at .to = z .some (sign-real "%" (tokenAt s at .token) f) in
     record { low = omega (arith, some, z .high); within = omega (arith, e, z .high); starts = behind (omega (arith, some, e)) }
 
 module _ (d s t n : List ℕ) (x : State) (at : ℕ) (k : Lexeme) (lex : Lexed s at k) (m : Mark) (hm : AlternativeFrom s (x .scope) k at m) where

@@ -1,25 +1,21 @@
 -- A statement by its first word: what it reads is the definition's clause, and its names are entered. One law for each way out.
 -- Assumes nothing.
 use mathlib.Core.Path.{_≡_, refl, sym, ap, subst, _∙_}
-use mathlib.Core.Bool.{Bool, true, false, cond, not, _&&_, _||_, false≢true}
+use mathlib.Core.Bool.{Bool, true, false, cond, _&&_, false≢true}
 use mathlib.Core.List.{List, [], _∷_, _++_}
 use Prim.Native.String as Str
-use Prim.Native.Nat.{ℕ, zero, suc, _+_, _-_, _<_, _≤_}
+use Prim.Native.Nat.{ℕ, _-_, _<_, _≤_}
 use native.Mathlib.Omega.{arith}
-use lib.Dec.{ltb}
 use lib.ListN.{length}
 use borrow.Author.Tests.{le-leb, lt-ltb, le-ltb}
 use Rattle.definition.specs.Choice.{when}
-use Rattle.definition.specs.Limits.{openGroups}
 use Rattle.definition.specs.Tokens as Tk
 use Rattle.definition.specs.Tokens.{tokenAt}
 use Rattle.definition.specs.Expressions.{Reading, read, refused, then, Tree, Parsed, Named, nameOf, nameAt, expectSign, expectWord, wholeExpression}
 use Rattle.definition.specs.Program as P
 use Rattle.definition.specs.Statements as St
 use Rattle.definition.specs.Reading as D
-use Rattle.definition.specs.declared.Why.{Why}
 use Rattle.definition.specs.declared.Why.the-variants.{Syntax, OverLimit}
-use Rattle.definition.specs.declared.ValueType.{ValueType}
 use Rattle.definition.specs.declared.ValueType.the-variants.{FixedType}
 use Rattle.definition.specs.Text.{bytesOf}
 use Rattle.definition.proofs.Ends.{Real}
@@ -27,39 +23,35 @@ use Rattle.definition.proofs.Parts.{length-part}
 use Rattle.tokens.specs.declared.Lexeme.{Lexeme}
 use Rattle.tokens.specs.declared.Kind.{Kind}
 use Rattle.tokens.specs.declared.Kind.the-variants as Kd
-use Rattle.tokens.specs.Answer.{Lexed, spelling, content, isWordKind, isSignIn, tokenFor}
+use Rattle.tokens.specs.Answer.{Lexed, spelling, content, isWordKind, tokenFor}
 use Rattle.tokens.proofs.Lexemes.{token-is}
 use Rattle.expressions.specs.Check.{isSpelled}
 use Rattle.rows.specs.declared.Statement.{Statement}
 use Rattle.rows.specs.declared.Statement.the-variants as S
-use Rattle.names.specs.declared.Owner.{Owner}
 use Rattle.entering.specs.declared.Tally.{Tally}
 use Rattle.entering.specs.declared.Mark.{Mark}
 use Rattle.entering.specs.declared.Mark.the-variants.{Unmarked, Marked}
 use Rattle.entering.specs.Book.{Book, Roomy, Entered, bookAll, bookWhole, bookOf}
 use Rattle.statements.specs.declared.Keyword.{Keyword}
 use Rattle.statements.specs.declared.Keyword.the-variants as K
-use Rattle.statements.specs.declared.Opens.the-variants as O
 use Rattle.statements.specs.declared.Clause.{Clause}
 use Rattle.statements.specs.declared.Read.{Read}
 use Rattle.statements.specs.declared.Read.the-variants as Rd
 use Rattle.statements.specs.declared.Declaring.{Declaring}
-use Rattle.statements.specs.Clauses.{scopeOf, isInside, opensFor, Own, readFor, readProcedure, isRead, plainFor, doKind, goClause, clauseIn, typeIn, namesIn, parameterTwice, tallyTwice, procedureTally, DeclaresIf, Declares, Heads}
+use Rattle.statements.specs.Clauses.{scopeOf, isInside, Own, readFor, readProcedure, isRead, plainFor, doKind, goClause, clauseIn, namesIn, parameterTwice, tallyTwice, procedureTally, DeclaresIf, Declares, Heads}
 use Rattle.statements.specs.Again.{statementAt}
-use Rattle.statements.proofs.Listed.{entered-none}
 use Rattle.statements.proofs.Rereading.{again-goto, again-include, again-activate, again-deactivate, again-return, again-do, again-go, again-if, again-assign}
-use Rattle.openings.specs.declared.Opened.{Opened}
-use Rattle.openings.specs.Open.{openedOf, labelled, opensBy, otherAt, otherFor, nullFor, byKeyword, Deep}
+use Rattle.openings.specs.Open.{labelled, opensBy, otherAt, otherFor, byKeyword, Deep}
 use Rattle.openings.proofs.Laws.{name-kind}
 use Rattle.openings.proofs.Ends.{inside-is}
 use Rattle.openings.proofs.Keywords.{OpensSo, DeclaresSo, NoBody, type-plain, if-so, do-so, goto-so, go-so, include-so, deactivate-so, activate-so, return-so, other-so, declare-so, procedure-so}
 use Rattle.reading.specs.declared.State.{State}
 use Rattle.reading.specs.declared.Next.the-variants as Nx
 use Rattle.reading.specs.declared.Turned.{Turned}
-use Rattle.reading.specs.State.{rowsFrom, stateOf, turnOf, stateIn, withTally, turned, Placed, Again, Stood, Taken, TakesAs, Sits, fromState}
-use Rattle.reading.specs.Sentences.{Along, Breaks, Comes, Clausal, Begun, ByWord}
+use Rattle.reading.specs.State.{rowsFrom, stateOf, turnOf, withTally, turned, Placed, Stood, Taken, TakesAs, fromState}
+use Rattle.reading.specs.Sentences.{Comes, Clausal, Begun, ByWord}
 use Rattle.reading.proofs.Rows.{rows-length}
-use Rattle.reading.proofs.Growth.{token-on}
+use Rattle.reading.proofs.Places.{token-on}
 use Rattle.reading.proofs.Parameters.{AllPlain, Almost, procedure-names, procedure-refused, whole-almost}
 use Rattle.reading.proofs.Owners.{declare-plain}
 use Rattle.reading.proofs.Endings.{takes-refused}

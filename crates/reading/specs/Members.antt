@@ -1,6 +1,6 @@
 -- THE CONTRACT of `read_member`: the member is the definition's, and it is entered, or refused, as there.
 use Prim.Native.Nat.{ℕ, _+_, _%_, _≤_, _<_}
-use mathlib.Core.List.{List, []}
+use mathlib.Core.List.{List}
 use mathlib.Core.Path.{_≡_}
 use lib.ListN.{length}
 use Rattle.definition.specs.Deck.{lineAt}
