@@ -123,7 +123,7 @@ module _ (d s : List ℕ) (m entered : ℕ) (b : Book) (t n : List ℕ) (x : Sta
 
   owns : OwnTurn (x .rows) X
   unfolding stateOf
-  owns = subst (λ (i : ℕ). OwnTurn i X) (rows-length s t 0 (x .rows)) (names-turn s (modeOf mode) at (fromState s t x) some-open)
+  owns = subst (λ (i : ℕ). OwnTurn i X) (rows-length s t 0 (x .rows)) (names-turn s (modeOf mode) at (fromState s t x) some-open (shallow (modeOf mode) (fromState s t x) (h .fit)))
 
   entered-so : (Y : D.Turn) → X ≡ Y → bookWhole m [] (h .done ++ stateIn Y .declared) b ≡ bookWhole m [] (stateIn Y .declared) (bookOf d n (x .tally))
   entered-so Y e = whole-turn m (x .rows) (h .done) b (h .owned) (subst (OwnTurn (x .rows)) e owns) ∙ ap (bookWhole m [] (stateIn Y .declared)) (sym (h .names))

@@ -263,9 +263,9 @@ module _ (f : ℕ → ℕ) where
 
     steps : Steps s Ready (DeepTurn f)
     steps = record {
-      stops = λ w p begun st. tt;
+      halts = λ w p begun st h. tt;
       finishes = λ st h. h .deep .rows;
-      takes = λ k p ns st c es h d small o r. taken-deep k p ns st c es h o r;
+      statements = λ p ns st h d small. record { takes = λ k c es o r l. taken-deep k p ns st c es h o r; refuses = λ w q es l. tt };
       ends = λ o os ns e st h q x d.
           complete-deep os (o .row) e (D.withOpened os (D.scopeOut (o .kind) (st .scope)) (D.withNames (St.means (st .scope) (P.endLabel (o .row)) ns) st)) (h .deep .rows)
           (subst (λ (L : List D.Open). Around f (st .rows) L) q (h .deep .around) .1);
@@ -276,6 +276,7 @@ module _ (f : ℕ → ℕ) where
             next = ap f (e .size) ∙ h .next;
             some = h .some;
           };
+      labels = λ m ns st e h. record { deep = record { rows = h .deep .rows; around = h .deep .around }; next = h .next; some = h .some };
       leads = λ x st h. record { deep = record { rows = h .deep .rows; around = h .deep .around }; next = h .next; some = h .some };
     }
 

@@ -4,7 +4,7 @@
 use mathlib.Core.Path.{_≡_, refl, sym, ap, subst, _∙_}
 use mathlib.Core.Bool.{Bool, true, false, cond}
 use mathlib.Core.List.{List, [], _∷_, _++_}
-use Prim.Native.Nat.{ℕ, zero, suc, _+_, _<_, _≤_}
+use Prim.Native.Nat.{ℕ, suc, _+_, _<_, _≤_}
 use native.Mathlib.Omega.{arith}
 use lib.ListN.{length}
 use Rattle.definition.specs.Expressions.{read, Named}
@@ -24,6 +24,7 @@ use Rattle.reading.proofs.Rows.{rows-length}
 use Rattle.reading.proofs.Adding.{stand-last}
 use Rattle.reading.proofs.Endings.{stand-some}
 use Rattle.reading.proofs.Turning.{opened-length}
+use Rattle.reading.proofs.Owners.{change-length}
 use Rattle.reading.proofs.Walking.{procedures, Room, Ended, Shallow, Steps, turn-walk}
 
 -- ---- what a state has, and by what comes next
@@ -61,12 +62,6 @@ well-deep D.alternative st h k = omega (arith, h .count, k, few-procedures (st .
 well-deep D.inner st h k = omega (arith, h .count, k, few-procedures (st .scope))
 
 -- ---- a new row
-change-length : (n : ℕ) (f : P.Row → P.Row) (rs : List P.Row) → length (D.change n f rs) ≡ length rs
-unfolding D.change
-change-length n f [] = refl
-change-length zero f (r ∷ rs) = refl
-change-length (suc n) f (r ∷ rs) = ap suc (change-length n f rs)
-
 more-length : (rs : List P.Row) (r : P.Row) → length (rs ++ r ∷ []) ≡ suc (length rs)
 more-length [] r = refl
 more-length (q ∷ rs) r = ap suc (more-length rs r)
@@ -194,10 +189,11 @@ module _ (s : List ℕ) where
   -- ---- EVERY TURN
   steps : Steps s Well WellTurn
   steps = record {
-    stops = λ w p begun st. tt;
+    halts = λ w p begun st h. tt;
     finishes = λ st h. tt;
-    takes = λ k p ns st c es h d small o r. taken-well p ns st h d small c es r;
+    statements = λ p ns st h d small. record { takes = λ k c es o r l. taken-well p ns st h d small c es r; refuses = λ w q es l. tt };
     ends = ends;
+    labels = λ m ns st e h. record { few = h .few; stand = h .stand; count = h .count };
     relinks = λ k g st r h. record { few = omega (arith, change-length k g (st .rows), h .few); stand = subst (λ (m : ℕ). Stand m (st .opened)) (sym (change-length k g (st .rows))) (h .stand); count = h .count };
     leads = λ x st h. record { few = h .few; stand = h .stand; count = h .count };
   }

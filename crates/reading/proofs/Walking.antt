@@ -1,9 +1,9 @@
--- ONE WALK over the definition's reader: what a state has and texts keep, every turn has, if it does where a statement is taken, where
--- END leaves a group or a body, and where the member ends.
+-- ONE WALK over the definition's reader: what a state has, and texts and labels keep, every turn has, if it does where a statement is
+-- taken or wrong, where END leaves a group or a body, and where the member ends.
 -- Assumes nothing.
 use mathlib.Core.Path.{_≡_, refl, sym, subst}
 use mathlib.Core.Bool.{Bool, true, false, not, _&&_, _||_, false≢true}
-use mathlib.Core.List.{List, [], _∷_, _++_}
+use mathlib.Core.List.{List, [], _∷_}
 use Prim.Native.Nat.{ℕ, suc, _+_, _<_, _≤_}
 use borrow.Author.Tests.{leb-true, leb-false, ltb-true}
 use lib.Dec.{leb, ltb}
@@ -15,12 +15,13 @@ use Rattle.definition.specs.Expressions.{Reading, read, refused, Named, nameOf}
 use Rattle.definition.specs.Program as P
 use Rattle.definition.specs.Statements as St
 use Rattle.definition.specs.Reading as D
+use Rattle.definition.specs.Names as N
 use Rattle.definition.specs.declared.Why.{Why}
 use Rattle.definition.specs.declared.Why.the-variants.{Syntax, OverLimit}
 use Rattle.definition.proofs.Choices.{when-has, cond-has}
 use Rattle.rows.specs.declared.Statement.{Statement}
 use Rattle.rows.specs.declared.Statement.the-variants as S
-use Rattle.statements.specs.Clauses.{goClause, doKind}
+use Rattle.statements.specs.Clauses.{goClause, doKind, namesIn}
 use Rattle.openings.specs.Open.{otherAt}
 use Rattle.openings.proofs.Keywords.{OpensBoth, OpensSo, DeclaresSo, if-so, do-so, goto-so, go-so, include-so, activate-so, deactivate-so, return-so, other-so, declare-so, procedure-so}
 
@@ -55,85 +56,100 @@ Shallow (D.textBehind k) st = D.depth (st .opened) ≤ 16
 Shallow D.alternative st = Unit {0}
 Shallow D.inner st = D.depth (st .opened) ≤ 16
 
--- what the walk asks: G is what a state has, Q what a turn has
+-- the names that a statement lists
+pub data Lists (s : List ℕ) (st : D.State) : List P.Declared → Type 0 where
+  none : Lists s st []
+  declares : (e : ℕ) → Lists s st (namesIn (St.declareFrom (st .scope) s (length s) [] e))
+  parameters : (e : ℕ) → Lists s st (namesIn (St.procedureClause (P.inside (length (st .rows))) s e))
+
+pub too-long : (Q : D.Turn → Type 0) (ps : List ℕ) (f : ℕ → D.Turn) (g : Unit {0} → D.Turn) → ((p : ℕ) → Q (f p)) → Q (g tt) → Q (D.longLabel ps f g)
+too-long Q [] f g h i = i
+too-long Q (p ∷ ps) f g h i = h p
+
+-- ---- A STATEMENT at p, behind its labels ns: it is taken, or it is wrong
+pub record Statements (s : List ℕ) (p : ℕ) (ns : List Named) (st : D.State) (Q : D.Turn → Type 0) : Type 0 where
+  pub takes : (k : Statement) (c : St.Clause) (es : List P.Declared) → OpensBoth k (c .opens) c → Room (c .opens) st → Lists s st es → Q (D.taken s p ns st c es)
+  pub refuses : (w : Why) (q : ℕ) (es : List P.Declared) → Lists s st es → Q (D.untaken p ns st w q es)
+
+module _ (s : List ℕ) (p : ℕ) (ns : List Named) (st : D.State) (Q : D.Turn → Type 0) (k : Statements s p ns st Q) where
+  took : (i : Statement) (o : St.Opens) (c : St.Clause) (es : List P.Declared) → OpensBoth i o c → Room o st → Lists s st es → Q (D.taken s p ns st c es)
+  took i o c es e r l = k .takes i c es (subst (λ (z : St.Opens). OpensBoth i z c) (sym (e .opens)) e) (subst (λ (z : St.Opens). Room z st) (sym (e .opens)) r) l
+
+  take-read : (i : Statement) (o : St.Opens) (R : Reading St.Clause) → OpensSo i o R → Room o st → Q (D.takeRead s p ns st R)
+  take-read i o (read c) e r = took i o c [] e r none
+  take-read i o (refused w q) e r = k .refuses w q [] none
+
+  take-declared : (i : Statement) (o : St.Opens) (R : St.Declaring) → DeclaresSo i o R → Room o st → Lists s st (namesIn R) → Q (D.takeDeclared s p ns st R)
+  take-declared i o (St.declared c es) e r l = took i o c es e r l
+  take-declared i o (St.undeclared w q es) e r l = k .refuses w q es l
+
+  do-walk : (from to : ℕ) → Q (D.takeRead s p ns st (D.doAt s from to st))
+  unfolding D.doAt
+  do-walk from to = by (ltb (D.depth (st .opened)) openGroups) refl (do-so s from to st)
+    where
+      by : (b : Bool) → ltb (D.depth (st .opened)) openGroups ≡ b → OpensSo (doKind s to) St.opensGroup (D.doAt s from to st) → Q (D.takeRead s p ns st (D.doAt s from to st))
+      by true e o = take-read (doKind s to) St.opensGroup (D.doAt s from to st) o (ltb-true (D.depth (st .opened)) openGroups e)
+      by false e o = rw e (k .refuses OverLimit from [] none)
+
+  common-walk : (t : Lexeme) (g : Unit {0} → D.Turn) → Q (g tt) → Q (D.common s t st (D.takeRead s p ns st) g)
+  unfolding D.common goClause
+  common-walk t g i =
+      when-has Q (isWord "IF" (t .token)) _ _ (λ _. take-read S.Conditional St.opensThen (St.ifClause (D.isInside (st .scope)) s (t .to)) (if-so (D.isInside (st .scope)) s (t .to)) tt) λ _.
+      when-has Q (isWord "DO" (t .token)) _ _ (λ _. do-walk (t .from) (t .to)) λ _.
+      when-has Q (isWord "GOTO" (t .token)) _ _ (λ _. take-read S.Goto St.opensNothing (St.gotoClause s (t .to)) (goto-so s (t .to)) tt) λ _.
+      when-has Q (isWord "GO" (t .token)) _ _ (λ _. take-read S.Goto St.opensNothing (goClause s (t .to)) (go-so s (t .to)) tt) λ _. i
+
+  outside : (a : Bool) (j : P.Scope) (b c : Bool) → (a && not (D.isInside j) && b && c) ≡ true → procedures j ≡ 0
+  outside false j b c e = absurd (false≢true e)
+  outside true P.global b c e = refl
+  outside true (P.inside r) b c e = absurd (false≢true e)
+
+  list-walk : (t : Lexeme) (g : Unit {0} → D.Turn) → Q (g tt) → Q (D.inList s p ns t st g)
+  unfolding D.inList
+  list-walk t g i =
+      when-has Q (D.isList (D.kindOf (st .opened)) && D.isDeclare (t .token)) _ _ (λ _. take-declared S.Declare St.opensNothing (St.declareFrom (st .scope) s (length s) [] (t .to)) (declare-so (st .scope) s (length s) [] (t .to)) tt (declares (t .to))) λ _.
+      when-has Q (D.isList (D.kindOf (st .opened)) && not (D.isInside (st .scope)) && not (D.isNone ns) && D.isProcedure (t .token)) _ _
+      (λ e. take-declared S.Procedure St.opensBody (St.procedureClause (P.inside (length (st .rows))) s (t .to)) (procedure-so (P.inside (length (st .rows))) s (t .to)) (outside (D.isList (D.kindOf (st .opened))) (st .scope) (not (D.isNone ns)) (D.isProcedure (t .token)) e) (parameters (t .to))) λ _. i
+
+  outer-walk : (j : P.Scope) (t : Lexeme) (g : Unit {0} → D.Turn) → Q (g tt) → Q (D.outer j s t (D.takeRead s p ns st) g)
+  outer-walk P.global t g i =
+      when-has Q (isWord "INCLUDE" (t .token)) _ _ (λ _. take-read S.Include St.opensNothing (St.includeClause s (t .to)) (include-so s (t .to)) tt) λ _.
+      when-has Q (isWord "ACTIVATE" (t .token) || isWord "ACT" (t .token)) _ _ (λ _. take-read S.Activate St.opensNothing (St.activateClause s (t .to)) (activate-so s (t .to)) tt) λ _.
+      when-has Q (isWord "DEACTIVATE" (t .token) || isWord "DEACT" (t .token)) _ _ (λ _. take-read S.Deactivate St.opensNothing (St.deactivateClause s (t .to)) (deactivate-so s (t .to)) tt) λ _. i
+  outer-walk (P.inside r) t g i = when-has Q (isWord "RETURN" (t .token)) _ _ (λ _. take-read S.Return St.opensNothing (St.returnClause s (t .to)) (return-so s (t .to)) tt) λ _. i
+
+  by-word : (w : List ℕ) (t u : Lexeme) → Q (D.byWord s p ns w t u st)
+  unfolding D.byWord otherAt
+  by-word w t u =
+      when-has Q (isSign "=" (u .token)) _ _ (λ e. take-read S.Assign St.opensNothing (St.assignment s w (u .to)) (rw e at (other-so s w u)) tt) λ _.
+      common-walk t _ (outer-walk (st .scope) t _ (list-walk t _ (k .refuses Syntax (u .from) [] none)))
+
+  by-name : (n : Reading Named) (t : Lexeme) → Q (D.byName n s p ns t st)
+  by-name (read n) t = by-word (n .spelling) t (tokenAt s (t .to))
+  by-name (refused w q) t = k .refuses w q [] none
+
+  pub by-token : (x : Token) (t : Lexeme) → Q (D.byToken x s p ns t st)
+  by-token (Tk.word w) t = by-name (nameOf (Tk.word w) (t .from) (t .to)) t
+  by-token (Tk.integer w) t = k .refuses Syntax (t .from) [] none
+  by-token (Tk.string w) t = k .refuses Syntax (t .from) [] none
+  by-token (Tk.bits w) t = k .refuses Syntax (t .from) [] none
+  by-token (Tk.sign w) t = when-has Q (isSign ";" (Tk.sign w)) _ _ (λ _. took S.Null St.opensNothing (St.clause P.null St.opensNothing (t .to)) [] (record { opens = refl; statement = refl; kind = refl }) tt none) λ _. k .refuses Syntax (t .from) [] none
+  by-token Tk.nothing t = k .refuses Syntax (t .from) [] none
+  by-token Tk.wrong t = k .refuses Syntax (t .from) [] none
+
+-- ---- WHAT THE WALK ASKS: G is what a state has, Q what a turn has
 pub record Steps (s : List ℕ) (G : D.State → Type 0) (Q : D.Turn → Type 0) : Type 0 where
-  pub stops : (w : Why) (p : ℕ) (begun : List ℕ) (st : D.State) → Q (D.stop w p begun st)
+  pub halts : (w : Why) (p : ℕ) (begun : List ℕ) (st : D.State) → G st → Q (D.stop w p begun st)
   pub finishes : (st : D.State) → G st → Q (D.finish st)
-  pub takes : (k : Statement) (p : ℕ) (ns : List Named) (st : D.State) (c : St.Clause) (es : List P.Declared) → G st → D.depth (st .opened) ≤ 16 → length (st .rows) < 1024 → OpensBoth k (c .opens) c → Room (c .opens) st → Q (D.taken s p ns st c es)
+  pub statements : (p : ℕ) (ns : List Named) (st : D.State) → G st → D.depth (st .opened) ≤ 16 → length (st .rows) < 1024 → Statements s p ns st Q
   pub ends : (o : D.Open) (os : List D.Open) (ns : List Named) (e : ℕ) (st : D.State) → G st → st .opened ≡ o ∷ os → Ended (o .kind) → D.depth (st .opened) ≤ 16 → Q (D.endRead s ns o os st (read e))
+  pub labels : (m : P.Meaning) (ns : List Named) (st : D.State) → N.isParameter m ≡ false → G st → G (D.withNames (St.means (st .scope) m ns) st)
   pub relinks : (k : ℕ) (g : P.Row → P.Row) (st : D.State) → Relinks g → G st → G (D.withRows (D.change k g (st .rows)) st)
   pub leads : (x : P.Stretch) (st : D.State) → G st → G (D.withLead x st)
 
 module _ (s : List ℕ) (G : D.State → Type 0) (Q : D.Turn → Type 0) (k : Steps s G Q) where
-  -- ---- a statement, where there is room for its row
-  module _ (p : ℕ) (ns : List Named) (st : D.State) (h : G st) (d : D.depth (st .opened) ≤ 16) (small : length (st .rows) < 1024) where
-    untaken : (w : Why) (q : ℕ) (es : List P.Declared) → Q (D.untaken p ns st w q es)
-    untaken w q es = k .stops w q (p ∷ []) (D.withNames (St.means (st .scope) (P.label 0) ns ++ es) st)
-
-    took : (i : Statement) (o : St.Opens) (c : St.Clause) (es : List P.Declared) → OpensBoth i o c → Room o st → Q (D.taken s p ns st c es)
-    took i o c es e r = k .takes i p ns st c es h d small (subst (λ (z : St.Opens). OpensBoth i z c) (sym (e .opens)) e) (subst (λ (z : St.Opens). Room z st) (sym (e .opens)) r)
-
-    take-read : (i : Statement) (o : St.Opens) (R : Reading St.Clause) → OpensSo i o R → Room o st → Q (D.takeRead s p ns st R)
-    take-read i o (read c) e r = took i o c [] e r
-    take-read i o (refused w q) e r = untaken w q []
-
-    take-declared : (i : Statement) (o : St.Opens) (R : St.Declaring) → DeclaresSo i o R → Room o st → Q (D.takeDeclared s p ns st R)
-    take-declared i o (St.declared c es) e r = took i o c es e r
-    take-declared i o (St.undeclared w q es) e r = untaken w q es
-
-    do-walk : (from to : ℕ) → Q (D.takeRead s p ns st (D.doAt s from to st))
-    unfolding D.doAt
-    do-walk from to = by (ltb (D.depth (st .opened)) openGroups) refl (do-so s from to st)
-      where
-        by : (b : Bool) → ltb (D.depth (st .opened)) openGroups ≡ b → OpensSo (doKind s to) St.opensGroup (D.doAt s from to st) → Q (D.takeRead s p ns st (D.doAt s from to st))
-        by true e o = take-read (doKind s to) St.opensGroup (D.doAt s from to st) o (ltb-true (D.depth (st .opened)) openGroups e)
-        by false e o = rw e (untaken OverLimit from [])
-
-    common-walk : (t : Lexeme) (g : Unit {0} → D.Turn) → Q (g tt) → Q (D.common s t st (D.takeRead s p ns st) g)
-    unfolding D.common goClause
-    common-walk t g i =
-        when-has Q (isWord "IF" (t .token)) _ _ (λ _. take-read S.Conditional St.opensThen (St.ifClause (D.isInside (st .scope)) s (t .to)) (if-so (D.isInside (st .scope)) s (t .to)) tt) λ _.
-        when-has Q (isWord "DO" (t .token)) _ _ (λ _. do-walk (t .from) (t .to)) λ _.
-        when-has Q (isWord "GOTO" (t .token)) _ _ (λ _. take-read S.Goto St.opensNothing (St.gotoClause s (t .to)) (goto-so s (t .to)) tt) λ _.
-        when-has Q (isWord "GO" (t .token)) _ _ (λ _. take-read S.Goto St.opensNothing (goClause s (t .to)) (go-so s (t .to)) tt) λ _. i
-
-    outside : (a : Bool) (j : P.Scope) (b c : Bool) → (a && not (D.isInside j) && b && c) ≡ true → procedures j ≡ 0
-    outside false j b c e = absurd (false≢true e)
-    outside true P.global b c e = refl
-    outside true (P.inside r) b c e = absurd (false≢true e)
-
-    list-walk : (t : Lexeme) (g : Unit {0} → D.Turn) → Q (g tt) → Q (D.inList s p ns t st g)
-    unfolding D.inList
-    list-walk t g i =
-        when-has Q (D.isList (D.kindOf (st .opened)) && D.isDeclare (t .token)) _ _ (λ _. take-declared S.Declare St.opensNothing (St.declareFrom (st .scope) s (length s) [] (t .to)) (declare-so (st .scope) s (length s) [] (t .to)) tt) λ _.
-        when-has Q (D.isList (D.kindOf (st .opened)) && not (D.isInside (st .scope)) && not (D.isNone ns) && D.isProcedure (t .token)) _ _
-        (λ e. take-declared S.Procedure St.opensBody (St.procedureClause (P.inside (length (st .rows))) s (t .to)) (procedure-so (P.inside (length (st .rows))) s (t .to)) (outside (D.isList (D.kindOf (st .opened))) (st .scope) (not (D.isNone ns)) (D.isProcedure (t .token)) e)) λ _. i
-
-    outer-walk : (j : P.Scope) (t : Lexeme) (g : Unit {0} → D.Turn) → Q (g tt) → Q (D.outer j s t (D.takeRead s p ns st) g)
-    outer-walk P.global t g i =
-        when-has Q (isWord "INCLUDE" (t .token)) _ _ (λ _. take-read S.Include St.opensNothing (St.includeClause s (t .to)) (include-so s (t .to)) tt) λ _.
-        when-has Q (isWord "ACTIVATE" (t .token) || isWord "ACT" (t .token)) _ _ (λ _. take-read S.Activate St.opensNothing (St.activateClause s (t .to)) (activate-so s (t .to)) tt) λ _.
-        when-has Q (isWord "DEACTIVATE" (t .token) || isWord "DEACT" (t .token)) _ _ (λ _. take-read S.Deactivate St.opensNothing (St.deactivateClause s (t .to)) (deactivate-so s (t .to)) tt) λ _. i
-    outer-walk (P.inside r) t g i = when-has Q (isWord "RETURN" (t .token)) _ _ (λ _. take-read S.Return St.opensNothing (St.returnClause s (t .to)) (return-so s (t .to)) tt) λ _. i
-
-    by-word : (w : List ℕ) (t u : Lexeme) → Q (D.byWord s p ns w t u st)
-    unfolding D.byWord otherAt
-    by-word w t u =
-        when-has Q (isSign "=" (u .token)) _ _ (λ e. take-read S.Assign St.opensNothing (St.assignment s w (u .to)) (rw e at (other-so s w u)) tt) λ _.
-        common-walk t _ (outer-walk (st .scope) t _ (list-walk t _ (untaken Syntax (u .from) [])))
-
-    by-name : (n : Reading Named) (t : Lexeme) → Q (D.byName n s p ns t st)
-    by-name (read n) t = by-word (n .spelling) t (tokenAt s (t .to))
-    by-name (refused w q) t = untaken w q []
-
-    by-token : (x : Token) (t : Lexeme) → Q (D.byToken x s p ns t st)
-    by-token (Tk.word w) t = by-name (nameOf (Tk.word w) (t .from) (t .to)) t
-    by-token (Tk.integer w) t = untaken Syntax (t .from) []
-    by-token (Tk.string w) t = untaken Syntax (t .from) []
-    by-token (Tk.bits w) t = untaken Syntax (t .from) []
-    by-token (Tk.sign w) t = when-has Q (isSign ";" (Tk.sign w)) _ _ (λ _. took S.Null St.opensNothing (St.clause P.null St.opensNothing (t .to)) [] (record { opens = refl; statement = refl; kind = refl }) tt) λ _. untaken Syntax (t .from) []
-    by-token Tk.nothing t = untaken Syntax (t .from) []
-    by-token Tk.wrong t = untaken Syntax (t .from) []
+  named : (ns : List Named) (st : D.State) → G st → G (D.named ns st)
+  named ns st h = k .labels (P.label 0) ns st refl h
 
   -- ---- END of a group or a procedure
   end-at : (L : List D.Open) (ns : List Named) (at : ℕ) (st : D.State) → G st → st .opened ≡ L → Ended (D.kindOf L) → D.depth (st .opened) ≤ 16 → Q (D.endAt s ns at L st)
@@ -142,11 +158,7 @@ module _ (s : List ℕ) (G : D.State → Type 0) (Q : D.Turn → Type 0) (k : St
     where
       by : (R : Reading ℕ) → Q (D.endRead s ns o os st R)
       by (read i) = k .ends o os ns i st h e x d
-      by (refused w q) = k .stops w q [] (D.withNames (St.means (st .scope) (P.endLabel (o .row)) ns) st)
-
-  too-long : (ps : List ℕ) (f : ℕ → D.Turn) (g : Unit {0} → D.Turn) → ((p : ℕ) → Q (f p)) → Q (g tt) → Q (D.longLabel ps f g)
-  too-long [] f g h i = i
-  too-long (p ∷ ps) f g h i = h p
+      by (refused w q) = k .halts w q [] (D.withNames (St.means (st .scope) (P.endLabel (o .row)) ns) st) (k .labels (P.endLabel (o .row)) ns st refl h)
 
   in-group : (w : D.Where) (b : Bool) → (D.isInGroup w && b) ≡ true → Ended w
   in-group D.inProgram b e = absurd (false≢true e)
@@ -166,16 +178,16 @@ module _ (s : List ℕ) (G : D.State → Type 0) (Q : D.Turn → Type 0) (k : St
   unfolding D.clauseFrom D.isFull
   clause-walk p L st h d =
       when-has Q (D.isInGroup (D.kindOf (st .opened)) && D.isEnd s (L .behind)) _ _
-      (λ e. too-long (L .long) _ _ (λ q. k .stops OverLimit q [] (D.named (L .labels) st)) (end-at (st .opened) (L .labels) (L .behind .to) st h refl (in-group (D.kindOf (st .opened)) (D.isEnd s (L .behind)) e) d)) λ _.
-      when-has Q (leb 1024 (length (st .rows))) _ _ (λ _. k .stops OverLimit p (p ∷ []) st) λ f.
-      let small : length (st .rows) < 1024 = leb-false 1024 (length (st .rows)) f in
-      too-long (L .long) _ _ (λ q. untaken p (L .labels) st h d small OverLimit q []) (by-token p (L .labels) st h d small (L .behind .token) (L .behind))
+      (λ e. too-long Q (L .long) _ _ (λ q. k .halts OverLimit q [] (D.named (L .labels) st) (named (L .labels) st h)) (end-at (st .opened) (L .labels) (L .behind .to) st h refl (in-group (D.kindOf (st .opened)) (D.isEnd s (L .behind)) e) d)) λ _.
+      when-has Q (leb 1024 (length (st .rows))) _ _ (λ _. k .halts OverLimit p (p ∷ []) st h) λ f.
+      let each : Statements s p (L .labels) st Q = k .statements p (L .labels) st h d (leb-false 1024 (length (st .rows)) f) in
+      too-long Q (L .long) _ _ (λ q. each .refuses OverLimit q [] none) (by-token s p (L .labels) st Q each (L .behind .token) (L .behind))
 
   -- ---- texts
   texted-walk : (E : TextEnd) (f : ℕ → D.State) → ((p : ℕ) → G (f p)) → ((p : ℕ) → D.depth (f p .opened) ≤ 16) → Q (D.texted E s f)
   texted-walk (percentAt p) f h d = clause-walk p (D.labels s (p + 1)) (f p) (h p) (d p)
-  texted-walk atEnd f h d = cond-has Q (leb (length (f 0 .opened)) 1) _ _ (λ _. k .finishes (f (length s)) (h (length s))) λ _. k .stops Syntax (length s) [] (f (length s))
-  texted-walk (openAt p) f h d = k .stops Syntax p [] (f p)
+  texted-walk atEnd f h d = cond-has Q (leb (length (f 0 .opened)) 1) _ _ (λ _. k .finishes (f (length s)) (h (length s))) λ _. k .halts Syntax (length s) [] (f (length s)) (h (length s))
+  texted-walk (openAt p) f h d = k .halts Syntax p [] (f p) (h p)
 
   record Led (st r : D.State) : Type 0 where
     has : G r
@@ -193,28 +205,28 @@ module _ (s : List ℕ) (G : D.State → Type 0) (Q : D.Turn → Type 0) (k : St
   lead-walk (o ∷ os) a b st h = lead-by (o .kind) (o .row) (o .last) (o .labels) os a b st h
 
   -- ---- in a procedure, and an alternative
-  not-end : (n : Reading Named) (st : D.State) → Q (D.notEnd n s st)
-  not-end (read n) st = k .stops Syntax (tokenAt s (n .to) .from) [] st
-  not-end (refused w p) st = k .stops w p [] st
+  not-end : (n : Reading Named) (st : D.State) → G st → Q (D.notEnd n s st)
+  not-end (read n) st h = k .halts Syntax (tokenAt s (n .to) .from) [] st h
+  not-end (refused w p) st h = k .halts w p [] st h
 
   procedure-end : (L : D.Labelled) (st : D.State) → G st → D.depth (st .opened) ≤ 16 → Ended (D.kindOf (st .opened)) → Q (D.procedureEnd s L st)
   procedure-end L st h d x =
-      too-long (L .long) _ _ (λ q. k .stops OverLimit q [] (D.named (L .labels) st))
-      (when-has Q (isWord "END" (L .behind .token)) _ _ (λ _. end-at (st .opened) (L .labels) (L .behind .to) st h refl x d) λ _. not-end (nameOf (L .behind .token) (L .behind .from) (L .behind .to)) (D.named (L .labels) st))
+      too-long Q (L .long) _ _ (λ q. k .halts OverLimit q [] (D.named (L .labels) st) (named (L .labels) st h))
+      (when-has Q (isWord "END" (L .behind .token)) _ _ (λ _. end-at (st .opened) (L .labels) (L .behind .to) st h refl x d) λ _. not-end (nameOf (L .behind .token) (L .behind .from) (L .behind .to)) (D.named (L .labels) st) (named (L .labels) st h))
 
   inner-walk : (at : ℕ) (t : Lexeme) (st : D.State) → G st → D.depth (st .opened) ≤ 16 → Q (D.innerAt s at t st)
   unfolding D.innerAt
   inner-walk at t st h d =
       when-has Q (D.isInBody (D.kindOf (st .opened)) && isSign "%" (t .token)) _ _ (λ e. procedure-end (D.labels s (t .to)) st h d (in-body (D.kindOf (st .opened)) (isSign "%" (t .token)) e)) λ _.
-      when-has Q (D.begins (t .token)) _ _ (λ _. clause-walk (t .from) (D.labels s at) st h d) λ _. k .stops Syntax (t .from) [] st
+      when-has Q (D.begins (t .token)) _ _ (λ _. clause-walk (t .from) (D.labels s at) st h d) λ _. k .halts Syntax (t .from) [] st h
 
   deep-walk : (p at : ℕ) (st : D.State) → G st → Q (D.deepEnough p st (λ _. D.clauseAt s p at st))
   unfolding D.deepEnough
-  deep-walk p at st h = when-has Q (leb (D.depth (st .opened)) openGroups) _ _ (λ e. clause-walk p (D.labels s at) st h (leb-true (D.depth (st .opened)) openGroups e)) λ _. k .stops OverLimit p (p ∷ []) st
+  deep-walk p at st h = when-has Q (leb (D.depth (st .opened)) openGroups) _ _ (λ e. clause-walk p (D.labels s at) st h (leb-true (D.depth (st .opened)) openGroups e)) λ _. k .halts OverLimit p (p ∷ []) st h
 
   alternative-walk : (j : P.Scope) (at : ℕ) (t : Lexeme) (st : D.State) → G st → Q (D.alternativeAt j s at t st)
-  alternative-walk P.global at t st h = when-has Q (isSign "%" (t .token)) _ _ (λ _. deep-walk (t .from) (t .to) st h) λ _. k .stops Syntax (t .from) [] st
-  alternative-walk (P.inside r) at t st h = when-has Q (D.begins (t .token)) _ _ (λ _. deep-walk (t .from) at st h) λ _. k .stops Syntax (t .from) [] st
+  alternative-walk P.global at t st h = when-has Q (isSign "%" (t .token)) _ _ (λ _. deep-walk (t .from) (t .to) st h) λ _. k .halts Syntax (t .from) [] st h
+  alternative-walk (P.inside r) at t st h = when-has Q (D.begins (t .token)) _ _ (λ _. deep-walk (t .from) at st h) λ _. k .halts Syntax (t .from) [] st h
 
   -- ---- EVERY TURN
   pub turn-walk : (m : D.Mode) (at : ℕ) (st : D.State) → G st → Shallow m st → Q (D.turn s m at st)
