@@ -27,6 +27,7 @@ use Rattle.definition.specs.Statements.{Opens, opensNothing, opensGroup, opensB
 use Rattle.definition.specs.Reading as R
 use Rattle.definition.specs.Reading.{Where, inProgram, inGroup, inBody, inThen, inElse, Open, State, change, newRow, setNext, setChild, setOther, setLead, setText, linked, addIn, addTo, addRow, withNames, Mode, Turn, go, stop, finish, Else, elseTo, noElse, elseWord, elseAt, elsed, completeIn, complete, Labelled, isName, addLabel, labelsFrom, labels, opened, taken, untaken, takeRead, takeDeclared, labelMeaning, isDeclare, isProcedure, isNone, isInside, isList, kindOf, doAt, common, inList, outer, byWord, byName, byToken, endName, mayName, endRead, endAt, isInGroup, isInBody, isFull, isEnd, longLabel, clauseFrom, clauseAt, texted, leadIn, notEnd, procedureEnd, begins, innerAt, depth, deepEnough, alternativeAt, leadingText, textBehind, alternative, inner, turn, places, readOn}
 use Rattle.definition.proofs.Choices.{when-has, cond-has}
+use Rattle.definition.proofs.Keeping.{and-left}
 use Rattle.definition.proofs.Ends.{pieceAt-past}
 use Rattle.reading.specs.State.{Starts, behind, opens}
 use Rattle.reading.proofs.Places.{token-on, begins-real}
@@ -382,10 +383,6 @@ module _ (s : List ℕ) (p : ℕ) where
       (λ _. add-label LaterLabels ns long _ (name-of (tokenAt s e .token) (tokenAt s e .from) (tokenAt s e .to) (token-from e i) (token-to e i)) h k
       λ ms qs m l. labels-far f ms qs _ m l (token-to (tokenAt s e .to) (token-to e i))) λ _. labels-end ns long e h k i
 
-  and-first : (a b : Bool) → (a && b) ≡ true → a ≡ true
-  and-first true b e = refl
-  and-first false b e = e
-
   name-low : (t : Token) (a b : ℕ) → isName t ≡ true → p ≤ a → p < b → Far NameFar (nameOf t a b)
   name-low (word w) a b z h k = cond-has (Far NameFar) (leb (length w) 31) _ _ (λ _. far (record { place = h; to = k })) λ _. stopped (there h)
   name-low (integer w) a b z h k = absurd (false≢true z)
@@ -403,7 +400,7 @@ module _ (s : List ℕ) (p : ℕ) where
   labels-now (suc f) e h k =
       let t : p < tokenAt s e .to = omega (arith, token-on s e .some (begins-real (tokenAt s e .token) k) .0) in
       when-has Labels (isName (tokenAt s e .token) && isSign ":" (tokenAt s (tokenAt s e .to) .token)) _ _
-      (λ z. add-label Labels [] [] _ (name-low (tokenAt s e .token) (tokenAt s e .from) (tokenAt s e .to) (and-first (isName (tokenAt s e .token)) _ z) h t) tt tt
+      (λ z. add-label Labels [] [] _ (name-low (tokenAt s e .token) (tokenAt s e .from) (tokenAt s e .to) (and-left (isName (tokenAt s e .token)) _ z) h t) tt tt
       λ ms qs m l. labels-far f ms qs _ m l (token-to (tokenAt s e .to) t) .is) λ _. record { named = tt; long = tt; first = now h k; end = t }
 
   starts-labels : (e : ℕ) → Starts s p e → Labels (labels s e)

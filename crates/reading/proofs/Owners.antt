@@ -106,7 +106,7 @@ linked-length n (row l) f k rs = change-length l (setNext n) rs
 put-length : (qs rs : List Row) (r : Row) → length qs ≡ length rs → length (qs ++ r ∷ []) ≡ suc (length rs)
 put-length qs rs r h = omega (arith, h, length-append qs (r ∷ []))
 
-add-length : (k : Where) (o : Open) (os : List Open) (x : Statement) (c : ℕ) (st : State) → length (addIn k o os x c st .rows) ≡ suc (length (st .rows))
+pub add-length : (k : Where) (o : Open) (os : List Open) (x : Statement) (c : ℕ) (st : State) → length (addIn k o os x c st .rows) ≡ suc (length (st .rows))
 add-length inProgram o os x c st =
     let n : ℕ = length (st .rows) in
     put-length (linked n (o .last) (λ rs. rs) (st .rows)) (st .rows) (newRow x c nowhere listed) (linked-length n (o .last) (λ rs. rs) (λ rs. refl) (st .rows))

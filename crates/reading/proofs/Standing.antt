@@ -24,7 +24,7 @@ use Rattle.reading.proofs.Rows.{rows-length}
 use Rattle.reading.proofs.Adding.{stand-last}
 use Rattle.reading.proofs.Endings.{stand-some}
 use Rattle.reading.proofs.Turning.{opened-length}
-use Rattle.reading.proofs.Owners.{change-length}
+use Rattle.reading.proofs.Owners.{change-length, add-length}
 use Rattle.reading.proofs.Walking.{procedures, Room, Ended, Shallow, Steps, turn-walk}
 
 -- ---- what a state has, and by what comes next
@@ -62,14 +62,6 @@ well-deep D.alternative st h k = omega (arith, h .count, k, few-procedures (st .
 well-deep D.inner st h k = omega (arith, h .count, k, few-procedures (st .scope))
 
 -- ---- a new row
-more-length : (rs : List P.Row) (r : P.Row) → length (rs ++ r ∷ []) ≡ suc (length rs)
-more-length [] r = refl
-more-length (q ∷ rs) r = ap suc (more-length rs r)
-
-linked-length : (n : ℕ) (l : P.Link) (f : List P.Row → List P.Row) (rs : List P.Row) → length (f rs) ≡ length rs → length (D.linked n l f rs) ≡ length rs
-linked-length n P.nowhere f rs h = h
-linked-length n (P.row l) f rs h = change-length l (D.setNext n) rs
-
 record Grown (st : D.State) (L : List D.Open) (r : D.State) : Type 0 where
   rows : length (r .rows) ≡ suc (length (st .rows))
   stand : Stand (length (st .rows)) L → Stand (suc (length (st .rows))) (r .opened)
@@ -80,21 +72,11 @@ record Grown (st : D.State) (L : List D.Open) (r : D.State) : Type 0 where
 add-in : (w : D.Where) (k : ℕ) (l : P.Link) (bs : List (List ℕ)) (os : List D.Open) (y : P.Statement) (p : ℕ) (st : D.State)
     → Grown st (record { kind = w; row = k; last = l; labels = bs } ∷ os) (D.addIn w (record { kind = w; row = k; last = l; labels = bs }) os y p st)
 unfolding D.depth
-add-in D.inProgram k l bs os y p st =
-    let n : ℕ = length (st .rows) in
-    record { rows = more-length (D.linked n l (λ rs. rs) (st .rows)) (D.newRow y p P.nowhere P.listed) ∙ ap suc (linked-length n l (λ rs. rs) (st .rows) refl); stand = stand-last D.inProgram k l bs os n; depth = refl; count = refl; scope = refl }
-add-in D.inGroup k l bs os y p st =
-    let n : ℕ = length (st .rows) in
-    record { rows = more-length (D.linked n l (D.change k (D.setChild n)) (st .rows)) (D.newRow y p (P.row k) P.listed) ∙ ap suc (linked-length n l (D.change k (D.setChild n)) (st .rows) (change-length k (D.setChild n) (st .rows))); stand = stand-last D.inGroup k l bs os n; depth = refl; count = refl; scope = refl }
-add-in D.inBody k l bs os y p st =
-    let n : ℕ = length (st .rows) in
-    record { rows = more-length (D.linked n l (D.change k (D.setChild n)) (st .rows)) (D.newRow y p (P.row k) P.listed) ∙ ap suc (linked-length n l (D.change k (D.setChild n)) (st .rows) (change-length k (D.setChild n) (st .rows))); stand = stand-last D.inBody k l bs os n; depth = refl; count = refl; scope = refl }
-add-in D.inThen k l bs os y p st =
-    let n : ℕ = length (st .rows) in
-    record { rows = more-length (D.change k (D.setChild n) (st .rows)) (D.newRow y p (P.row k) P.thenPart) ∙ ap suc (change-length k (D.setChild n) (st .rows)); stand = stand-last D.inThen k l bs os n; depth = refl; count = refl; scope = refl }
-add-in D.inElse k l bs os y p st =
-    let n : ℕ = length (st .rows) in
-    record { rows = more-length (D.change k (D.setOther n) (st .rows)) (D.newRow y p (P.row k) P.elsePart) ∙ ap suc (change-length k (D.setOther n) (st .rows)); stand = stand-last D.inElse k l bs os n; depth = refl; count = refl; scope = refl }
+add-in D.inProgram k l bs os y p st = record { rows = add-length D.inProgram (record { kind = D.inProgram; row = k; last = l; labels = bs }) os y p st; stand = stand-last D.inProgram k l bs os (length (st .rows)); depth = refl; count = refl; scope = refl }
+add-in D.inGroup k l bs os y p st = record { rows = add-length D.inGroup (record { kind = D.inGroup; row = k; last = l; labels = bs }) os y p st; stand = stand-last D.inGroup k l bs os (length (st .rows)); depth = refl; count = refl; scope = refl }
+add-in D.inBody k l bs os y p st = record { rows = add-length D.inBody (record { kind = D.inBody; row = k; last = l; labels = bs }) os y p st; stand = stand-last D.inBody k l bs os (length (st .rows)); depth = refl; count = refl; scope = refl }
+add-in D.inThen k l bs os y p st = record { rows = add-length D.inThen (record { kind = D.inThen; row = k; last = l; labels = bs }) os y p st; stand = stand-last D.inThen k l bs os (length (st .rows)); depth = refl; count = refl; scope = refl }
+add-in D.inElse k l bs os y p st = record { rows = add-length D.inElse (record { kind = D.inElse; row = k; last = l; labels = bs }) os y p st; stand = stand-last D.inElse k l bs os (length (st .rows)); depth = refl; count = refl; scope = refl }
 
 add-to : (L : List D.Open) (y : P.Statement) (p : ℕ) (st : D.State) → Stand (length (st .rows)) L → Grown st L (D.addTo L y p st)
 add-to [] y p st h = absurd h
