@@ -1,5 +1,4 @@
--- Places grow: what is read behind a place lies behind it. So the sentence that is one too many in those entered decides, whatever
--- the definition reads behind it: no fault and no name that comes later is sooner.
+-- Places grow: what is read behind a place lies behind it. So no fault and no name behind the sentence that is one too many is sooner.
 -- Assumes nothing.
 use Prim.Native.Nat.{ℕ, zero, suc, _+_, _≤_, _<_}
 use Prim.Native.Char.{code}
