@@ -2,9 +2,9 @@
 -- is one too many, the first that is declared twice, and else the names.
 -- Assumes nothing.
 use mathlib.Core.Path.{_≡_, refl, sym, ap, subst, _∙_}
-use mathlib.Core.Bool.{Bool, true, false, cond, _&&_, _||_}
+use mathlib.Core.Bool.{Bool, true, false, cond, _||_}
 use mathlib.Core.List.{List, [], _∷_, _++_}
-use Prim.Native.Nat.{ℕ, zero, suc, _+_, _-_, _<_, _≤_}
+use Prim.Native.Nat.{ℕ, suc, _-_}
 use native.Mathlib.Omega.{arith}
 use lib.Dec.{leb, ltb}
 use lib.ListN.{length, length-append, getD}
@@ -19,7 +19,8 @@ use Rattle.entering.specs.declared.Mark.{Mark}
 use Rattle.entering.specs.declared.Mark.the-variants.{Unmarked, Marked}
 use Rattle.entering.specs.declared.Fault.{Fault}
 use Rattle.entering.specs.declared.Fault.the-variants.{Sound, Faulty}
-use Rattle.entering.specs.Book.{Book, firstOf, markOf, bookPast, bookSecond, bookMore, bookSet, bookAdd, bookJoint, bookJoin, bookAt, bookOne, listedOne, bookListed, bookWhole, faultFor, faultIn, sooner, twiceOr}
+use Rattle.entering.specs.Book.{Book, markOf, bookPast, bookSecond, bookMore, bookSet, bookAdd, bookJoint, bookJoin, bookAt, bookOne, listedOne, bookListed, bookWhole, faultFor, faultIn, sooner, twiceOr}
+use Rattle.entering.specs.Entry.{Shows, Entry, goes-in, stays-out}
 
 -- ---- a name is listed where it has an address
 abbrev found : W.Address → Bool
@@ -169,11 +170,6 @@ second-stays m ps [] q b h = h
 second-stays m ps (d ∷ ds) q b h = second-stays m (listedOne (N.newOf m (d .meaning)) (N.identifierOf m d) ps) ds q (bookListed (N.newOf m (d .meaning)) (N.identifierOf m d) ps (d .place) b) (second-one (N.newOf m (d .meaning)) (N.identifierOf m d) ps (d .place) q b h)
 
 -- ---- the world that a book shows
-pub record Shows (w : W.World) (b : Book) : Type 0 where
-  pub identifiers : w .identifiers ≡ b .identifiers
-  pub denotations : w .denotations ≡ b .denotations
-  pub activities : w .activities ≡ b .activities
-
 pub data Outcome (x : N.Declaring) (c : Book) : Type 0 where
   enters : (v : W.World) → x ≡ N.fine v → Shows v c → c .second ≡ Unmarked → Outcome x c
   repeats : (p : ℕ) → x ≡ N.second p → c .second ≡ Marked p → Outcome x c
@@ -227,10 +223,6 @@ names-are m ps [] w b h u k = enters w refl h u
 names-are m ps (d ∷ ds) w b h u k = one-outcome m ds (λ qs v c. names-are m qs ds v c) ps w b (N.identifierOf m d) (d .place) (N.newOf m (d .meaning)) h (unmarked m ps (d ∷ ds) b (b .past) refl k) u k
 
 -- ---- THE DECISION, where f is what the reading found, sentences that are too many counted
-pub data Entry (m : ℕ) (s : P.Source) (c : Book) (x : N.Entering) (g : Fault) : Type 0 where
-  goes-in : (v : W.World) → x ≡ N.entered (N.withMember m s v) → Shows v c → g ≡ Sound → Entry m s c x g
-  stays-out : (e : Why) (p : ℕ) → x ≡ N.unreadable e p → g ≡ Faulty e p → Entry m s c x g
-
 abbrev declaredAs : ℕ → P.Source → N.Declaring → N.Entering
 declaredAs m s (N.fine v) = N.entered (N.withMember m s v)
 declaredAs m s (N.second p) = N.unreadable DeclaredTwice p

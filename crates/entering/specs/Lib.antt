@@ -1,2 +1,3 @@
 -- What the contracts of `entering` cite.
 pub mod Book
+pub mod Entry

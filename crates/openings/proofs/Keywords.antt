@@ -1,7 +1,7 @@
--- What a statement opens is known by the word that it begins with, before it is read.
+-- What a statement opens is known by the word that it begins with, before it is read, and by what it is.
 -- Assumes nothing.
 use mathlib.Core.Path.{_≡_, refl}
-use mathlib.Core.Bool.{Bool, true, false}
+use mathlib.Core.Bool.{Bool, true, false, cond, false≢true}
 use mathlib.Core.List.{List, [], _∷_, _++_}
 use Prim.Native.Nat.{ℕ, zero, suc}
 use Prim.Native.String as Str
@@ -18,55 +18,122 @@ use Rattle.definition.specs.Reading as D
 use Rattle.definition.specs.declared.ValueType.{ValueType}
 use Rattle.definition.specs.declared.ValueType.the-variants.{FixedType, CharacterType}
 use Rattle.definition.specs.declared.Why.the-variants.{OverLimit}
+use Rattle.rows.specs.declared.Statement.{Statement}
+use Rattle.rows.specs.declared.Statement.the-variants as S
+use Rattle.rows.specs.Tabled.{kindOf}
 use Rattle.statements.specs.declared.Keyword.the-variants as K
-use Rattle.statements.specs.Clauses.{goClause}
+use Rattle.statements.specs.Clauses.{goClause, doKind, typeIn}
 use Rattle.openings.specs.Open.{opensBy, otherAt}
 
--- a clause that was read opens o
-abbrev pub OpensSo : St.Opens → Reading St.Clause → Type 0
-OpensSo o (read c) = c .opens ≡ o
-OpensSo o (refused w p) = Unit {0}
+-- ---- by what it is
+abbrev pub opensOf : P.Statement → St.Opens
+opensOf P.null = St.opensNothing
+opensOf (P.declare ns) = St.opensNothing
+opensOf (P.procedure ns t) = St.opensBody
+opensOf (P.assign n t) = St.opensNothing
+opensOf (P.conditional t) = St.opensThen
+opensOf P.group = St.opensGroup
+opensOf (P.iterated n t bs) = St.opensGroup
+opensOf (P.goto n) = St.opensNothing
+opensOf (P.include ns) = St.opensNothing
+opensOf (P.activate ns) = St.opensNothing
+opensOf (P.deactivate ns) = St.opensNothing
+opensOf (P.return t) = St.opensNothing
 
-abbrev pub DeclaresSo : St.Opens → St.Declaring → Type 0
-DeclaresSo o (St.declared c ds) = c .opens ≡ o
-DeclaresSo o (St.undeclared w p ds) = Unit {0}
+pub iterated-opens : (x : P.Statement) → P.isIterated x ≡ true → opensOf x ≡ St.opensGroup
+unfolding P.isIterated
+iterated-opens P.null e = absurd (false≢true e)
+iterated-opens (P.declare ns) e = absurd (false≢true e)
+iterated-opens (P.procedure ns t) e = absurd (false≢true e)
+iterated-opens (P.assign n t) e = absurd (false≢true e)
+iterated-opens (P.conditional t) e = absurd (false≢true e)
+iterated-opens P.group e = absurd (false≢true e)
+iterated-opens (P.iterated n t bs) e = refl
+iterated-opens (P.goto n) e = absurd (false≢true e)
+iterated-opens (P.include ns) e = absurd (false≢true e)
+iterated-opens (P.activate ns) e = absurd (false≢true e)
+iterated-opens (P.deactivate ns) e = absurd (false≢true e)
+iterated-opens (P.return t) e = absurd (false≢true e)
 
-module _ (o : St.Opens) where
-  after : {A : Type 0} (R : Reading A) (F : A → Reading St.Clause) → ((a : A) → OpensSo o (F a)) → OpensSo o (then R F)
+-- only a procedure has a type of its own
+abbrev pub NoBody : St.Opens → Type 0
+NoBody St.opensNothing = Unit {0}
+NoBody St.opensGroup = Unit {0}
+NoBody St.opensBody = ⊥
+NoBody St.opensThen = Unit {0}
+
+pub type-plain : (x : P.Statement) → NoBody (opensOf x) → FixedType ≡ typeIn x
+type-plain P.null h = refl
+type-plain (P.declare ns) h = refl
+type-plain (P.procedure ns t) h = absurd h
+type-plain (P.assign n t) h = refl
+type-plain (P.conditional t) h = refl
+type-plain P.group h = refl
+type-plain (P.iterated n t bs) h = refl
+type-plain (P.goto n) h = refl
+type-plain (P.include ns) h = refl
+type-plain (P.activate ns) h = refl
+type-plain (P.deactivate ns) h = refl
+type-plain (P.return t) h = refl
+
+-- a clause that was read is of the kind k, and opens o
+pub record OpensBoth (k : Statement) (o : St.Opens) (c : St.Clause) : Type 0 where
+  pub opens : c .opens ≡ o
+  pub statement : opensOf (c .statement) ≡ o
+  pub kind : kindOf (c .statement) ≡ k
+
+abbrev pub OpensSo : Statement → St.Opens → Reading St.Clause → Type 0
+OpensSo k o (read c) = OpensBoth k o c
+OpensSo k o (refused w p) = Unit {0}
+
+abbrev pub DeclaresSo : Statement → St.Opens → St.Declaring → Type 0
+DeclaresSo k o (St.declared c ds) = OpensBoth k o c
+DeclaresSo k o (St.undeclared w p ds) = Unit {0}
+
+-- a statement of the kind k that opens o
+record Of (k : Statement) (o : St.Opens) (x : P.Statement) : Type 0 where
+  opens : opensOf x ≡ o
+  kind : kindOf x ≡ k
+
+both : (k : Statement) (o : St.Opens) (x : P.Statement) (to : ℕ) → Of k o x → OpensBoth k o (St.clause x o to)
+both k o x to h = record { opens = refl; statement = h .opens; kind = h .kind }
+
+module _ (k : Statement) (o : St.Opens) where
+  after : {A : Type 0} (R : Reading A) (F : A → Reading St.Clause) → ((a : A) → OpensSo k o (F a)) → OpensSo k o (then R F)
   after (read a) F h = h a
   after (refused w p) F h = tt
 
-  so-either : (b : Bool) (x y : Unit {0} → Reading St.Clause) → OpensSo o (x tt) → OpensSo o (y tt) → OpensSo o (when b x y)
+  so-either : (b : Bool) (x y : Unit {0} → Reading St.Clause) → OpensSo k o (x tt) → OpensSo k o (y tt) → OpensSo k o (when b x y)
   so-either true x y f g = f
   so-either false x y f g = g
 
-  declared-after : {A : Type 0} (ds : List P.Declared) (R : Reading A) (F : A → St.Declaring) → ((a : A) → DeclaresSo o (F a)) → DeclaresSo o (St.thenDeclare ds R F)
+  declared-after : {A : Type 0} (ds : List P.Declared) (R : Reading A) (F : A → St.Declaring) → ((a : A) → DeclaresSo k o (F a)) → DeclaresSo k o (St.thenDeclare ds R F)
   declared-after ds (read a) F h = h a
   declared-after ds (refused w p) F h = tt
 
-  declared-either : (b : Bool) (x y : Unit {0} → St.Declaring) → DeclaresSo o (x tt) → DeclaresSo o (y tt) → DeclaresSo o (when b x y)
+  declared-either : (b : Bool) (x y : Unit {0} → St.Declaring) → DeclaresSo k o (x tt) → DeclaresSo k o (y tt) → DeclaresSo k o (when b x y)
   declared-either true x y f g = f
   declared-either false x y f g = g
 
   bound-so : (w : Str.String) (make : Tree → P.Bound) (s : List ℕ) (bs : List P.Bound) (at : ℕ) (found : List P.Bound → ℕ → Reading St.Clause) (absent : Unit {0} → Reading St.Clause)
-      → ((cs : List P.Bound) (e : ℕ) → OpensSo o (found cs e)) → OpensSo o (absent tt) → OpensSo o (St.boundAt w make s bs at found absent)
+      → ((cs : List P.Bound) (e : ℕ) → OpensSo k o (found cs e)) → OpensSo k o (absent tt) → OpensSo k o (St.boundAt w make s bs at found absent)
   unfolding St.boundAt
   bound-so w make s bs at found absent f g =
       so-either (Tk.isWord w (tokenAt s at .token)) (λ _. then (wholeExpression s (tokenAt s at .to)) λ r. found (bs ++ make (r .tree) ∷ []) (r .to)) absent
       (after (wholeExpression s (tokenAt s at .to)) (λ r. found (bs ++ make (r .tree) ∷ []) (r .to)) (λ r. f (bs ++ make (r .tree) ∷ []) (r .to))) g
 
-  names-so : (k : P.Scope) (m : P.Meaning) (s : List ℕ) (ds : List P.Declared) (n : ℕ) (ns : List Named) (at : ℕ) (f : List Named → ℕ → St.Declaring)
-      → ((ms : List Named) (e : ℕ) → DeclaresSo o (f ms e)) → DeclaresSo o (St.namesAt k m s ds n ns at f)
+  names-so : (z : P.Scope) (m : P.Meaning) (s : List ℕ) (ds : List P.Declared) (n : ℕ) (ns : List Named) (at : ℕ) (f : List Named → ℕ → St.Declaring)
+      → ((ms : List Named) (e : ℕ) → DeclaresSo k o (f ms e)) → DeclaresSo k o (St.namesAt z m s ds n ns at f)
   unfolding St.namesAt
-  names-so k m s ds zero ns at f h = tt
-  names-so k m s ds (suc n) ns at f h =
-      declared-after (ds ++ St.means k m ns) (nameAt s at) _ λ x.
-      declared-either (Tk.isSign "," (tokenAt s (x .to) .token)) (λ _. St.namesAt k m s ds n (ns ++ x ∷ []) (tokenAt s (x .to) .to) f) _
-      (names-so k m s ds n (ns ++ x ∷ []) (tokenAt s (x .to) .to) f h)
-      (declared-after (ds ++ St.means k m (ns ++ x ∷ [])) (expectSign ")" s (x .to)) (λ e. f (ns ++ x ∷ []) e) (λ e. h (ns ++ x ∷ []) e))
+  names-so z m s ds zero ns at f h = tt
+  names-so z m s ds (suc n) ns at f h =
+      declared-after (ds ++ St.means z m ns) (nameAt s at) _ λ x.
+      declared-either (Tk.isSign "," (tokenAt s (x .to) .token)) (λ _. St.namesAt z m s ds n (ns ++ x ∷ []) (tokenAt s (x .to) .to) f) _
+      (names-so z m s ds n (ns ++ x ∷ []) (tokenAt s (x .to) .to) f h)
+      (declared-after (ds ++ St.means z m (ns ++ x ∷ [])) (expectSign ")" s (x .to)) (λ e. f (ns ++ x ∷ []) e) (λ e. h (ns ++ x ∷ []) e))
 
-  attribute-so : (k : P.Scope) (t : Tk.Token) (from to : ℕ) (found : P.Meaning → ℕ → St.Declaring) (absent : Unit {0} → St.Declaring)
-      → ((m : P.Meaning) (e : ℕ) → DeclaresSo o (found m e)) → DeclaresSo o (absent tt) → DeclaresSo o (St.attribute k t from to found absent)
+  attribute-so : (z : P.Scope) (t : Tk.Token) (from to : ℕ) (found : P.Meaning → ℕ → St.Declaring) (absent : Unit {0} → St.Declaring)
+      → ((m : P.Meaning) (e : ℕ) → DeclaresSo k o (found m e)) → DeclaresSo k o (absent tt) → DeclaresSo k o (St.attribute z t from to found absent)
   unfolding St.attribute
   attribute-so P.global t from to found absent f g =
       declared-either (St.isCharacter t) (λ _. found (P.variable CharacterType) to) _ (f (P.variable CharacterType) to)
@@ -77,126 +144,132 @@ module _ (o : St.Opens) where
       (declared-either (Tk.isWord "FIXED" t) (λ _. found (P.variable FixedType) to) _ (f (P.variable FixedType) to)
       (declared-either (Tk.isWord "BUILTIN" t) (λ _. found P.builtin to) absent (f P.builtin to) g))
 
-ended-so : (s : List ℕ) (x : P.Statement) (at : ℕ) → OpensSo St.opensNothing (St.ended s x at)
+ended-so : (s : List ℕ) (k : Statement) (x : P.Statement) (at : ℕ) → Of k St.opensNothing x → OpensSo k St.opensNothing (St.ended s x at)
 unfolding St.ended
-ended-so s x at = after St.opensNothing (expectSign ";" s at) (λ e. read (St.clause x St.opensNothing e)) (λ e. refl)
+ended-so s k x at h = after k St.opensNothing (expectSign ";" s at) (λ e. read (St.clause x St.opensNothing e)) (λ e. both k St.opensNothing x e h)
 
-pub if-so : (b : Bool) (s : List ℕ) (at : ℕ) → OpensSo (opensBy K.If) (St.ifClause b s at)
+pub if-so : (b : Bool) (s : List ℕ) (at : ℕ) → OpensSo S.Conditional (opensBy K.If) (St.ifClause b s at)
 unfolding St.ifClause
-if-so b s at = after St.opensThen (wholeExpression s at) _ λ r. after St.opensThen (St.thenWord b s (r .to)) (λ e. read (St.clause (P.conditional (r .tree)) St.opensThen e)) (λ e. refl)
+if-so b s at = after S.Conditional St.opensThen (wholeExpression s at) _ λ r. after S.Conditional St.opensThen (St.thenWord b s (r .to)) (λ e. read (St.clause (P.conditional (r .tree)) St.opensThen e)) (λ e. both S.Conditional St.opensThen (P.conditional (r .tree)) e (record { opens = refl; kind = refl }))
 
-module _ (s : List ℕ) (make : List P.Bound → P.Statement) where
+module _ (s : List ℕ) (make : List P.Bound → P.Statement) (h : (bs : List P.Bound) → Of S.Iterated St.opensGroup (make bs)) where
   abbrev lastOf : List P.Bound → ℕ → Reading St.Clause
   lastOf bs e = then (expectSign ";" s e) λ q. read (St.clause (make bs) St.opensGroup q)
 
-  last-so : (bs : List P.Bound) (e : ℕ) → OpensSo St.opensGroup (lastOf bs e)
-  last-so bs e = after St.opensGroup (expectSign ";" s e) (λ q. read (St.clause (make bs) St.opensGroup q)) (λ q. refl)
+  last-so : (bs : List P.Bound) (e : ℕ) → OpensSo S.Iterated St.opensGroup (lastOf bs e)
+  last-so bs e = after S.Iterated St.opensGroup (expectSign ";" s e) (λ q. read (St.clause (make bs) St.opensGroup q)) (λ q. both S.Iterated St.opensGroup (make bs) q (h bs))
 
-  bounds-so : (at : ℕ) → OpensSo St.opensGroup (St.doBounds s make at)
+  bounds-so : (at : ℕ) → OpensSo S.Iterated St.opensGroup (St.doBounds s make at)
   unfolding St.doBounds
   bounds-so at =
-      bound-so St.opensGroup "BY" P.by s [] at (λ bs e. St.boundAt "TO" P.upto s bs e lastOf (λ _. lastOf bs e)) _
-      (λ bs e. bound-so St.opensGroup "TO" P.upto s bs e lastOf (λ _. lastOf bs e) last-so (last-so bs e))
-      (bound-so St.opensGroup "TO" P.upto s [] at (λ bs e. St.boundAt "BY" P.by s bs e lastOf (λ _. lastOf bs e)) (λ _. lastOf [] at)
-      (λ bs e. bound-so St.opensGroup "BY" P.by s bs e lastOf (λ _. lastOf bs e) last-so (last-so bs e)) (last-so [] at))
+      bound-so S.Iterated St.opensGroup "BY" P.by s [] at (λ bs e. St.boundAt "TO" P.upto s bs e lastOf (λ _. lastOf bs e)) _
+      (λ bs e. bound-so S.Iterated St.opensGroup "TO" P.upto s bs e lastOf (λ _. lastOf bs e) last-so (last-so bs e))
+      (bound-so S.Iterated St.opensGroup "TO" P.upto s [] at (λ bs e. St.boundAt "BY" P.by s bs e lastOf (λ _. lastOf bs e)) (λ _. lastOf [] at)
+      (λ bs e. bound-so S.Iterated St.opensGroup "BY" P.by s bs e lastOf (λ _. lastOf bs e) last-so (last-so bs e)) (last-so [] at))
 
-pub do-so : (s : List ℕ) (from to : ℕ) (st : D.State) → OpensSo (opensBy K.Do) (D.doAt s from to st)
-unfolding D.doAt St.doClause
+-- DO alone, or an iterated group
+group-so : (b : Bool) (to : ℕ) (y : Unit {0} → Reading St.Clause) → OpensSo S.Iterated St.opensGroup (y tt) → OpensSo (cond b S.Group S.Iterated) St.opensGroup (when b (λ _. read (St.clause P.group St.opensGroup to)) y)
+group-so true to y h = both S.Group St.opensGroup P.group to (record { opens = refl; kind = refl })
+group-so false to y h = h
+
+pub do-so : (s : List ℕ) (from to : ℕ) (st : D.State) → OpensSo (doKind s to) (opensBy K.Do) (D.doAt s from to st)
+unfolding D.doAt St.doClause doKind
 do-so s from to st =
-    so-either St.opensGroup (ltb (D.depth (st .opened)) openGroups) (λ _. St.doClause s to) (λ _. refused OverLimit from)
-    (so-either St.opensGroup (Tk.isSign ";" (tokenAt s to .token)) (λ _. read (St.clause P.group St.opensGroup (tokenAt s to .to))) _ refl
-    (after St.opensGroup (nameAt s to) _ λ n. after St.opensGroup (expectSign "=" s (n .to)) _ λ e. after St.opensGroup (wholeExpression s e) _ λ r. bounds-so s (P.iterated (n .spelling) (r .tree)) (r .to))) tt
+    so-either (doKind s to) St.opensGroup (ltb (D.depth (st .opened)) openGroups) (λ _. St.doClause s to) (λ _. refused OverLimit from)
+    (group-so (Tk.isSign ";" (tokenAt s to .token)) (tokenAt s to .to) _
+    (after S.Iterated St.opensGroup (nameAt s to) _ λ n. after S.Iterated St.opensGroup (expectSign "=" s (n .to)) _ λ e. after S.Iterated St.opensGroup (wholeExpression s e) _ λ r.
+    bounds-so s (P.iterated (n .spelling) (r .tree)) (λ bs. record { opens = refl; kind = refl }) (r .to))) tt
 
-pub goto-so : (s : List ℕ) (at : ℕ) → OpensSo (opensBy K.Goto) (St.gotoClause s at)
+pub goto-so : (s : List ℕ) (at : ℕ) → OpensSo S.Goto (opensBy K.Goto) (St.gotoClause s at)
 unfolding St.gotoClause
-goto-so s at = after St.opensNothing (nameAt s at) (λ n. St.ended s (P.goto (n .spelling)) (n .to)) (λ n. ended-so s (P.goto (n .spelling)) (n .to))
+goto-so s at = after S.Goto St.opensNothing (nameAt s at) (λ n. St.ended s (P.goto (n .spelling)) (n .to)) (λ n. ended-so s S.Goto (P.goto (n .spelling)) (n .to) (record { opens = refl; kind = refl }))
 
-pub go-so : (s : List ℕ) (at : ℕ) → OpensSo (opensBy K.Go) (goClause s at)
+pub go-so : (s : List ℕ) (at : ℕ) → OpensSo S.Goto (opensBy K.Go) (goClause s at)
 unfolding goClause
-go-so s at = after St.opensNothing (expectWord "TO" s at) (St.gotoClause s) (goto-so s)
+go-so s at = after S.Goto St.opensNothing (expectWord "TO" s at) (St.gotoClause s) (goto-so s)
 
-list-so : {A : Type 0} (each : List ℕ → ℕ → (A → ℕ → Reading St.Clause) → Reading St.Clause) (make : List A → P.Statement) (s : List ℕ)
-    → ((at : ℕ) (F : A → ℕ → Reading St.Clause) → ((x : A) (e : ℕ) → OpensSo St.opensNothing (F x e)) → OpensSo St.opensNothing (each s at F))
-    → (f : ℕ) (xs : List A) (at : ℕ) → OpensSo St.opensNothing (St.listOf each make s f xs at)
+list-so : {A : Type 0} (k : Statement) (each : List ℕ → ℕ → (A → ℕ → Reading St.Clause) → Reading St.Clause) (make : List A → P.Statement) (s : List ℕ)
+    → ((at : ℕ) (F : A → ℕ → Reading St.Clause) → ((x : A) (e : ℕ) → OpensSo k St.opensNothing (F x e)) → OpensSo k St.opensNothing (each s at F))
+    → ((xs : List A) → Of k St.opensNothing (make xs)) → (f : ℕ) (xs : List A) (at : ℕ) → OpensSo k St.opensNothing (St.listOf each make s f xs at)
 unfolding St.listOf
-list-so each make s h zero xs at = tt
-list-so each make s h (suc f) xs at =
+list-so k each make s h i zero xs at = tt
+list-so k each make s h i (suc f) xs at =
     h at _ λ x e.
-    so-either St.opensNothing (Tk.isSign "," (tokenAt s e .token)) (λ _. St.listOf each make s f (xs ++ x ∷ []) (tokenAt s e .to)) (λ _. St.ended s (make (xs ++ x ∷ [])) e)
-    (list-so each make s h f (xs ++ x ∷ []) (tokenAt s e .to)) (ended-so s (make (xs ++ x ∷ [])) e)
+    so-either k St.opensNothing (Tk.isSign "," (tokenAt s e .token)) (λ _. St.listOf each make s f (xs ++ x ∷ []) (tokenAt s e .to)) (λ _. St.ended s (make (xs ++ x ∷ [])) e)
+    (list-so k each make s h i f (xs ++ x ∷ []) (tokenAt s e .to)) (ended-so s k (make (xs ++ x ∷ [])) e (i (xs ++ x ∷ [])))
 
-name-so : (s : List ℕ) (at : ℕ) (F : List ℕ → ℕ → Reading St.Clause) → ((x : List ℕ) (e : ℕ) → OpensSo St.opensNothing (F x e)) → OpensSo St.opensNothing (St.eachName s at F)
-name-so s at F h = after St.opensNothing (nameAt s at) (λ n. F (n .spelling) (n .to)) (λ n. h (n .spelling) (n .to))
+name-so : (k : Statement) (s : List ℕ) (at : ℕ) (F : List ℕ → ℕ → Reading St.Clause) → ((x : List ℕ) (e : ℕ) → OpensSo k St.opensNothing (F x e)) → OpensSo k St.opensNothing (St.eachName s at F)
+name-so k s at F h = after k St.opensNothing (nameAt s at) (λ n. F (n .spelling) (n .to)) (λ n. h (n .spelling) (n .to))
 
-activation-so : (s : List ℕ) (at : ℕ) (F : P.Activation → ℕ → Reading St.Clause) → ((x : P.Activation) (e : ℕ) → OpensSo St.opensNothing (F x e)) → OpensSo St.opensNothing (St.eachActivation s at F)
-activation-so s at F h =
-    after St.opensNothing (nameAt s at) _ λ n.
-    so-either St.opensNothing (Tk.isWord "NORESCAN" (tokenAt s (n .to) .token)) (λ _. F (record { spelling = n .spelling; isCopied = true }) (tokenAt s (n .to) .to)) _ (h (record { spelling = n .spelling; isCopied = true }) (tokenAt s (n .to) .to))
-    (so-either St.opensNothing (Tk.isWord "RESCAN" (tokenAt s (n .to) .token)) (λ _. F (record { spelling = n .spelling; isCopied = false }) (tokenAt s (n .to) .to)) (λ _. F (record { spelling = n .spelling; isCopied = false }) (n .to))
+activation-so : (k : Statement) (s : List ℕ) (at : ℕ) (F : P.Activation → ℕ → Reading St.Clause) → ((x : P.Activation) (e : ℕ) → OpensSo k St.opensNothing (F x e)) → OpensSo k St.opensNothing (St.eachActivation s at F)
+activation-so k s at F h =
+    after k St.opensNothing (nameAt s at) _ λ n.
+    so-either k St.opensNothing (Tk.isWord "NORESCAN" (tokenAt s (n .to) .token)) (λ _. F (record { spelling = n .spelling; isCopied = true }) (tokenAt s (n .to) .to)) _ (h (record { spelling = n .spelling; isCopied = true }) (tokenAt s (n .to) .to))
+    (so-either k St.opensNothing (Tk.isWord "RESCAN" (tokenAt s (n .to) .token)) (λ _. F (record { spelling = n .spelling; isCopied = false }) (tokenAt s (n .to) .to)) (λ _. F (record { spelling = n .spelling; isCopied = false }) (n .to))
     (h (record { spelling = n .spelling; isCopied = false }) (tokenAt s (n .to) .to)) (h (record { spelling = n .spelling; isCopied = false }) (n .to)))
 
-pub include-so : (s : List ℕ) (at : ℕ) → OpensSo (opensBy K.Include) (St.includeClause s at)
+pub include-so : (s : List ℕ) (at : ℕ) → OpensSo S.Include (opensBy K.Include) (St.includeClause s at)
 unfolding St.includeClause
-include-so s at = list-so St.eachName P.include s (name-so s) (length s) [] at
+include-so s at = list-so S.Include St.eachName P.include s (name-so S.Include s) (λ xs. record { opens = refl; kind = refl }) (length s) [] at
 
-pub deactivate-so : (s : List ℕ) (at : ℕ) → OpensSo (opensBy K.Deactivate) (St.deactivateClause s at)
+pub deactivate-so : (s : List ℕ) (at : ℕ) → OpensSo S.Deactivate (opensBy K.Deactivate) (St.deactivateClause s at)
 unfolding St.deactivateClause
-deactivate-so s at = list-so St.eachName P.deactivate s (name-so s) (length s) [] at
+deactivate-so s at = list-so S.Deactivate St.eachName P.deactivate s (name-so S.Deactivate s) (λ xs. record { opens = refl; kind = refl }) (length s) [] at
 
-pub activate-so : (s : List ℕ) (at : ℕ) → OpensSo (opensBy K.Activate) (St.activateClause s at)
+pub activate-so : (s : List ℕ) (at : ℕ) → OpensSo S.Activate (opensBy K.Activate) (St.activateClause s at)
 unfolding St.activateClause
-activate-so s at = list-so St.eachActivation P.activate s (activation-so s) (length s) [] at
+activate-so s at = list-so S.Activate St.eachActivation P.activate s (activation-so S.Activate s) (λ xs. record { opens = refl; kind = refl }) (length s) [] at
 
-pub return-so : (s : List ℕ) (at : ℕ) → OpensSo (opensBy K.Return) (St.returnClause s at)
+pub return-so : (s : List ℕ) (at : ℕ) → OpensSo S.Return (opensBy K.Return) (St.returnClause s at)
 unfolding St.returnClause
 return-so s at =
-    after St.opensNothing (expectSign "(" s at) _ λ e. after St.opensNothing (wholeExpression s e) _ λ r.
-    after St.opensNothing (expectSign ")" s (r .to)) (λ q. St.ended s (P.return (r .tree)) q) (λ q. ended-so s (P.return (r .tree)) q)
+    after S.Return St.opensNothing (expectSign "(" s at) _ λ e. after S.Return St.opensNothing (wholeExpression s e) _ λ r.
+    after S.Return St.opensNothing (expectSign ")" s (r .to)) (λ q. St.ended s (P.return (r .tree)) q) (λ q. ended-so s S.Return (P.return (r .tree)) q (record { opens = refl; kind = refl }))
 
-pub other-so : (s w : List ℕ) (u : Tk.Lexeme) → OpensSo (opensBy K.Other) (otherAt s w u)
+pub other-so : (s w : List ℕ) (u : Tk.Lexeme) → OpensSo S.Assign (opensBy K.Other) (otherAt s w u)
 unfolding otherAt St.assignment
 other-so s w u =
-    so-either St.opensNothing (Tk.isSign "=" (u .token)) (λ _. St.assignment s w (u .to)) _
-    (after St.opensNothing (wholeExpression s (u .to)) (λ r. St.ended s (P.assign w (r .tree)) (r .to)) (λ r. ended-so s (P.assign w (r .tree)) (r .to))) tt
+    so-either S.Assign St.opensNothing (Tk.isSign "=" (u .token)) (λ _. St.assignment s w (u .to)) _
+    (after S.Assign St.opensNothing (wholeExpression s (u .to)) (λ r. St.ended s (P.assign w (r .tree)) (r .to)) (λ r. ended-so s S.Assign (P.assign w (r .tree)) (r .to) (record { opens = refl; kind = refl }))) tt
 
 -- ---- DECLARE and PROCEDURE
-next-so : (s : List ℕ) (again : List P.Declared → ℕ → St.Declaring) → ((ds : List P.Declared) (e : ℕ) → DeclaresSo St.opensNothing (again ds e)) → (ds : List P.Declared) (e : ℕ) → DeclaresSo St.opensNothing (St.declareNext s again ds e)
+next-so : (s : List ℕ) (again : List P.Declared → ℕ → St.Declaring) → ((ds : List P.Declared) (e : ℕ) → DeclaresSo S.Declare St.opensNothing (again ds e)) → (ds : List P.Declared) (e : ℕ) → DeclaresSo S.Declare St.opensNothing (St.declareNext s again ds e)
 unfolding St.declareNext
 next-so s again h ds e =
-    declared-either St.opensNothing (Tk.isSign "," (tokenAt s e .token)) (λ _. again ds (tokenAt s e .to)) _ (h ds (tokenAt s e .to))
-    (declared-after St.opensNothing ds (expectSign ";" s e) (λ q. St.declared (St.clause (P.declare (St.spellings ds)) St.opensNothing q) ds) (λ q. refl))
+    declared-either S.Declare St.opensNothing (Tk.isSign "," (tokenAt s e .token)) (λ _. again ds (tokenAt s e .to)) _ (h ds (tokenAt s e .to))
+    (declared-after S.Declare St.opensNothing ds (expectSign ";" s e) (λ q. St.declared (St.clause (P.declare (St.spellings ds)) St.opensNothing q) ds) (λ q. both S.Declare St.opensNothing (P.declare (St.spellings ds)) q (record { opens = refl; kind = refl })))
 
-item-so : (k : P.Scope) (s : List ℕ) (ds : List P.Declared) (ns : List Named) (e : ℕ) (next : List P.Declared → ℕ → St.Declaring) → ((cs : List P.Declared) (q : ℕ) → DeclaresSo St.opensNothing (next cs q)) → DeclaresSo St.opensNothing (St.declareNames k s ds ns e next)
+item-so : (k : P.Scope) (s : List ℕ) (ds : List P.Declared) (ns : List Named) (e : ℕ) (next : List P.Declared → ℕ → St.Declaring) → ((cs : List P.Declared) (q : ℕ) → DeclaresSo S.Declare St.opensNothing (next cs q)) → DeclaresSo S.Declare St.opensNothing (St.declareNames k s ds ns e next)
 unfolding St.declareNames
 item-so k s ds ns e next h =
-    attribute-so St.opensNothing k (tokenAt s e .token) (tokenAt s e .from) (tokenAt s e .to) (λ m to. next (ds ++ St.means k m ns) to) _ (λ m to. h (ds ++ St.means k m ns) to) tt
+    attribute-so S.Declare St.opensNothing k (tokenAt s e .token) (tokenAt s e .from) (tokenAt s e .to) (λ m to. next (ds ++ St.means k m ns) to) _ (λ m to. h (ds ++ St.means k m ns) to) tt
 
-pub declare-so : (k : P.Scope) (s : List ℕ) (f : ℕ) (ds : List P.Declared) (at : ℕ) → DeclaresSo (opensBy K.Declare) (St.declareFrom k s f ds at)
+pub declare-so : (k : P.Scope) (s : List ℕ) (f : ℕ) (ds : List P.Declared) (at : ℕ) → DeclaresSo S.Declare (opensBy K.Declare) (St.declareFrom k s f ds at)
 unfolding St.declareFrom
 declare-so k s zero ds at = tt
 declare-so k s (suc f) ds at =
-    declared-either St.opensNothing (Tk.isSign "(" (tokenAt s at .token)) _ _
-    (names-so St.opensNothing k (P.variable FixedType) s ds (length s) [] (tokenAt s at .to) (λ ns e. St.declareNames k s ds ns e (St.declareNext s (St.declareFrom k s f)))
+    declared-either S.Declare St.opensNothing (Tk.isSign "(" (tokenAt s at .token)) _ _
+    (names-so S.Declare St.opensNothing k (P.variable FixedType) s ds (length s) [] (tokenAt s at .to) (λ ns e. St.declareNames k s ds ns e (St.declareNext s (St.declareFrom k s f)))
     (λ ns e. item-so k s ds ns e (St.declareNext s (St.declareFrom k s f)) (next-so s (St.declareFrom k s f) (λ cs q. declare-so k s f cs q))))
-    (declared-after St.opensNothing ds (nameAt s at) (λ n. St.declareNames k s ds (n ∷ []) (n .to) (St.declareNext s (St.declareFrom k s f)))
+    (declared-after S.Declare St.opensNothing ds (nameAt s at) (λ n. St.declareNames k s ds (n ∷ []) (n .to) (St.declareNext s (St.declareFrom k s f)))
     (λ n. item-so k s ds (n ∷ []) (n .to) (St.declareNext s (St.declareFrom k s f)) (next-so s (St.declareFrom k s f) (λ cs q. declare-so k s f cs q))))
 
-type-so : (s : List ℕ) (at : ℕ) (f : ValueType → ℕ → St.Declaring) (ds : List P.Declared) → ((t : ValueType) (e : ℕ) → DeclaresSo St.opensBody (f t e)) → DeclaresSo St.opensBody (St.returnsType s at f ds)
+returns-so : (s : List ℕ) (at : ℕ) (f : ValueType → ℕ → St.Declaring) (ds : List P.Declared) → ((t : ValueType) (e : ℕ) → DeclaresSo S.Procedure St.opensBody (f t e)) → DeclaresSo S.Procedure St.opensBody (St.returnsType s at f ds)
 unfolding St.returnsType
-type-so s at f ds h =
-    declared-after St.opensBody ds (expectWord "RETURNS" s at) _ λ e. declared-after St.opensBody ds (expectSign "(" s e) _ λ q.
-    declared-either St.opensBody (St.isCharacter (tokenAt s q .token)) (λ _. f CharacterType (tokenAt s q .to)) _ (h CharacterType (tokenAt s q .to))
-    (declared-after St.opensBody ds (expectWord "FIXED" s q) (f FixedType) (h FixedType))
+returns-so s at f ds h =
+    declared-after S.Procedure St.opensBody ds (expectWord "RETURNS" s at) _ λ e. declared-after S.Procedure St.opensBody ds (expectSign "(" s e) _ λ q.
+    declared-either S.Procedure St.opensBody (St.isCharacter (tokenAt s q .token)) (λ _. f CharacterType (tokenAt s q .to)) _ (h CharacterType (tokenAt s q .to))
+    (declared-after S.Procedure St.opensBody ds (expectWord "FIXED" s q) (f FixedType) (h FixedType))
 
-head-so : (k : P.Scope) (s : List ℕ) (ns : List Named) (at : ℕ) → DeclaresSo St.opensBody (St.procedureHead k s ns at)
+head-so : (k : P.Scope) (s : List ℕ) (ns : List Named) (at : ℕ) → DeclaresSo S.Procedure St.opensBody (St.procedureHead k s ns at)
 unfolding St.procedureHead
 head-so k s ns at =
-    type-so s at _ (St.means k P.parameter ns) λ t e.
-    declared-after St.opensBody (St.means k P.parameter ns) (expectSign ")" s e) _ λ q.
-    declared-after St.opensBody (St.means k P.parameter ns) (expectSign ";" s q) (λ z. St.declared (St.clause (P.procedure (St.spellings (St.means k P.parameter ns)) t) St.opensBody z) (St.means k P.parameter ns)) (λ z. refl)
+    returns-so s at _ (St.means k P.parameter ns) λ t e.
+    declared-after S.Procedure St.opensBody (St.means k P.parameter ns) (expectSign ")" s e) _ λ q.
+    declared-after S.Procedure St.opensBody (St.means k P.parameter ns) (expectSign ";" s q) (λ z. St.declared (St.clause (P.procedure (St.spellings (St.means k P.parameter ns)) t) St.opensBody z) (St.means k P.parameter ns)) (λ z. both S.Procedure St.opensBody (P.procedure (St.spellings (St.means k P.parameter ns)) t) z (record { opens = refl; kind = refl }))
 
-pub procedure-so : (k : P.Scope) (s : List ℕ) (at : ℕ) → DeclaresSo (opensBy K.Procedure) (St.procedureClause k s at)
+pub procedure-so : (k : P.Scope) (s : List ℕ) (at : ℕ) → DeclaresSo S.Procedure (opensBy K.Procedure) (St.procedureClause k s at)
 unfolding St.procedureClause
 procedure-so k s at =
-    declared-either St.opensBody (Tk.isSign "(" (tokenAt s at .token)) _ _
-    (names-so St.opensBody k P.parameter s [] (length s) [] (tokenAt s at .to) (St.procedureHead k s) (head-so k s)) (head-so k s [] at)
+    declared-either S.Procedure St.opensBody (Tk.isSign "(" (tokenAt s at .token)) _ _
+    (names-so S.Procedure St.opensBody k P.parameter s [] (length s) [] (tokenAt s at .to) (St.procedureHead k s) (head-so k s)) (head-so k s [] at)

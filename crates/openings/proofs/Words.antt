@@ -4,9 +4,8 @@
 use mathlib.Core.Path.{_≡_, refl, sym, ap, subst, _∙_}
 use mathlib.Core.Bool.{Bool, true, false, cond, not, _&&_, _||_, false≢true}
 use mathlib.Core.List.{List, [], _∷_}
-use Prim.Native.Nat.{ℕ, zero, suc}
+use Prim.Native.Nat.{ℕ}
 use Prim.Native.String as Str
-use native.Mathlib.Omega.{arith}
 use borrow.Author.Tests.{eqb-true}
 use lib.Dec.{eqb, ltb}
 use lib.ListN.{length}
@@ -15,13 +14,13 @@ use Rattle.definition.specs.Text.{bytesOf}
 use Rattle.definition.specs.Lists.{same}
 use Rattle.definition.specs.Tokens as Tk
 use Rattle.definition.specs.Tokens.{tokenAt}
-use Rattle.definition.specs.Expressions.{Reading, read, refused, Named}
+use Rattle.definition.specs.Expressions.{Named}
 use Rattle.definition.specs.Program as P
 use Rattle.definition.specs.Statements as St
 use Rattle.definition.specs.Reading as D
 use Rattle.definition.specs.declared.Why.the-variants.{Syntax}
 use Rattle.definition.specs.declared.ValueType.the-variants.{FixedType}
-use Rattle.tokens.specs.declared.Kind.{Kind}
+use Rattle.definition.proofs.Keeping.{and-left, and-right}
 use Rattle.tokens.specs.declared.Lexeme.{Lexeme}
 use Rattle.tokens.specs.Answer.{Lexed, spelling, isWordKind, isWordIn, isSignIn}
 use Rattle.tokens.proofs.Lexemes.{is-word, is-sign}
@@ -39,19 +38,11 @@ use Rattle.openings.specs.Open.{outerBy, listBy, keywordHere, keywordAt,
 use Rattle.openings.proofs.Laws.{name-kind}
 
 -- ---- a word that is one of several is none of the others
-and-both : (a b : Bool) → (a && b) ≡ true → b ≡ true
-and-both true b e = e
-and-both false b e = absurd (false≢true e)
-
-and-one : (a b : Bool) → (a && b) ≡ true → a ≡ true
-and-one true b e = refl
-and-one false b e = e
-
 same-true : (x w : List ℕ) → same x w ≡ true → x ≡ w
 same-true [] [] e = refl
 same-true [] (y ∷ w) e = absurd (false≢true e)
 same-true (a ∷ x) [] e = absurd (false≢true e)
-same-true (a ∷ x) (y ∷ w) e = rw (eqb-true a y (and-one (eqb a y) (same x w) e), same-true x w (and-both (eqb a y) (same x w) e))
+same-true (a ∷ x) (y ∷ w) e = rw (eqb-true a y (and-left (eqb a y) (same x w) e), same-true x w (and-right (eqb a y) (same x w) e))
 
 module _ (Q : List ℕ → Type 0) (x : List ℕ) where
   split-by : (w : List ℕ) (b : Bool) → same x w ≡ b → Q w → (same x w ≡ false → Q x) → Q x

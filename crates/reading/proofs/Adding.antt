@@ -4,13 +4,12 @@ use mathlib.Core.Path.{_≡_, refl, sym, ap, subst, _∙_}
 use mathlib.Core.List.{List, [], _∷_, _++_}
 use Prim.Native.Nat.{ℕ, zero, suc, _+_, _*_, _%_, _<_, _≤_}
 use native.Mathlib.Omega.{arith}
-use native.Mathlib.Nat.{mod-eq-of-lt}
-use lib.ListN.{length, getD}
+use native.Mathlib.Nat.{mod-eq-of-lt, add-zero}
+use lib.ListN.{length}
 use Rattle.definition.specs.Room.{over}
 use Rattle.definition.proofs.Rooms.{length-over}
 use Rattle.definition.specs.Program as P
 use Rattle.definition.specs.Reading as D
-use Rattle.definition.specs.declared.ValueType.{ValueType}
 use Rattle.rows.specs.declared.Link.{Link}
 use Rattle.rows.specs.declared.Link.the-variants as L
 use Rattle.rows.specs.declared.Role.{Role}
@@ -18,22 +17,22 @@ use Rattle.rows.specs.declared.Stretch.{Stretch}
 use Rattle.rows.specs.declared.Statement.{Statement}
 use Rattle.rows.specs.declared.Row.{Row}
 use Rattle.rows.specs.Table.{linkNumber, stretchNumbers, numbersOf, rowIn}
-use Rattle.rows.proofs.Laws.{Kept, kept, Links}
+use Rattle.rows.proofs.Laws.{Kept, kept, Links, row-other}
 use Rattle.names.specs.declared.Owner.{Owner}
 use Rattle.names.specs.declared.Owner.the-variants.{Everyone}
-use Rattle.entering.specs.declared.Tally.{Tally}
 use Rattle.statements.specs.declared.Clause.{Clause}
-use Rattle.statements.specs.Clauses.{scopeOf, Own}
+use Rattle.statements.specs.Clauses.{scopeOf}
 use Rattle.statements.specs.Again.{statementAt}
 use Rattle.openings.specs.declared.Where.{Where}
 use Rattle.openings.specs.declared.Where.the-variants as Wh
 use Rattle.openings.specs.declared.Open.{Open}
 use Rattle.openings.specs.declared.Opened.{Opened}
-use Rattle.openings.specs.Open.{linkOf, roleOf, whereOf, lastOf, openOf, openFrom, openedOf, topIn, restOf, lastBy, lastIn, AtLast, parentIn, roleIn, firstIn, linkedIn}
+use Rattle.openings.specs.Open.{linkOf, roleOf, whereOf, lastOf, openOf, openFrom, openedOf, topIn, restOf, lastBy, lastIn, AtLast, parentIn, roleIn, firstIn, linkedIn, Deep}
+use Rattle.openings.proofs.Stacked.{opened-size}
 use Rattle.reading.specs.declared.State.{State}
 use Rattle.reading.specs.declared.Mode.the-variants as Md
-use Rattle.reading.specs.State.{stretchOf, rowOf, rowsFrom, stateOf, modeOf, Within, Inside, Low, Around, Stand, Placed, After, Keeps, stretchAt, linkAt, linkLast, linkIn, Adds, Leads}
-use Rattle.reading.proofs.Rows.{rows-length, row-size, row-added, row-linked, next-set, child-set, other-set, lead-set, text-set}
+use Rattle.reading.specs.State.{rowOf, rowsFrom, stateOf, modeOf, Within, Inside, Low, Around, Stand, After, stretchAt, Alike, Tells, Typed, Marks, linkAt, linkLast, linkIn, Adds, Leads}
+use Rattle.reading.proofs.Rows.{rows-length, row-size, row-added, row-linked, row-there, next-set, child-set, other-set, lead-set, alike-self, alike-over, typed-alike}
 
 -- ---- leaves
 pub stretch-is : (a b x y : ℕ) → x ≡ a % 65536 → y ≡ b % 65536 → _≡_ {A = Stretch} (record { from = x; to = y }) (stretchAt a b)
@@ -232,18 +231,56 @@ last-stand s L M o n top hm h =
     subst (λ (z : List D.Open). Stand (suc n) z) (sym (hm ∙ ap (lastIn n) top))
     (stand-last (whereOf (o .kind)) (o .row) (openOf s o .last) (openOf s o .labels) (restOf L) n (subst (λ (z : List D.Open). Stand n z) top h))
 
-pub adds : (t u v : List ℕ) (x : State) (c : Clause) (p q e d : ℕ) (o : Open) (par : Link) (ro : Role) (a b : Stretch) (m : ℕ) (f : Link) (z : Opened)
+-- ---- its depth and its type
+counts-low : (w : D.Where) → D.counts w ≤ 1
+counts-low D.inProgram = omega arith
+counts-low D.inGroup = omega arith
+counts-low D.inBody = omega arith
+counts-low D.inThen = omega arith
+counts-low D.inElse = omega arith
+
+depth-low : (L : List D.Open) → D.depth L ≤ length L
+unfolding D.depth
+depth-low [] = omega arith
+depth-low (o ∷ os) = omega (arith, counts-low (o .kind), depth-low os)
+
+link-alike : (k : Where) (t : List ℕ) (r : ℕ) (l : Link) (at n i : ℕ) → Alike (rowIn (linkIn k t (record { kind = k; row = r; last = l; labels = at }) n) i) (rowIn t i)
+link-alike Wh.InProgram t r L.Nowhere at n i = alike-self (rowIn t i)
+link-alike Wh.InProgram t r (L.To l) at n i = alike-over t (linkNumber (L.To n) ∷ []) l 7 i (omega arith) (omega arith)
+link-alike Wh.InGroup t r L.Nowhere at n i = alike-over t (linkNumber (L.To n) ∷ []) r 8 i (omega arith) (omega arith)
+link-alike Wh.InGroup t r (L.To l) at n i = alike-over t (linkNumber (L.To n) ∷ []) l 7 i (omega arith) (omega arith)
+link-alike Wh.InBody t r L.Nowhere at n i = alike-over t (linkNumber (L.To n) ∷ []) r 8 i (omega arith) (omega arith)
+link-alike Wh.InBody t r (L.To l) at n i = alike-over t (linkNumber (L.To n) ∷ []) l 7 i (omega arith) (omega arith)
+link-alike Wh.InThen t r l at n i = alike-over t (linkNumber (L.To n) ∷ []) r 8 i (omega arith) (omega arith)
+link-alike Wh.InElse t r l at n i = alike-over t (linkNumber (L.To n) ∷ []) r 9 i (omega arith) (omega arith)
+
+-- the row x is written as row n of t, and then a link to it
+marks-added : (s t u v : List ℕ) (n m : ℕ) (x : Row) (o : Open) (b : Opened) → n < 1024 → 16384 ≤ length t → m ≡ suc n → u ≡ over t (16 * n) (numbersOf x) → Links x → v ≡ linkIn (o .kind) u o n
+    → x .depth ≡ D.depth (openedOf s b) → Typed s x → Marks s t n b v m
+marks-added s t u v n m x o b small w hm hu ls hv hd ht =
+    let link : (i : ℕ) → Alike (rowIn v i) (rowIn u i) = λ i. subst (λ (z : List ℕ). Alike (rowIn z i) (rowIn u i)) (sym hv) (link-alike (o .kind) u (o .row) (o .last) (o .labels) n i) in
+    let new : rowIn u n ≡ x = row-there s t u n x hu ls (omega arith) in
+    let here : Alike (rowIn v n) x = subst (λ (z : Row). Alike (rowIn v n) z) new (link n) in
+    record {
+      kept = λ i h.
+          let old : rowIn u i ≡ rowIn t i = ap (λ (z : List ℕ). rowIn z i) hu ∙ (rw add-zero at (row-other t (numbersOf x) n i 0 (λ z. omega arith) (omega arith))) in
+          subst (λ (z : Row). Alike (rowIn v i) z) old (link i);
+      depth = λ i h q. let e : n ≡ i = omega (arith, hm) in subst (λ (z : ℕ). rowIn v z .depth ≡ D.depth (openedOf s b)) e (here .depth ∙ hd);
+      type = λ i h q. let e : n ≡ i = omega (arith, hm) in subst (λ (z : ℕ). Typed s (rowIn v z)) e (typed-alike s (rowIn v n) x here ht);
+    }
+
+pub adds : (t u v : List ℕ) (x : State) (c : Clause) (p q e d : ℕ) (o : Open) (par : Link) (ro : Role) (a b : Stretch) (m : ℕ) (f : Link) (z : Opened) (k : ℕ)
     → u ≡ over t (16 * x .rows) (numbersOf (record { statement = c .statement; place = q; content = e; «value_type» = c .«value_type»; depth = d; parent = par; role = ro; next = L.Nowhere; child = L.Nowhere; other = L.Nowhere; lead = a; text = b }))
     → v ≡ linkIn (o .kind) u o (x .rows)
     → o ≡ topIn (x .opened .items) (x .opened .count)
-    → q ≡ p % 65536 → e ≡ c .content % 65536
+    → q ≡ p % 65536 → e ≡ c .content % 65536 → d ≡ k % 65536 → Deep (x .opened) k
     → linkOf par ≡ parentIn (whereOf (o .kind)) (o .row) → roleOf ro ≡ roleIn (whereOf (o .kind))
     → a ≡ stretchAt 0 0 → b ≡ stretchAt 0 0
     → After (x .rows) m
     → linkOf f ≡ firstIn (whereOf (o .kind)) (linkOf (x .first)) (lastOf (o .kind) (o .last)) (x .rows)
     → AtLast (x .opened) (x .rows) z
     → Adds t x c p v (record { entered = x .entered; rows = m; first = f; lead = x .lead; opened = z; scope = x .scope; tally = x .tally })
-adds t u v x c p q e d o par ro a b m f z hu hv ho hq he hp hr ha hb hm hf hz = record {
+adds t u v x c p q e d o par ro a b m f z k hu hv ho hq he hd hk hp hr ha hb hm hf hz = record {
   is = λ s ds g small lp lc.
       let top : openedOf s (x .opened) ≡ openOf s o ∷ restOf (openedOf s (x .opened)) = opened-top s (x .opened) o ho (g .some) in
       let low : Low (x .rows) (openOf s o) = stand-top (x .rows) (openedOf s (x .opened)) (openOf s o) (restOf (openedOf s (x .opened))) (g .stand) top in
@@ -256,6 +293,14 @@ adds t u v x c p q e d o par ro a b m f z hu hv ho hq he hp hr ha hb hm hf hz = 
   deep = λ i j. hz .count i j;
   keeps = record { entered = refl; tally = refl; own = λ h. h };
   size = ap length hv ∙ link-size (o .kind) u (o .row) (o .last) (o .labels) (x .rows) ∙ ap length hu ∙ length-over t (16 * x .rows) (numbersOf (rowFrom c q e d par ro a b));
+  marks = λ s g small lc ty.
+      let top : openedOf s (x .opened) ≡ openOf s o ∷ restOf (openedOf s (x .opened)) = opened-top s (x .opened) o ho (g .some) in
+      let low : Low (x .rows) (openOf s o) = stand-top (x .rows) (openedOf s (x .opened)) (openOf s o) (restOf (openedOf s (x .opened))) (g .stand) top in
+      let few : k < 65536 = omega (arith, hk .is s, depth-low (openedOf s (x .opened)), opened-size s (x .opened), g .deep) in
+      let same : e ≡ c .content = he ∙ mod-eq-of-lt lc in
+      marks-added s t u v (x .rows) m (rowFrom c q e d par ro a b) o (x .opened) small (g .room) (hm .is (omega (arith, small))) hu
+      (record { parent = parent-low s o par (x .rows) hp low small; next = refl; child = refl; other = refl }) hv
+      (hd ∙ mod-eq-of-lt few ∙ hk .is s) (subst (λ (i : ℕ). Tells s (c .statement) i (c .«value_type»)) (sym same) ty);
 }
 
 -- ---- THE TEXT that the program or a group begins with
@@ -293,6 +338,7 @@ module _ (t : List ℕ) (x : State) (y : Stretch) (o : Open) (ho : o ≡ topIn (
     rows = refl;
     keeps = record { entered = refl; tally = refl; own = λ h. h };
     size = refl;
+    marks = λ i. alike-self (rowIn t i);
   }
 
   pub leads-group : (u : List ℕ) → o .kind ≡ Wh.InGroup → u ≡ over t (16 * o .row + 10) (stretchNumbers y) → Leads t x y u x
@@ -307,6 +353,7 @@ module _ (t : List ℕ) (x : State) (y : Stretch) (o : Open) (ho : o ≡ topIn (
     rows = refl;
     keeps = record { entered = refl; tally = refl; own = λ h. h };
     size = rw hu (length-over t (16 * o .row + 10) (stretchNumbers y));
+    marks = λ i. subst (λ (z : List ℕ). Alike (rowIn z i) (rowIn t i)) (sym hu) (alike-over t (stretchNumbers y) (o .row) 10 i (omega arith) (omega arith));
   }
 
   leads-none : (k : Where) → o .kind ≡ k → ((n a b : ℕ) (st : D.State) → leadAs (whereOf k) n a b st ≡ st) → Leads t x y t x
@@ -316,6 +363,7 @@ module _ (t : List ℕ) (x : State) (y : Stretch) (o : Open) (ho : o ≡ topIn (
     rows = refl;
     keeps = record { entered = refl; tally = refl; own = λ h. h };
     size = refl;
+    marks = λ i. alike-self (rowIn t i);
   }
 
   pub leads-body : o .kind ≡ Wh.InBody → Leads t x y t x

@@ -1,9 +1,9 @@
 -- Where a turn of the definition goes on, its place lies within the body.
 -- Assumes nothing.
-use Prim.Native.Nat.{ℕ, zero, suc, _+_, _≤_, _<_}
+use Prim.Native.Nat.{ℕ, zero, suc, _+_, _≤_}
 use Prim.Native.String.{String}
 use native.Mathlib.Omega.{arith}
-use mathlib.Core.Bool.{Bool, true, false, cond, not, _&&_, _||_}
+use mathlib.Core.Bool.{Bool, true, false, not, _&&_, _||_}
 use mathlib.Core.List.{List, [], _∷_, _++_}
 use mathlib.Core.Path.{_≡_, refl}
 use lib.Dec.{leb, ltb}
@@ -17,10 +17,10 @@ use Rattle.definition.specs.Program.{Bound, by, upto, Activation, Statement, nu
 use Rattle.definition.specs.Statements as S
 use Rattle.definition.specs.Statements.{Opens, opensNothing, opensGroup, opensBody, opensThen, Clause, clause, ended, assignment, thenWord, ifClause, boundAt, doBounds, doClause, gotoClause, listOf, eachName, eachActivation, includeClause, activateClause, deactivateClause, returnClause, Declaring, declared, undeclared, thenDeclare, means, namesAt, attribute, declareNames, declareNext, declareFrom, returnsType, procedureHead, procedureClause}
 use Rattle.definition.specs.Reading as R
-use Rattle.definition.specs.Reading.{Where, inProgram, inGroup, inBody, inThen, inElse, Open, State, setText, addRow, Mode, Turn, go, stop, finish, Else, elseTo, noElse, elseWord, elseAt, elsed, completeIn, complete, Labelled, isName, addLabel, labelsFrom, labels, opened, taken, takeRead, takeDeclared, isDeclare, isProcedure, isNone, isInside, isList, kindOf, doAt, common, inList, outer, byWord, byName, byToken, endName, mayName, endRead, endAt, isInGroup, isInBody, isFull, isEnd, longLabel, clauseFrom, clauseAt, texted, leadIn, notEnd, procedureEnd, begins, innerAt, depth, deepEnough, alternativeAt, leadingText, textBehind, alternative, inner, turn}
+use Rattle.definition.specs.Reading.{Where, inProgram, inGroup, inBody, inThen, inElse, Open, State, Mode, Turn, go, stop, finish, Else, elseTo, noElse, elseWord, elseAt, elsed, completeIn, complete, Labelled, isName, addLabel, labelsFrom, labels, opened, taken, takeRead, takeDeclared, isDeclare, isProcedure, isNone, isInside, isList, kindOf, doAt, common, inList, outer, byWord, byName, byToken, endName, mayName, endRead, endAt, isInGroup, isInBody, isFull, isEnd, longLabel, clauseFrom, clauseAt, texted, notEnd, procedureEnd, begins, innerAt, depth, deepEnough, alternativeAt, leadingText, textBehind, alternative, inner, turn}
 use Rattle.definition.proofs.Choices.{when-has, cond-has}
 use Rattle.definition.proofs.Ends.{tokenAt-lies, Past, Reads, reads, refuses, expression-end}
-use Rattle.reading.proofs.Growth.{percent-low}
+use Rattle.tokens.proofs.Pieces.{percent-there}
 
 then-in : {A B : Type 0} {P : A → Type 0} {Q : B → Type 0} {r : Reading A} (f : A → Reading B) → Reads P r → ((a : A) → P a → Reads Q (f a)) → Reads Q (then r f)
 then-in f (reads {a} h) k = k a h
@@ -347,7 +347,7 @@ module _ (s : List ℕ) where
       too-long (labels s at .long) _ _ (λ q. tt) (by-token p (labels s at .labels) st (labels s at .behind .token) (labels s at .behind) j)
 
   texted-in : (q : ℕ) (E : TextEnd) → textEnd (suc (length s)) s q ≡ E → (f : ℕ → State) → InTurn (texted E s f)
-  texted-in q (percentAt p) e f = clause-in p (p + 1) (f p) (omega (arith, percent-low s (suc (length s)) q p e .0))
+  texted-in q (percentAt p) e f = clause-in p (p + 1) (f p) (omega (arith, percent-there (suc (length s)) s q p e .inside))
   texted-in q atEnd e f = cond-has InTurn (leb (length (f 0 .opened)) 1) _ _ (λ _. tt) λ _. tt
   texted-in q (openAt p) e f = tt
 

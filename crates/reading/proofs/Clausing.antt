@@ -2,11 +2,11 @@
 -- Assumes nothing.
 use mathlib.Core.Path.{_≡_, refl, sym, ap, subst, _∙_}
 use mathlib.Core.Bool.{Bool, true, false, cond, not, _&&_, _||_, false≢true}
-use mathlib.Core.List.{List, [], _∷_, _++_, append-nil}
-use Prim.Native.Nat.{ℕ, zero, suc, _+_, _-_, _<_, _≤_}
+use mathlib.Core.List.{List, [], _∷_, _++_}
+use Prim.Native.Nat.{ℕ, _+_, _<_, _≤_}
 use native.Mathlib.Omega.{arith}
 use borrow.Author.Tests.{le-leb, lt-leb, leb-true, leb-false}
-use lib.Dec.{leb, ltb}
+use lib.Dec.{leb}
 use lib.ListN.{length, getD, length-append}
 use Rattle.definition.specs.Limits.{declaredNames}
 use Rattle.definition.specs.Expressions.{Named}
@@ -20,11 +20,11 @@ use Rattle.definition.specs.Statements as St
 use Rattle.definition.specs.Reading as D
 use Rattle.definition.specs.World as W
 use Rattle.definition.specs.Names as N
+use Rattle.definition.proofs.Keeping.{and-left}
 use Rattle.entering.specs.declared.Mark.{Mark}
 use Rattle.entering.specs.declared.Mark.the-variants.{Unmarked, Marked}
 use Rattle.entering.specs.declared.Meaning.{Meaning}
-use Rattle.entering.specs.Book.{Book, firstOf, bookPast, bookSecond, bookMore, bookSet, bookAdd, bookJoint, bookJoin, bookAt, bookOne, bookNew, bookAll, bookWhole, bookOf, Entered, meaningOf}
-use Rattle.entering.specs.declared.Tally.{Tally}
+use Rattle.entering.specs.Book.{Book, firstOf, bookPast, bookMore, bookAdd, bookJoint, bookJoin, bookAt, bookOne, bookNew, bookAll, bookWhole, bookOf, Entered, meaningOf}
 use Rattle.statements.specs.declared.Keyword.{Keyword}
 use Rattle.statements.specs.Clauses.{scopeOf, isInside, Own, Lies}
 use Rattle.statements.proofs.Listed.{all-append}
@@ -38,12 +38,13 @@ use Rattle.openings.proofs.Sentences.{no-longs, clause-end-long, clause-end, cl
 use Rattle.reading.specs.declared.State.{State}
 use Rattle.reading.specs.declared.Turned.{Turned}
 use Rattle.reading.specs.declared.Next.the-variants as Nx
-use Rattle.reading.specs.State.{rowsFrom, stateOf, turnOf, withTally, turned, stateIn, begunIn, Sits, Does, Over, Starts, Counts, early, Fits, Way, does, stops, Takes, fromState, Clauses}
+use Rattle.reading.specs.State.{rowsFrom, stateOf, turnOf, withTally, turned, stateIn, begunIn, Sits, Does, Over, Starts, early, Fits, Way, does, stops, Takes, fromState, Clauses}
 use Rattle.reading.specs.Labelled.{LabelsIf}
 use Rattle.reading.specs.Sentences.{Comes, isFull, Clausal, ByToken, EndsLong, EndsAt}
-use Rattle.reading.proofs.Rows.{rows-length}
+use Rattle.reading.proofs.Rows.{rows-length, marks-none}
+use Rattle.reading.proofs.Counting.{places-length}
 use Rattle.reading.proofs.Overfull.{clause-begins}
-use Rattle.reading.proofs.Parameters.{AllPlain, whole-plain, plain-means}
+use Rattle.reading.proofs.Parameters.{whole-plain, plain-means}
 
 -- ---- is_full
 pub full-entered : (x : State) → 2048 ≤ x .entered + x .rows → true ≡ isFull x
@@ -158,19 +159,11 @@ or-left : (a b : Bool) → a ≡ true → (a || b) ≡ true
 or-left true b e = refl
 or-left false b e = absurd (false≢true e)
 
-and-left : (a b : Bool) → (a && b) ≡ true → a ≡ true
-and-left true b e = refl
-and-left false b e = e
-
 full-is : (s t : List ℕ) (x : State) (b : Bool) → leb 1024 (x .rows) ≡ b → D.isFull (fromState s t x) ≡ b
 unfolding D.isFull stateOf
 full-is s t x b e = ap (leb 1024) (rows-length s t 0 (x .rows)) ∙ e
 
 -- ---- a turn that begins a sentence which is not the 2,049th
-length-places : (rs : List P.Row) → length (D.places rs) ≡ length rs
-length-places [] = refl
-length-places (x ∷ rs) = ap suc (length-places rs)
-
 fits-begun : (entered p : ℕ) (st : D.State) (X : D.Turn) → D.places (stateIn X .rows) ++ begunIn X ≡ D.places (st .rows) ++ p ∷ [] → entered + length (st .rows) < 2048 → Fits entered X
 fits-begun entered p st (D.go m at y) e h = tt
 fits-begun entered p st (D.finish y) e h = tt
@@ -178,7 +171,7 @@ fits-begun entered p st (D.stop w q begun y) e h =
     let a : length (D.places (y .rows) ++ begun) ≡ length (D.places (st .rows) ++ p ∷ []) = ap length e in
     let b : length (D.places (y .rows) ++ begun) ≡ length (D.places (y .rows)) + length begun = length-append (D.places (y .rows)) begun in
     let c : length (D.places (st .rows) ++ p ∷ []) ≡ length (D.places (st .rows)) + 1 = length-append (D.places (st .rows)) (p ∷ []) in
-    early (omega (arith, a, b, c, length-places (y .rows), length-places (st .rows)))
+    early (omega (arith, a, b, c, places-length (y .rows), places-length (st .rows)))
 
 -- ---- THE CLAUSE at p: its labels l, and the token u behind them
 module _ (d s t n : List ℕ) (x : State) (p at : ℕ) (l : Labels) (hl : LabelsAt s at l) (u : Lexeme) (lex : Lexed s (l .to) u) (w : Where) (hw : TopKind (x .opened) w) (e : Bool) (he : e ≡ (D.isInGroup (whereOf w) && isEndIn s u)) (r : Turned) where
@@ -247,6 +240,7 @@ module _ (d s t n : List ℕ) (x : State) (p at : ℕ) (l : Labels) (hl : Labels
         few = subst (λ (z : Turned). z .state .entered + z .state .rows ≤ 2048) (sym h) (i .few);
         own = subst (λ (z : Turned). Own (x .tally .member) (z .state .scope)) (sym h) (i .ready .own);
         size = refl;
+        marks = marks-none s t (x .rows) (x .opened) (r .state .rows) (omega (arith, ap (λ (z : Turned). z .state .rows) h));
       };
     }
 
@@ -269,6 +263,7 @@ module _ (d s t n : List ℕ) (x : State) (p at : ℕ) (l : Labels) (hl : Labels
               few = subst (λ (z : State). z .entered + z .rows ≤ 2048) (sym (hy .rest)) (i .few);
               own = subst (λ (z : State). Own (x .tally .member) (z .scope)) (sym (hy .rest)) (i .ready .own);
               size = refl;
+              marks = marks-none s t (x .rows) (x .opened) (y .rows) (omega (arith, ap (λ (z : State). z .rows) (hy .rest)));
             }));
       }
 
@@ -295,5 +290,6 @@ module _ (d s t n : List ℕ) (x : State) (p at : ℕ) (l : Labels) (hl : Labels
               few = omega (arith, q .before, q .few, leb-false 2048 (x .entered + x .rows) (low .0));
               own = subst (λ (v : ℕ). Own v (r .state .scope)) (en .member) (q .own);
               size = q .size;
+              marks = q .marks;
             });
       }

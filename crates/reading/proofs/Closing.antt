@@ -40,7 +40,7 @@ use Rattle.reading.specs.declared.Next.the-variants as Nx
 use Rattle.reading.specs.declared.Turned.{Turned}
 use Rattle.reading.specs.State.{rowsFrom, stateOf, turnOf, Around, Stand, withOpened, withScope, withTally, turned, Ends, Sits, Goes, Stops, Does, Fits, early, Way, does, Takes, fromState}
 use Rattle.reading.specs.Labelled.{LabelsIf}
-use Rattle.reading.proofs.Rows.{rows-length}
+use Rattle.reading.proofs.Rows.{rows-length, marks-none}
 use Rattle.reading.proofs.Parameters.{AllPlain, whole-all, plain-means}
 use Rattle.reading.specs.Sentences.{notEndNext, EndsLong, EndsAt, EndsBody}
 
@@ -116,6 +116,7 @@ module _ (d s n : List ℕ) (x : State) (labels : ℕ) (g : Meaning) (n′ : Lis
     few = subst (λ (z : State). z .entered + z .rows ≤ 2048) (sym (h .rest)) (i .few);
     own = subst (λ (z : State). Own (x .tally .member) (z .scope)) (sym (h .rest)) (i .ready .own);
     size = refl;
+    marks = marks-none s t (x .rows) (x .opened) (y .rows) (omega (arith, ap (λ (z : State). z .rows) (h .rest)));
   })
 
 pub ends-long : (d s n : List ℕ) (x : State) (labels q : ℕ) (n′ : List ℕ) (y : State) (r : Turned) → LabelsIf d s n x labels (M.LabelAt 0) n′ y → r ≡ turned y (Nx.Stop OverLimit q) → EndsLong d s n x labels q n′ r
@@ -198,6 +199,7 @@ module _ (d s n : List ℕ) (x : State) (labels at : ℕ) (n′ : List ℕ) (o :
           few = omega (arith, f .keeps .entered, f .rows, i .few);
           own = subst (λ (m : ℕ). Own m (r .state .scope)) (g .member) (f .keeps .own (hk .own (z .member) (subst (λ (m : ℕ). Own m (x .scope)) (sym (g .member)) (i .ready .own))));
           size = refl;
+          marks = marks-none s t (x .rows) (x .opened) (r .state .rows) (omega (arith, f .rows));
         }
 
     leaves : (e : ℕ) → a ≡ Past e → (k : Owner) → ScopeOut (o .kind) (y .scope) k → (z : State) → z ≡ withScope y k → (c : Opened) → Popped (z .opened) c → (v : State) → v ≡ withOpened z c → Ends s v (o .row) e r → EndsAt d s n x labels at n′ r

@@ -3,9 +3,8 @@
 use mathlib.Core.Path.{_≡_, refl, sym, ap, subst, _∙_}
 use mathlib.Core.Bool.{Bool, true, false, cond}
 use mathlib.Core.List.{List, [], _∷_, _++_}
-use Prim.Native.Nat.{ℕ, zero, suc, _+_, _-_, _<_, _≤_}
+use Prim.Native.Nat.{ℕ, zero, suc, _-_, _<_, _≤_}
 use native.Mathlib.Omega.{arith}
-use lib.ListN.{length}
 use Rattle.definition.specs.Expressions.{Reading, read, refused, Named}
 use Rattle.definition.specs.Program as P
 use Rattle.definition.specs.Statements as St
@@ -19,8 +18,8 @@ use Rattle.statements.specs.declared.Opens.{Opens}
 use Rattle.statements.specs.declared.Opens.the-variants as O
 use Rattle.statements.specs.declared.Read.{Read}
 use Rattle.statements.specs.declared.Read.the-variants as Rd
-use Rattle.statements.specs.Clauses.{scopeOf, isInside, opensFor, Own}
-use Rattle.statements.specs.Again.{statementAt}
+use Rattle.rows.specs.Tabled.{kindOf}
+use Rattle.statements.specs.Clauses.{scopeOf, isInside, opensFor, Own, typeIn}
 use Rattle.openings.specs.declared.Where.{Where}
 use Rattle.openings.specs.declared.Where.the-variants as Wh
 use Rattle.openings.specs.declared.Open.{Open}
@@ -33,9 +32,9 @@ use Rattle.reading.specs.declared.Turned.{Turned}
 use Rattle.reading.specs.declared.Mode.{Mode}
 use Rattle.reading.specs.declared.Mode.the-variants as Md
 use Rattle.reading.specs.declared.Next.the-variants as Nx
-use Rattle.reading.specs.State.{rowsFrom, stateOf, turnOf, modeOf, Around, Low, Stand, Placed, Keeps, withOpened, withScope, turned, Adds, Ends, OpensIn, OpensAs, Again, Stood, Taken, TakesAs}
-use Rattle.reading.proofs.Adding.{opened-top, stand-top}
-use Rattle.reading.proofs.Rows.{rows-length}
+use Rattle.reading.specs.State.{stateOf, turnOf, modeOf, Around, Stand, Placed, Keeps, Marks, withOpened, withScope, turned, Adds, Ends, OpensIn, OpensAs, Again, Stood, Taken, TakesAs}
+use Rattle.reading.proofs.Adding.{opened-top}
+use Rattle.reading.proofs.Rows.{rows-length, marks-none}
 
 -- something is open
 pub stand-some : (s : List ℕ) (o : Opened) (n : ℕ) → Stand n (openedOf s o) → 0 < o .count
@@ -293,6 +292,7 @@ module _ (s t : List ℕ) (x : State) (p labels : ℕ) (t′ : List ℕ) (r : Tu
     rows = λ small. omega (arith, some .rows, h .count small);
     keeps = record { entered = some .keeps .entered ∙ h .keeps .entered; tally = some .keeps .tally ∙ h .keeps .tally; own = λ w. later (h .keeps .own w) };
     size = h .size;
+    marks = marked;
   })
     where
       any : (k : Opens) → ((f : St.Opens) → k ≡ opensFor f → OpensIn s a f (x .rows) labels (c .to) r) → (f : St.Opens) × OpensIn s a f (x .rows) labels (c .to) r
@@ -307,6 +307,12 @@ module _ (s t : List ℕ) (x : State) (p labels : ℕ) (t′ : List ℕ) (r : Tu
       later : Own (x .tally .member) (a .scope) → Own (x .tally .member) (r .state .scope)
       later w = subst (λ (m : ℕ). Own m (r .state .scope)) (ap (λ (b : Tally). b .member) (h .keeps .tally)) (some .keeps .own (subst (λ (m : ℕ). Own m (a .scope)) (sym (ap (λ (b : Tally). b .member) (h .keeps .tally))) w))
 
+      marked : (R : Reading St.Clause) → Stood s (Rd.Is c) R → Placed s t x → x .rows < 1024 → Marks s t (x .rows) (x .opened) t′ (r .state .rows)
+      marked (read z) g q small =
+          subst (λ (m : ℕ). Marks s t (x .rows) (x .opened) t′ m) (sym (some .rows)) (h .marks s q small (g .content)
+          (record { kind = g .kind ∙ ap kindOf (sym (g .statement)); type = g .type ∙ ap typeIn (sym (g .statement)) }))
+      marked (refused w e) g q small = absurd g
+
       by : (R : Reading St.Clause) (ns : List Named) (ds es : List P.Declared) → Stood s (Rd.Is c) R → Placed s t x → x .rows < 1024 → x .opened .count < 20 → p < 65536
           → D.spelled ns ≡ labelled s labels → Taken s t x p t′ r ns ds es R
       by (read z) ns ds es g q small few lp sp = taken-is c a z ns ds es g h (o .so (z .opens) (g .opens)) q small few lp sp
@@ -318,6 +324,7 @@ takes-refused s t x p labels r y w q hy hr = rw (hy, hr) (record {
   rows = λ small. omega arith;
   keeps = record { entered = refl; tally = refl; own = λ h. h };
   size = refl;
+  marks = λ R g h small. marks-none s t (x .rows) (x .opened) (x .rows) (omega arith);
 })
   where
     by : (R : Reading St.Clause) (ns : List Named) (ds es : List P.Declared) → Stood s (Rd.Refused w q) R → Placed s t x → x .rows < 1024 → x .opened .count < 20 → p < 65536

@@ -1,23 +1,21 @@
--- Places grow: what is read behind a place lies behind it. So the sentence that is one too many in those entered decides, whatever
--- the definition reads behind it: no fault and no name that comes later is sooner.
+-- Places grow: what is read behind a place lies behind it. So no fault and no name behind the sentence that is one too many is sooner.
 -- Assumes nothing.
-use Prim.Native.Nat.{ℕ, zero, suc, _+_, _-_, _≤_, _<_}
+use Prim.Native.Nat.{ℕ, zero, suc, _+_, _≤_, _<_}
 use Prim.Native.Char.{code}
 use Prim.Native.String.{String}
 use native.Mathlib.Omega.{arith}
-use mathlib.Core.Bool.{Bool, true, false, cond, not, _&&_, _||_, false≢true}
+use mathlib.Core.Bool.{Bool, true, false, not, _&&_, _||_, false≢true}
 use mathlib.Core.List.{List, [], _∷_, _++_}
-use mathlib.Core.Path.{_≡_, refl, sym, ap, subst, _∙_}
+use mathlib.Core.Path.{_≡_, refl, sym, ap, _∙_}
 use lib.Dec.{leb, ltb, eqb}
-use lib.ListN.{length, getD, length-append, List·getD-eq-default}
-use borrow.Author.Tests.{leb-true, leb-false, le-leb, ltb-false, lt-ltb, le-ltb}
+use lib.ListN.{length, getD}
+use borrow.Author.Tests.{leb-false}
 use Rattle.definition.specs.Choice.{when}
-use Rattle.definition.specs.Bytes.{isBlank}
-use Rattle.definition.specs.Limits.{openGroups, enteredSentences, declaredNames}
+use Rattle.definition.specs.Limits.{openGroups}
 use Rattle.definition.specs.declared.Why.{Why}
 use Rattle.definition.specs.declared.Why.the-variants.{Syntax, OverLimit}
 use Rattle.definition.specs.Tokens as Tokens
-use Rattle.definition.specs.Tokens.{Token, word, integer, string, bits, sign, nothing, wrong, Lexeme, lexeme, isWord, isSign, upTo, spaces, isSpace, isComment, lexemeAt, tokenAt, Piece, name, plain, unclosed, pieceAt, TextEnd, percentAt, atEnd, openAt, textEnd}
+use Rattle.definition.specs.Tokens.{Token, word, integer, string, bits, sign, nothing, wrong, Lexeme, isWord, isSign, tokenAt, Piece, name, plain, unclosed, pieceAt, TextEnd, percentAt, atEnd, openAt, textEnd}
 use Rattle.definition.specs.Expressions.{Reading, read, refused, then, Tree, binary, Maybe, is, noOperator, infixOf, prefixOf, Parsed, expectSign, expectWord, Named, nameOf, nameAt, Reader, arguments, referenceAt, primitive, prefixed, operand, chained, chain, levels, expression, wholeExpression}
 use Rattle.definition.specs.declared.Operator.{Operator}
 use Rattle.definition.specs.declared.Prefix.{Prefix}
@@ -27,47 +25,11 @@ use Rattle.definition.specs.Statements as S
 use Rattle.definition.specs.Statements.{Opens, opensNothing, opensGroup, opensBody, opensThen, Clause, clause, ended, assignment, thenWord, ifClause, boundAt, doBounds, doClause, gotoClause, listOf, eachName, eachActivation, includeClause, activateClause, deactivateClause, returnClause, Declaring, declared, undeclared, thenDeclare, means, namesAt, attribute, declareNames, declareNext, declareFrom, returnsType, procedureHead, procedureClause}
 use Rattle.definition.specs.Reading as R
 use Rattle.definition.specs.Reading.{Where, inProgram, inGroup, inBody, inThen, inElse, Open, State, change, newRow, setNext, setChild, setOther, setLead, setText, linked, addIn, addTo, addRow, withNames, Mode, Turn, go, stop, finish, Else, elseTo, noElse, elseWord, elseAt, elsed, completeIn, complete, Labelled, isName, addLabel, labelsFrom, labels, opened, taken, untaken, takeRead, takeDeclared, labelMeaning, isDeclare, isProcedure, isNone, isInside, isList, kindOf, doAt, common, inList, outer, byWord, byName, byToken, endName, mayName, endRead, endAt, isInGroup, isInBody, isFull, isEnd, longLabel, clauseFrom, clauseAt, texted, leadIn, notEnd, procedureEnd, begins, innerAt, depth, deepEnough, alternativeAt, leadingText, textBehind, alternative, inner, turn, places, readOn}
-use Rattle.definition.specs.World as W
-use Rattle.definition.specs.Names as N
 use Rattle.definition.proofs.Choices.{when-has, cond-has}
-use Rattle.definition.proofs.Ends.{Real, Lies, tokenAt-lies, Past, pieceAt-past}
-use Rattle.entering.specs.declared.Mark.{Mark}
-use Rattle.entering.specs.declared.Mark.the-variants.{Unmarked, Marked}
-use Rattle.entering.specs.declared.Fault.the-variants.{Faulty}
-use Rattle.entering.specs.Book.{Book, markOf, twiceOr, faultIn}
-use Rattle.entering.proofs.Order.{Entry, stays-out}
-use Rattle.reading.proofs.Frame.{withDeclared, prependSource, clauseAt-frame, read-frame}
-
--- ---- a token does not lie before the place that it is looked for at, and one with bytes lies within the source
-spaces-end : (f : ℕ) (s : List ℕ) (e : ℕ) → length s ≤ e → spaces f s e ≡ upTo e
-unfolding spaces isSpace isBlank isComment
-spaces-end zero s e h = refl
-spaces-end (suc f) s e h = rw (List·getD-eq-default s 0 h)
-
-token-end : (s : List ℕ) (e : ℕ) → length s ≤ e → tokenAt s e ≡ lexeme nothing e e
-unfolding tokenAt lexemeAt
-token-end s e h = rw (spaces-end (length s) s e h, le-leb (length s) e h)
-
-pub record On (s : List ℕ) (e : ℕ) (t : Lexeme) : Type 0 where
-  pub low : e ≤ t .from
-  pub order : t .from ≤ t .to
-  pub some : Real (t .token) → (t .from < t .to) × (t .to ≤ length s)
-
-pub token-on : (s : List ℕ) (e : ℕ) → On s e (tokenAt s e)
-token-on s e = go′ (leb (length s) e) refl
-  where
-    go′ : (b : Bool) → leb (length s) e ≡ b → On s e (tokenAt s e)
-    go′ true z = rw (token-end s e (leb-true (length s) e z)) (record { low = omega arith; order = omega arith; some = λ x. absurd x })
-    go′ false z = let t : Lies s e (tokenAt s e) = tokenAt-lies s e (omega (arith, leb-false (length s) e z)) in record { low = t .low; order = t .order; some = λ x. (t .some x, t .high) }
-
-begins-real : (t : Token) → begins t ≡ true → Real t
-begins-real (word w) e = tt
-begins-real (integer w) e = absurd (false≢true e)
-begins-real (string w) e = absurd (false≢true e)
-begins-real (bits w) e = absurd (false≢true e)
-begins-real (sign w) e = tt
-begins-real nothing e = absurd (false≢true e)
-begins-real wrong e = absurd (false≢true e)
+use Rattle.definition.proofs.Keeping.{and-left}
+use Rattle.definition.proofs.Ends.{pieceAt-past}
+use Rattle.reading.specs.State.{Starts, behind, opens}
+use Rattle.reading.proofs.Places.{token-on, begins-real}
 
 -- the one list begins the other
 abbrev pub Begins : List ℕ → List ℕ → Type 0
@@ -420,10 +382,6 @@ module _ (s : List ℕ) (p : ℕ) where
       (λ _. add-label LaterLabels ns long _ (name-of (tokenAt s e .token) (tokenAt s e .from) (tokenAt s e .to) (token-from e i) (token-to e i)) h k
       λ ms qs m l. labels-far f ms qs _ m l (token-to (tokenAt s e .to) (token-to e i))) λ _. labels-end ns long e h k i
 
-  and-first : (a b : Bool) → (a && b) ≡ true → a ≡ true
-  and-first true b e = refl
-  and-first false b e = e
-
   name-low : (t : Token) (a b : ℕ) → isName t ≡ true → p ≤ a → p < b → Far NameFar (nameOf t a b)
   name-low (word w) a b z h k = cond-has (Far NameFar) (leb (length w) 31) _ _ (λ _. far (record { place = h; to = k })) λ _. stopped (there h)
   name-low (integer w) a b z h k = absurd (false≢true z)
@@ -441,15 +399,10 @@ module _ (s : List ℕ) (p : ℕ) where
   labels-now (suc f) e h k =
       let t : p < tokenAt s e .to = omega (arith, token-on s e .some (begins-real (tokenAt s e .token) k) .0) in
       when-has Labels (isName (tokenAt s e .token) && isSign ":" (tokenAt s (tokenAt s e .to) .token)) _ _
-      (λ z. add-label Labels [] [] _ (name-low (tokenAt s e .token) (tokenAt s e .from) (tokenAt s e .to) (and-first (isName (tokenAt s e .token)) _ z) h t) tt tt
+      (λ z. add-label Labels [] [] _ (name-low (tokenAt s e .token) (tokenAt s e .from) (tokenAt s e .to) (and-left (isName (tokenAt s e .token)) _ z) h t) tt tt
       λ ms qs m l. labels-far f ms qs _ m l (token-to (tokenAt s e .to) t) .is) λ _. record { named = tt; long = tt; first = now h k; end = t }
 
-  -- a statement from e on begins at p
-  pub data Starts (e : ℕ) : Type 0 where
-    behind : p < e → Starts e
-    opens : p ≡ tokenAt s e .from → begins (tokenAt s e .token) ≡ true → Starts e
-
-  starts-labels : (e : ℕ) → Starts e → Labels (labels s e)
+  starts-labels : (e : ℕ) → Starts s p e → Labels (labels s e)
   starts-labels e (behind h) = labels-far (length s) [] [] e tt tt h .is
   starts-labels e (opens h k) = labels-now (length s) e (omega arith) k
 
@@ -774,42 +727,6 @@ pub record Sentence (s : List ℕ) (p e : ℕ) (st : State) : Type 0 where
   pub some : 0 < length (st .opened)
   pub sentence : (isInGroup (kindOf (st .opened)) && isEnd s (labels s e .behind)) ≡ false
 
--- so it is behind a text, in a procedure, and as an alternative outside procedures
-abbrev LowEnd : List ℕ → TextEnd → Type 0
-LowEnd s (percentAt p) = p < length s
-LowEnd s atEnd = Unit {0}
-LowEnd s (openAt p) = Unit {0}
-
-low-on : (s : List ℕ) (x : Piece) (q r : ℕ) (f : ℕ → TextEnd) → LowEnd s (f r) → LowEnd s (Tokens.textOn x q r f)
-low-on s (name w) q r f k = k
-low-on s plain q r f k = k
-low-on s unclosed q r f k = tt
-
-text-low : (s : List ℕ) (f q : ℕ) → LowEnd s (textEnd f s q)
-unfolding textEnd
-text-low s zero q = tt
-text-low s (suc f) q =
-    when-has (LowEnd s) (leb (length s) q) _ _ (λ _. tt) λ e. when-has (LowEnd s) (eqb (getD s q 0) (code "%")) _ _ (λ _. leb-false (length s) q e) λ _.
-    low-on s (pieceAt s q .piece) q (pieceAt s q .to) (textEnd f s) (text-low s f (pieceAt s q .to))
-
-pub percent-low : (s : List ℕ) (f q p : ℕ) → textEnd f s q ≡ percentAt p → (p < length s) × Starts s p (p + 1)
-percent-low s f q p h = (subst (LowEnd s) h (text-low s f q), behind (omega arith))
-
-pub begins-low : (s : List ℕ) (e : ℕ) → begins (tokenAt s e .token) ≡ true → (tokenAt s e .from < length s) × Starts s (tokenAt s e .from) e
-begins-low s e h = let t : (tokenAt s e .from < tokenAt s e .to) × (tokenAt s e .to ≤ length s) = token-on s e .some (begins-real (tokenAt s e .token) h) in (omega (arith, t .0, t .1), opens refl h)
-
-pub sign-real : (x : String) (t : Token) → isSign x t ≡ true → Real t
-sign-real x (word w) e = tt
-sign-real x (integer w) e = tt
-sign-real x (string w) e = tt
-sign-real x (bits w) e = tt
-sign-real x (sign w) e = tt
-sign-real x nothing e = absurd (false≢true e)
-sign-real x wrong e = absurd (false≢true e)
-
-pub sign-low : (s : List ℕ) (e : ℕ) → isSign "%" (tokenAt s e .token) ≡ true → (tokenAt s e .from < length s) × Starts s (tokenAt s e .from) (tokenAt s e .to)
-sign-low s e h = let t : (tokenAt s e .from < tokenAt s e .to) × (tokenAt s e .to ≤ length s) = token-on s e .some (sign-real "%" (tokenAt s e .token) h) in (omega (arith, t .0, t .1), behind (t .0))
-
 -- ---- WHAT IS READ FROM THERE has p as the next of its sentences, its fault is not sooner, and its names are not before p
 pub sentence-grows : (s : List ℕ) (p e : ℕ) (st : State) → Sentence s p e st → FarNames s p (st .declared) → (f : ℕ) → Grown s p (places (st .rows) ++ p ∷ []) (readOn s f (clauseAt s p e st))
 unfolding clauseFrom
@@ -819,110 +736,3 @@ sentence-grows s p e st h k f =
     let b : Begun s p ps p (labels s e .labels) st = record { names = k; named = l .named; rows = begins-self ps; some = h .some } in
     read-fine s p ps (h .low) f
     (when-has (FineTurn s p ps) (isInGroup (kindOf (st .opened)) && isEnd s (labels s e .behind)) _ _ (λ z. absurd (false≢true (sym (h .sentence) ∙ z))) λ _. sentence-fine s p ps p (labels s e) st b l (omega arith))
-
--- ---- the limits
-begins-past : (rs : List Row) (p : ℕ) (xs : List ℕ) → Begins (places rs ++ p ∷ []) xs → N.sentencesPast (length rs) xs ≡ N.pastAt p
-unfolding N.sentencesPast
-begins-past [] p [] h = absurd h
-begins-past [] p (x ∷ xs) h = ap N.pastAt (sym (h .0))
-begins-past (r ∷ rs) p [] h = absurd h
-begins-past (r ∷ rs) p (x ∷ xs) h = begins-past rs p xs (h .1)
-
-over-by : (p q : ℕ) (b : Bool) → ltb p q ≡ b → p ≤ q → cond b (faulty OverLimit p) (faulty OverLimit q) ≡ faulty OverLimit p
-over-by p q true e h = refl
-over-by p q false e h = ap (faulty OverLimit) (omega (arith, ltb-false p q e))
-
-sooner-past : (s : List ℕ) (p : ℕ) (ps : List ℕ) (f : Fault) → FarFault s p ps f → N.sooner (N.pastAt p) f ≡ faulty OverLimit p
-sooner-past s p ps sound h = refl
-sooner-past s p ps (faulty w q) (further h) = rw (lt-ltb p q h)
-sooner-past s p ps (faulty w q) (there h) = over-by p q (ltb p q) refl h
-
-module _ (s : List ℕ) (p : ℕ) (m : ℕ) where
-  abbrev Same : N.Past → N.Past → Type 0
-  Same x y = N.sooner x (faulty OverLimit p) ≡ N.sooner y (faulty OverLimit p)
-
-  none-sooner : (js : List W.Identifier) (es : List Declared) → FarNames s p es → Same (N.namesPast m js es) N.within
-  unfolding N.namesPast
-  none-sooner js [] h = refl
-  none-sooner js (d ∷ es) h =
-      when-has (λ z. Same z N.within) (N.isParameter (d .meaning) || N.isListed (N.identifierOf m d) js) _ _ (λ _. none-sooner js es (h .1)) λ _.
-      when-has (λ z. Same z N.within) (leb declaredNames (length js)) _ _ (λ _. rw (le-ltb (d .place) p (h .0))) λ _. none-sooner (N.identifierOf m d ∷ js) es (h .1)
-
-  same-by : (b : Bool) (x y x′ y′ : Unit {0} → N.Past) → Same (x tt) (x′ tt) → Same (y tt) (y′ tt) → Same (when b x y) (when b x′ y′)
-  same-by true x y x′ y′ h k = h
-  same-by false x y x′ y′ h k = k
-
-  names-behind : (js : List W.Identifier) (ds es : List Declared) → FarNames s p es → Same (N.namesPast m js (ds ++ es)) (N.namesPast m js ds)
-  unfolding N.namesPast
-  names-behind js [] es h = none-sooner js es h
-  names-behind js (d ∷ ds) es h =
-      same-by (N.isParameter (d .meaning) || N.isListed (N.identifierOf m d) js) _ _ _ _ (names-behind js ds es h)
-      (same-by (leb declaredNames (length js)) _ _ _ _ refl (names-behind (N.identifierOf m d ∷ js) ds es h))
-
--- THE SENTENCE that is one too many in those entered: a name past its limit before it, or else it, is the fault
-pub sentence-past : (m : ℕ) (js : List W.Identifier) (n : ℕ) (s : List ℕ) (p e : ℕ) (st : State) → Sentence s p e st → n ≡ length (st .rows) → (f : ℕ)
-    → N.sooner (N.namesPast m js (readOn s f (clauseAt s p e st) .declared)) (N.sooner (N.sentencesPast n (readOn s f (clauseAt s p e st) .begun)) (readOn s f (clauseAt s p e st) .fault))
-    ≡ N.sooner (N.namesPast m js (st .declared)) (faulty OverLimit p)
-sentence-past m js n s p e st h k f =
-    let ps : List ℕ = places (st .rows) ++ p ∷ [] in
-    let ds : List Declared = st .declared in
-    let x : Source = readOn s f (clauseAt s p e (withDeclared [] st)) in
-    let g : Grown s p ps x = sentence-grows s p e (withDeclared [] st) (record { low = h .low; starts = h .starts; some = h .some; sentence = h .sentence }) tt f in
-    let a : readOn s f (clauseAt s p e st) ≡ prependSource ds x = ap (readOn s f) (clauseAt-frame s ds p e st) ∙ read-frame s ds f (clauseAt s p e (withDeclared [] st)) in
-    let b : N.sentencesPast n (x .begun) ≡ N.pastAt p = ap (λ (z : ℕ). N.sentencesPast z (x .begun)) k ∙ begins-past (st .rows) p (x .begun) (g .begun) in
-    let c : N.sooner (N.sentencesPast n (x .begun)) (x .fault) ≡ faulty OverLimit p = ap (λ (z : N.Past). N.sooner z (x .fault)) b ∙ sooner-past s p ps (x .fault) (g .fault) in
-    ap (λ (z : Source). N.sooner (N.namesPast m js (z .declared)) (N.sooner (N.sentencesPast n (z .begun)) (z .fault))) a ∙ ap (N.sooner (N.namesPast m js (ds ++ x .declared))) c ∙ names-behind s p m js ds (x .declared) (g .names)
-
-pub one-too-many : (m : ℕ) (w : W.World) (s : List ℕ) (p e : ℕ) (st : State) → Sentence s p e st → enteredSentences - w .sentences ≡ length (st .rows) → (f : ℕ)
-    → N.faultOf m (readOn s f (clauseAt s p e st)) w ≡ N.sooner (N.namesPast m (w .identifiers) (st .declared)) (faulty OverLimit p)
-unfolding N.faultOf
-one-too-many m w s p e st h k f = sentence-past m (w .identifiers) (enteredSentences - w .sentences) s p e st h k f
-
--- so the member stays out, as the names that were entered before that sentence decide
-past-by : (m : ℕ) (x : Source) (w : W.World) (c : Book) (p q : ℕ) (b : Bool) (second : Mark)
-    → Entry m x c (N.enteredAs (cond b (faulty OverLimit q) (faulty OverLimit p)) m x w) (cond b (Faulty OverLimit q) (Faulty OverLimit p))
-past-by m x w c p q true second = stays-out OverLimit q refl refl
-past-by m x w c p q false second = stays-out OverLimit p refl refl
-
-faulty-twice : (k : Mark) (e : Why) (p : ℕ) → twiceOr k (Faulty e p) ≡ Faulty e p
-faulty-twice Unmarked e p = refl
-faulty-twice (Marked q) e p = refl
-
-past-out : (m : ℕ) (x : Source) (w : W.World) (c : Book) (p : ℕ) (second : Mark) (y : N.Past)
-    → Entry m x c (N.enteredAs (N.sooner y (faulty OverLimit p)) m x w) (faultIn (markOf y) second (Faulty OverLimit p))
-unfolding faultIn
-past-out m x w c p second N.within = stays-out OverLimit p refl (faulty-twice second OverLimit p)
-past-out m x w c p second (N.pastAt q) = past-by m x w c p q (ltb q p) second
-
-pub decides-past : (m : ℕ) (w : W.World) (s : List ℕ) (p e : ℕ) (st : State) → Sentence s p e st → enteredSentences - w .sentences ≡ length (st .rows) → (f : ℕ) (c : Book) (past second : Mark)
-    → past ≡ markOf (N.namesPast m (w .identifiers) (st .declared))
-    → Entry m (readOn s f (clauseAt s p e st)) c (N.enter m (readOn s f (clauseAt s p e st)) w) (faultIn past second (Faulty OverLimit p))
-unfolding N.enter
-decides-past m w s p e st h k f c past second l =
-    let x : Source = readOn s f (clauseAt s p e st) in
-    rw (l, one-too-many m w s p e st h k f) (past-out m x w c p second (N.namesPast m (w .identifiers) (st .declared)))
-
--- ---- where no sentence is one too many
-pub few-sentences : (n : ℕ) (xs : List ℕ) → length xs ≤ n → N.sentencesPast n xs ≡ N.within
-unfolding N.sentencesPast
-few-sentences n [] h = refl
-few-sentences zero (x ∷ xs) h = absurd (omega arith)
-few-sentences (suc n) (x ∷ xs) h = few-sentences n xs (omega arith)
-
-places-length : (rs : List Row) → length (places rs) ≡ length rs
-places-length [] = refl
-places-length (r ∷ rs) = ap suc (places-length rs)
-
-pub all-entered : (n : ℕ) (st : State) (begun : List ℕ) (f : Fault) → length (st .rows) + length begun ≤ n → N.sooner (N.sentencesPast n (R.source st begun f .begun)) f ≡ f
-all-entered n st begun f h = rw (few-sentences n (places (st .rows) ++ begun) (omega (arith, h, places-length (st .rows), length-append (places (st .rows)) begun)))
-
--- nor does one more matter that the reading stops at for a limit of its own
-last-by : (n : ℕ) (qs : List ℕ) (p : ℕ) → length qs ≤ n → N.sooner (N.sentencesPast n (qs ++ p ∷ [])) (faulty OverLimit p) ≡ faulty OverLimit p
-unfolding N.sentencesPast
-last-by zero [] p h = over-by p p (ltb p p) refl (omega arith)
-last-by (suc n) [] p h = refl
-last-by zero (q ∷ qs) p h = absurd (omega arith)
-last-by (suc n) (q ∷ qs) p h = last-by n qs p (omega arith)
-
-pub last-entered : (n : ℕ) (st : State) (p : ℕ) → length (st .rows) ≤ n → N.sooner (N.sentencesPast n (R.source st (p ∷ []) (faulty OverLimit p) .begun)) (faulty OverLimit p) ≡ faulty OverLimit p
-last-entered n st p h = last-by n (places (st .rows)) p (omega (arith, h, places-length (st .rows)))

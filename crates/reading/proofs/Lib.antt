@@ -3,11 +3,15 @@ pub mod Rows
 pub mod Adding
 pub mod Endings
 pub mod Frame
+pub mod Places
 pub mod Growth
+pub mod Counting
 pub mod Parameters
 pub mod Owners
 pub mod Labelling
 pub mod Turning
+pub mod Walking
+pub mod Nested
 pub mod Standing
 pub mod Closing
 pub mod Rescoping

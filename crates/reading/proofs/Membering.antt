@@ -7,6 +7,7 @@ use mathlib.Core.List.{List, [], _∷_, _++_}
 use mathlib.Core.Path.{_≡_, refl, sym, ap, subst, _∙_}
 use lib.Dec.{ltb}
 use lib.ListN.{length}
+use Rattle.definition.specs.Deck.{lineAt}
 use Rattle.definition.specs.Limits.{enteredSentences}
 use Rattle.definition.specs.Program as P
 use Rattle.definition.specs.Reading as D
@@ -15,13 +16,15 @@ use Rattle.definition.specs.Names as N
 use Rattle.definition.specs.declared.Why.{Why}
 use Rattle.definition.specs.declared.Why.the-variants.{Syntax, OverLimit}
 use Rattle.deck.specs.Answer.{bodyIn}
+use Rattle.rows.specs.Table.{rowIn}
+use Rattle.rows.specs.Tabled.{Tabled}
 use Rattle.entering.specs.declared.Mark.{Mark}
 use Rattle.entering.specs.declared.Mark.the-variants.{Unmarked, Marked}
 use Rattle.entering.specs.declared.Tally.{Tally}
 use Rattle.entering.specs.declared.Fault.{Fault}
 use Rattle.entering.specs.declared.Fault.the-variants.{Sound, Faulty}
-use Rattle.entering.specs.Book.{Book, Roomy, tallyOf, bookOf, bookAll, bookWhole, markOf, faultFor, faultIn}
-use Rattle.entering.proofs.Order as O
+use Rattle.entering.specs.Book.{Book, Roomy, tallyOf, bookOf, bookAll, bookWhole, faultFor, faultIn}
+use Rattle.entering.specs.Entry.{Shows, Entry, goes-in, stays-out}
 use Rattle.entering.proofs.Order.{decides, past-is}
 use Rattle.statements.specs.Clauses.{Lies}
 use Rattle.openings.specs.Open.{openedOf}
@@ -33,16 +36,17 @@ use Rattle.reading.specs.declared.Mode.the-variants as Md
 use Rattle.reading.specs.declared.Next.{Next}
 use Rattle.reading.specs.declared.Next.the-variants as Nx
 use Rattle.reading.specs.State as T
-use Rattle.reading.specs.State.{rowsFrom, stateOf, modeOf, nextOf, turnOf, stateIn, Sits, Goes, Stops, Does, Over, Counts, early, last, Fits, Way, does, stops, Takes, fromState, Follows, Turns, Begins, Enough, sourceOf, Reads}
-use Rattle.reading.specs.Members.{namesOf, Has, Enters, goes-in, stays-out, baseOf, Fresh, Whole, Membered, Members}
+use Rattle.reading.specs.State.{rowsFrom, stateOf, modeOf, nextOf, turnOf, stateIn, Typed, Sits, Goes, Stops, Does, Over, Counts, early, last, Fits, Way, does, stops, Takes, fromState, Follows, Turns, Begins, Enough, sourceOf}
+use Rattle.reading.specs.Members.{namesOf, baseOf, Fresh, Membered, Members}
 use Rattle.reading.proofs.Rows.{rows-length}
 use Rattle.reading.proofs.Turning.{opened-length}
 use Rattle.reading.proofs.Frame.{withDeclared, behind, prepend, clauseAt-frame, read-turn}
 use Rattle.reading.proofs.Owners.{Kept, OwnTurn, going, names-turn, whole-turn, owned-turn}
-use Rattle.reading.proofs.Parameters.{Owned, Almost, almost-self, whole-almost, fault-either}
-use Rattle.reading.proofs.Growth as G
-use Rattle.reading.proofs.Growth.{Sentence, decides-past, all-entered, last-entered}
-use Rattle.reading.proofs.Standing.{Well, WellFor, WellTurn, turn-well, start-well, Ongoing, goes-on}
+use Rattle.reading.proofs.Parameters.{Owned, almost-self, whole-almost, fault-either}
+use Rattle.reading.proofs.Growth.{Sentence}
+use Rattle.reading.proofs.Counting.{decides-past, all-entered, last-entered}
+use Rattle.reading.proofs.Nested.{Nested, Deep, DeepTurn, turn-deep, nested-by, deep-by, start-deep, depthIn, depthFrom, from-old, from-new, from-marks, types-on, tabled}
+use Rattle.reading.proofs.Standing.{Well, WellFor, WellTurn, shallow, turn-well, start-well, Ongoing, goes-on}
 use Rattle.reading.proofs.Bounds.{InTurn, turn-in}
 
 -- ---- THE LOOP: f turns are left, of the member m whose body is s; b are the names before it
@@ -52,6 +56,8 @@ pub record Going (d s : List ℕ) (m entered : ℕ) (b : Book) (t n : List ℕ) 
   pub within : at ≤ length s
   pub well : Well (fromState s t x)
   pub fit : WellFor (modeOf mode) (fromState s t x)
+  pub deep : Deep (depthIn t) (fromState s t x)
+  pub typed : (i : ℕ) → i < x .rows → Typed s (rowIn t i)
   pub member : x .tally .member ≡ m
   pub before : x .entered ≡ entered
   pub done : List P.Declared
@@ -68,10 +74,10 @@ well-first : (st : D.State) → st ≡ D.start → WellFor D.leadingText st
 unfolding D.depth
 well-first st e = rw e (omega arith)
 
-pub loop-start : (d t n : List ℕ) (m entered names : ℕ) (s : List ℕ) → s ≡ bodyIn d m → (base : ℕ) → base ≡ baseOf d m → (x : State) → Begins m base entered names x → (f : ℕ) → Enough s f
+pub loop-start : (d t n : List ℕ) (m entered names : ℕ) (s : List ℕ) → s ≡ bodyIn d m → (p base : ℕ) → p ≡ lineAt d m .offset → base ≡ p % 65536 → (x : State) → Begins m base entered names x → (f : ℕ) → Enough s f
     → Loop d t n m entered names s t n x Md.Leading 0 f
 unfolding bookOf bookWhole D.readMember
-loop-start d t n m entered names s hs base hb x h f e = record {
+loop-start d t n m entered names s hs p base hp hb x h f e = record {
   body = hs;
   so = λ k.
       let y : x .tally ≡ tallyOf m base names Unmarked Unmarked = h .tally in
@@ -80,7 +86,7 @@ loop-start d t n m entered names s hs base hb x h f e = record {
         sits = record {
           ready = record {
             roomy = subst (λ (z : Tally). Roomy n z) (sym y) (record { size = k .room; few = k .few });
-            lies = subst (λ (z : Tally). Lies d s (z .base)) (sym y) (subst (λ (i : ℕ). Lies d s i) (sym hb) (k .lies));
+            lies = subst (λ (z : Tally). Lies d s (z .base)) (sym y) (subst (λ (i : ℕ). Lies d s i) (sym (hb ∙ ap (λ (i : ℕ). i % 65536) hp)) (k .lies));
             own = rw (h .scope) tt;
           };
           few = omega (arith, h .entered, h .rows, k .sentences);
@@ -91,6 +97,8 @@ loop-start d t n m entered names s hs base hb x h f e = record {
         within = omega arith;
         well = subst Well (sym (h .is s t)) start-well;
         fit = well-first (fromState s t x) (h .is s t);
+        deep = subst (Deep (depthIn t)) (sym (h .is s t)) (start-deep (depthIn t));
+        typed = λ i l. absurd (omega (arith, h .rows));
         member = ap (λ (z : Tally). z .member) y;
         before = h .entered;
         done = [];
@@ -115,13 +123,28 @@ module _ (d s : List ℕ) (m entered : ℕ) (b : Book) (t n : List ℕ) (x : Sta
 
   owns : OwnTurn (x .rows) X
   unfolding stateOf
-  owns = subst (λ (i : ℕ). OwnTurn i X) (rows-length s t 0 (x .rows)) (names-turn s (modeOf mode) at (fromState s t x) some-open)
+  owns = subst (λ (i : ℕ). OwnTurn i X) (rows-length s t 0 (x .rows)) (names-turn s (modeOf mode) at (fromState s t x) some-open (shallow (modeOf mode) (fromState s t x) (h .fit)))
 
   entered-so : (Y : D.Turn) → X ≡ Y → bookWhole m [] (h .done ++ stateIn Y .declared) b ≡ bookWhole m [] (stateIn Y .declared) (bookOf d n (x .tally))
   entered-so Y e = whole-turn m (x .rows) (h .done) b (h .owned) (subst (OwnTurn (x .rows)) e owns) ∙ ap (bookWhole m [] (stateIn Y .declared)) (sym (h .names))
 
   well-turn : WellTurn X
   well-turn = turn-well s (modeOf mode) at (fromState s t x) (h .well) (h .fit)
+
+  -- new rows are as deep as what is open
+  abbrev depths : ℕ → ℕ
+  depths = depthFrom t (x .rows) (D.depth (openedOf s (x .opened)))
+
+  deep-turn : DeepTurn depths X
+  unfolding stateOf
+  deep-turn =
+      let n : length (rowsFrom s t 0 (x .rows)) ≡ x .rows = rows-length s t 0 (x .rows) in
+      turn-deep depths s (modeOf mode) at (fromState s t x)
+      (deep-by (depthIn t) depths (fromState s t x) (λ i l. from-old t (x .rows) (D.depth (openedOf s (x .opened))) i (omega (arith, l, n))) (h .deep))
+      (ap depths n ∙ from-new t (x .rows) (D.depth (openedOf s (x .opened)))) some-open (shallow (modeOf mode) (fromState s t x) (h .fit))
+
+  deep-rows : (t′ n′ : List ℕ) (r : Turned) → Takes d s t n x X t′ n′ r → (i : ℕ) → i < length (rowsFrom s t′ 0 (r .state .rows)) → depths i ≡ depthIn t′ i
+  deep-rows t′ n′ r k i l = from-marks s t (x .rows) (x .opened) t′ (r .state .rows) (k .marks) i (omega (arith, l, rows-length s t′ 0 (r .state .rows)))
 
   module _ (t′ n′ : List ℕ) (r : Turned) (k : Takes d s t n x X t′ n′ r) where
     module _ (m′ : Mode) (e : ℕ) (hn : r .next ≡ Nx.Go m′ e) where
@@ -134,6 +157,7 @@ module _ (d s : List ℕ) (m entered : ℕ) (b : Book) (t n : List ℕ) (x : Sta
           let on : Ongoing d s t′ n′ (r .state) m′ = goes-on d s t n x X t′ n′ r m′ e (h .sits) k g hn well-turn in
           let w : WellTurn (D.go (modeOf m′) e u) = subst WellTurn hx well-turn in
           let v : Well (stateOf s t′ (u .declared) (r .state)) = subst Well hu (w .0) in
+          let y : Deep depths (stateOf s t′ (u .declared) (r .state)) = subst (Deep depths) hu (subst (DeepTurn depths) hx deep-turn) in
           let rows : length (u .rows) ≡ r .state .rows = ap (λ (z : D.State). length (z .rows)) hu ∙ rows-length s t′ 0 (r .state .rows) in
           record {
             sits = on .sits;
@@ -141,6 +165,8 @@ module _ (d s : List ℕ) (m entered : ℕ) (b : Book) (t n : List ℕ) (x : Sta
             within = subst (InTurn s) hx (turn-in s (modeOf mode) at (fromState s t x) (h .within));
             well = record { few = v .few; stand = v .stand; count = v .count };
             fit = fits (modeOf m′) (subst (WellFor (modeOf m′)) hu (w .1));
+            deep = deep-by depths (depthIn t′) (stateOf s t′ [] (r .state)) (deep-rows t′ n′ r k) (record { rows = y .rows; around = y .around });
+            typed = types-on s t (x .rows) (x .opened) t′ (r .state .rows) (k .marks) (h .typed);
             member = g .entered .member ∙ h .member;
             before = k .before ∙ h .before;
             done = h .done ++ u .declared;
@@ -211,29 +237,26 @@ sound-clean (Marked p) Unmarked z = let y : _≡_ {A = ℕ} 0 1 = cc in absurd (
 sound-clean (Marked p) (Marked q) z = let y : _≡_ {A = ℕ} 0 1 = cc in absurd (omega arith)
 
 -- what a mark is does not matter to who has the names
-enters-so : (m : ℕ) (x : P.Source) (d n : List ℕ) (k : Tally) (y : N.Entering) (f : Fault) → O.Entry m x (bookOf d n k) y f → Enters m x (namesOf d n (k .names)) y f
+enters-so : (m : ℕ) (x : P.Source) (d n : List ℕ) (k : Tally) (y : N.Entering) (f : Fault) → Entry m x (bookOf d n k) y f → Entry m x (namesOf d n (k .names)) y f
 unfolding bookOf
-enters-so m x d n k y f (O.goes-in v e h g) = goes-in v e (record { identifiers = h .identifiers; denotations = h .denotations; activities = h .activities }) g
-enters-so m x d n k y f (O.stays-out e p h g) = stays-out e p h g
+enters-so m x d n k y f (goes-in v e h g) = goes-in v e (record { identifiers = h .identifiers; denotations = h .denotations; activities = h .activities }) g
+enters-so m x d n k y f (stays-out e p h g) = stays-out e p h g
 
-stays-so : (m : ℕ) (x : P.Source) (c d : Book) (y : N.Entering) (e : Why) (i : ℕ) → c .past ≡ d .past → O.Entry m x c y (faultIn (c .past) (c .second) (Faulty e i)) → O.Entry m x d y (faultIn (d .past) (d .second) (Faulty e i))
-stays-so m x c d y e i g (O.goes-in v f j o) = absurd (faulty-in (c .past) (c .second) e i o)
-stays-so m x c d y e i g (O.stays-out v j f o) = O.stays-out v j f (fault-either (d .past) (d .second) (c .second) e i ∙ ap (λ (z : Mark). faultIn z (c .second) (Faulty e i)) (sym g) ∙ o)
-
-shows-it : (w : W.World) (b : Book) → Has w b → O.Shows w b
-shows-it w b h = record { identifiers = h .identifiers; denotations = h .denotations; activities = h .activities }
+stays-so : (m : ℕ) (x : P.Source) (c d : Book) (y : N.Entering) (e : Why) (i : ℕ) → c .past ≡ d .past → Entry m x c y (faultIn (c .past) (c .second) (Faulty e i)) → Entry m x d y (faultIn (d .past) (d .second) (Faulty e i))
+stays-so m x c d y e i g (goes-in v f j o) = absurd (faulty-in (c .past) (c .second) e i o)
+stays-so m x c d y e i g (stays-out v j f o) = stays-out v j f (fault-either (d .past) (d .second) (c .second) e i ∙ ap (λ (z : Mark). faultIn z (c .second) (Faulty e i)) (sym g) ∙ o)
 
 abbrev Decided : ℕ → List ℕ → W.World → Book → Fault → Type 0
-Decided m s w c g = O.Entry m (D.readMember s) c (N.enter m (D.readMember s) w) (faultIn (c .past) (c .second) g)
+Decided m s w c g = Entry m (D.readMember s) c (N.enter m (D.readMember s) w) (faultIn (c .past) (c .second) g)
 
-module _ (m : ℕ) (s : List ℕ) (w : W.World) (b : Book) (h : Has w b) (u : b .past ≡ Unmarked) (v : b .second ≡ Unmarked) where
+module _ (m : ℕ) (s : List ℕ) (w : W.World) (b : Book) (h : Shows w b) (u : b .past ≡ Unmarked) (v : b .second ≡ Unmarked) where
   -- the reading ended with the state st
   ended : (st : D.State) (begun : List ℕ) (g : Fault) → D.readMember s ≡ D.source st begun (faultFor g)
       → N.sooner (N.sentencesPast (enteredSentences - w .sentences) (D.source st begun (faultFor g) .begun)) (faultFor g) ≡ faultFor g → Decided m s w (bookWhole m [] (st .declared) b) g
   ended st begun g e k =
       let x : P.Source = D.source st begun (faultFor g) in
       let c : Book = bookWhole m [] (st .declared) b in
-      subst (λ (z : P.Source). O.Entry m z c (N.enter m z w) (faultIn (c .past) (c .second) g)) (sym e) (decides m x w b g (shows-it w b h) u v (sym k))
+      subst (λ (z : P.Source). Entry m z c (N.enter m z w) (faultIn (c .past) (c .second) g)) (sym e) (decides m x w b g h u v (sym k))
 
   pub ended-early : (st : D.State) (begun : List ℕ) (g : Fault) → D.readMember s ≡ D.source st begun (faultFor g) → w .sentences + length (st .rows) + length begun ≤ 2048 → Decided m s w (bookWhole m [] (st .declared) b) g
   ended-early st begun g e k = ended st begun g e (all-entered (enteredSentences - w .sentences) st begun (faultFor g) (omega (arith, k)))
@@ -243,7 +266,7 @@ module _ (m : ℕ) (s : List ℕ) (w : W.World) (b : Book) (h : Has w b) (u : b 
 
   pub ended-past : (p e : ℕ) (st : D.State) (f : ℕ) (c : Book) → D.readMember s ≡ D.readOn s f (D.clauseAt s p e st) → Sentence s p e st → w .sentences + length (st .rows) ≡ 2048 → c ≡ bookWhole m [] (st .declared) b → Decided m s w c (Faulty OverLimit p)
   ended-past p e st f c k i j l =
-      subst (λ (z : P.Source). O.Entry m z c (N.enter m z w) (faultIn (c .past) (c .second) (Faulty OverLimit p))) (sym k)
+      subst (λ (z : P.Source). Entry m z c (N.enter m z w) (faultIn (c .past) (c .second) (Faulty OverLimit p))) (sym k)
       (decides-past m w s p e st i (omega (arith, j)) f c (c .past) (c .second)
       (ap (λ (z : Book). z .past) l ∙ past-is m [] (st .declared) b (w .identifiers) (record { past = u; size = rw (h .identifiers); listed = λ i. rw (h .identifiers) })))
 
@@ -257,13 +280,9 @@ unfolding D.readOn
 finish-on s zero st = refl
 finish-on s (suc f) st = refl
 
-starts-at : (s : List ℕ) (p at : ℕ) → T.Starts s p at → G.Starts s p at
-starts-at s p at (T.behind h) = G.behind h
-starts-at s p at (T.opens h k) = G.opens h k
-
 -- ---- what is left where it is refused
 out : (d s n₀ : List ℕ) (m entered names : ℕ) (t′ n′ : List ℕ) (x : State) (e : Why) (p : ℕ) (r : Source) → r ≡ sourceOf x (Faulty e p)
-    → ((w : W.World) → Has w (namesOf d n₀ names) → w .sentences ≡ entered → Decided m s w (bookOf d n′ (x .tally)) (Faulty e p)) → Membered d s n₀ m entered names t′ n′ r
+    → ((w : W.World) → Shows w (namesOf d n₀ names) → w .sentences ≡ entered → Decided m s w (bookOf d n′ (x .tally)) (Faulty e p)) → Membered d s n₀ m entered names t′ n′ r
 unfolding bookOf
 out d s n₀ m entered names t′ n′ x e p r hr h = rw hr (record {
   whole = λ z. absurd (faulty-in (x .tally .past) (x .tally .second) e p z);
@@ -292,7 +311,7 @@ module _ (d s n₀ : List ℕ) (m entered names : ℕ) (t n : List ℕ) (x : Sta
   ends : (Z : D.Turn) → Y ≡ Z → D.readMember s ≡ D.readOn s f (prepend (h .done) Z)
   ends Z e = sym (left-on d s m entered b t n x mode at f h) ∙ ap (λ (z : D.Turn). D.readOn s f (prepend (h .done) z)) e
 
-  module _ (e : Why) (p : ℕ) (hn : r .next ≡ Nx.Stop e p) (w : W.World) (hw : Has w b) (l : w .sentences ≡ entered) where
+  module _ (e : Why) (p : ℕ) (hn : r .next ≡ Nx.Stop e p) (w : W.World) (hw : Shows w b) (l : w .sentences ≡ entered) where
     -- the names before the refusal
     pasts : (u : D.State) (begun : List ℕ) → Y ≡ D.stop e p begun u → Stops d s n (x .tally) e p u t′ n′ r → bookWhole m [] (h .done ++ u .declared) b .past ≡ bookOf d n′ (r .state .tally) .past
     pasts u begun hx g =
@@ -342,7 +361,7 @@ module _ (d s n₀ : List ℕ) (m entered names : ℕ) (t n : List ℕ) (x : Sta
         subst (λ (v : Why). Decided m s w (bookOf d n′ (r .state .tally)) (Faulty v p)) a
         (subst (λ (v : ℕ). Decided m s w (bookOf d n′ (r .state .tally)) (Faulty OverLimit v)) i
         (ended-past m s w b hw refl refl (o .place) (o .at) st f (bookOf d n′ (r .state .tally)) src
-        (record { low = o .low; starts = starts-at s (o .place) (o .at) (o .starts); some = o .some; sentence = o .sentence }) (omega (arith, l, h .before, o .full)) (c ∙ h .names)))
+        (record { low = o .low; starts = o .starts; some = o .some; sentence = o .sentence }) (omega (arith, l, h .before, o .full)) (c ∙ h .names)))
 
     by-stop : Way d s n (x .entered) (x .tally) Y t′ n′ r → Decided m s w (bookOf d n′ (r .state .tally)) (Faulty e p)
     by-stop (does c g) = does-stop Y refl c g
@@ -366,13 +385,19 @@ module _ (d s n₀ : List ℕ) (m entered names : ℕ) (t n : List ℕ) (x : Sta
     finished u hx hu g y hy =
         let src : D.readMember s ≡ D.source (behind (h .done) u) [] P.sound = ends (D.finish u) hx ∙ finish-on s f (behind (h .done) u) in
         let q : Tally = r .state .tally in
+        let same : rowsFrom s t′ 0 (r .state .rows) ≡ D.readMember s .rows = ap (λ (v : D.State). v .rows) (sym hu) ∙ ap (λ (v : P.Source). v .rows) (sym src) in
+        let depths : ℕ → ℕ = depthFrom t (x .rows) (D.depth (openedOf s (x .opened))) in
         let rows : length (u .rows) ≡ r .state .rows = ap (λ (z : D.State). length (z .rows)) hu ∙ rows-length s t′ 0 (r .state .rows) in
         rw hy (record {
           whole = λ z. record {
             reads = record {
               lead = ap (λ (v : D.State). v .lead) (sym hu) ∙ ap (λ (v : P.Source). v .lead) (sym src);
               first = ap (λ (v : D.State). v .first) (sym hu) ∙ ap (λ (v : P.Source). v .first) (sym src);
-              rows = ap (λ (v : D.State). v .rows) (sym hu) ∙ ap (λ (v : P.Source). v .rows) (sym src);
+              rows = same;
+              tabled = subst (Tabled t′) same (tabled s t′ (r .state .rows)
+                  (nested-by depths (depthIn t′) (rowsFrom s t′ 0 (r .state .rows)) (deep-rows d s m entered b t n x mode at f h t′ n′ r k)
+                  (subst (λ (v : D.State). Nested depths (v .rows)) hu (subst (DeepTurn depths) hx (deep-turn d s m entered b t n x mode at f h))))
+                  (types-on s t (x .rows) (x .opened) t′ (r .state .rows) (k .marks) (h .typed)));
               names = unmarked q (sound-clean (q .past) (q .second) z) ∙ whole-names u hx g ∙ ap (λ (v : P.Source). bookWhole m [] (v .declared) b) (sym src);
             };
             few = g .entered .roomy .few;

@@ -1,20 +1,19 @@
 -- A clause that is not END begins a sentence: it adds a row at its place, or stops as one that was begun there.
 -- Assumes nothing.
 use mathlib.Core.Path.{_≡_, refl, sym, ap, _∙_}
-use mathlib.Core.Bool.{Bool, true, false, not, _&&_, _||_, false≢true}
+use mathlib.Core.Bool.{false, _&&_, false≢true}
 use mathlib.Core.List.{List, [], _∷_, _++_, append-nil}
 use Prim.Native.Nat.{ℕ, zero, suc, _<_}
 use native.Mathlib.Omega.{arith}
 use lib.ListN.{length}
-use Rattle.definition.specs.Expressions.{Reading, read, refused, then, expectWord, Named, nameOf}
-use Rattle.definition.specs.Tokens as Tk
-use Rattle.definition.specs.Tokens.{tokenAt}
+use Rattle.definition.specs.Expressions.{Named}
 use Rattle.definition.specs.Program as P
 use Rattle.definition.specs.Statements as St
 use Rattle.definition.specs.Reading as D
-use Rattle.definition.specs.declared.Why.the-variants.{Syntax, OverLimit}
+use Rattle.definition.specs.declared.Why.the-variants.{OverLimit}
 use Rattle.definition.proofs.Choices.{when-has}
 use Rattle.reading.specs.State.{stateIn, begunIn}
+use Rattle.reading.proofs.Walking.{Statements, by-token, too-long}
 
 -- ---- the places of rows
 places-append : (xs : List P.Row) (r : P.Row) → D.places (xs ++ r ∷ []) ≡ D.places xs ++ r .place ∷ []
@@ -88,58 +87,12 @@ module _ (s : List ℕ) (p : ℕ) (st : D.State) (some : 0 < length (st .opened)
         let y : D.State = D.withNames ms (D.addTo (st .opened) (c .statement) p st) in
         by-kept (D.opened (c .opens) s (length (st .rows)) ns (c .to) y) (D.addTo (st .opened) (c .statement) p st .rows) (opened-kept (c .opens) s (length (st .rows)) ns (c .to) y) (add-to (st .opened) (c .statement) p st some)
 
-    read-begins : (R : Reading St.Clause) → Begins (D.takeRead s p ns st R)
-    read-begins (read c) = taken-begins c []
-    read-begins (refused w q) = refl
-
-    declared-begins : (Q : St.Declaring) → Begins (D.takeDeclared s p ns st Q)
-    declared-begins (St.declared c es) = taken-begins c es
-    declared-begins (St.undeclared w q es) = refl
-
-    common-begins : (t : Tk.Lexeme) (other : Unit {0} → D.Turn) → Begins (other tt) → Begins (D.common s t st (D.takeRead s p ns st) other)
-    unfolding D.common
-    common-begins t other h =
-        when-has Begins (Tk.isWord "IF" (t .token)) _ _ (λ _. read-begins (St.ifClause (D.isInside (st .scope)) s (t .to))) λ _. when-has Begins (Tk.isWord "DO" (t .token)) _ _ (λ _. read-begins (D.doAt s (t .from) (t .to) st)) λ _.
-        when-has Begins (Tk.isWord "GOTO" (t .token)) _ _ (λ _. read-begins (St.gotoClause s (t .to))) λ _. when-has Begins (Tk.isWord "GO" (t .token)) _ _ (λ _. read-begins (then (expectWord "TO" s (t .to)) (St.gotoClause s))) λ _. h
-
-    outer-begins : (k : P.Scope) (t : Tk.Lexeme) (other : Unit {0} → D.Turn) → Begins (other tt) → Begins (D.outer k s t (D.takeRead s p ns st) other)
-    outer-begins P.global t other h =
-        when-has Begins (Tk.isWord "INCLUDE" (t .token)) _ _ (λ _. read-begins (St.includeClause s (t .to))) λ _. when-has Begins (Tk.isWord "ACTIVATE" (t .token) || Tk.isWord "ACT" (t .token)) _ _ (λ _. read-begins (St.activateClause s (t .to))) λ _.
-        when-has Begins (Tk.isWord "DEACTIVATE" (t .token) || Tk.isWord "DEACT" (t .token)) _ _ (λ _. read-begins (St.deactivateClause s (t .to))) λ _. h
-    outer-begins (P.inside r) t other h = when-has Begins (Tk.isWord "RETURN" (t .token)) _ _ (λ _. read-begins (St.returnClause s (t .to))) λ _. h
-
-    list-begins : (t : Tk.Lexeme) (other : Unit {0} → D.Turn) → Begins (other tt) → Begins (D.inList s p ns t st other)
-    unfolding D.inList
-    list-begins t other h =
-        when-has Begins (D.isList (D.kindOf (st .opened)) && D.isDeclare (t .token)) _ _ (λ _. declared-begins (St.declareFrom (st .scope) s (length s) [] (t .to))) λ _.
-        when-has Begins (D.isList (D.kindOf (st .opened)) && not (D.isInside (st .scope)) && not (D.isNone ns) && D.isProcedure (t .token)) _ _ (λ _. declared-begins (St.procedureClause (P.inside (length (st .rows))) s (t .to))) λ _. h
-
-    word-begins : (w : List ℕ) (t u : Tk.Lexeme) → Begins (D.byWord s p ns w t u st)
-    unfolding D.byWord
-    word-begins w t u =
-        when-has Begins (Tk.isSign "=" (u .token)) _ _ (λ _. read-begins (St.assignment s w (u .to))) λ _. common-begins t (λ _. D.outer (st .scope) s t (D.takeRead s p ns st) (λ _. D.inList s p ns t st (λ _. D.untaken p ns st Syntax (u .from) [])))
-        (outer-begins (st .scope) t (λ _. D.inList s p ns t st (λ _. D.untaken p ns st Syntax (u .from) [])) (list-begins t (λ _. D.untaken p ns st Syntax (u .from) []) refl))
-
-    name-begins : (R : Reading Named) (t : Tk.Lexeme) → Begins (D.byName R s p ns t st)
-    name-begins (read n) t = word-begins (n .spelling) t (tokenAt s (t .to))
-    name-begins (refused w q) t = refl
-
-    token-begins : (a : Tk.Token) (t : Tk.Lexeme) → Begins (D.byToken a s p ns t st)
-    token-begins (Tk.word w) t = name-begins (nameOf (Tk.word w) (t .from) (t .to)) t
-    token-begins (Tk.integer w) t = refl
-    token-begins (Tk.string w) t = refl
-    token-begins (Tk.bits w) t = refl
-    token-begins (Tk.sign w) t = when-has Begins (Tk.isSign ";" (Tk.sign w)) _ _ (λ _. taken-begins (St.clause P.null St.opensNothing (t .to)) []) λ _. refl
-    token-begins Tk.nothing t = refl
-    token-begins Tk.wrong t = refl
-
-    long-begins : (ls : List ℕ) (f : ℕ → D.Turn) (on : Unit {0} → D.Turn) → ((q : ℕ) → Begins (f q)) → Begins (on tt) → Begins (D.longLabel ls f on)
-    long-begins [] f on h k = k
-    long-begins (q ∷ ls) f on h k = h q
+    begin : Statements s p ns st Begins
+    begin = record { takes = λ k c es o r l. taken-begins c es; refuses = λ w q es l. refl }
 
   pub clause-begins : (at : ℕ) → (D.isInGroup (D.kindOf (st .opened)) && D.isEnd s (D.labels s at .behind)) ≡ false → Begins (D.clauseAt s p at st)
   unfolding D.clauseFrom
   clause-begins at h =
       when-has Begins (D.isInGroup (D.kindOf (st .opened)) && D.isEnd s (D.labels s at .behind)) _ _ (λ z. absurd (false≢true (sym h ∙ z))) λ _.
       when-has Begins (D.isFull st) _ _ (λ _. refl) λ _.
-      long-begins (D.labels s at .labels) (D.labels s at .long) (λ q. D.untaken p (D.labels s at .labels) st OverLimit q []) (λ _. D.byToken (D.labels s at .behind .token) s p (D.labels s at .labels) (D.labels s at .behind) st) (λ q. refl) (token-begins (D.labels s at .labels) (D.labels s at .behind .token) (D.labels s at .behind))
+      too-long Begins (D.labels s at .long) (λ q. D.untaken p (D.labels s at .labels) st OverLimit q []) (λ _. D.byToken (D.labels s at .behind .token) s p (D.labels s at .labels) (D.labels s at .behind) st) (λ q. refl) (by-token s p (D.labels s at .labels) st Begins (begin (D.labels s at .labels)) (D.labels s at .behind .token) (D.labels s at .behind))

@@ -1,30 +1,28 @@
 -- The parameters that a turn declares belong to the procedure whose row it adds: they are of no row before the turn, and of a row
 -- that is there behind it. So the names of a run of turns are those of its turns, one after the other.
 -- Assumes nothing.
-use Prim.Native.Nat.{ℕ, zero, suc, _+_, _≤_, _<_}
+use Prim.Native.Nat.{ℕ, zero, suc, _≤_, _<_}
 use native.Mathlib.Omega.{arith}
-use mathlib.Core.Bool.{true, false, not, _&&_, _||_, false≢true}
+use mathlib.Core.Bool.{false, false≢true}
 use mathlib.Core.List.{List, [], _∷_, _++_}
 use mathlib.Core.Path.{_≡_, refl, sym, ap, _∙_}
-use lib.Dec.{leb}
 use lib.ListN.{length, length-append}
 use Rattle.definition.specs.Choice.{when}
-use Rattle.definition.specs.Limits.{openGroups}
 use Rattle.definition.specs.declared.Why.{Why}
-use Rattle.definition.specs.declared.Why.the-variants.{Syntax, OverLimit}
-use Rattle.definition.specs.Tokens.{Token, word, integer, string, bits, sign, nothing, wrong, Lexeme, isWord, isSign, tokenAt, TextEnd, percentAt, atEnd, openAt, textEnd}
-use Rattle.definition.specs.Expressions.{Reading, read, refused, Named, nameOf, nameAt, expectSign}
-use Rattle.definition.specs.Program.{Statement, null, Link, nowhere, row, listed, thenPart, elsePart, Row, Scope, global, inside, Meaning, parameter, label, endLabel, Declared}
+use Rattle.definition.specs.Tokens.{Token, isWord, isSign, tokenAt}
+use Rattle.definition.specs.Expressions.{Reading, read, refused, Named, nameAt, expectSign}
+use Rattle.definition.specs.Program.{Statement, Link, nowhere, row, listed, thenPart, elsePart, Row, Scope, global, inside, Meaning, parameter, label, endLabel, Declared}
 use Rattle.definition.specs.Statements as S
-use Rattle.definition.specs.Statements.{Opens, opensNothing, opensGroup, opensBody, opensThen, Clause, clause, assignment, Declaring, declared, undeclared, thenDeclare, means, namesAt, attribute, declareNames, declareNext, declareFrom, procedureClause}
+use Rattle.definition.specs.Statements.{Opens, opensNothing, opensGroup, opensBody, opensThen, Clause, Declaring, declared, thenDeclare, means, namesAt, attribute, declareNames, declareNext, declareFrom, procedureClause}
 use Rattle.definition.specs.Reading as R
-use Rattle.definition.specs.Reading.{Where, inProgram, inGroup, inBody, inThen, inElse, Open, State, change, newRow, setNext, setChild, setOther, setLead, setText, linked, addIn, addTo, addRow, withNames, Mode, Turn, go, stop, finish, Else, elseTo, noElse, elseAt, elsed, completeIn, complete, Labelled, labels, opened, taken, untaken, takeRead, takeDeclared, labelMeaning, isDeclare, isProcedure, isNone, isInside, isList, kindOf, common, inList, outer, byWord, byName, byToken, endName, endRead, endAt, isInGroup, isInBody, isFull, isEnd, longLabel, clauseFrom, texted, leadIn, notEnd, procedureEnd, begins, innerAt, depth, deepEnough, alternativeAt, leadingText, textBehind, alternative, inner, turn}
+use Rattle.definition.specs.Reading.{Where, inProgram, inGroup, inBody, inThen, inElse, Open, State, change, newRow, setNext, setChild, setOther, linked, addIn, addTo, addRow, withNames, Mode, Turn, go, stop, finish, Else, elseTo, noElse, elseAt, elsed, completeIn, complete, labels, opened, taken, untaken, labelMeaning, isInside, turn}
 use Rattle.definition.specs.Names as N
-use Rattle.definition.proofs.Choices.{when-has, cond-has}
+use Rattle.definition.proofs.Choices.{when-has}
 use Rattle.entering.specs.Book.{Book, bookWhole}
 use Rattle.statements.specs.Clauses.{namesIn, namesRead}
 use Rattle.reading.specs.State.{stateIn}
 use Rattle.reading.proofs.Frame.{withDeclared}
+use Rattle.reading.proofs.Walking.{Lists, none, declares, parameters, Steps, Shallow, turn-walk}
 use Rattle.reading.proofs.Parameters.{Within, Owned, AllPlain, plain-means, clause-names, whole-behind}
 
 -- ---- lists of declarations
@@ -108,7 +106,7 @@ linked-length n (row l) f k rs = change-length l (setNext n) rs
 put-length : (qs rs : List Row) (r : Row) → length qs ≡ length rs → length (qs ++ r ∷ []) ≡ suc (length rs)
 put-length qs rs r h = omega (arith, h, length-append qs (r ∷ []))
 
-add-length : (k : Where) (o : Open) (os : List Open) (x : Statement) (c : ℕ) (st : State) → length (addIn k o os x c st .rows) ≡ suc (length (st .rows))
+pub add-length : (k : Where) (o : Open) (os : List Open) (x : Statement) (c : ℕ) (st : State) → length (addIn k o os x c st .rows) ≡ suc (length (st .rows))
 add-length inProgram o os x c st =
     let n : ℕ = length (st .rows) in
     put-length (linked n (o .last) (λ rs. rs) (st .rows)) (st .rows) (newRow x c nowhere listed) (linked-length n (o .last) (λ rs. rs) (λ rs. refl) (st .rows))
@@ -215,129 +213,37 @@ module _ (s : List ℕ) (low : ℕ) where
     untaken-own : (w : Why) (q : ℕ) (es : List Declared) → After es → OwnTurn low (untaken c ns st w q es)
     untaken-own w q es k = stopping (named-own (label 0) refl es k)
 
-    take-read : (r : Reading Clause) → OwnTurn low (takeRead s c ns st r)
-    take-read (read x) = taken-own x [] tt
-    take-read (refused w q) = untaken-own w q [] tt
-
-    take-declared : (r : Declaring) → After (namesIn r) → OwnTurn low (takeDeclared s c ns st r)
-    take-declared (declared x es) k = taken-own x es k
-    take-declared (undeclared w q es) k = untaken-own w q es k
-
     procedure-own : (e : ℕ) → After (namesIn (procedureClause (inside (length (st .rows))) s e))
     procedure-own e = rw (clause-names s (inside (length (st .rows))) e) (own-means low (length (st .rows)) (when (isSign "(" (tokenAt s e .token)) (λ _. namesRead s (length s) (tokenAt s e .to)) (λ _. [])) (h .rows))
 
-    common-own : (t : Lexeme) (f : Reading Clause → Turn) (g : Unit {0} → Turn) → ((r : Reading Clause) → OwnTurn low (f r)) → OwnTurn low (g tt) → OwnTurn low (common s t st f g)
-    unfolding common
-    common-own t f g j k =
-        when-has (OwnTurn low) (isWord "IF" (t .token)) _ _ (λ _. j _) λ _. when-has (OwnTurn low) (isWord "DO" (t .token)) _ _ (λ _. j _) λ _.
-        when-has (OwnTurn low) (isWord "GOTO" (t .token)) _ _ (λ _. j _) λ _. when-has (OwnTurn low) (isWord "GO" (t .token)) _ _ (λ _. j _) λ _. k
+    lists-own : (es : List Declared) → Lists s st es → After es
+    lists-own es none = tt
+    lists-own es (declares e) = plain-owned low (suc (length (st .rows))) (namesIn (declareFrom (st .scope) s (length s) [] e)) (declare-plain s (st .scope) (length s) [] e tt)
+    lists-own es (parameters e) = procedure-own e
 
-    list-own : (t : Lexeme) (g : Unit {0} → Turn) → OwnTurn low (g tt) → OwnTurn low (inList s c ns t st g)
-    unfolding inList
-    list-own t g k =
-        when-has (OwnTurn low) (isList (kindOf (st .opened)) && isDeclare (t .token)) _ _
-        (λ _. take-declared (declareFrom (st .scope) s (length s) [] (t .to)) (plain-owned low (suc (length (st .rows))) (namesIn (declareFrom (st .scope) s (length s) [] (t .to))) (declare-plain s (st .scope) (length s) [] (t .to) tt))) λ _.
-        when-has (OwnTurn low) (isList (kindOf (st .opened)) && not (isInside (st .scope)) && not (isNone ns) && isProcedure (t .token)) _ _
-        (λ _. take-declared (procedureClause (inside (length (st .rows))) s (t .to)) (procedure-own (t .to))) λ _. k
+  record Owning (st : State) : Type 0 where
+    some : 0 < length (st .opened)
+    kept : Kept low st
 
-    outer-own : (k : Scope) (t : Lexeme) (f : Reading Clause → Turn) (g : Unit {0} → Turn) → ((r : Reading Clause) → OwnTurn low (f r)) → OwnTurn low (g tt) → OwnTurn low (outer k s t f g)
-    outer-own global t f g j k =
-        when-has (OwnTurn low) (isWord "INCLUDE" (t .token)) _ _ (λ _. j _) λ _. when-has (OwnTurn low) (isWord "ACTIVATE" (t .token) || isWord "ACT" (t .token)) _ _ (λ _. j _) λ _.
-        when-has (OwnTurn low) (isWord "DEACTIVATE" (t .token) || isWord "DEACT" (t .token)) _ _ (λ _. j _) λ _. k
-    outer-own (inside r) t f g j k = when-has (OwnTurn low) (isWord "RETURN" (t .token)) _ _ (λ _. j _) λ _. k
-
-    by-word : (w : List ℕ) (t u : Lexeme) → OwnTurn low (byWord s c ns w t u st)
-    unfolding byWord
-    by-word w t u =
-        when-has (OwnTurn low) (isSign "=" (u .token)) _ _ (λ _. take-read (assignment s w (u .to))) λ _.
-        common-own t _ _ take-read (outer-own (st .scope) t _ _ take-read (list-own t _ (untaken-own Syntax (u .from) [] tt)))
-
-    by-name : (n : Reading Named) (t : Lexeme) → OwnTurn low (byName n s c ns t st)
-    by-name (read n) t = by-word (n .spelling) t (tokenAt s (t .to))
-    by-name (refused w q) t = untaken-own w q [] tt
-
-    by-token : (x : Token) (t : Lexeme) → OwnTurn low (byToken x s c ns t st)
-    by-token (word w) t = by-name (nameOf (word w) (t .from) (t .to)) t
-    by-token (integer w) t = untaken-own Syntax (t .from) [] tt
-    by-token (string w) t = untaken-own Syntax (t .from) [] tt
-    by-token (bits w) t = untaken-own Syntax (t .from) [] tt
-    by-token (sign w) t = when-has (OwnTurn low) (isSign ";" (sign w)) _ _ (λ _. taken-own (clause null opensNothing (t .to)) [] tt) λ _. untaken-own Syntax (t .from) [] tt
-    by-token nothing t = untaken-own Syntax (t .from) [] tt
-    by-token wrong t = untaken-own Syntax (t .from) [] tt
-
-  -- ---- END
-  end-read : (ns : List Named) (o : Open) (os : List Open) (st : State) (r : Reading ℕ) → Kept low st → OwnTurn low (endRead s ns o os st r)
-  end-read ns o os st (read e) h = complete-own os (o .row) e _ (like _ refl refl (more-own st ns (endLabel (o .row)) refl h))
-  end-read ns o os st (refused w q) h = halting (more-own st ns (endLabel (o .row)) refl h)
-
-  end-at : (ns : List Named) (e : ℕ) (os : List Open) (st : State) → Kept low st → OwnTurn low (endAt s ns e os st)
-  end-at ns e [] st h = halting h
-  end-at ns e (o ∷ os) st h = end-read ns o os st (endName s (o .labels) e) h
-
-  too-long : (qs : List ℕ) (f : ℕ → Turn) (g : Unit {0} → Turn) → ((q : ℕ) → OwnTurn low (f q)) → OwnTurn low (g tt) → OwnTurn low (longLabel qs f g)
-  too-long [] f g j k = k
-  too-long (q ∷ qs) f g j k = j q
-
-  pub clause-own : (c : ℕ) (L : Labelled) (st : State) → 0 < length (st .opened) → Kept low st → OwnTurn low (clauseFrom s c L st)
-  unfolding clauseFrom
-  clause-own c L st l h =
-      when-has (OwnTurn low) (isInGroup (kindOf (st .opened)) && isEnd s (L .behind)) _ _
-      (λ _. too-long (L .long) _ _ (λ q. halting (more-own st (L .labels) (label 0) refl h)) (end-at (L .labels) (L .behind .to) (st .opened) st h)) λ _.
-      when-has (OwnTurn low) (isFull st) _ _ (λ _. halting h) λ _.
-      too-long (L .long) _ _ (λ q. untaken-own c (L .labels) st l h OverLimit q [] tt) (by-token c (L .labels) st l h (L .behind .token) (L .behind))
-
-  -- ---- texts and procedures
-  pub texted-own : (e : TextEnd) (f : ℕ → State) → ((q : ℕ) → 0 < length (f q .opened)) → ((q : ℕ) → Kept low (f q)) → OwnTurn low (texted e s f)
-  texted-own (percentAt q) f l h = clause-own q (labels s (q + 1)) (f q) (l q) (h q)
-  texted-own atEnd f l h = cond-has (OwnTurn low) (leb (length (f 0 .opened)) 1) _ _ (λ _. finishing (h (length s))) λ _. halting (h (length s))
-  texted-own (openAt q) f l h = halting (h q)
-
-  pub lead-in : (os : List Open) (from q : ℕ) (st : State) → 0 < length (st .opened) → Kept low st → (0 < length (leadIn os from q st .opened)) × Kept low (leadIn os from q st)
-  lead-in [] from q st h k = (h, k)
-  lead-in (o ∷ os) from q st h k = at-kind (o .kind)
-    where
-      at-kind : (x : Where) → (0 < length ((elim x as (λ _. ℕ → State) [ inProgram ↦ λ n. R.withLead (R.stretch from q) st | inGroup ↦ λ n. R.withRows (change n (setLead (R.stretch from q)) (st .rows)) st | inBody ↦ λ n. st | inThen ↦ λ n. st | inElse ↦ λ n. st ]) (o .row) .opened))
-          × Kept low ((elim x as (λ _. ℕ → State) [ inProgram ↦ λ n. R.withLead (R.stretch from q) st | inGroup ↦ λ n. R.withRows (change n (setLead (R.stretch from q)) (st .rows)) st | inBody ↦ λ n. st | inThen ↦ λ n. st | inElse ↦ λ n. st ]) (o .row))
-      at-kind inProgram = (h, like _ refl refl k)
-      at-kind inGroup = (h, like _ refl (change-length (o .row) (setLead (R.stretch from q)) (st .rows)) k)
-      at-kind inBody = (h, k)
-      at-kind inThen = (h, k)
-      at-kind inElse = (h, k)
-
-  not-end : (n : Reading Named) (st : State) → Kept low st → OwnTurn low (notEnd n s st)
-  not-end (read n) st h = halting h
-  not-end (refused w p) st h = halting h
-
-  pub procedure-end : (L : Labelled) (st : State) → Kept low st → OwnTurn low (procedureEnd s L st)
-  procedure-end L st h =
-      too-long (L .long) _ _ (λ q. halting (more-own st (L .labels) (label 0) refl h))
-      (when-has (OwnTurn low) (isWord "END" (L .behind .token)) _ _ (λ _. end-at (L .labels) (L .behind .to) (st .opened) st h) λ _.
-      not-end (nameOf (L .behind .token) (L .behind .from) (L .behind .to)) _ (more-own st (L .labels) (label 0) refl h))
-
-  inner-own : (e : ℕ) (t : Lexeme) (st : State) → 0 < length (st .opened) → Kept low st → OwnTurn low (innerAt s e t st)
-  unfolding innerAt
-  inner-own e t st l h =
-      when-has (OwnTurn low) (isInBody (kindOf (st .opened)) && isSign "%" (t .token)) _ _ (λ _. procedure-end (labels s (t .to)) st h) λ _.
-      when-has (OwnTurn low) (begins (t .token)) _ _ (λ _. clause-own (t .from) _ st l h) λ _. halting h
-
-  pub deep-own : (c : ℕ) (st : State) (f : Unit {0} → Turn) → Kept low st → OwnTurn low (f tt) → OwnTurn low (deepEnough c st f)
-  unfolding deepEnough
-  deep-own c st f h k = when-has (OwnTurn low) (leb (depth (st .opened)) openGroups) _ _ (λ _. k) λ _. halting h
-
-  alternative-own : (k : Scope) (e : ℕ) (t : Lexeme) (st : State) → 0 < length (st .opened) → Kept low st → OwnTurn low (alternativeAt k s e t st)
-  alternative-own global e t st l h = when-has (OwnTurn low) (isSign "%" (t .token)) _ _ (λ _. deep-own (t .from) st _ h (clause-own (t .from) _ st l h)) λ _. halting h
-  alternative-own (inside r) e t st l h = when-has (OwnTurn low) (begins (t .token)) _ _ (λ _. deep-own (t .from) st _ h (clause-own (t .from) _ st l h)) λ _. halting h
-
-  pub turn-own : (m : Mode) (e : ℕ) (st : State) → 0 < length (st .opened) → Kept low st → OwnTurn low (turn s m e st)
-  unfolding turn
-  turn-own leadingText e st l h = texted-own (textEnd (suc (length s)) s e) _ (λ q. lead-in (st .opened) e q st l h .0) (λ q. lead-in (st .opened) e q st l h .1)
-  turn-own (textBehind n) e st l h = texted-own (textEnd (suc (length s)) s e) _ (λ q. l) (λ q. like _ refl (change-length n (setText (R.stretch e q)) (st .rows)) h)
-  turn-own alternative e st l h = alternative-own (st .scope) e (tokenAt s e) st l h
-  turn-own inner e st l h = inner-own e (tokenAt s e) st l h
+  steps : Steps s Owning (OwnTurn low)
+  steps = record {
+    halts = λ w p begun st h. halting (h .kept);
+    finishes = λ st h. finishing (h .kept);
+    statements = λ p ns st h d small. record {
+      takes = λ k c es o r l. taken-own p ns st (h .some) (h .kept) c es (lists-own p ns st (h .some) (h .kept) es l);
+      refuses = λ w q es l. untaken-own p ns st (h .some) (h .kept) w q es (lists-own p ns st (h .some) (h .kept) es l);
+    };
+    ends = λ o os ns e st h q x d. complete-own os (o .row) e _ (like _ refl refl (more-own st ns (endLabel (o .row)) refl (h .kept)));
+    labels = λ m ns st e h. record { some = h .some; kept = more-own st ns m e (h .kept) };
+    relinks = λ k g st r h. record { some = h .some; kept = like _ refl (change-length k g (st .rows)) (h .kept) };
+    leads = λ x st h. record { some = h .some; kept = like _ refl refl (h .kept) };
+  }
 
 -- ---- THE NAMES OF A TURN, begun with none, behind those of the turns before it
-pub names-turn : (s : List ℕ) (m : Mode) (e : ℕ) (st : State) → 0 < length (st .opened) → OwnTurn (length (st .rows)) (turn s m e (withDeclared [] st))
-names-turn s m e st l = turn-own s (length (st .rows)) m e (withDeclared [] st) l (record { rows = omega arith; names = tt })
+pub names-turn : (s : List ℕ) (m : Mode) (e : ℕ) (st : State) → 0 < length (st .opened) → Shallow m (withDeclared [] st) → OwnTurn (length (st .rows)) (turn s m e (withDeclared [] st))
+names-turn s m e st l d =
+    let low : ℕ = length (st .rows) in
+    turn-walk s (Owning s low) (OwnTurn low) (steps s low) m e (withDeclared [] st) (record { some = l; kept = record { rows = omega arith; names = tt } }) d
 
 own-names : (low : ℕ) {x : Turn} → OwnTurn low x → Owned low (suc (length (stateIn x .rows))) (stateIn x .declared)
 own-names low (going {st = st} l h) = owned-wider low (length (st .rows)) low (suc (length (st .rows))) (st .declared) (omega arith) (omega arith) (h .names)

@@ -36,7 +36,7 @@ use Rattle.statements.specs.declared.Read.{Read}
 use Rattle.statements.proofs.Items.{afterNames, names-at}
 use Rattle.statements.proofs.Laws.{sign-spelled}
 use Rattle.statements.proofs.Listed.{Names, named-is}
-use Rattle.reading.proofs.Growth.{token-on, sign-real}
+use Rattle.reading.proofs.Places.{token-on, sign-real}
 
 -- ---- parameters belong to procedures at rows from `low` on and before `high`
 abbrev pub Within : ℕ → ℕ → Scope → Type 0

@@ -1,11 +1,13 @@
 -- The rows that the room stands for, under each write of the table.
 -- Assumes nothing.
 use mathlib.Core.Path.{_≡_, refl, sym, ap, _∙_}
+use mathlib.Core.Bool.{Bool, true, false}
 use mathlib.Core.List.{List, [], _∷_, _++_}
 use Prim.Native.Nat.{ℕ, zero, suc, _+_, _*_, _<_, _≤_}
 use native.Mathlib.Omega.{arith}
 use native.Mathlib.Nat.{add-zero}
-use lib.Dec.{lit<}
+use borrow.Author.Tests.{ltb-true, ltb-false}
+use lib.Dec.{ltb, lit<}
 use lib.ListN.{length, getD}
 use Rattle.definition.specs.Room.{over}
 use Rattle.definition.proofs.Rooms.{length-over, getD-over-at, getD-over-low, getD-over-high}
@@ -13,10 +15,15 @@ use Rattle.definition.specs.Program as P
 use Rattle.definition.specs.Reading as D
 use Rattle.rows.specs.declared.Link.the-variants.{To}
 use Rattle.rows.specs.declared.Stretch.{Stretch}
+use Rattle.rows.specs.declared.Statement.{Statement}
 use Rattle.rows.specs.declared.Row.{Row}
-use Rattle.rows.specs.Table.{linkNumber, stretchNumbers, numbersOf, rowIn}
+use Rattle.rows.specs.Tabled.{kindOf}
+use Rattle.rows.specs.Table.{linkNumber, stretchNumbers, numbersOf, statementIn, typeIn, rowIn}
 use Rattle.rows.proofs.Laws.{kept, Links, row-back, row-other}
-use Rattle.reading.specs.State.{stretchOf, rowOf, rowsFrom}
+use Rattle.statements.specs.Clauses as Cl
+use Rattle.statements.specs.Again.{statementAt}
+use Rattle.openings.specs.declared.Opened.{Opened}
+use Rattle.reading.specs.State.{stretchOf, rowOf, rowsFrom, Alike, Typed, Marks}
 
 -- ---- lists of rows by number
 module _ (s t u : List ℕ) where
@@ -188,16 +195,47 @@ module _ (t : List ℕ) (k : ℕ) where
           second 12 (x .from) (x .to) (omega arith),
         )
 
+-- ---- depth and type: a link or a text that is written leaves them as they were, of every row
+pub alike-self : (x : Row) → Alike x x
+alike-self x = record { statement = refl; content = refl; type = refl; depth = refl }
+
+pub alike-then : (x y z : Row) → Alike x y → Alike y z → Alike x z
+alike-then x y z a b = record { statement = a .statement ∙ b .statement; content = a .content ∙ b .content; type = a .type ∙ b .type; depth = a .depth ∙ b .depth }
+
+pub alike-over : (t xs : List ℕ) (k j i : ℕ) → 5 ≤ j → j + length xs ≤ 16 → Alike (rowIn (over t (16 * k + j) xs) i) (rowIn t i)
+unfolding rowIn
+alike-over t xs k j i l w = record { statement = ap statementIn (cell 0 (lit< tt)); content = cell 2 (lit< tt); type = ap typeIn (cell 3 (lit< tt)); depth = cell 4 (lit< tt) }
+  where
+    by : (g : Bool) → ltb k i ≡ g → (c : ℕ) → c < 5 → getD (over t (16 * k + j) xs) (16 * i + c) 0 ≡ getD t (16 * i + c) 0
+    by true e c q = let z : k < i = ltb-true k i e in getD-over-high t (16 * k + j) (16 * i + c) xs (omega arith)
+    by false e c q = let z : i ≤ k = ltb-false k i e in getD-over-low t (16 * k + j) (16 * i + c) xs (omega arith)
+
+    cell : (c : ℕ) → c < 5 → getD (over t (16 * k + j) xs) (16 * i + c) 0 ≡ getD t (16 * i + c) 0
+    cell = by (ltb k i) refl
+
+pub typed-alike : (s : List ℕ) (a b : Row) → Alike a b → Typed s b → Typed s a
+typed-alike s a b h e =
+    let same : statementAt s (a .statement) (a .content) ≡ statementAt s (b .statement) (b .content) = ap (λ (z : Statement). statementAt s z (a .content)) (h .statement) ∙ ap (statementAt s (b .statement)) (h .content) in
+    record { kind = h .statement ∙ e .kind ∙ ap kindOf (sym same); type = h .type ∙ e .type ∙ ap Cl.typeIn (sym same) }
+
+-- so of a turn that adds no row
+pub marks-none : (s t : List ℕ) (k : ℕ) (o : Opened) (n : ℕ) → n ≤ k → Marks s t k o t n
+marks-none s t k o n l = record { kept = λ i h. alike-self (rowIn t i); depth = λ i h q. absurd (omega arith); type = λ i h q. absurd (omega arith) }
+
+-- and of one after a text
+pub marks-after : (s t u : List ℕ) (k : ℕ) (o : Opened) (t′ : List ℕ) (n : ℕ) → ((i : ℕ) → Alike (rowIn u i) (rowIn t i)) → Marks s u k o t′ n → Marks s t k o t′ n
+marks-after s t u k o t′ n a m = record { kept = λ i h. alike-then (rowIn t′ i) (rowIn u i) (rowIn t i) (m .kept i h) (a i); depth = m .depth; type = m .type }
+
 -- ---- a new row n in the room t, and then a link of row k to it
 module _ (s t u : List ℕ) (n : ℕ) (x : Row) (hu : u ≡ over t (16 * n) (numbersOf x)) (ls : Links x) (w : 16 * (n + 1) ≤ length t) where
   pub row-size : length u ≡ length t
   row-size = rw hu (length-over t (16 * n) (numbersOf x))
 
-  there : rowIn u n ≡ x
-  there = rw hu (row-back t n x ls (omega arith))
+  pub row-there : rowIn u n ≡ x
+  row-there = rw hu (row-back t n x ls (omega arith))
 
   pub row-added : rowsFrom s u 0 (suc n) ≡ rowsFrom s t 0 n ++ rowOf s x ∷ []
-  row-added = let o : 0 + n ≡ n = omega arith in rows-more s u 0 n ∙ rw (o, there, hu, before-kept t n x s)
+  row-added = let o : 0 + n ≡ n = omega arith in rows-more s u 0 n ∙ rw (o, row-there, hu, before-kept t n x s)
 
   pub row-linked : (v xs : List ℕ) (j k : ℕ) (g : P.Row → P.Row) → k < n → j + length xs ≤ 16 → v ≡ over u (16 * k + j) xs → rowsFrom s v 0 n ≡ D.change k g (rowsFrom s u 0 n)
       → rowsFrom s v 0 (suc n) ≡ D.change k g (rowsFrom s t 0 n) ++ rowOf s x ∷ []
@@ -205,4 +243,4 @@ module _ (s t u : List ℕ) (n : ℕ) (x : Row) (hu : u ≡ over t (16 * n) (num
       let f : rowIn v n ≡ rowIn u n = rw hv (row-other u xs k n j (λ z. omega arith) q) in
       let b : rowsFrom s u 0 n ≡ rowsFrom s t 0 n = rw hu (before-kept t n x s) in
       let o : 0 + n ≡ n = omega arith in
-      rows-more s v 0 n ∙ rw (o, f, there, e, b)
+      rows-more s v 0 n ∙ rw (o, f, row-there, e, b)

@@ -1,16 +1,16 @@
 -- A statement by its first token: one law for each way out.
 -- Assumes nothing.
 use mathlib.Core.Path.{_≡_, refl, sym, ap, subst, _∙_}
-use mathlib.Core.Bool.{Bool, true, false, cond, not, _&&_, _||_}
+use mathlib.Core.Bool.{Bool, true, false, _&&_}
 use mathlib.Core.List.{List, [], _∷_}
-use Prim.Native.Nat.{ℕ, zero, suc, _-_, _<_, _≤_}
+use Prim.Native.Nat.{ℕ, _-_, _<_, _≤_}
 use native.Mathlib.Omega.{arith}
 use lib.Dec.{ltb}
 use lib.ListN.{length}
 use Rattle.definition.specs.Lists.{same}
 use Rattle.definition.specs.Tokens as Tk
 use Rattle.definition.specs.Tokens.{tokenAt}
-use Rattle.definition.specs.Expressions.{Reading, read, refused, Named}
+use Rattle.definition.specs.Expressions.{read, refused, Named}
 use Rattle.definition.specs.Program as P
 use Rattle.definition.specs.Statements as St
 use Rattle.definition.specs.Reading as D
@@ -19,6 +19,7 @@ use Rattle.definition.specs.declared.Why.the-variants.{Syntax, OverLimit}
 use Rattle.tokens.specs.declared.Lexeme.{Lexeme}
 use Rattle.tokens.specs.Answer.{Lexed, spelling, isWordKind, isWordIn, isSignIn}
 use Rattle.tokens.proofs.Lexemes.{is-sign}
+use Rattle.rows.specs.declared.Statement.the-variants as S
 use Rattle.statements.specs.declared.Keyword.{Keyword}
 use Rattle.statements.specs.declared.Keyword.the-variants as K
 use Rattle.statements.specs.declared.Read.{Read}
@@ -30,9 +31,9 @@ use Rattle.openings.proofs.Sentences.{token-word, token-long, token-null, token
 use Rattle.reading.specs.declared.State.{State}
 use Rattle.reading.specs.declared.Next.the-variants as Nx
 use Rattle.reading.specs.declared.Turned.{Turned}
-use Rattle.reading.specs.State.{stateOf, turned, Again, Stood, TakesAs, fromState}
-use Rattle.reading.specs.Sentences.{Clausal, Begun, ByWord, ByToken}
-use Rattle.reading.proofs.Growth.{token-on, sign-real}
+use Rattle.reading.specs.State.{stateOf, turned, Stood, TakesAs, fromState}
+use Rattle.reading.specs.Sentences.{Clausal, ByWord, ByToken}
+use Rattle.reading.proofs.Places.{token-on, sign-real}
 use Rattle.reading.proofs.Endings.{takes-refused}
 use Rattle.reading.proofs.Wording.{clausal-read}
 
@@ -67,7 +68,7 @@ module _ (d s t n : List ℕ) (x : State) (k : Keyword) (l : Lexeme) (from p lab
   wrong : (w : Why) → r ≡ turned x (Nx.Stop w (l .from)) → ((ns : List Named) → Lexed s from l → D.byToken (tokenAt s from .token) s p ns (tokenAt s from) (fromState s t x) ≡ D.untaken p ns (fromState s t x) w (l .from) []) → ByToken d s t n x k l from p labels t n r
   wrong w hr f = record {
     so = λ ns c i hk hc. subst (λ (X : D.Turn). Clausal d s t n x (D.labelMeaning (opensBy k) (x .rows)) ns X t n r) (sym (f ns (i .lexed)))
-        (clausal-read d s t n x l from p labels ns i (opensBy k) t r (Rd.Refused w (l .from)) (takes-refused s t x p labels r (Rd.Refused w (l .from)) w (l .from) refl hr) (refused w (l .from)) (refl, refl) tt);
+        (clausal-read d s t n x l from p labels ns i S.Null (opensBy k) t r (Rd.Refused w (l .from)) (takes-refused s t x p labels r (Rd.Refused w (l .from)) w (l .from) refl hr) (refused w (l .from)) (refl, refl) tt);
   }
 
   pub token-too-long : (m : ℕ) → v ≡ true → m ≡ l .to - l .from → 31 < m → r ≡ turned x (Nx.Stop OverLimit (l .from)) → ByToken d s t n x k l from p labels t n r
@@ -79,7 +80,7 @@ module _ (d s t n : List ℕ) (x : State) (k : Keyword) (l : Lexeme) (from p lab
 
     null-stood : (y : Read) → y ≡ nullFor (l .from) (l .to) → l .from < 65536 → Stood s y (read (St.clause P.null St.opensNothing (l .to)))
     unfolding nullFor readFor statementAt
-    null-stood y hy low = rw hy (record { statement = refl; content = low; opens = refl; to = refl })
+    null-stood y hy low = rw hy (record { statement = refl; content = low; opens = refl; to = refl; kind = refl; type = refl })
 
     pub token-empty : (y : Read) (t′ : List ℕ) → g ≡ true → y ≡ nullFor (l .from) (l .to) → TakesAs s t x y p labels t′ r → ByToken d s t n x k l from p labels t′ n r
     token-empty y t′ f hy h = record {
@@ -87,5 +88,5 @@ module _ (d s t n : List ℕ) (x : State) (k : Keyword) (l : Lexeme) (from p lab
           let b : (tokenAt s from .from < tokenAt s from .to) × (tokenAt s from .to ≤ length s) = token-on s from .some (sign-real ";" (tokenAt s from .token) (sym (is-sign s from l (i .lexed) ";" (59 ∷ []) refl) ∙ sym hg ∙ f)) in
           let z : k ≡ K.Other = hk ∙ no-keyword s (D.kindOf (openedOf s (x .opened))) (D.isInside (scopeOf (x .scope))) l c (sym hv ∙ e) in
           subst (λ (X : D.Turn). Clausal d s t n x (D.labelMeaning (opensBy k) (x .rows)) ns X t′ n r) (sym (token-null s p ns (fromState s t x) from l (i .lexed) (sym hv ∙ e) (sym hg ∙ f)))
-          (clausal-read d s t n x l from p labels ns i (opensBy k) t′ r y h (read (St.clause P.null St.opensNothing (l .to))) (null-stood y hy (omega (arith, b .0, b .1, i .lexed .from, i .sits .short))) (ap opensBy (sym z)));
+          (clausal-read d s t n x l from p labels ns i S.Null (opensBy k) t′ r y h (read (St.clause P.null St.opensNothing (l .to))) (null-stood y hy (omega (arith, b .0, b .1, i .lexed .from, i .sits .short))) (record { opens = ap opensBy (sym z); statement = ap opensBy (sym z); kind = refl }));
     }

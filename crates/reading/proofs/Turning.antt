@@ -1,9 +1,9 @@
 -- A turn, from the contracts of its parts. One law for each way out.
 -- Assumes nothing.
 use mathlib.Core.Path.{_≡_, refl, sym, ap, subst, _∙_}
-use mathlib.Core.Bool.{Bool, true, false, cond, _&&_, false≢true}
-use mathlib.Core.List.{List, [], _∷_, _++_}
-use Prim.Native.Nat.{ℕ, zero, suc, _+_, _*_, _%_, _-_, _<_, _≤_}
+use mathlib.Core.Bool.{Bool, true, false, _&&_}
+use mathlib.Core.List.{List, [], _∷_}
+use Prim.Native.Nat.{ℕ, zero, suc, _+_, _*_, _<_, _≤_}
 use native.Mathlib.Omega.{arith}
 use native.Mathlib.Nat.{mod-eq-of-lt}
 use borrow.Author.Tests.{le-leb, lt-leb, leb-false}
@@ -16,8 +16,8 @@ use Rattle.definition.proofs.Rooms.{length-over}
 use Rattle.definition.specs.Tokens as Tk
 use Rattle.definition.specs.Tokens.{tokenAt, TextEnd, percentAt, atEnd, openAt, textEnd}
 use Rattle.definition.proofs.Choices.{when-has}
-use Rattle.definition.proofs.Ends.{Real, Lies, tokenAt-lies}
-use Rattle.definition.specs.Expressions.{Reading, read, refused, Named, nameAt}
+use Rattle.definition.proofs.Keeping.{and-left}
+use Rattle.definition.proofs.Ends.{Lies, tokenAt-lies}
 use Rattle.definition.specs.Program as P
 use Rattle.definition.specs.Reading as D
 use Rattle.definition.specs.declared.Why.{Why}
@@ -28,11 +28,8 @@ use Rattle.tokens.specs.declared.Ending.the-variants as En
 use Rattle.tokens.specs.declared.Lexeme.{Lexeme}
 use Rattle.tokens.proofs.Pieces.{percent-there}
 use Rattle.tokens.proofs.Lexemes.{is-sign}
-use Rattle.expressions.specs.declared.NamedAt.{NamedAt}
-use Rattle.expressions.specs.declared.NamedAt.the-variants as Word
-use Rattle.expressions.specs.Check.{namedFor}
 use Rattle.rows.specs.declared.Stretch.{Stretch}
-use Rattle.rows.specs.Table.{stretchNumbers}
+use Rattle.rows.specs.Table.{stretchNumbers, rowIn}
 use Rattle.rows.specs.declared.Link.the-variants as L
 use Rattle.names.specs.declared.Owner.the-variants.{Everyone}
 use Rattle.entering.specs.declared.Mark.{Mark}
@@ -52,9 +49,10 @@ use Rattle.reading.specs.declared.Source.{Source}
 use Rattle.reading.specs.declared.Mode.{Mode}
 use Rattle.reading.specs.declared.Mode.the-variants as Md
 use Rattle.reading.specs.declared.Next.the-variants as Nx
-use Rattle.reading.specs.State.{stretchOf, rowsFrom, stateOf, turnOf, modeOf, Stand, Placed, Keeps, turned, stretchAt, Leads, stateIn, begunIn, Sits, Goes, Stops, Does, Starts, behind, opens, Over, Way, Counts, early, last, does, stops, Takes, fromState, Clauses, LowEnd, Texts, Inners, Alternatives, Follows, Turns, Low, Begins, sourceOf}
+use Rattle.reading.specs.State.{rowsFrom, stateOf, turnOf, Stand, turned, stretchAt, Alike, Marks, Leads, Sits, Starts, behind, opens, Way, Counts, early, last, does, Takes, fromState, Clauses, LowEnd, Texts, Inners, Alternatives, Turns, Begins, sourceOf}
 use Rattle.reading.specs.Sentences.{EndsBody}
-use Rattle.reading.proofs.Rows.{rows-length, text-set}
+use Rattle.reading.proofs.Places.{begins-real, sign-real}
+use Rattle.reading.proofs.Rows.{rows-length, text-set, alike-over, marks-none, marks-after}
 
 -- ---- where nothing is read, all stays
 module _ (d s t n : List ℕ) (x : State) (h : Sits d s t n x) where
@@ -66,6 +64,7 @@ module _ (d s t n : List ℕ) (x : State) (h : Sits d s t n x) where
     few = h .few;
     own = h .ready .own;
     size = refl;
+    marks = marks-none s t (x .rows) (x .opened) (x .rows) (omega arith);
   }
 
   pub stay-early : (w : Why) (p : ℕ) → Counts (x .entered) w p [] (fromState s t x)
@@ -84,6 +83,7 @@ module _ (d s t n : List ℕ) (x : State) (h : Sits d s t n x) where
     few = h .few;
     own = h .ready .own;
     size = refl;
+    marks = marks-none s t (x .rows) (x .opened) (x .rows) (omega arith);
   }
 
 -- ---- BEHIND A TEXT
@@ -193,7 +193,7 @@ opened-length s o = by (o .count)
     by (suc n) = ap suc (by n)
 
 -- from a state that only a text changed
-module _ (d s t u n : List ℕ) (x y : State) (he : y .entered ≡ x .entered) (hk : y .tally ≡ x .tally) (hu : length u ≡ length t) where
+module _ (d s t u n : List ℕ) (x y : State) (he : y .entered ≡ x .entered) (hk : y .tally ≡ x .tally) (hu : length u ≡ length t) (hr : y .rows ≡ x .rows) (ho : y .opened ≡ x .opened) (ha : (i : ℕ) → Alike (rowIn u i) (rowIn t i)) where
   takes-from : (X : D.Turn) (t′ n′ : List ℕ) (r : Turned) → Takes d s u n y X t′ n′ r → Takes d s t n x X t′ n′ r
   takes-from X t′ n′ r h = record {
     way = subst (λ (k : Tally). Way d s n (x .entered) k X t′ n′ r) hk (subst (λ (e : ℕ). Way d s n e (y .tally) X t′ n′ r) he (h .way));
@@ -201,10 +201,12 @@ module _ (d s t u n : List ℕ) (x y : State) (he : y .entered ≡ x .entered) (
     few = h .few;
     own = subst (λ (k : Tally). Own (k .member) (r .state .scope)) hk (h .own);
     size = h .size ∙ hu;
+    marks = marks-after s t u (x .rows) (x .opened) t′ (r .state .rows) ha
+        (subst (λ (k : ℕ). Marks s u k (x .opened) t′ (r .state .rows)) hr (subst (λ (o : Opened). Marks s u (y .rows) o t′ (r .state .rows)) ho (h .marks)));
   }
 
-  sits-from : y .rows ≡ x .rows → y .opened ≡ x .opened → (Own (x .tally .member) (x .scope) → Own (x .tally .member) (y .scope)) → Sits d s t n x → Sits d s u n y
-  sits-from hr ho hw h =
+  sits-from : (Own (x .tally .member) (x .scope) → Own (x .tally .member) (y .scope)) → Sits d s t n x → Sits d s u n y
+  sits-from hw h =
       let own : Own (x .tally .member) (y .scope) = hw (h .ready .own) in
       record {
         ready = subst (λ (k : Tally). Ready d s n k (y .scope)) (sym hk) (record { roomy = h .ready .roomy; lies = h .ready .lies; own = own });
@@ -227,8 +229,8 @@ module _ (d s t n : List ℕ) (x : State) (m : Mode) (at : ℕ) (t′ n′ : Lis
     so = λ h l k.
         let from : y .from ≡ at = text-from s at z e y (h .short) l he hz hy in
         let to : y .to ≡ endFor s e = text-to s at z e y (h .short) l he hz hy in
-        takes-from d s t u n x led (a .keeps .entered) (a .keeps .tally) (a .size) (D.turn s D.leadingText at (stateOf s t [] x)) t′ n′ r
-        (b .so (sits-from d s t u n x led (a .keeps .entered) (a .keeps .tally) (a .size) (a .rows) (a .opened) (a .keeps .own) h)
+        takes-from d s t u n x led (a .keeps .entered) (a .keeps .tally) (a .size) (a .rows) (a .opened) (a .marks) (D.turn s D.leadingText at (stateOf s t [] x)) t′ n′ r
+        (b .so (sits-from d s t u n x led (a .keeps .entered) (a .keeps .tally) (a .size) (a .rows) (a .opened) (a .marks) (a .keeps .own) h)
         (textEnd (suc (length s)) s at) (λ p. D.leadIn (openedOf s (x .opened)) at p (stateOf s t [] x)) he (text-low s at z e y (h .short) l he hz hy)
         (sym (a .is s [] (h .placed) ∙ ap (λ (i : ℕ). D.leadIn (openedOf s (x .opened)) i (y .to) (stateOf s t [] x)) from ∙ ap (λ (i : ℕ). D.leadIn (openedOf s (x .opened)) at i (stateOf s t [] x)) to))
         (ap length (lead-opened (openedOf s (x .opened)) at 0 (stateOf s t [] x)) ∙ opened-length s (x .opened) ∙ sym (ap (λ (w : Opened). w .count) (a .opened))));
@@ -243,8 +245,9 @@ module _ (d s t n : List ℕ) (x : State) (m : Mode) (at : ℕ) (t′ n′ : Lis
         let to : y .to ≡ endFor s e = text-to s at z e y (h .short) l he hz hy in
         let size : length u ≡ length t = ap length hu ∙ length-over t (16 * k + 12) (stretchNumbers y) in
         let rows : rowsFrom s u 0 (x .rows) ≡ D.change k (D.setText (D.stretch (y .from) (y .to))) (rowsFrom s t 0 (x .rows)) = ap (λ (w : List ℕ). rowsFrom s w 0 (x .rows)) hu ∙ text-set t k s (x .rows) f (omega (arith, h .placed .own, h .placed .room)) y in
-        takes-from d s t u n x x refl refl size (D.turn s (D.textBehind k) at (stateOf s t [] x)) t′ n′ r
-        (b .so (sits-from d s t u n x x refl refl size refl refl (λ w. w) h)
+        let same : (i : ℕ) → Alike (rowIn u i) (rowIn t i) = λ i. subst (λ (w : List ℕ). Alike (rowIn w i) (rowIn t i)) (sym hu) (alike-over t (stretchNumbers y) k 12 i (omega arith) (omega arith)) in
+        takes-from d s t u n x x refl refl size refl refl same (D.turn s (D.textBehind k) at (stateOf s t [] x)) t′ n′ r
+        (b .so (sits-from d s t u n x x refl refl size refl refl same (λ w. w) h)
         (textEnd (suc (length s)) s at) (λ p. D.withRows (D.change k (D.setText (D.stretch at p)) (rowsFrom s t 0 (x .rows))) (stateOf s t [] x)) he (text-low s at z e y (h .short) l he hz hy)
         (sym (ap (λ (w : List P.Row). D.withRows w (stateOf s t [] x)) (rows ∙ ap (λ (i : ℕ). D.change k (D.setText (D.stretch i (y .to))) (rowsFrom s t 0 (x .rows))) from ∙ ap (λ (i : ℕ). D.change k (D.setText (D.stretch at i)) (rowsFrom s t 0 (x .rows))) to)))
         (opened-length s (x .opened)));
@@ -259,24 +262,11 @@ module _ (d s t n : List ℕ) (x : State) (m : Mode) (at : ℕ) (t′ n′ : Lis
   turn-inner hm a = rw hm (record { so = λ h l f. a .so h l })
 
 -- ---- IN A PROCEDURE
-begins-real : (t : Tk.Token) → D.begins t ≡ true → Real t
-begins-real (Tk.word w) e = tt
-begins-real (Tk.integer w) e = tt
-begins-real (Tk.string w) e = tt
-begins-real (Tk.bits w) e = tt
-begins-real (Tk.sign w) e = tt
-begins-real Tk.nothing e = absurd (false≢true e)
-begins-real Tk.wrong e = absurd (false≢true e)
-
 pub body-end : (s : List ℕ) (k : Lexeme) (w : Where) (a b : Bool) → a ≡ D.isInBody (whereOf w) → a ≡ true → b ≡ isSignIn s k (37 ∷ []) → b ≡ (D.isInBody (whereOf w) && isSignIn s k (37 ∷ []))
 body-end s k w a b ha ya hb = rw (sym ha ∙ ya) hb
 
 pub no-body : (s : List ℕ) (k : Lexeme) (w : Where) (a : Bool) → a ≡ D.isInBody (whereOf w) → a ≡ false → false ≡ (D.isInBody (whereOf w) && isSignIn s k (37 ∷ []))
 no-body s k w a ha na = rw (sym ha ∙ na)
-
-both-left : (a b : Bool) → (a && b) ≡ true → a ≡ true
-both-left true b e = refl
-both-left false b e = e
 
 module _ (d s t n : List ℕ) (x : State) (at : ℕ) (k : Lexeme) (lex : Lexed s at k) (w : Where) (hw : TopKind (x .opened) w) (b : Bool) (hb : b ≡ (D.isInBody (whereOf w) && isSignIn s k (37 ∷ []))) where
   in-body : (D.isInBody (D.kindOf (openedOf s (x .opened))) && Tk.isSign "%" (tokenAt s at .token)) ≡ b
@@ -286,7 +276,7 @@ module _ (d s t n : List ℕ) (x : State) (at : ℕ) (k : Lexeme) (lex : Lexed s
   unfolding D.innerAt stateOf
   inner-end n′ r y p = record {
     so = λ h l.
-        let e : D.isInBody (D.kindOf (openedOf s (x .opened))) ≡ true = both-left (D.isInBody (D.kindOf (openedOf s (x .opened)))) (Tk.isSign "%" (tokenAt s at .token)) (in-body ∙ y) in
+        let e : D.isInBody (D.kindOf (openedOf s (x .opened))) ≡ true = and-left (D.isInBody (D.kindOf (openedOf s (x .opened)))) (Tk.isSign "%" (tokenAt s at .token)) (in-body ∙ y) in
         rw (in-body ∙ y) (subst (λ (i : ℕ). Takes d s t n x (D.procedureEnd s (D.labels s i) (fromState s t x)) t n′ r) (lex .to) (p .so t h e));
   }
 
@@ -310,15 +300,6 @@ module _ (d s t n : List ℕ) (x : State) (at : ℕ) (k : Lexeme) (lex : Lexed s
     })
 
 -- ---- AN ALTERNATIVE
-sign-real : (t : Tk.Token) → Tk.isSign "%" t ≡ true → Real t
-sign-real (Tk.word w) e = tt
-sign-real (Tk.integer w) e = tt
-sign-real (Tk.string w) e = tt
-sign-real (Tk.bits w) e = tt
-sign-real (Tk.sign w) e = tt
-sign-real Tk.nothing e = absurd (false≢true e)
-sign-real Tk.wrong e = absurd (false≢true e)
-
 -- where its statement begins
 pub record Entering (s : List ℕ) (p q : ℕ) : Type 0 where
   pub low : p < length s
@@ -335,7 +316,7 @@ enters-low s at q l (first e f) =
     }
 enters-low s at q l (enters-behind e f) =
     let z : Lies s at (tokenAt s at) = tokenAt-lies s at l in
-    let some : tokenAt s at .from < tokenAt s at .to = z .some (sign-real (tokenAt s at .token) f) in
+    let some : tokenAt s at .from < tokenAt s at .to = z .some (sign-real "%" (tokenAt s at .token) f) in
     record { low = omega (arith, some, z .high); within = omega (arith, e, z .high); starts = behind (omega (arith, some, e)) }
 
 module _ (d s t n : List ℕ) (x : State) (at : ℕ) (k : Lexeme) (lex : Lexed s at k) (m : Mark) (hm : AlternativeFrom s (x .scope) k at m) where

@@ -1,36 +1,24 @@
 -- THE CONTRACT of `read_member`: the member is the definition's, and it is entered, or refused, as there.
 use Prim.Native.Nat.{ℕ, _+_, _%_, _≤_, _<_}
-use mathlib.Core.List.{List, []}
+use mathlib.Core.List.{List}
 use mathlib.Core.Path.{_≡_}
 use lib.ListN.{length}
 use Rattle.definition.specs.Deck.{lineAt}
-use Rattle.definition.specs.Program as P
 use Rattle.definition.specs.Reading as D
 use Rattle.definition.specs.World as W
 use Rattle.definition.specs.Names as N
-use Rattle.definition.specs.declared.Why.{Why}
 use Rattle.deck.specs.Answer.{bodyIn}
 use Rattle.entering.specs.declared.Mark.the-variants.{Unmarked}
-use Rattle.entering.specs.declared.Fault.{Fault}
-use Rattle.entering.specs.declared.Fault.the-variants.{Sound, Faulty}
+use Rattle.entering.specs.declared.Fault.the-variants.{Sound}
 use Rattle.entering.specs.Book.{Book, tallyOf, bookOf}
+use Rattle.entering.specs.Entry.{Shows, Entry}
 use Rattle.statements.specs.Clauses.{Lies}
 use Rattle.reading.specs.declared.Source.{Source}
 use Rattle.reading.specs.State.{Reads}
 
--- the first k names of the room n, and a world that has them
+-- the first k names of the room n
 abbrev pub namesOf : List ℕ → List ℕ → ℕ → Book
 namesOf d n k = bookOf d n (tallyOf 0 0 k Unmarked Unmarked)
-
-pub record Has (w : W.World) (b : Book) : Type 0 where
-  pub identifiers : w .identifiers ≡ b .identifiers
-  pub denotations : w .denotations ≡ b .denotations
-  pub activities : w .activities ≡ b .activities
-
--- the member m, whose source is x, goes into the world y with the names c, or it is refused
-pub data Enters (m : ℕ) (x : P.Source) (c : Book) (y : N.Entering) (f : Fault) : Type 0 where
-  goes-in : (v : W.World) → y ≡ N.entered (N.withMember m x v) → Has v c → f ≡ Sound → Enters m x c y f
-  stays-out : (e : Why) (p : ℕ) → y ≡ N.unreadable e p → f ≡ Faulty e p → Enters m x c y f
 
 -- ---- what it needs: the body s lies in the deck at base, and there is room for its rows and names
 abbrev pub baseOf : List ℕ → ℕ → ℕ
@@ -52,7 +40,7 @@ pub record Whole (d s : List ℕ) (m entered : ℕ) (b : Book) (t′ n′ : List
 
 pub record Membered (d s n : List ℕ) (m entered names : ℕ) (t′ n′ : List ℕ) (r : Source) : Type 0 where
   pub whole : r .fault ≡ Sound → Whole d s m entered (namesOf d n names) t′ n′ r
-  pub enters : (w : W.World) → Has w (namesOf d n names) → w .sentences ≡ entered → Enters m (D.readMember s) (namesOf d n′ (r .names)) (N.enter m (D.readMember s) w) (r .fault)
+  pub enters : (w : W.World) → Shows w (namesOf d n names) → w .sentences ≡ entered → Entry m (D.readMember s) (namesOf d n′ (r .names)) (N.enter m (D.readMember s) w) (r .fault)
 
 pub record Members (d t n : List ℕ) (m entered names : ℕ) (t′ n′ : List ℕ) (r : Source) : Type 0 where
   pub so : Fresh d (bodyIn d m) t n (baseOf d m) entered names → Membered d (bodyIn d m) n m entered names t′ n′ r

@@ -22,7 +22,7 @@ use Rattle.reading.specs.declared.State.{State}
 use Rattle.reading.specs.declared.Next.{Next}
 use Rattle.reading.specs.declared.Next.the-variants as Nx
 use Rattle.reading.specs.declared.Turned.{Turned}
-use Rattle.reading.specs.State.{rowsFrom, turnOf, stateIn, Sits, Takes, fromState}
+use Rattle.reading.specs.State.{rowsFrom, turnOf, stateIn, Marks, Sits, Takes, fromState}
 
 -- ---- END
 -- another word could still be a label
@@ -71,6 +71,7 @@ pub record Clausal (d s t n : List ℕ) (x : State) (g : P.Meaning) (ns : List N
   pub few : r .state .rows ≤ suc (x .rows)
   pub own : Own (x .tally .member) (r .state .scope)
   pub size : length t′ ≡ length t
+  pub marks : Marks s t (x .rows) (x .opened) t′ (r .state .rows)
 
 -- what a clause at p needs, behind its labels ns, where the token l stands
 pub record Begun (d s t n : List ℕ) (x : State) (l : Lexeme) (from p labels : ℕ) (ns : List Named) : Type 0 where

@@ -12,12 +12,15 @@ use Rattle.definition.specs.Tokens.{tokenAt, TextEnd}
 use Rattle.definition.specs.Program as P
 use Rattle.definition.specs.Statements as St
 use Rattle.definition.specs.Reading as D
+use Rattle.definition.specs.declared.ValueType.{ValueType}
 use Rattle.definition.specs.declared.Why.{Why}
 use Rattle.definition.specs.declared.Why.the-variants.{Syntax, OverLimit}
 use Rattle.tokens.specs.Answer.{endingFor}
 use Rattle.tokens.specs.declared.Ending.{Ending}
 use Rattle.tokens.specs.declared.Ending.the-variants as En
 use Rattle.rows.specs.Table.{rowIn, linkNumber}
+use Rattle.rows.specs.Tabled.{Tabled, kindOf}
+use Rattle.rows.specs.declared.Statement.{Statement}
 use Rattle.rows.specs.declared.Link.{Link}
 use Rattle.rows.specs.declared.Link.the-variants as L
 use Rattle.rows.specs.declared.Stretch.{Stretch}
@@ -32,7 +35,7 @@ use Rattle.statements.specs.declared.Clause.{Clause}
 use Rattle.statements.specs.declared.Opens.{Opens}
 use Rattle.statements.specs.declared.Read.{Read}
 use Rattle.statements.specs.declared.Read.the-variants as Rd
-use Rattle.statements.specs.Clauses.{scopeOf, opensFor, Own, Ready}
+use Rattle.statements.specs.Clauses.{scopeOf, opensFor, Own, Ready, typeIn}
 use Rattle.statements.specs.Again.{statementAt}
 use Rattle.openings.specs.declared.Where.{Where}
 use Rattle.openings.specs.declared.Where.the-variants as Wh
@@ -157,6 +160,27 @@ pub record Keeps (x r : State) : Type 0 where
   pub tally : r .tally ≡ x .tally
   pub own : Own (x .tally .member) (x .scope) → Own (x .tally .member) (r .scope)
 
+-- ---- what the table has of a row beside its links and texts; the definition has neither depth nor kind and type apart
+pub record Alike (a b : Row) : Type 0 where
+  pub statement : a .statement ≡ b .statement
+  pub content : a .content ≡ b .content
+  pub type : a .«value_type» ≡ b .«value_type»
+  pub depth : a .depth ≡ b .depth
+
+-- kind and type are those of the statement that is read again at c
+pub record Tells (s : List ℕ) (k : Statement) (c : ℕ) (v : ValueType) : Type 0 where
+  pub kind : k ≡ kindOf (statementAt s k c)
+  pub type : v ≡ typeIn (statementAt s k c)
+
+abbrev pub Typed : List ℕ → Row → Type 0
+Typed s x = Tells s (x .statement) (x .content) (x .«value_type»)
+
+-- the k rows of t are those of t′, which has n; a new one is as deep as what was open, and has kind and type of its statement
+pub record Marks (s t : List ℕ) (k : ℕ) (o : Opened) (t′ : List ℕ) (n : ℕ) : Type 0 where
+  pub kept : (i : ℕ) → i < k → Alike (rowIn t′ i) (rowIn t i)
+  pub depth : (i : ℕ) → k ≤ i → i < n → rowIn t′ i .depth ≡ D.depth (openedOf s o)
+  pub type : (i : ℕ) → k ≤ i → i < n → Typed s (rowIn t′ i)
+
 -- ---- the link to a new row n: from the last of its list, or from what it stands in
 abbrev pub linkAt : List ℕ → ℕ → ℕ → ℕ → List ℕ
 linkAt t k j n = over t (16 * k + j) (linkNumber (L.To n) ∷ [])
@@ -181,6 +205,8 @@ pub record Adds (t : List ℕ) (x : State) (c : Clause) (p : ℕ) (t′ : List �
   pub deep : 0 < x .opened .count → x .opened .count ≤ 20 → r .opened .count ≡ x .opened .count
   pub keeps : Keeps x r
   pub size : length t′ ≡ length t
+  pub marks : (s : List ℕ) → Placed s t x → x .rows < 1024 → c .content < 65536 → Tells s (c .statement) (c .content) (c .«value_type»)
+      → Marks s t (x .rows) (x .opened) t′ (r .rows)
 
 -- the text that the program or a group begins with
 pub record Leads (t : List ℕ) (x : State) (y : Stretch) (t′ : List ℕ) (r : State) : Type 0 where
@@ -190,6 +216,7 @@ pub record Leads (t : List ℕ) (x : State) (y : Stretch) (t′ : List ℕ) (r :
   pub rows : r .rows ≡ x .rows
   pub keeps : Keeps x r
   pub size : length t′ ≡ length t
+  pub marks : (i : ℕ) → Alike (rowIn t′ i) (rowIn t i)
 
 -- ---- behind a statement: of any rows and declarations
 pub record Ends (s : List ℕ) (x : State) (n e : ℕ) (r : Turned) : Type 0 where
@@ -213,6 +240,8 @@ pub record Again (s : List ℕ) (c : Clause) (x : St.Clause) : Type 0 where
   pub content : c .content < 65536
   pub opens : c .opens ≡ opensFor (x .opens)
   pub to : c .to ≡ x .to
+  pub kind : c .statement ≡ kindOf (x .statement)
+  pub type : c .«value_type» ≡ typeIn (x .statement)
 
 abbrev pub Stood : List ℕ → Read → Reading St.Clause → Type 0
 Stood s (Rd.Is c) (read x) = Again s c x
@@ -231,6 +260,7 @@ pub record TakesAs (s t : List ℕ) (x : State) (y : Read) (p labels : ℕ) (t�
   pub rows : x .rows < 1024 → r .state .rows ≤ suc (x .rows)
   pub keeps : Keeps x (r .state)
   pub size : length t′ ≡ length t
+  pub marks : (R : Reading St.Clause) → Stood s y R → Placed s t x → x .rows < 1024 → Marks s t (x .rows) (x .opened) t′ (r .state .rows)
 
 -- ---- what the definition's turn leaves: its state, and the sentence that it stopped at
 abbrev pub stateIn : D.Turn → D.State
@@ -307,6 +337,7 @@ pub record Takes (d s t n : List ℕ) (x : State) (X : D.Turn) (t′ n′ : List
   pub few : r .state .entered + r .state .rows ≤ 2048
   pub own : Own (x .tally .member) (r .state .scope)
   pub size : length t′ ≡ length t
+  pub marks : Marks s t (x .rows) (x .opened) t′ (r .state .rows)
 
 abbrev pub fromState : List ℕ → List ℕ → State → D.State
 fromState s t x = stateOf s t [] x
@@ -361,4 +392,5 @@ pub record Reads (s : List ℕ) (m : ℕ) (b : Book) (t′ : List ℕ) (c : Book
   pub lead : stretchOf (r .lead) ≡ D.readMember s .lead
   pub first : linkOf (r .first) ≡ D.readMember s .first
   pub rows : rowsFrom s t′ 0 (r .rows) ≡ D.readMember s .rows
+  pub tabled : Tabled t′ (D.readMember s .rows)
   pub names : c ≡ bookWhole m [] (D.readMember s .declared) b
