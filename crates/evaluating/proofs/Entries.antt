@@ -79,7 +79,7 @@ pub record Found (deck rows names : List ℕ) (n : ℕ) (p : Place) (y : Called)
   pub listed : List (List ℕ)
   pub placed : Names (bodyIn deck (p .member)) listed list
   pub within : IsProcedure p B₁
-  pub few : length listed ≤ 256
+  pub few : (ps : List Ev.Parameter) → Ev.parameters (ownerAt p) listed (namesWorld deck names n) ≡ Val.gives ps → length ps ≤ 256
   pub called : y ≡ calledFor p list (Ev.parameters (ownerAt p) listed (namesWorld deck names n))
   pub value : callee (bodyAt (p .member) (p .row)) W₁ ≡ Val.andThen (Ev.parameters (ownerAt p) listed (namesWorld deck names n)) (λ ps. Val.gives (record { member = p .member; row = p .row; parameters = ps }))
 
@@ -97,12 +97,12 @@ module _ (deck rows names c l h w : List ℕ) (u : ℕ) (x : Scene) (m : Meter) 
       let q : IsRow (p .member) (p .row) B₁ × ((ns : List (List ℕ)) × (v : ValueType) × (rowOf (rowsOf (p .member) B₁) (p .row) .statement ≡ D.procedure ns v)) = sh .rowed .bodies (d .at) (p .member) (p .row) (d .declared) (d .is) in
       let t : Stated (bodyIn deck (p .member)) (rowIn (partIn rows (x .starts) (p .member)) (p .row) .content) (D.procedure (q .1 .0) (q .1 .1)) = rw (q .1 .2) at (sh .rowed .stated (p .member) (p .row) (q .0)) in
       record
-        { list = t .2 .0
+        { list = t .1 .0
         ; listed = q .1 .0
-        ; placed = names-of (isSign "(" (tokenAt (bodyIn deck (p .member)) (rowIn (partIn rows (x .starts) (p .member)) (p .row) .content) .token)) (bodyIn deck (p .member)) (q .1 .0) (t .2 .0) (t .2 .1 .names)
+        ; placed = names-of (isSign "(" (tokenAt (bodyIn deck (p .member)) (rowIn (partIn rows (x .starts) (p .member)) (p .row) .content) .token)) (bodyIn deck (p .member)) (q .1 .0) (t .1 .0) (t .1 .1 .names)
         ; within = record { within = q .0; names = q .1 .0; type = q .1 .1; is = q .1 .2 }
-        ; few = t .0
-        ; called = co .some p e .is (t .2 .0) (q .1 .0) (t .2 .1) (t .1)
+        ; few = λ ps f. sh .rowed .parameters (p .member) (p .row) (q .1 .0) (q .1 .1) ps (q .0) (q .1 .2) (parameters-there deck names (x .names) B₁ (sh .named .identifiers) (sh .named .denotations) (ownerAt p) (q .1 .0) ∙ f)
+        ; called = co .some p e .is (t .1 .0) (q .1 .0) (t .1 .1) (t .0)
         ; value = callee-value B₁ sh p (q .1 .0) (q .1 .1) (q .1 .2) }
 
   -- what the definition does with a callee

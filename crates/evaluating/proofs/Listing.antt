@@ -144,8 +144,8 @@ module _ (deck s rows names c l h w : List ℕ) (at left u : ℕ) (x : Scene) (m
         let a : callee (bodyAt (p .member) (p .row)) (worldIn B₁ c l h (m .used)) ≡ Val.gives (record { member = p .member; row = p .row; parameters = g .parameters }) = q .value ∙ ap (λ (i : Val.Answer (List Ev.Parameter)). Val.andThen i (λ ps. Val.gives (record { member = p .member; row = p .row; parameters = ps }))) (g .is) in
         record
           { callee = record { member = p .member; row = p .row; parameters = g .parameters }
-          ; shown = subst (λ (i : Callee). CalleeShown deck names (x .names) i (record { member = p .member; row = p .row; parameters = g .parameters }) B₁) (sym (g .callee)) record { member = refl; row = refl; listed = q .listed; placed = q .placed; asked = g .is; count = refl; few = omega (arith, q .few, parameters-length (ownerAt p) (q .listed) (namesWorld deck names (x .names)) (g .parameters) (g .is)); within = q .within }
-          ; few = omega (arith, q .few, parameters-length (ownerAt p) (q .listed) (namesWorld deck names (x .names)) (g .parameters) (g .is))
+          ; shown = subst (λ (i : Callee). CalleeShown deck names (x .names) i (record { member = p .member; row = p .row; parameters = g .parameters }) B₁) (sym (g .callee)) record { member = refl; row = refl; listed = q .listed; placed = q .placed; asked = g .is; count = refl; few = q .few (g .parameters) (g .is); within = q .within }
+          ; few = q .few (g .parameters) (g .is)
           ; value = λ t. named-gives x t (bodyAt (p .member) (p .row)) u (worldIn B₁ c l h (m .used)) (record { member = p .member; row = p .row; parameters = g .parameters }) a }
 
     entry-refused : (f : Why) → cy ≡ K.Fails f → (o : Body) → b ≡ o → (t : Tree) → named x t (Ev.anEntry (bodyOf o)) u (worldIn B₁ c l h (m .used)) ≡ bad f (m .used)
