@@ -29,6 +29,7 @@ use Rattle.tokens.specs.Answer.{Lexed}
 use Rattle.names.specs.declared.Place.{Place}
 use Rattle.names.specs.declared.Label.{Label}
 use Rattle.names.specs.Table.{ownerOf}
+use Rattle.rows.specs.declared.Row.{Row}
 use Rattle.rows.specs.declared.Statement.{Statement}
 use Rattle.rows.specs.declared.Statement.the-variants as S
 use Rattle.rows.specs.Table.{rowIn}
@@ -119,11 +120,11 @@ kind-passed (D.deactivate ns) = refl
 kind-passed (D.return e) = refl
 
 -- ---- small things of the definition
-placed-same : {A : Type 0} (R : Res Why A) → placed (λ e. e) R ≡ R
+pub placed-same : {A : Type 0} (R : Res Why A) → placed (λ e. e) R ≡ R
 placed-same (good a w) = refl
 placed-same (bad e n) = refl
 
-lead-none : {E : Type 0} (M : Machine E) → ((y : D.Stretch) (w : World) → M .out y w ≡ good tt w) → (y : D.Stretch) (w : World) → F.leadOut M y w ≡ good tt w
+pub lead-none : {E : Type 0} (M : Machine E) → ((y : D.Stretch) (w : World) → M .out y w ≡ good tt w) → (y : D.Stretch) (w : World) → F.leadOut M y w ≡ good tt w
 unfolding F.leadOut
 lead-none M q y w = by (ltb (y .from) (y .to))
   where
@@ -390,33 +391,15 @@ module _ (deck s t rows names c l h w : List ℕ) (p : Place) (n : ℕ) (fs : Fr
   passed-is B G (D.deactivate ns) q e v = rw q
   passed-is B G (D.return a) q e v = clash (cc)
 
-  pub statement-passed : passedKind (rowIn t n .statement) ≡ true → (r : Turned) → r ≡ turnedBy fs (afterDone (Dn.Good m) (behindOn t fs (n + 1) n)) → StatementIs deck s t rows names c l h w p n fs u x m c l h w r
+  statement-passed : passedKind (rowIn t n .statement) ≡ true → (r : Turned) → r ≡ turnedBy fs (afterDone (Dn.Good m) (behindOn t fs (n + 1) n)) → StatementIs deck s t rows names c l h w p n fs u x m c l h w r
   unfolding bodyMachine
   statement-passed e r er = rw er (statement-by c l h w (turnedBy fs (afterDone (Dn.Good m) (behindOn t fs (n + 1) n))) (λ B G k.
       let i : isPassed (rowOf (rowsOf (p .member) B) n .statement) ≡ true = sym (kind-passed (rowOf (rowsOf (p .member) B) n .statement)) ∙ ap passedKind (sym (kind-is B G k)) ∙ e in
       let D₁ : TurnsTo (bodyOf x p u B) t B u c l h w (F.onward (bodyOf x p u B) G (F.behind (bodyOf x p u B) G n (worldIn B c l h (m .used)))) fs (St.On (behindOn t fs (n + 1) n) m) × Leaves B u w c l h w m = done-turns B G k c l h w (Dn.Good m) (good tt (worldIn B c l h (m .used))) refl (stays-here B G k) in
       rw (passed-is B G (rowOf (rowsOf (p .member) B) n .statement) refl i (worldIn B c l h (m .used))) D₁))
 
-  pub statement-null : rowIn t n .statement ≡ S.Null → (r : Turned) → r ≡ turnedBy fs (afterDone (Dn.Good m) (behindOn t fs (n + 1) n)) → StatementIs deck s t rows names c l h w p n fs u x m c l h w r
-  statement-null e = statement-passed (rw e)
-
-  pub statement-declare : rowIn t n .statement ≡ S.Declare → (r : Turned) → r ≡ turnedBy fs (afterDone (Dn.Good m) (behindOn t fs (n + 1) n)) → StatementIs deck s t rows names c l h w p n fs u x m c l h w r
-  statement-declare e = statement-passed (rw e)
-
-  pub statement-procedure : rowIn t n .statement ≡ S.Procedure → (r : Turned) → r ≡ turnedBy fs (afterDone (Dn.Good m) (behindOn t fs (n + 1) n)) → StatementIs deck s t rows names c l h w p n fs u x m c l h w r
-  statement-procedure e = statement-passed (rw e)
-
-  pub statement-include : rowIn t n .statement ≡ S.Include → (r : Turned) → r ≡ turnedBy fs (afterDone (Dn.Good m) (behindOn t fs (n + 1) n)) → StatementIs deck s t rows names c l h w p n fs u x m c l h w r
-  statement-include e = statement-passed (rw e)
-
-  pub statement-activate : rowIn t n .statement ≡ S.Activate → (r : Turned) → r ≡ turnedBy fs (afterDone (Dn.Good m) (behindOn t fs (n + 1) n)) → StatementIs deck s t rows names c l h w p n fs u x m c l h w r
-  statement-activate e = statement-passed (rw e)
-
-  pub statement-deactivate : rowIn t n .statement ≡ S.Deactivate → (r : Turned) → r ≡ turnedBy fs (afterDone (Dn.Good m) (behindOn t fs (n + 1) n)) → StatementIs deck s t rows names c l h w p n fs u x m c l h w r
-  statement-deactivate e = statement-passed (rw e)
-
   -- those that evaluate
-  pub statement-assign : rowIn t n .statement ≡ S.Assign → (c′ l′ h′ w′ : List ℕ) (d : Done) → AssignIs deck s rows names c l h w (rowIn t n .content) u x m c′ l′ h′ w′ d → (r : Turned) → r ≡ turnedBy fs (afterDone d (behindOn t fs (n + 1) n))
+  statement-assign : rowIn t n .statement ≡ S.Assign → (c′ l′ h′ w′ : List ℕ) (d : Done) → AssignIs deck s rows names c l h w (rowIn t n .content) u x m c′ l′ h′ w′ d → (r : Turned) → r ≡ turnedBy fs (afterDone d (behindOn t fs (n + 1) n))
       → StatementIs deck s t rows names c l h w p n fs u x m c′ l′ h′ w′ r
   unfolding F.statement bodyMachine
   statement-assign e c′ l′ h′ w′ d ai r er = rw er (statement-by c′ l′ h′ w′ (turnedBy fs (afterDone d (behindOn t fs (n + 1) n))) (λ B G k. of B G k (rowOf (rowsOf (p .member) B) n .statement) (stated B G k) (sym (kind-is B G k) ∙ e)))
@@ -439,7 +422,7 @@ module _ (deck s t rows names c l h w : List ℕ) (p : Place) (n : ℕ) (fs : Fr
       of B G k (D.deactivate ns) st i = clash (cc)
       of B G k (D.return e) st i = clash (cc)
 
-  pub statement-test : rowIn t n .statement ≡ S.Conditional → (c′ l′ h′ w′ : List ℕ) (y : Tested) → TestIs deck s rows names c l h w (rowIn t n .content) u x m c′ l′ h′ w′ y → (r : Turned) → r ≡ turnedBy fs (afterTest y (λ b. arrivedAt t fs (chosenWalk t n b)))
+  statement-test : rowIn t n .statement ≡ S.Conditional → (c′ l′ h′ w′ : List ℕ) (y : Tested) → TestIs deck s rows names c l h w (rowIn t n .content) u x m c′ l′ h′ w′ y → (r : Turned) → r ≡ turnedBy fs (afterTest y (λ b. arrivedAt t fs (chosenWalk t n b)))
       → StatementIs deck s t rows names c l h w p n fs u x m c′ l′ h′ w′ r
   unfolding F.statement D.isIterated bodyMachine
   statement-test e c′ l′ h′ w′ y ti r er = rw er (statement-by c′ l′ h′ w′ (turnedBy fs (afterTest y (λ b. arrivedAt t fs (chosenWalk t n b)))) (λ B G k. of B G k (rowOf (rowsOf (p .member) B) n .statement) refl (stated B G k) (sym (kind-is B G k) ∙ e)))
@@ -465,7 +448,7 @@ module _ (deck s t rows names c l h w : List ℕ) (p : Place) (n : ℕ) (fs : Fr
   controls-here : (B : World) (d : F.Frame) → Controls n d (worldIn B c l h (m .used)) → Controls n d B
   controls-here B d co = record { group = co .group; variable = co .variable }
 
-  pub statement-start : rowIn t n .statement ≡ S.Iterated → (c′ l′ h′ w′ : List ℕ) (y : Started) → StartIs deck s rows names c l h w n (rowIn t n .content) u x m c′ l′ h′ w′ y → (r : Turned) → r ≡ afterStart t fs n y
+  statement-start : rowIn t n .statement ≡ S.Iterated → (c′ l′ h′ w′ : List ℕ) (y : Started) → StartIs deck s rows names c l h w n (rowIn t n .content) u x m c′ l′ h′ w′ y → (r : Turned) → r ≡ afterStart t fs n y
       → StatementIs deck s t rows names c l h w p n fs u x m c′ l′ h′ w′ r
   unfolding F.statement D.isIterated bodyMachine
   statement-start e c′ l′ h′ w′ y si r er = statement-by c′ l′ h′ w′ r (λ B G k. of B G k (rowOf (rowsOf (p .member) B) n .statement) refl (stated B G k) (sym (kind-is B G k) ∙ e))
@@ -495,7 +478,7 @@ module _ (deck s t rows names c l h w : List ℕ) (p : Place) (n : ℕ) (fs : Fr
       of B G k (D.deactivate ns) q st i = clash (cc)
       of B G k (D.return e) q st i = clash (cc)
 
-  pub statement-group : rowIn t n .statement ≡ S.Group → (y : Next) → y ≡ intoGroup t fs n → (r : Turned) → r ≡ turnedBy fs (St.On y m) → StatementIs deck s t rows names c l h w p n fs u x m c l h w r
+  statement-group : rowIn t n .statement ≡ S.Group → (y : Next) → y ≡ intoGroup t fs n → (r : Turned) → r ≡ turnedBy fs (St.On y m) → StatementIs deck s t rows names c l h w p n fs u x m c l h w r
   unfolding F.statement D.isIterated bodyMachine
   statement-group e y ey r er = rw (er, ey) (statement-by c l h w (turnedBy fs (St.On (intoGroup t fs n) m)) (λ B G k. of B G k (rowOf (rowsOf (p .member) B) n .statement) refl (sym (kind-is B G k) ∙ e)))
     where
@@ -515,7 +498,7 @@ module _ (deck s t rows names c l h w : List ℕ) (p : Place) (n : ℕ) (fs : Fr
       of B G k (D.deactivate ns) q i = clash (cc)
       of B G k (D.return e) q i = clash (cc)
 
-  pub statement-goto : rowIn t n .statement ≡ S.Goto → (r : Turned) → JumpsIn deck s t names fs n x m r → StatementIs deck s t rows names c l h w p n fs u x m c l h w r
+  statement-goto : rowIn t n .statement ≡ S.Goto → (r : Turned) → JumpsIn deck s t names fs n x m r → StatementIs deck s t rows names c l h w p n fs u x m c l h w r
   unfolding F.statement bodyMachine
   statement-goto e r ji = rw (ji .turned) (statement-by c l h w (turnedBy fs (afterJump t fs n (ji .jump) m)) (λ B G k. of B G k (rowOf (rowsOf (p .member) B) n .statement) (stated B G k) (sym (kind-is B G k) ∙ e)))
     where
@@ -549,7 +532,7 @@ module _ (deck s t rows names c l h w : List ℕ) (p : Place) (n : ℕ) (fs : Fr
   unfolding F.statement bodyMachine
   act-is B G a q v = rw q
 
-  pub statement-return : rowIn t n .statement ≡ S.Return → (o : Lexeme) → Lexed s (rowIn t n .content) o → (c₁ l₁ h₁ w₁ : List ℕ) → length w₁ ≡ length w → (b : Evaluated) → Evaluates deck rows names c l h w u x m c₁ l₁ h₁ w₁ b (wholeExpression s (o .to))
+  statement-return : rowIn t n .statement ≡ S.Return → (o : Lexeme) → Lexed s (rowIn t n .content) o → (c₁ l₁ h₁ w₁ : List ℕ) → length w₁ ≡ length w → (b : Evaluated) → Evaluates deck rows names c l h w u x m c₁ l₁ h₁ w₁ b (wholeExpression s (o .to))
       → (w₂ : List ℕ) (r : Turned) → ReturnIs w₁ u fs (rowIn t (p .row) .«value_type») b w₂ r → StatementIs deck s t rows names c l h w p n fs u x m c₁ l₁ h₁ w₂ r
   unfolding F.statement bodyMachine
   statement-return e o lo c₁ l₁ h₁ w₁ z₁ b ev w₂ r ri = statement-by c₁ l₁ h₁ w₂ r (λ B G k. of B G k (rowOf (rowsOf (p .member) B) n .statement) refl (stated B G k) (sym (kind-is B G k) ∙ e))
@@ -581,3 +564,33 @@ module _ (deck s t rows names c l h w : List ℕ) (p : Place) (n : ℕ) (fs : Fr
       of B G k (D.activate ns) q st i = clash (cc)
       of B G k (D.deactivate ns) q st i = clash (cc)
       of B G k (D.return e) q st i = returned B G k e q st
+
+  -- ---- the same by the row that was read from the table
+  module _ (q : Row) (eq : q ≡ rowIn t n) where
+    kind-of : (k : Statement) → q .statement ≡ k → rowIn t n .statement ≡ k
+    kind-of k e = ap (λ (i : Row). i .statement) (sym eq) ∙ e
+
+    pub row-passed : (k : Statement) → q .statement ≡ k → passedKind k ≡ true → (r : Turned) → r ≡ turnedBy fs (afterDone (Dn.Good m) (behindOn t fs (n + 1) n)) → StatementIs deck s t rows names c l h w p n fs u x m c l h w r
+    row-passed k e f = statement-passed (rw (kind-of k e) f)
+
+    pub row-assign : q .statement ≡ S.Assign → (c′ l′ h′ w′ : List ℕ) (d : Done) → AssignIs deck s rows names c l h w (q .content) u x m c′ l′ h′ w′ d → (r : Turned) → r ≡ turnedBy fs (afterDone d (behindOn t fs (n + 1) n))
+        → StatementIs deck s t rows names c l h w p n fs u x m c′ l′ h′ w′ r
+    row-assign e c′ l′ h′ w′ d ai = statement-assign (kind-of S.Assign e) c′ l′ h′ w′ d (subst (λ (i : Row). AssignIs deck s rows names c l h w (i .content) u x m c′ l′ h′ w′ d) eq ai)
+
+    pub row-test : q .statement ≡ S.Conditional → (c′ l′ h′ w′ : List ℕ) (y : Tested) → TestIs deck s rows names c l h w (q .content) u x m c′ l′ h′ w′ y → (r : Turned) → r ≡ turnedBy fs (afterTest y (λ b. arrivedAt t fs (chosenWalk t n b)))
+        → StatementIs deck s t rows names c l h w p n fs u x m c′ l′ h′ w′ r
+    row-test e c′ l′ h′ w′ y ti = statement-test (kind-of S.Conditional e) c′ l′ h′ w′ y (subst (λ (i : Row). TestIs deck s rows names c l h w (i .content) u x m c′ l′ h′ w′ y) eq ti)
+
+    pub row-start : q .statement ≡ S.Iterated → (c′ l′ h′ w′ : List ℕ) (y : Started) → StartIs deck s rows names c l h w n (q .content) u x m c′ l′ h′ w′ y → (r : Turned) → r ≡ afterStart t fs n y
+        → StatementIs deck s t rows names c l h w p n fs u x m c′ l′ h′ w′ r
+    row-start e c′ l′ h′ w′ y si = statement-start (kind-of S.Iterated e) c′ l′ h′ w′ y (subst (λ (i : Row). StartIs deck s rows names c l h w n (i .content) u x m c′ l′ h′ w′ y) eq si)
+
+    pub row-group : q .statement ≡ S.Group → (y : Next) → y ≡ intoGroup t fs n → (r : Turned) → r ≡ turnedBy fs (St.On y m) → StatementIs deck s t rows names c l h w p n fs u x m c l h w r
+    row-group e = statement-group (kind-of S.Group e)
+
+    pub row-goto : q .statement ≡ S.Goto → (r : Turned) → JumpsIn deck s t names fs n x m r → StatementIs deck s t rows names c l h w p n fs u x m c l h w r
+    row-goto e = statement-goto (kind-of S.Goto e)
+
+    pub row-return : q .statement ≡ S.Return → (o : Lexeme) → Lexed s (q .content) o → (c₁ l₁ h₁ w₁ : List ℕ) → length w₁ ≡ length w → (b : Evaluated) → Evaluates deck rows names c l h w u x m c₁ l₁ h₁ w₁ b (wholeExpression s (o .to))
+        → (v : Row) → v ≡ rowIn t (p .row) → (w₂ : List ℕ) (r : Turned) → ReturnIs w₁ u fs (v .«value_type») b w₂ r → StatementIs deck s t rows names c l h w p n fs u x m c₁ l₁ h₁ w₂ r
+    row-return e o lo c₁ l₁ h₁ w₁ z₁ b ev v ev₂ w₂ r ri = statement-return (kind-of S.Return e) o (subst (λ (i : Row). Lexed s (i .content) o) eq lo) c₁ l₁ h₁ w₁ z₁ b ev w₂ r (subst (λ (i : Row). ReturnIs w₁ u fs (i .«value_type») b w₂ r) ev₂ ri)

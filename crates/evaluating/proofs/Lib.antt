@@ -5,3 +5,5 @@ pub mod Entries
 pub mod Listing
 pub mod Stating
 pub mod Bounding
+pub mod Bodying
+pub mod Looping

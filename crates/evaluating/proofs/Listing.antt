@@ -113,16 +113,6 @@ path-substr w f k u (a ∷ b ∷ []) j t ws′ (pa, pf, (pb, pg, ph, pi)) h = (r
 path-substr w f k u (a ∷ b ∷ c ∷ []) j t ws′ (pa, pf, (pb, pg, ph, (pc, pk, pl, pm))) h = (rw (pa, pb, pc), pf)
 path-substr w f k u (a ∷ b ∷ c ∷ d ∷ vs) j t ws′ (pa, pf, (pb, pg, ph, (pc, pk, pl, pm))) h = absurd pm
 
-parameters-length : (k : W.Owner) (ns : List (List ℕ)) (w : World) (ps : List Ev.Parameter) → Ev.parameters k ns w ≡ Val.gives ps → length ps ≡ length ns
-unfolding Ev.parameters
-parameters-length k [] w ps e = let f : ps ≡ [] = cc in rw f
-parameters-length k (n ∷ ns) w ps e = by (λ qs f. parameters-length k ns w qs f) (Ev.parameterAt (W.addressOf n k w) w) (Ev.parameters k ns w) refl e
-  where
-    by : ((qs : List Ev.Parameter) → Ev.parameters k ns w ≡ Val.gives qs → length qs ≡ length ns) → (a : Val.Answer Ev.Parameter) (b : Val.Answer (List Ev.Parameter)) → Ev.parameters k ns w ≡ b → Val.andThen a (λ q. Val.andThen b (λ qs. Val.gives (q ∷ qs))) ≡ Val.gives ps → length ps ≡ suc (length ns)
-    by again (Val.gives q) (Val.gives qs) f g = let h : q ∷ qs ≡ ps = cc in rw (← h) (ap suc (again qs f))
-    by again (Val.gives q) (Val.fails y) f g = clash (cc)
-    by again (Val.fails y) b f g = clash (cc)
-
 -- ---- the ways out
 module _ (deck s rows names c l h w : List ℕ) (at left u : ℕ) (x : Scene) (m : Meter) (y : Meant) (n : ℕ) (cn : CountIs s at left n) (aim : Aim) (ai : AimIs deck rows (x .starts) names (x .names) y n aim) where
   no : (B₁ : World) → Shows deck rows names c l h w u x m B₁ → (to : ℕ) (f : Why) (R : Res Why Val.Value) → R ≡ bad f (m .used) → Gave B₁ u w c l h w (Failed f m) to R
