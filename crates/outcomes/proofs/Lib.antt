@@ -1,0 +1,5 @@
+pub mod Sources
+pub mod Naming
+pub mod Putting
+pub mod Copying
+pub mod Cutting
