@@ -1,8 +1,8 @@
 -- Values that are copied, each from where it lies.
 -- Assumes nothing.
-use mathlib.Core.Path.{_≡_, refl, sym, ap, _∙_}
-use mathlib.Core.Bool.{Bool, true, false, cond}
-use mathlib.Core.List.{List, [], _∷_}
+use mathlib.Core.Path.{_≡_, refl, sym, _∙_}
+use mathlib.Core.Bool.{Bool, true, false}
+use mathlib.Core.List.{List, []}
 use Prim.Native.Nat.{ℕ}
 use lib.ListN.{length}
 use Rattle.definition.specs.Lists.{part}
@@ -32,7 +32,7 @@ use Rattle.outcomes.specs.declared.Dest.{Dest}
 use Rattle.outcomes.specs.declared.Scanned.{Scanned}
 use Rattle.outcomes.specs.declared.Scanned.the-variants as S
 use Rattle.outcomes.specs.Places.{intoOf}
-use Rattle.outcomes.specs.Copies.{copiedValue, workCopied, textCopied, CopiedValue, heldBy, CopiedAs, CopiedFrom}
+use Rattle.outcomes.specs.Copies.{copiedValue, workCopied, textCopied, CopiedValue, heldBy, CopiedFrom}
 
 -- ---- bytes, n of them, that fit or do not
 module _ (w t bs : List ℕ) (d : Dest) (u n : ℕ) (m : Meter) (k : n ≡ length bs) (b : Bool) (g : b ≡ D.fits (intoOf d) u 0 n) where

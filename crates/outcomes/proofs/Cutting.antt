@@ -1,13 +1,13 @@
 -- Argument lists.
 -- Assumes nothing.
 use mathlib.Core.Path.{_≡_, refl, sym, ap, _∙_}
-use mathlib.Core.Bool.{Bool, true, false, cond, _&&_}
+use mathlib.Core.Bool.{Bool, true, false, _&&_}
 use mathlib.Core.List.{List, [], _∷_, _++_}
 use Prim.Native.Nat.{ℕ, zero, suc, _+_, _-_, _<_, _≤_}
-use native.Mathlib.Nat.{zero-add, add-zero}
+use native.Mathlib.Nat.{add-zero}
 use native.Mathlib.Numerals.{add-one}
 use native.Mathlib.Omega.{arith}
-use borrow.Author.Tests.{le-leb, lt-leb, leb-true, leb-false, eq-eqb, ne-eqb, eqb-true, eqb-false}
+use borrow.Author.Tests.{le-leb, lt-leb, leb-false, eq-eqb, ne-eqb, eqb-true}
 use lib.Dec.{leb, eqb}
 use lib.ListN.{length, getD, take, drop}
 use Rattle.definition.specs.Choice.{when}
@@ -18,15 +18,15 @@ use Rattle.definition.specs.Scan as D
 use Rattle.definition.specs.Scan.{Argument, listUpTo, noList, cutOn, listAt}
 use Rattle.definition.proofs.Ends.{pieceAt-past}
 use Rattle.tokens.specs.declared.Piece.{Piece}
-use Rattle.tokens.specs.Answer.{pieceFor, Cuts}
+use Rattle.tokens.specs.Answer.{Cuts}
 use Rattle.tokens.proofs.Laws.{inside, Passing, passing-stop, passing-end}
 use Rattle.outcomes.specs.declared.Src.{Src}
 use Rattle.outcomes.specs.declared.Ending.{Ending}
 use Rattle.outcomes.specs.declared.Ending.the-variants as E
 use Rattle.outcomes.specs.declared.Listing.{Listing}
 use Rattle.outcomes.specs.declared.Listing.the-variants as L
-use Rattle.outcomes.specs.Texts.{plusOf, roomOf, stretchOf, Within}
-use Rattle.outcomes.specs.Arguments.{cutFrom, argument, before, afterEnd, EndWithin, EndIs, endPlace, listingFor, ListingIs, pastBlanks, ListIn, Ends, EndIn}
+use Rattle.outcomes.specs.Texts.{plusOf, roomOf, stretchOf}
+use Rattle.outcomes.specs.Arguments.{cutFrom, argument, before, EndWithin, EndIs, endPlace, listingFor, ListingIs, pastBlanks, ListIn, Ends, EndIn}
 use Rattle.outcomes.proofs.Sources.{plus-sum, slice-is, stretch-length, room-work, room-body}
 use Rattle.outcomes.proofs.Naming.{never}
 
@@ -83,8 +83,6 @@ turn-same : (t : List ℕ) (d from : ℕ) (xs : List Argument) (p : ℕ) (f g : 
     → ((e b : ℕ) (ys : List Argument) (q : ℕ) → p < length t → p < q → f e b ys q ≡ g e b ys q) → turn t d from xs p f ≡ turn t d from xs p g
 turn-same t d from xs p f g h = by (leb (length t) p) refl
   where
-    rest : (on : ℕ → ℕ → List Argument → ℕ → D.Arguments) → Bool → D.Arguments
-    rest on b = noList
     by : (b : Bool) → leb (length t) p ≡ b → turn t d from xs p f ≡ turn t d from xs p g
     by true e = rw e
     by false e =

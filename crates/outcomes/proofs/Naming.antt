@@ -1,11 +1,10 @@
 -- Names that are active.
 -- Assumes nothing.
 use mathlib.Core.Path.{_≡_, refl, sym, ap, _∙_}
-use mathlib.Core.Bool.{Bool, true, false, cond}
+use mathlib.Core.Bool.{Bool, true, false}
 use mathlib.Core.List.{List, [], _∷_}
 use Prim.Native.Nat.{ℕ, zero, suc, _+_, _-_, _<_, _≤_}
 use native.Mathlib.Nat.{zero-add, add-zero}
-use native.Mathlib.Numerals.{add-one}
 use native.Mathlib.Omega.{arith}
 use lib.ListN.{length, getD}
 use Rattle.definition.specs.Choice.{when}
@@ -19,7 +18,7 @@ use Rattle.definition.proofs.Ends.{pieceAt-past}
 use Rattle.tokens.specs.declared.Piece.{Piece}
 use Rattle.tokens.specs.declared.PieceKind.{PieceKind}
 use Rattle.tokens.specs.declared.PieceKind.the-variants as K
-use Rattle.tokens.specs.Answer.{pieceFor, pieceKind, pieceOf, Cuts}
+use Rattle.tokens.specs.Answer.{pieceKind, pieceOf}
 use Rattle.tokens.proofs.Pieces.{piece-is}
 use Rattle.names.specs.declared.Activity.{Activity}
 use Rattle.names.specs.declared.Activity.the-variants as A
@@ -31,7 +30,7 @@ use Rattle.names.specs.Table.{nameIn, activityOf, identifiersFrom, foundFor}
 use Rattle.outcomes.specs.declared.Src.{Src}
 use Rattle.outcomes.specs.declared.Active.{Active}
 use Rattle.outcomes.specs.declared.Active.the-variants.{NotActive, IsActive}
-use Rattle.outcomes.specs.Texts.{plusOf, roomOf, stretchOf, Within, activeFor, activitiesFrom, Awake, ActiveIs, isName, ActiveHere}
+use Rattle.outcomes.specs.Texts.{plusOf, roomOf, stretchOf, activeFor, activitiesFrom, ActiveIs, isName, ActiveHere}
 use Rattle.outcomes.proofs.Sources.{plus-sum, stretch-length, room-work, room-body}
 
 pub never : (A : Type 0) → _≡_ {A = ℕ} 0 1 → A

@@ -2,13 +2,12 @@
 -- Assumes nothing.
 use mathlib.Core.Path.{_≡_, refl, sym, ap, _∙_}
 use mathlib.Core.Bool.{Bool, true, false, cond, _&&_}
-use mathlib.Core.List.{List, [], _∷_}
-use Prim.Native.Nat.{ℕ, zero, suc, _+_, _-_, _<_, _≤_}
-use native.Mathlib.Nat.{zero-add, add-zero}
+use mathlib.Core.List.{List}
+use Prim.Native.Nat.{ℕ, _+_, _-_, _<_, _≤_}
 use native.Mathlib.Omega.{arith}
 use borrow.Author.Tests.{le-leb, lt-leb, leb-true, leb-false}
 use lib.Dec.{leb}
-use lib.ListN.{length, take}
+use lib.ListN.{length}
 use Rattle.definition.specs.Lists.{part}
 use Rattle.definition.specs.Room.{over}
 use Rattle.definition.specs.Values as Val
@@ -28,10 +27,9 @@ use Rattle.outcomes.specs.declared.Src.{Src}
 use Rattle.outcomes.specs.declared.Dest.{Dest}
 use Rattle.outcomes.specs.declared.Scanned.{Scanned}
 use Rattle.outcomes.specs.declared.Scanned.the-variants as S
-use Rattle.outcomes.specs.declared.Replaced.{Replaced}
 use Rattle.outcomes.specs.declared.Replaced.the-variants as R
-use Rattle.outcomes.specs.Texts.{plusOf, roomOf}
-use Rattle.outcomes.specs.Places.{intoOf, afterOf, waitingOf, bytesAt, workPut, textPut, Puts, upToOf, copiedFor, Copied, gotIn, meterOf, charactersAt, charactersOf, TextIs, settledIn, Settled}
+use Rattle.outcomes.specs.Texts.{plusOf}
+use Rattle.outcomes.specs.Places.{intoOf, afterOf, waitingOf, bytesAt, workPut, textPut, Puts, upToOf, copiedFor, Copied, charactersAt, charactersOf, TextIs, settledIn, Settled}
 use Rattle.outcomes.proofs.Sources.{plus-sum, plus-in, plus-first, plus-second, room-work, room-body}
 use Rattle.outcomes.proofs.Naming.{never}
 
@@ -64,6 +62,7 @@ sum-test u k n = by (leb (k + n) 4294967295) refl
     most h true true e f = let z : k + n ≡ plusOf k n = plus-in k n (leb-true k 4294967295 e) (leb-true n 4294967295 f) in omega arith
     most h true false e f = let z : 4294967295 ≡ plusOf k n = plus-second k n (leb-true k 4294967295 e) (leb-false n 4294967295 f) in omega arith
     most h false b e f = let z : 4294967295 ≡ plusOf k n = plus-first k n (leb-false k 4294967295 e) in omega arith
+
     by : (b : Bool) → leb (k + n) 4294967295 ≡ b → leb (u + plusOf k n) 65536 ≡ leb (u + (k + n)) 65536
     by true e = rw (plus-sum k n (leb-true (k + n) 4294967295 e))
     by false e =

@@ -1,24 +1,20 @@
 -- Sums of places, and the token at a place of a stretch.
 -- Assumes nothing.
 use mathlib.Core.Path.{_≡_, refl, sym, ap, _∙_}
-use mathlib.Core.Bool.{Bool, true, false, cond}
-use mathlib.Core.List.{List, [], _∷_}
+use mathlib.Core.Bool.{true, false}
+use mathlib.Core.List.{List, _∷_}
 use Prim.Native.Nat.{ℕ, zero, suc, _+_, _-_, _<_, _≤_}
-use native.Mathlib.Nat.{zero-add, add-zero}
-use native.Mathlib.Numerals.{add-one}
 use native.Mathlib.Omega.{arith}
 use borrow.Author.Tests.{le-leb, lt-leb}
-use lib.Dec.{leb}
 use lib.ListN.{length, getD, take, drop}
 use lib.Seq.{drop-cons}
-use Rattle.definition.specs.Limits.{textBytes}
 use Rattle.definition.specs.Lists.{part}
 use Rattle.definition.proofs.Parts.{length-part}
 use Rattle.definition.specs.Tokens as T
 use Rattle.tokens.specs.declared.Piece.{Piece}
 use Rattle.tokens.specs.Answer.{pieceFor, Cuts}
 use Rattle.outcomes.specs.declared.Src.{Src}
-use Rattle.outcomes.specs.Texts.{plusOf, roomOf, stretchOf, textOf, Within, PieceIn, partOf}
+use Rattle.outcomes.specs.Texts.{plusOf, roomOf, stretchOf, PieceIn, partOf}
 
 -- ---- sums
 pub plus-in : (a b : ℕ) → a ≤ 4294967295 → b ≤ 4294967295 → a + b ≡ plusOf a b

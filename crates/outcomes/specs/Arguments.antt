@@ -1,5 +1,5 @@
 -- ARGUMENT LISTS: where an argument ends, and how many there are.
-use Prim.Native.Nat.{ℕ, zero, suc, _+_, _-_, _<_, _≤_}
+use Prim.Native.Nat.{ℕ, suc, _+_, _<_, _≤_}
 use mathlib.Core.Path.{_≡_}
 use mathlib.Core.List.{List, [], _∷_, _++_}
 use lib.ListN.{length, drop}
@@ -69,4 +69,5 @@ Ends t p r (x ∷ y ∷ ys) q = (x ≡ argument p r) × (p ≤ r) × (r < length
 
 -- the argument that begins at p ends at r, where the list is whole
 pub record EndIn (t : List ℕ) (from to p r : ℕ) : Type 0 where
-  pub is : Within t from to → (xs : List Argument) (q : ℕ) → cutFrom (stretchOf t from to) p ≡ listUpTo xs q → Ends (stretchOf t from to) p r xs q
+  pub is : Within t from to → (xs : List Argument) (q : ℕ) → cutFrom (stretchOf t from to) p ≡ listUpTo xs q
+      → Ends (stretchOf t from to) p r xs q

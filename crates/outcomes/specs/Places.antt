@@ -1,8 +1,8 @@
 -- WHERE OUTCOMES GO: into the text room from a place on, or into the work room above what waits.
-use Prim.Native.Nat.{ℕ, zero, suc, _+_, _-_, _<_, _≤_}
+use Prim.Native.Nat.{ℕ, _+_, _-_, _≤_}
 use mathlib.Core.Bool.{Bool, true, false, cond}
 use mathlib.Core.Path.{_≡_}
-use mathlib.Core.List.{List, [], _∷_}
+use mathlib.Core.List.{List}
 use lib.Dec.{leb}
 use lib.ListN.{length, take}
 use Rattle.definition.specs.Limits.{unfinishedBytes}
@@ -10,7 +10,6 @@ use Rattle.definition.specs.Lists.{part}
 use Rattle.definition.specs.Room.{over}
 use Rattle.definition.specs.Values as Val
 use Rattle.definition.specs.Scan as D
-use Rattle.definition.specs.declared.Why.{Why}
 use Rattle.definition.specs.declared.Why.the-variants.{TooLong}
 use Rattle.meter.specs.declared.Meter.{Meter}
 use Rattle.operators.specs.declared.Given.{Given}

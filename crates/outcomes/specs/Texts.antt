@@ -73,5 +73,6 @@ isName K.Unclosed = false
 
 -- the same of the token y that stands at p of a source in the room t
 pub record ActiveHere (d names : List ℕ) (n : ℕ) (t : List ℕ) (x : Src) (p : ℕ) (y : Piece) (r : Active) : Type 0 where
-  pub is : (B : World) → Awake d names n B → Within t (x .from) (x .to) → p < x .to - x .from → y ≡ pieceFor (T.pieceAt (stretchOf t (x .from) (x .to)) p)
+  pub is : (B : World) → Awake d names n B → Within t (x .from) (x .to) → p < x .to - x .from
+      → y ≡ pieceFor (T.pieceAt (stretchOf t (x .from) (x .to)) p)
       → activeFor r ≡ D.activeIn (T.pieceAt (stretchOf t (x .from) (x .to)) p .piece) B

@@ -182,7 +182,7 @@ pub fn active_in(
 // ---- outcomes
 
 // Whether n bytes go behind an outcome of k bytes, where u bytes wait.
-pub fn may_put(d: Dest, u: usize, k: usize, n: usize) -> bool
+fn may_put(d: Dest, u: usize, k: usize, n: usize) -> bool
     ensures { λ r. ⌜ r ≡ D.fits (intoOf d) u k n ⌝ }
 {
     if d.room < k {
@@ -198,7 +198,7 @@ pub fn may_put(d: Dest, u: usize, k: usize, n: usize) -> bool
 }
 
 // The number that a full room is refused with.
-pub fn full(d: Dest) -> Why
+fn full(d: Dest) -> Why
     ensures { λ r. ⌜ r ≡ D.full (intoOf d) ⌝ }
 {
     if d.to_work {
@@ -548,14 +548,7 @@ fn copied_value(work: &[u8], text: &mut [u8], n: usize, d: Dest, u: usize, m: Me
 }
 
 // A number, as its digits.
-fn copied_number(
-    work: &mut [u8],
-    text: &mut [u8],
-    x: Fixed,
-    d: Dest,
-    u: usize,
-    m: Meter,
-) -> Scanned
+fn copied_number(work: &mut [u8], text: &mut [u8], x: Fixed, d: Dest, u: usize, m: Meter) -> Scanned
     ensures { λ r. ⌜ CopiedValue (now (work .entry)) (now (text .entry)) (fixedText (x .value)) d u m (now (work .exit)) (now (text .exit)) r ⌝ }
 {
     let n = fixed_length(x);

@@ -5,25 +5,25 @@ use borrow.Fn.Kinds.{In}
 use borrow.Fn.PlainCycle.{Measures, is, falls, and}
 use Rattle.scanning.proofs.call_with.Reads as call-with
 use Rattle.scanning.proofs.call_with.Kinds as call-with-kinds
-use Rattle.scanning.proofs.+call_with+outcome_of+replace+replace_entry+scan+scan_arguments+token.Lts-call_with as call-with-lts
-use Rattle.scanning.proofs.outcome_of.Reads as outcome-of
-use Rattle.scanning.proofs.outcome_of.Kinds as outcome-of-kinds
-use Rattle.scanning.proofs.+call_with+outcome_of+replace+replace_entry+scan+scan_arguments+token.Lts-outcome_of as outcome-of-lts
+use Rattle.scanning.proofs.+call_with+replace+replace_entry+rescan+scan+scan_arguments+token.Lts-call_with as call-with-lts
 use Rattle.scanning.proofs.replace.Reads as replace
 use Rattle.scanning.proofs.replace.Kinds as replace-kinds
-use Rattle.scanning.proofs.+call_with+outcome_of+replace+replace_entry+scan+scan_arguments+token.Lts-replace as replace-lts
+use Rattle.scanning.proofs.+call_with+replace+replace_entry+rescan+scan+scan_arguments+token.Lts-replace as replace-lts
 use Rattle.scanning.proofs.replace_entry.Reads as replace-entry
 use Rattle.scanning.proofs.replace_entry.Kinds as replace-entry-kinds
-use Rattle.scanning.proofs.+call_with+outcome_of+replace+replace_entry+scan+scan_arguments+token.Lts-replace_entry as replace-entry-lts
+use Rattle.scanning.proofs.+call_with+replace+replace_entry+rescan+scan+scan_arguments+token.Lts-replace_entry as replace-entry-lts
+use Rattle.scanning.proofs.rescan.Reads as rescan
+use Rattle.scanning.proofs.rescan.Kinds as rescan-kinds
+use Rattle.scanning.proofs.+call_with+replace+replace_entry+rescan+scan+scan_arguments+token.Lts-rescan as rescan-lts
 use Rattle.scanning.proofs.scan.Reads as scan
 use Rattle.scanning.proofs.scan.Kinds as scan-kinds
-use Rattle.scanning.proofs.+call_with+outcome_of+replace+replace_entry+scan+scan_arguments+token.Lts-scan as scan-lts
+use Rattle.scanning.proofs.+call_with+replace+replace_entry+rescan+scan+scan_arguments+token.Lts-scan as scan-lts
 use Rattle.scanning.proofs.scan_arguments.Reads as scan-arguments
 use Rattle.scanning.proofs.scan_arguments.Kinds as scan-arguments-kinds
-use Rattle.scanning.proofs.+call_with+outcome_of+replace+replace_entry+scan+scan_arguments+token.Lts-scan_arguments as scan-arguments-lts
+use Rattle.scanning.proofs.+call_with+replace+replace_entry+rescan+scan+scan_arguments+token.Lts-scan_arguments as scan-arguments-lts
 use Rattle.scanning.proofs.token.Reads as token
 use Rattle.scanning.proofs.token.Kinds as token-kinds
-use Rattle.scanning.proofs.+call_with+outcome_of+replace+replace_entry+scan+scan_arguments+token.Lts-token as token-lts
+use Rattle.scanning.proofs.+call_with+replace+replace_entry+rescan+scan+scan_arguments+token.Lts-token as token-lts
 use Rattle.callees.proofs.callee_of.Reads as callee-of-reads
 use Rattle.callees.proofs.nothing_held.Reads as nothing-held-reads
 use Rattle.callees.proofs.parameter_at.Reads as parameter-at-reads
@@ -35,31 +35,33 @@ use Rattle.meter.proofs.Meter.charged.Reads as charged-reads
 use Rattle.names.proofs.name_at.Reads as name-at-reads
 use Rattle.operators.proofs.above.Reads as above-reads
 use Rattle.operators.proofs.size_of.Reads as size-of-reads
-use Rattle.scanning.proofs.active_in.Reads as active-in-reads
-use Rattle.scanning.proofs.after.Reads as after-reads
-use Rattle.scanning.proofs.as_text.Reads as as-text-reads
+use Rattle.outcomes.proofs.active_in.Reads as active-in-reads
+use Rattle.outcomes.proofs.after.Reads as after-reads
+use Rattle.outcomes.proofs.as_text.Reads as as-text-reads
+use Rattle.outcomes.proofs.copied_result.Reads as copied-result-reads
+use Rattle.outcomes.proofs.copied_variable.Reads as copied-variable-reads
+use Rattle.outcomes.proofs.copy_token.Reads as copy-token-reads
+use Rattle.outcomes.proofs.end_of.Reads as end-of-reads
+use Rattle.outcomes.proofs.into_work.Reads as into-work-reads
+use Rattle.outcomes.proofs.is_rescanned.Reads as is-rescanned-reads
+use Rattle.outcomes.proofs.list_of.Reads as list-of-reads
+use Rattle.outcomes.proofs.part_of.Reads as part-of-reads
+use Rattle.outcomes.proofs.piece_of.Reads as piece-of-reads
+use Rattle.outcomes.proofs.place_after.Reads as place-after-reads
+use Rattle.outcomes.proofs.plus.Reads as plus-reads
+use Rattle.outcomes.proofs.settled.Reads as settled-reads
+use Rattle.outcomes.proofs.span.Reads as span-reads
+use Rattle.outcomes.proofs.up_to.Reads as up-to-reads
+use Rattle.outcomes.proofs.waiting.Reads as waiting-reads
 use Rattle.scanning.proofs.converted.Reads as converted-reads
-use Rattle.scanning.proofs.copied_value.Reads as copied-value-reads
-use Rattle.scanning.proofs.copy_token.Reads as copy-token-reads
-use Rattle.scanning.proofs.end_of.Reads as end-of-reads
-use Rattle.scanning.proofs.into_work.Reads as into-work-reads
-use Rattle.scanning.proofs.list_of.Reads as list-of-reads
 use Rattle.scanning.proofs.meter_of.Reads as meter-of-reads
 use Rattle.scanning.proofs.next_of.Reads as next-of-reads
-use Rattle.scanning.proofs.part_of.Reads as part-of-reads
-use Rattle.scanning.proofs.piece_of.Reads as piece-of-reads
-use Rattle.scanning.proofs.place_after.Reads as place-after-reads
-use Rattle.scanning.proofs.plus.Reads as plus-reads
-use Rattle.scanning.proofs.settled.Reads as settled-reads
-use Rattle.scanning.proofs.span.Reads as span-reads
 use Rattle.scanning.proofs.type_of.Reads as type-of-reads
-use Rattle.scanning.proofs.up_to.Reads as up-to-reads
 use Rattle.scanning.proofs.value_given.Reads as value-given-reads
-use Rattle.scanning.proofs.waiting.Reads as waiting-reads
-use Rattle.scanning.proofs.+call_with+outcome_of+replace+replace_entry+scan+scan_arguments+token.{
+use Rattle.scanning.proofs.+call_with+replace+replace_entry+rescan+scan+scan_arguments+token.{
   statement,
 }
-use Rattle.scanning.proofs.+call_with+outcome_of+replace+replace_entry+scan+scan_arguments+token.Tie.{
+use Rattle.scanning.proofs.+call_with+replace+replace_entry+rescan+scan+scan_arguments+token.Tie.{
   close,
 }
 use Prim.Native.Nat.{_+_, _*_, _≤_, _-_}
@@ -70,14 +72,14 @@ use native.Mathlib.Omega.{arith}
 abbrev μ-call-with : Measures 9 call-with-kinds.ps ℕ
 μ-call-with κs a = 8 * a .1 .1 .1 .1 .1 .1 .1 .1 .1 .1 .1 .1 .1 .1 .0 + 5
 
-abbrev μ-outcome-of : Measures 9 outcome-of-kinds.ps ℕ
-μ-outcome-of κs a = 8 * a .1 .1 .1 .1 .1 .1 .1 .1 .1 .1 .1 .1 .1 .0 + 4
-
 abbrev μ-replace : Measures 9 replace-kinds.ps ℕ
 μ-replace κs a = 8 * a .1 .1 .1 .1 .1 .1 .1 .1 .1 .1 .1 .1 .1 .1 .1 .0
 
 abbrev μ-replace-entry : Measures 9 replace-entry-kinds.ps ℕ
 μ-replace-entry κs a = 8 * a .1 .1 .1 .1 .1 .1 .1 .1 .1 .1 .1 .1 .1 .1 .1 .0 + 6
+
+abbrev μ-rescan : Measures 9 rescan-kinds.ps ℕ
+μ-rescan κs a = 8 * a .1 .1 .1 .1 .1 .1 .1 .1 .1 .1 .1 .1 .0 + 4
 
 abbrev μ-scan : Measures 9 scan-kinds.ps ℕ
 μ-scan κs a = 8 * a .1 .1 .1 .1 .1 .1 .1 .1 .1 .1 .1 .1 .0 + 2
@@ -94,14 +96,6 @@ call-with-at t = and 9 call-with-kinds.ps (is 9 call-with-kinds.ps μ-call-with 
 abbrev call-with-below : ℕ → In 9 call-with-kinds.ps
 call-with-below t =
     and 9 call-with-kinds.ps (falls 9 call-with-kinds.ps _<_ μ-call-with t) call-with.Pre
-
-abbrev outcome-of-at : ℕ → In 9 outcome-of-kinds.ps
-outcome-of-at t =
-    and 9 outcome-of-kinds.ps (is 9 outcome-of-kinds.ps μ-outcome-of t) outcome-of.Pre
-
-abbrev outcome-of-below : ℕ → In 9 outcome-of-kinds.ps
-outcome-of-below t =
-    and 9 outcome-of-kinds.ps (falls 9 outcome-of-kinds.ps _<_ μ-outcome-of t) outcome-of.Pre
 
 abbrev replace-at : ℕ → In 9 replace-kinds.ps
 replace-at t = and 9 replace-kinds.ps (is 9 replace-kinds.ps μ-replace t) replace.Pre
@@ -120,6 +114,12 @@ replace-entry-below t =
     replace-entry-kinds.ps
     (falls 9 replace-entry-kinds.ps _<_ μ-replace-entry t)
     replace-entry.Pre
+
+abbrev rescan-at : ℕ → In 9 rescan-kinds.ps
+rescan-at t = and 9 rescan-kinds.ps (is 9 rescan-kinds.ps μ-rescan t) rescan.Pre
+
+abbrev rescan-below : ℕ → In 9 rescan-kinds.ps
+rescan-below t = and 9 rescan-kinds.ps (falls 9 rescan-kinds.ps _<_ μ-rescan t) rescan.Pre
 
 abbrev scan-at : ℕ → In 9 scan-kinds.ps
 scan-at t = and 9 scan-kinds.ps (is 9 scan-kinds.ps μ-scan t) scan.Pre
@@ -156,10 +156,12 @@ call-with-call-requires : (t : ℕ) → call-with-lts.Need-call-requires (
   value-given-reads.Learnt,
   meter-of-reads.Asked,
   meter-of-reads.Learnt,
-  as-text-reads.Asked,
-  as-text-reads.Learnt,
-  outcome-of-below t,
-  outcome-of.Post,
+  is-rescanned-reads.Asked,
+  is-rescanned-reads.Learnt,
+  rescan-below t,
+  rescan.Post,
+  copied-result-reads.Asked,
+  copied-result-reads.Learnt,
 ) (call-with-at t) call-with.Post
 call-with-call-requires t c κs = search needs
 
@@ -170,10 +172,12 @@ call-with-value-given-requires : (t : ℕ) → call-with-lts.Need-value-given-re
   value-given-reads.Learnt,
   meter-of-reads.Asked,
   meter-of-reads.Learnt,
-  as-text-reads.Asked,
-  as-text-reads.Learnt,
-  outcome-of-below t,
-  outcome-of.Post,
+  is-rescanned-reads.Asked,
+  is-rescanned-reads.Learnt,
+  rescan-below t,
+  rescan.Post,
+  copied-result-reads.Asked,
+  copied-result-reads.Learnt,
 ) (call-with-at t) call-with.Post
 call-with-value-given-requires t c κs = search needs
 
@@ -184,40 +188,46 @@ call-with-meter-of-requires : (t : ℕ) → call-with-lts.Need-meter-of-requires
   value-given-reads.Learnt,
   meter-of-reads.Asked,
   meter-of-reads.Learnt,
-  as-text-reads.Asked,
-  as-text-reads.Learnt,
-  outcome-of-below t,
-  outcome-of.Post,
+  is-rescanned-reads.Asked,
+  is-rescanned-reads.Learnt,
+  rescan-below t,
+  rescan.Post,
+  copied-result-reads.Asked,
+  copied-result-reads.Learnt,
 ) (call-with-at t) call-with.Post
 call-with-meter-of-requires t c κs = search needs
 
-call-with-as-text-requires : (t : ℕ) → call-with-lts.Need-as-text-requires (
+call-with-is-rescanned-requires : (t : ℕ) → call-with-lts.Need-is-rescanned-requires (
   call-reads.Asked,
   call-reads.Learnt,
   value-given-reads.Asked,
   value-given-reads.Learnt,
   meter-of-reads.Asked,
   meter-of-reads.Learnt,
-  as-text-reads.Asked,
-  as-text-reads.Learnt,
-  outcome-of-below t,
-  outcome-of.Post,
+  is-rescanned-reads.Asked,
+  is-rescanned-reads.Learnt,
+  rescan-below t,
+  rescan.Post,
+  copied-result-reads.Asked,
+  copied-result-reads.Learnt,
 ) (call-with-at t) call-with.Post
-call-with-as-text-requires t c κs = search needs
+call-with-is-rescanned-requires t c κs = search needs
 
-call-with-outcome-of-requires : (t : ℕ) → call-with-lts.Need-outcome-of-requires (
+call-with-rescan-requires : (t : ℕ) → call-with-lts.Need-rescan-requires (
   call-reads.Asked,
   call-reads.Learnt,
   value-given-reads.Asked,
   value-given-reads.Learnt,
   meter-of-reads.Asked,
   meter-of-reads.Learnt,
-  as-text-reads.Asked,
-  as-text-reads.Learnt,
-  outcome-of-below t,
-  outcome-of.Post,
+  is-rescanned-reads.Asked,
+  is-rescanned-reads.Learnt,
+  rescan-below t,
+  rescan.Post,
+  copied-result-reads.Asked,
+  copied-result-reads.Learnt,
 ) (call-with-at t) call-with.Post
-call-with-outcome-of-requires t c κs = omega (arith, (c .before .before .before .before .before .before .before .before .before .before .before .before .before .before .before .before .before .before .before .before .before .before .before .before .before .before .before .before .before .before .before .before .before .pre))
+call-with-rescan-requires t c κs = omega (arith, (c .before .before .before .before .before .before .before .before .before .before .before .before .before .before .before .before .before .before .before .before .before .before .before .before .before .before .before .before .before .before .before .pre))
 
 call-with-same-length : (t : ℕ) → call-with-lts.Need-same-length (
   call-reads.Asked,
@@ -226,10 +236,12 @@ call-with-same-length : (t : ℕ) → call-with-lts.Need-same-length (
   value-given-reads.Learnt,
   meter-of-reads.Asked,
   meter-of-reads.Learnt,
-  as-text-reads.Asked,
-  as-text-reads.Learnt,
-  outcome-of-below t,
-  outcome-of.Post,
+  is-rescanned-reads.Asked,
+  is-rescanned-reads.Learnt,
+  rescan-below t,
+  rescan.Post,
+  copied-result-reads.Asked,
+  copied-result-reads.Learnt,
 ) (call-with-at t) call-with.Post
 call-with-same-length t c = search needs
 
@@ -240,10 +252,12 @@ call-with-same-length-2 : (t : ℕ) → call-with-lts.Need-same-length-2 (
   value-given-reads.Learnt,
   meter-of-reads.Asked,
   meter-of-reads.Learnt,
-  as-text-reads.Asked,
-  as-text-reads.Learnt,
-  outcome-of-below t,
-  outcome-of.Post,
+  is-rescanned-reads.Asked,
+  is-rescanned-reads.Learnt,
+  rescan-below t,
+  rescan.Post,
+  copied-result-reads.Asked,
+  copied-result-reads.Learnt,
 ) (call-with-at t) call-with.Post
 call-with-same-length-2 t c = search needs
 
@@ -254,10 +268,12 @@ call-with-same-length-3 : (t : ℕ) → call-with-lts.Need-same-length-3 (
   value-given-reads.Learnt,
   meter-of-reads.Asked,
   meter-of-reads.Learnt,
-  as-text-reads.Asked,
-  as-text-reads.Learnt,
-  outcome-of-below t,
-  outcome-of.Post,
+  is-rescanned-reads.Asked,
+  is-rescanned-reads.Learnt,
+  rescan-below t,
+  rescan.Post,
+  copied-result-reads.Asked,
+  copied-result-reads.Learnt,
 ) (call-with-at t) call-with.Post
 call-with-same-length-3 t c = search needs
 
@@ -268,10 +284,12 @@ call-with-same-length-4 : (t : ℕ) → call-with-lts.Need-same-length-4 (
   value-given-reads.Learnt,
   meter-of-reads.Asked,
   meter-of-reads.Learnt,
-  as-text-reads.Asked,
-  as-text-reads.Learnt,
-  outcome-of-below t,
-  outcome-of.Post,
+  is-rescanned-reads.Asked,
+  is-rescanned-reads.Learnt,
+  rescan-below t,
+  rescan.Post,
+  copied-result-reads.Asked,
+  copied-result-reads.Learnt,
 ) (call-with-at t) call-with.Post
 call-with-same-length-4 t c = search needs
 
@@ -282,10 +300,12 @@ call-with-same-length-5 : (t : ℕ) → call-with-lts.Need-same-length-5 (
   value-given-reads.Learnt,
   meter-of-reads.Asked,
   meter-of-reads.Learnt,
-  as-text-reads.Asked,
-  as-text-reads.Learnt,
-  outcome-of-below t,
-  outcome-of.Post,
+  is-rescanned-reads.Asked,
+  is-rescanned-reads.Learnt,
+  rescan-below t,
+  rescan.Post,
+  copied-result-reads.Asked,
+  copied-result-reads.Learnt,
 ) (call-with-at t) call-with.Post
 call-with-same-length-5 t c = search needs
 
@@ -296,264 +316,140 @@ call-with-returns : (t : ℕ) → call-with-lts.Need-returns (
   value-given-reads.Learnt,
   meter-of-reads.Asked,
   meter-of-reads.Learnt,
-  as-text-reads.Asked,
-  as-text-reads.Learnt,
-  outcome-of-below t,
-  outcome-of.Post,
+  is-rescanned-reads.Asked,
+  is-rescanned-reads.Learnt,
+  rescan-below t,
+  rescan.Post,
+  copied-result-reads.Asked,
+  copied-result-reads.Learnt,
 ) (call-with-at t) call-with.Post
 call-with-returns t c = search needs
 
-outcome-of-enum-known-x : (t : ℕ) → outcome-of-lts.Need-enum-known-x (
-  above-reads.Asked,
-  above-reads.Learnt,
-  scan-below t,
-  scan.Post,
-  settled-reads.Asked,
-  settled-reads.Learnt,
-  copied-value-reads.Asked,
-  copied-value-reads.Learnt,
-) (outcome-of-at t) outcome-of.Post
-outcome-of-enum-known-x t c = search needs
+call-with-copied-result-requires : (t : ℕ) → call-with-lts.Need-copied-result-requires (
+  call-reads.Asked,
+  call-reads.Learnt,
+  value-given-reads.Asked,
+  value-given-reads.Learnt,
+  meter-of-reads.Asked,
+  meter-of-reads.Learnt,
+  is-rescanned-reads.Asked,
+  is-rescanned-reads.Learnt,
+  rescan-below t,
+  rescan.Post,
+  copied-result-reads.Asked,
+  copied-result-reads.Learnt,
+) (call-with-at t) call-with.Post
+call-with-copied-result-requires t c κs = search needs
 
-outcome-of-enum-told : (t : ℕ) → outcome-of-lts.Need-enum-told (
-  above-reads.Asked,
-  above-reads.Learnt,
-  scan-below t,
-  scan.Post,
-  settled-reads.Asked,
-  settled-reads.Learnt,
-  copied-value-reads.Asked,
-  copied-value-reads.Learnt,
-) (outcome-of-at t) outcome-of.Post
-outcome-of-enum-told t c = search needs
+call-with-same-length-6 : (t : ℕ) → call-with-lts.Need-same-length-6 (
+  call-reads.Asked,
+  call-reads.Learnt,
+  value-given-reads.Asked,
+  value-given-reads.Learnt,
+  meter-of-reads.Asked,
+  meter-of-reads.Learnt,
+  is-rescanned-reads.Asked,
+  is-rescanned-reads.Learnt,
+  rescan-below t,
+  rescan.Post,
+  copied-result-reads.Asked,
+  copied-result-reads.Learnt,
+) (call-with-at t) call-with.Post
+call-with-same-length-6 t c = search needs
 
-outcome-of-above-requires : (t : ℕ) → outcome-of-lts.Need-above-requires (
-  above-reads.Asked,
-  above-reads.Learnt,
-  scan-below t,
-  scan.Post,
-  settled-reads.Asked,
-  settled-reads.Learnt,
-  copied-value-reads.Asked,
-  copied-value-reads.Learnt,
-) (outcome-of-at t) outcome-of.Post
-outcome-of-above-requires t c κs = search needs
+call-with-same-length-7 : (t : ℕ) → call-with-lts.Need-same-length-7 (
+  call-reads.Asked,
+  call-reads.Learnt,
+  value-given-reads.Asked,
+  value-given-reads.Learnt,
+  meter-of-reads.Asked,
+  meter-of-reads.Learnt,
+  is-rescanned-reads.Asked,
+  is-rescanned-reads.Learnt,
+  rescan-below t,
+  rescan.Post,
+  copied-result-reads.Asked,
+  copied-result-reads.Learnt,
+) (call-with-at t) call-with.Post
+call-with-same-length-7 t c = search needs
 
-outcome-of-scan-requires : (t : ℕ) → outcome-of-lts.Need-scan-requires (
-  above-reads.Asked,
-  above-reads.Learnt,
-  scan-below t,
-  scan.Post,
-  settled-reads.Asked,
-  settled-reads.Learnt,
-  copied-value-reads.Asked,
-  copied-value-reads.Learnt,
-) (outcome-of-at t) outcome-of.Post
-outcome-of-scan-requires t c κs = search needs
+call-with-same-length-8 : (t : ℕ) → call-with-lts.Need-same-length-8 (
+  call-reads.Asked,
+  call-reads.Learnt,
+  value-given-reads.Asked,
+  value-given-reads.Learnt,
+  meter-of-reads.Asked,
+  meter-of-reads.Learnt,
+  is-rescanned-reads.Asked,
+  is-rescanned-reads.Learnt,
+  rescan-below t,
+  rescan.Post,
+  copied-result-reads.Asked,
+  copied-result-reads.Learnt,
+) (call-with-at t) call-with.Post
+call-with-same-length-8 t c = search needs
 
-outcome-of-settled-requires : (t : ℕ) → outcome-of-lts.Need-settled-requires (
-  above-reads.Asked,
-  above-reads.Learnt,
-  scan-below t,
-  scan.Post,
-  settled-reads.Asked,
-  settled-reads.Learnt,
-  copied-value-reads.Asked,
-  copied-value-reads.Learnt,
-) (outcome-of-at t) outcome-of.Post
-outcome-of-settled-requires t c κs = search needs
+call-with-same-length-9 : (t : ℕ) → call-with-lts.Need-same-length-9 (
+  call-reads.Asked,
+  call-reads.Learnt,
+  value-given-reads.Asked,
+  value-given-reads.Learnt,
+  meter-of-reads.Asked,
+  meter-of-reads.Learnt,
+  is-rescanned-reads.Asked,
+  is-rescanned-reads.Learnt,
+  rescan-below t,
+  rescan.Post,
+  copied-result-reads.Asked,
+  copied-result-reads.Learnt,
+) (call-with-at t) call-with.Post
+call-with-same-length-9 t c = search needs
 
-outcome-of-enum-told-2 : (t : ℕ) → outcome-of-lts.Need-enum-told-2 (
-  above-reads.Asked,
-  above-reads.Learnt,
-  scan-below t,
-  scan.Post,
-  settled-reads.Asked,
-  settled-reads.Learnt,
-  copied-value-reads.Asked,
-  copied-value-reads.Learnt,
-) (outcome-of-at t) outcome-of.Post
-outcome-of-enum-told-2 t c = search needs
+call-with-same-length-10 : (t : ℕ) → call-with-lts.Need-same-length-10 (
+  call-reads.Asked,
+  call-reads.Learnt,
+  value-given-reads.Asked,
+  value-given-reads.Learnt,
+  meter-of-reads.Asked,
+  meter-of-reads.Learnt,
+  is-rescanned-reads.Asked,
+  is-rescanned-reads.Learnt,
+  rescan-below t,
+  rescan.Post,
+  copied-result-reads.Asked,
+  copied-result-reads.Learnt,
+) (call-with-at t) call-with.Post
+call-with-same-length-10 t c = search needs
 
-outcome-of-copied-value-requires : (t : ℕ) → outcome-of-lts.Need-copied-value-requires (
-  above-reads.Asked,
-  above-reads.Learnt,
-  scan-below t,
-  scan.Post,
-  settled-reads.Asked,
-  settled-reads.Learnt,
-  copied-value-reads.Asked,
-  copied-value-reads.Learnt,
-) (outcome-of-at t) outcome-of.Post
-outcome-of-copied-value-requires t c κs = search needs
-
-outcome-of-enum-told-3 : (t : ℕ) → outcome-of-lts.Need-enum-told-3 (
-  above-reads.Asked,
-  above-reads.Learnt,
-  scan-below t,
-  scan.Post,
-  settled-reads.Asked,
-  settled-reads.Learnt,
-  copied-value-reads.Asked,
-  copied-value-reads.Learnt,
-) (outcome-of-at t) outcome-of.Post
-outcome-of-enum-told-3 t c = search needs
-
-outcome-of-enum-known-x-2 : (t : ℕ) → outcome-of-lts.Need-enum-known-x-2 (
-  above-reads.Asked,
-  above-reads.Learnt,
-  scan-below t,
-  scan.Post,
-  settled-reads.Asked,
-  settled-reads.Learnt,
-  copied-value-reads.Asked,
-  copied-value-reads.Learnt,
-) (outcome-of-at t) outcome-of.Post
-outcome-of-enum-known-x-2 t c = search needs
-
-outcome-of-same-length : (t : ℕ) → outcome-of-lts.Need-same-length (
-  above-reads.Asked,
-  above-reads.Learnt,
-  scan-below t,
-  scan.Post,
-  settled-reads.Asked,
-  settled-reads.Learnt,
-  copied-value-reads.Asked,
-  copied-value-reads.Learnt,
-) (outcome-of-at t) outcome-of.Post
-outcome-of-same-length t c = search needs
-
-outcome-of-same-length-2 : (t : ℕ) → outcome-of-lts.Need-same-length-2 (
-  above-reads.Asked,
-  above-reads.Learnt,
-  scan-below t,
-  scan.Post,
-  settled-reads.Asked,
-  settled-reads.Learnt,
-  copied-value-reads.Asked,
-  copied-value-reads.Learnt,
-) (outcome-of-at t) outcome-of.Post
-outcome-of-same-length-2 t c = search needs
-
-outcome-of-same-length-3 : (t : ℕ) → outcome-of-lts.Need-same-length-3 (
-  above-reads.Asked,
-  above-reads.Learnt,
-  scan-below t,
-  scan.Post,
-  settled-reads.Asked,
-  settled-reads.Learnt,
-  copied-value-reads.Asked,
-  copied-value-reads.Learnt,
-) (outcome-of-at t) outcome-of.Post
-outcome-of-same-length-3 t c = search needs
-
-outcome-of-same-length-4 : (t : ℕ) → outcome-of-lts.Need-same-length-4 (
-  above-reads.Asked,
-  above-reads.Learnt,
-  scan-below t,
-  scan.Post,
-  settled-reads.Asked,
-  settled-reads.Learnt,
-  copied-value-reads.Asked,
-  copied-value-reads.Learnt,
-) (outcome-of-at t) outcome-of.Post
-outcome-of-same-length-4 t c = search needs
-
-outcome-of-same-length-5 : (t : ℕ) → outcome-of-lts.Need-same-length-5 (
-  above-reads.Asked,
-  above-reads.Learnt,
-  scan-below t,
-  scan.Post,
-  settled-reads.Asked,
-  settled-reads.Learnt,
-  copied-value-reads.Asked,
-  copied-value-reads.Learnt,
-) (outcome-of-at t) outcome-of.Post
-outcome-of-same-length-5 t c = search needs
-
-outcome-of-returns : (t : ℕ) → outcome-of-lts.Need-returns (
-  above-reads.Asked,
-  above-reads.Learnt,
-  scan-below t,
-  scan.Post,
-  settled-reads.Asked,
-  settled-reads.Learnt,
-  copied-value-reads.Asked,
-  copied-value-reads.Learnt,
-) (outcome-of-at t) outcome-of.Post
-outcome-of-returns t c = search needs
-
-outcome-of-same-length-6 : (t : ℕ) → outcome-of-lts.Need-same-length-6 (
-  above-reads.Asked,
-  above-reads.Learnt,
-  scan-below t,
-  scan.Post,
-  settled-reads.Asked,
-  settled-reads.Learnt,
-  copied-value-reads.Asked,
-  copied-value-reads.Learnt,
-) (outcome-of-at t) outcome-of.Post
-outcome-of-same-length-6 t c = search needs
-
-outcome-of-same-length-7 : (t : ℕ) → outcome-of-lts.Need-same-length-7 (
-  above-reads.Asked,
-  above-reads.Learnt,
-  scan-below t,
-  scan.Post,
-  settled-reads.Asked,
-  settled-reads.Learnt,
-  copied-value-reads.Asked,
-  copied-value-reads.Learnt,
-) (outcome-of-at t) outcome-of.Post
-outcome-of-same-length-7 t c = search needs
-
-outcome-of-returns-2 : (t : ℕ) → outcome-of-lts.Need-returns-2 (
-  above-reads.Asked,
-  above-reads.Learnt,
-  scan-below t,
-  scan.Post,
-  settled-reads.Asked,
-  settled-reads.Learnt,
-  copied-value-reads.Asked,
-  copied-value-reads.Learnt,
-) (outcome-of-at t) outcome-of.Post
-outcome-of-returns-2 t c = search needs
-
-outcome-of-returns-3 : (t : ℕ) → outcome-of-lts.Need-returns-3 (
-  above-reads.Asked,
-  above-reads.Learnt,
-  scan-below t,
-  scan.Post,
-  settled-reads.Asked,
-  settled-reads.Learnt,
-  copied-value-reads.Asked,
-  copied-value-reads.Learnt,
-) (outcome-of-at t) outcome-of.Post
-outcome-of-returns-3 t c = search needs
-
-outcome-of-returns-4 : (t : ℕ) → outcome-of-lts.Need-returns-4 (
-  above-reads.Asked,
-  above-reads.Learnt,
-  scan-below t,
-  scan.Post,
-  settled-reads.Asked,
-  settled-reads.Learnt,
-  copied-value-reads.Asked,
-  copied-value-reads.Learnt,
-) (outcome-of-at t) outcome-of.Post
-outcome-of-returns-4 t c = search needs
+call-with-returns-2 : (t : ℕ) → call-with-lts.Need-returns-2 (
+  call-reads.Asked,
+  call-reads.Learnt,
+  value-given-reads.Asked,
+  value-given-reads.Learnt,
+  meter-of-reads.Asked,
+  meter-of-reads.Learnt,
+  is-rescanned-reads.Asked,
+  is-rescanned-reads.Learnt,
+  rescan-below t,
+  rescan.Post,
+  copied-result-reads.Asked,
+  copied-result-reads.Learnt,
+) (call-with-at t) call-with.Post
+call-with-returns-2 t c = search needs
 
 replace-returns : (t : ℕ) → replace-lts.Need-returns (
   name-at-reads.Asked,
   name-at-reads.Learnt,
+  is-rescanned-reads.Asked,
+  is-rescanned-reads.Learnt,
   variable-value-reads.Asked,
   variable-value-reads.Learnt,
-  as-text-reads.Asked,
-  as-text-reads.Learnt,
-  outcome-of-below t,
-  outcome-of.Post,
+  rescan-below t,
+  rescan.Post,
   up-to-reads.Asked,
   up-to-reads.Learnt,
+  copied-variable-reads.Asked,
+  copied-variable-reads.Learnt,
   callee-of-reads.Asked,
   callee-of-reads.Learnt,
   replace-entry-below t,
@@ -564,14 +460,16 @@ replace-returns t c = search needs
 replace-name-at-requires : (t : ℕ) → replace-lts.Need-name-at-requires (
   name-at-reads.Asked,
   name-at-reads.Learnt,
+  is-rescanned-reads.Asked,
+  is-rescanned-reads.Learnt,
   variable-value-reads.Asked,
   variable-value-reads.Learnt,
-  as-text-reads.Asked,
-  as-text-reads.Learnt,
-  outcome-of-below t,
-  outcome-of.Post,
+  rescan-below t,
+  rescan.Post,
   up-to-reads.Asked,
   up-to-reads.Learnt,
+  copied-variable-reads.Asked,
+  copied-variable-reads.Learnt,
   callee-of-reads.Asked,
   callee-of-reads.Learnt,
   replace-entry-below t,
@@ -582,14 +480,16 @@ replace-name-at-requires t c κs = search needs
 replace-enum-known-k : (t : ℕ) → replace-lts.Need-enum-known-k (
   name-at-reads.Asked,
   name-at-reads.Learnt,
+  is-rescanned-reads.Asked,
+  is-rescanned-reads.Learnt,
   variable-value-reads.Asked,
   variable-value-reads.Learnt,
-  as-text-reads.Asked,
-  as-text-reads.Learnt,
-  outcome-of-below t,
-  outcome-of.Post,
+  rescan-below t,
+  rescan.Post,
   up-to-reads.Asked,
   up-to-reads.Learnt,
+  copied-variable-reads.Asked,
+  copied-variable-reads.Learnt,
   callee-of-reads.Asked,
   callee-of-reads.Learnt,
   replace-entry-below t,
@@ -597,17 +497,39 @@ replace-enum-known-k : (t : ℕ) → replace-lts.Need-enum-known-k (
 ) (replace-at t) replace.Post
 replace-enum-known-k t c = search needs
 
+replace-is-rescanned-requires : (t : ℕ) → replace-lts.Need-is-rescanned-requires (
+  name-at-reads.Asked,
+  name-at-reads.Learnt,
+  is-rescanned-reads.Asked,
+  is-rescanned-reads.Learnt,
+  variable-value-reads.Asked,
+  variable-value-reads.Learnt,
+  rescan-below t,
+  rescan.Post,
+  up-to-reads.Asked,
+  up-to-reads.Learnt,
+  copied-variable-reads.Asked,
+  copied-variable-reads.Learnt,
+  callee-of-reads.Asked,
+  callee-of-reads.Learnt,
+  replace-entry-below t,
+  replace-entry.Post,
+) (replace-at t) replace.Post
+replace-is-rescanned-requires t c κs = search needs
+
 replace-variable-value-requires : (t : ℕ) → replace-lts.Need-variable-value-requires (
   name-at-reads.Asked,
   name-at-reads.Learnt,
+  is-rescanned-reads.Asked,
+  is-rescanned-reads.Learnt,
   variable-value-reads.Asked,
   variable-value-reads.Learnt,
-  as-text-reads.Asked,
-  as-text-reads.Learnt,
-  outcome-of-below t,
-  outcome-of.Post,
+  rescan-below t,
+  rescan.Post,
   up-to-reads.Asked,
   up-to-reads.Learnt,
+  copied-variable-reads.Asked,
+  copied-variable-reads.Learnt,
   callee-of-reads.Asked,
   callee-of-reads.Learnt,
   replace-entry-below t,
@@ -615,53 +537,39 @@ replace-variable-value-requires : (t : ℕ) → replace-lts.Need-variable-value-
 ) (replace-at t) replace.Post
 replace-variable-value-requires t c κs = search needs
 
-replace-as-text-requires : (t : ℕ) → replace-lts.Need-as-text-requires (
+replace-rescan-requires : (t : ℕ) → replace-lts.Need-rescan-requires (
   name-at-reads.Asked,
   name-at-reads.Learnt,
+  is-rescanned-reads.Asked,
+  is-rescanned-reads.Learnt,
   variable-value-reads.Asked,
   variable-value-reads.Learnt,
-  as-text-reads.Asked,
-  as-text-reads.Learnt,
-  outcome-of-below t,
-  outcome-of.Post,
+  rescan-below t,
+  rescan.Post,
   up-to-reads.Asked,
   up-to-reads.Learnt,
+  copied-variable-reads.Asked,
+  copied-variable-reads.Learnt,
   callee-of-reads.Asked,
   callee-of-reads.Learnt,
   replace-entry-below t,
   replace-entry.Post,
 ) (replace-at t) replace.Post
-replace-as-text-requires t c κs = search needs
-
-replace-outcome-of-requires : (t : ℕ) → replace-lts.Need-outcome-of-requires (
-  name-at-reads.Asked,
-  name-at-reads.Learnt,
-  variable-value-reads.Asked,
-  variable-value-reads.Learnt,
-  as-text-reads.Asked,
-  as-text-reads.Learnt,
-  outcome-of-below t,
-  outcome-of.Post,
-  up-to-reads.Asked,
-  up-to-reads.Learnt,
-  callee-of-reads.Asked,
-  callee-of-reads.Learnt,
-  replace-entry-below t,
-  replace-entry.Post,
-) (replace-at t) replace.Post
-replace-outcome-of-requires t c κs = omega (arith, (c .before .before .before .before .before .before .before .before .before .before .before .before .before .before .before .before .before .before .before .before .before .before .before .before .before .before .before .before .before .before .pre), (c .before .before .before .before .before .before .before .before .before .before .before .before .before .before .before .before .before .before .before .before .if1 .left))
+replace-rescan-requires t c κs = omega (arith, (c .before .before .before .before .before .before .before .before .before .before .before .before .before .before .before .before .before .before .before .before .before .before .before .before .before .before .before .before .pre), (c .before .before .before .before .before .before .before .before .before .before .before .before .before .before .before .before .before .before .if1 .left))
 
 replace-up-to-requires : (t : ℕ) → replace-lts.Need-up-to-requires (
   name-at-reads.Asked,
   name-at-reads.Learnt,
+  is-rescanned-reads.Asked,
+  is-rescanned-reads.Learnt,
   variable-value-reads.Asked,
   variable-value-reads.Learnt,
-  as-text-reads.Asked,
-  as-text-reads.Learnt,
-  outcome-of-below t,
-  outcome-of.Post,
+  rescan-below t,
+  rescan.Post,
   up-to-reads.Asked,
   up-to-reads.Learnt,
+  copied-variable-reads.Asked,
+  copied-variable-reads.Learnt,
   callee-of-reads.Asked,
   callee-of-reads.Learnt,
   replace-entry-below t,
@@ -669,143 +577,19 @@ replace-up-to-requires : (t : ℕ) → replace-lts.Need-up-to-requires (
 ) (replace-at t) replace.Post
 replace-up-to-requires t c κs = search needs
 
-replace-enum-known-k-2 : (t : ℕ) → replace-lts.Need-enum-known-k-2 (
-  name-at-reads.Asked,
-  name-at-reads.Learnt,
-  variable-value-reads.Asked,
-  variable-value-reads.Learnt,
-  as-text-reads.Asked,
-  as-text-reads.Learnt,
-  outcome-of-below t,
-  outcome-of.Post,
-  up-to-reads.Asked,
-  up-to-reads.Learnt,
-  callee-of-reads.Asked,
-  callee-of-reads.Learnt,
-  replace-entry-below t,
-  replace-entry.Post,
-) (replace-at t) replace.Post
-replace-enum-known-k-2 t c = search needs
-
-replace-callee-of-requires : (t : ℕ) → replace-lts.Need-callee-of-requires (
-  name-at-reads.Asked,
-  name-at-reads.Learnt,
-  variable-value-reads.Asked,
-  variable-value-reads.Learnt,
-  as-text-reads.Asked,
-  as-text-reads.Learnt,
-  outcome-of-below t,
-  outcome-of.Post,
-  up-to-reads.Asked,
-  up-to-reads.Learnt,
-  callee-of-reads.Asked,
-  callee-of-reads.Learnt,
-  replace-entry-below t,
-  replace-entry.Post,
-) (replace-at t) replace.Post
-replace-callee-of-requires t c κs = search needs
-
-replace-enum-known-y : (t : ℕ) → replace-lts.Need-enum-known-y (
-  name-at-reads.Asked,
-  name-at-reads.Learnt,
-  variable-value-reads.Asked,
-  variable-value-reads.Learnt,
-  as-text-reads.Asked,
-  as-text-reads.Learnt,
-  outcome-of-below t,
-  outcome-of.Post,
-  up-to-reads.Asked,
-  up-to-reads.Learnt,
-  callee-of-reads.Asked,
-  callee-of-reads.Learnt,
-  replace-entry-below t,
-  replace-entry.Post,
-) (replace-at t) replace.Post
-replace-enum-known-y t c = search needs
-
-replace-replace-entry-requires : (t : ℕ) → replace-lts.Need-replace-entry-requires (
-  name-at-reads.Asked,
-  name-at-reads.Learnt,
-  variable-value-reads.Asked,
-  variable-value-reads.Learnt,
-  as-text-reads.Asked,
-  as-text-reads.Learnt,
-  outcome-of-below t,
-  outcome-of.Post,
-  up-to-reads.Asked,
-  up-to-reads.Learnt,
-  callee-of-reads.Asked,
-  callee-of-reads.Learnt,
-  replace-entry-below t,
-  replace-entry.Post,
-) (replace-at t) replace.Post
-replace-replace-entry-requires t c κs = omega (arith, (c .before .before .before .before .before .before .before .before .before .before .before .before .before .before .before .before .before .before .before .before .before .before .before .before .pre), (c .before .before .before .before .before .before .before .before .before .before .before .before .before .before .if1 .left))
-
-replace-enum-known-y-2 : (t : ℕ) → replace-lts.Need-enum-known-y-2 (
-  name-at-reads.Asked,
-  name-at-reads.Learnt,
-  variable-value-reads.Asked,
-  variable-value-reads.Learnt,
-  as-text-reads.Asked,
-  as-text-reads.Learnt,
-  outcome-of-below t,
-  outcome-of.Post,
-  up-to-reads.Asked,
-  up-to-reads.Learnt,
-  callee-of-reads.Asked,
-  callee-of-reads.Learnt,
-  replace-entry-below t,
-  replace-entry.Post,
-) (replace-at t) replace.Post
-replace-enum-known-y-2 t c = search needs
-
-replace-enum-told : (t : ℕ) → replace-lts.Need-enum-told (
-  name-at-reads.Asked,
-  name-at-reads.Learnt,
-  variable-value-reads.Asked,
-  variable-value-reads.Learnt,
-  as-text-reads.Asked,
-  as-text-reads.Learnt,
-  outcome-of-below t,
-  outcome-of.Post,
-  up-to-reads.Asked,
-  up-to-reads.Learnt,
-  callee-of-reads.Asked,
-  callee-of-reads.Learnt,
-  replace-entry-below t,
-  replace-entry.Post,
-) (replace-at t) replace.Post
-replace-enum-told t c = search needs
-
-replace-enum-told-2 : (t : ℕ) → replace-lts.Need-enum-told-2 (
-  name-at-reads.Asked,
-  name-at-reads.Learnt,
-  variable-value-reads.Asked,
-  variable-value-reads.Learnt,
-  as-text-reads.Asked,
-  as-text-reads.Learnt,
-  outcome-of-below t,
-  outcome-of.Post,
-  up-to-reads.Asked,
-  up-to-reads.Learnt,
-  callee-of-reads.Asked,
-  callee-of-reads.Learnt,
-  replace-entry-below t,
-  replace-entry.Post,
-) (replace-at t) replace.Post
-replace-enum-told-2 t c = search needs
-
 replace-same-length : (t : ℕ) → replace-lts.Need-same-length (
   name-at-reads.Asked,
   name-at-reads.Learnt,
+  is-rescanned-reads.Asked,
+  is-rescanned-reads.Learnt,
   variable-value-reads.Asked,
   variable-value-reads.Learnt,
-  as-text-reads.Asked,
-  as-text-reads.Learnt,
-  outcome-of-below t,
-  outcome-of.Post,
+  rescan-below t,
+  rescan.Post,
   up-to-reads.Asked,
   up-to-reads.Learnt,
+  copied-variable-reads.Asked,
+  copied-variable-reads.Learnt,
   callee-of-reads.Asked,
   callee-of-reads.Learnt,
   replace-entry-below t,
@@ -816,14 +600,16 @@ replace-same-length t c = search needs
 replace-same-length-2 : (t : ℕ) → replace-lts.Need-same-length-2 (
   name-at-reads.Asked,
   name-at-reads.Learnt,
+  is-rescanned-reads.Asked,
+  is-rescanned-reads.Learnt,
   variable-value-reads.Asked,
   variable-value-reads.Learnt,
-  as-text-reads.Asked,
-  as-text-reads.Learnt,
-  outcome-of-below t,
-  outcome-of.Post,
+  rescan-below t,
+  rescan.Post,
   up-to-reads.Asked,
   up-to-reads.Learnt,
+  copied-variable-reads.Asked,
+  copied-variable-reads.Learnt,
   callee-of-reads.Asked,
   callee-of-reads.Learnt,
   replace-entry-below t,
@@ -834,14 +620,16 @@ replace-same-length-2 t c = search needs
 replace-same-length-3 : (t : ℕ) → replace-lts.Need-same-length-3 (
   name-at-reads.Asked,
   name-at-reads.Learnt,
+  is-rescanned-reads.Asked,
+  is-rescanned-reads.Learnt,
   variable-value-reads.Asked,
   variable-value-reads.Learnt,
-  as-text-reads.Asked,
-  as-text-reads.Learnt,
-  outcome-of-below t,
-  outcome-of.Post,
+  rescan-below t,
+  rescan.Post,
   up-to-reads.Asked,
   up-to-reads.Learnt,
+  copied-variable-reads.Asked,
+  copied-variable-reads.Learnt,
   callee-of-reads.Asked,
   callee-of-reads.Learnt,
   replace-entry-below t,
@@ -852,14 +640,16 @@ replace-same-length-3 t c = search needs
 replace-same-length-4 : (t : ℕ) → replace-lts.Need-same-length-4 (
   name-at-reads.Asked,
   name-at-reads.Learnt,
+  is-rescanned-reads.Asked,
+  is-rescanned-reads.Learnt,
   variable-value-reads.Asked,
   variable-value-reads.Learnt,
-  as-text-reads.Asked,
-  as-text-reads.Learnt,
-  outcome-of-below t,
-  outcome-of.Post,
+  rescan-below t,
+  rescan.Post,
   up-to-reads.Asked,
   up-to-reads.Learnt,
+  copied-variable-reads.Asked,
+  copied-variable-reads.Learnt,
   callee-of-reads.Asked,
   callee-of-reads.Learnt,
   replace-entry-below t,
@@ -870,14 +660,16 @@ replace-same-length-4 t c = search needs
 replace-same-length-5 : (t : ℕ) → replace-lts.Need-same-length-5 (
   name-at-reads.Asked,
   name-at-reads.Learnt,
+  is-rescanned-reads.Asked,
+  is-rescanned-reads.Learnt,
   variable-value-reads.Asked,
   variable-value-reads.Learnt,
-  as-text-reads.Asked,
-  as-text-reads.Learnt,
-  outcome-of-below t,
-  outcome-of.Post,
+  rescan-below t,
+  rescan.Post,
   up-to-reads.Asked,
   up-to-reads.Learnt,
+  copied-variable-reads.Asked,
+  copied-variable-reads.Learnt,
   callee-of-reads.Asked,
   callee-of-reads.Learnt,
   replace-entry-below t,
@@ -888,14 +680,16 @@ replace-same-length-5 t c = search needs
 replace-returns-2 : (t : ℕ) → replace-lts.Need-returns-2 (
   name-at-reads.Asked,
   name-at-reads.Learnt,
+  is-rescanned-reads.Asked,
+  is-rescanned-reads.Learnt,
   variable-value-reads.Asked,
   variable-value-reads.Learnt,
-  as-text-reads.Asked,
-  as-text-reads.Learnt,
-  outcome-of-below t,
-  outcome-of.Post,
+  rescan-below t,
+  rescan.Post,
   up-to-reads.Asked,
   up-to-reads.Learnt,
+  copied-variable-reads.Asked,
+  copied-variable-reads.Learnt,
   callee-of-reads.Asked,
   callee-of-reads.Learnt,
   replace-entry-below t,
@@ -903,17 +697,199 @@ replace-returns-2 : (t : ℕ) → replace-lts.Need-returns-2 (
 ) (replace-at t) replace.Post
 replace-returns-2 t c = search needs
 
+replace-copied-variable-requires : (t : ℕ) → replace-lts.Need-copied-variable-requires (
+  name-at-reads.Asked,
+  name-at-reads.Learnt,
+  is-rescanned-reads.Asked,
+  is-rescanned-reads.Learnt,
+  variable-value-reads.Asked,
+  variable-value-reads.Learnt,
+  rescan-below t,
+  rescan.Post,
+  up-to-reads.Asked,
+  up-to-reads.Learnt,
+  copied-variable-reads.Asked,
+  copied-variable-reads.Learnt,
+  callee-of-reads.Asked,
+  callee-of-reads.Learnt,
+  replace-entry-below t,
+  replace-entry.Post,
+) (replace-at t) replace.Post
+replace-copied-variable-requires t c κs = search needs
+
+replace-up-to-requires-2 : (t : ℕ) → replace-lts.Need-up-to-requires-2 (
+  name-at-reads.Asked,
+  name-at-reads.Learnt,
+  is-rescanned-reads.Asked,
+  is-rescanned-reads.Learnt,
+  variable-value-reads.Asked,
+  variable-value-reads.Learnt,
+  rescan-below t,
+  rescan.Post,
+  up-to-reads.Asked,
+  up-to-reads.Learnt,
+  copied-variable-reads.Asked,
+  copied-variable-reads.Learnt,
+  callee-of-reads.Asked,
+  callee-of-reads.Learnt,
+  replace-entry-below t,
+  replace-entry.Post,
+) (replace-at t) replace.Post
+replace-up-to-requires-2 t c κs = search needs
+
+replace-enum-known-k-2 : (t : ℕ) → replace-lts.Need-enum-known-k-2 (
+  name-at-reads.Asked,
+  name-at-reads.Learnt,
+  is-rescanned-reads.Asked,
+  is-rescanned-reads.Learnt,
+  variable-value-reads.Asked,
+  variable-value-reads.Learnt,
+  rescan-below t,
+  rescan.Post,
+  up-to-reads.Asked,
+  up-to-reads.Learnt,
+  copied-variable-reads.Asked,
+  copied-variable-reads.Learnt,
+  callee-of-reads.Asked,
+  callee-of-reads.Learnt,
+  replace-entry-below t,
+  replace-entry.Post,
+) (replace-at t) replace.Post
+replace-enum-known-k-2 t c = search needs
+
+replace-callee-of-requires : (t : ℕ) → replace-lts.Need-callee-of-requires (
+  name-at-reads.Asked,
+  name-at-reads.Learnt,
+  is-rescanned-reads.Asked,
+  is-rescanned-reads.Learnt,
+  variable-value-reads.Asked,
+  variable-value-reads.Learnt,
+  rescan-below t,
+  rescan.Post,
+  up-to-reads.Asked,
+  up-to-reads.Learnt,
+  copied-variable-reads.Asked,
+  copied-variable-reads.Learnt,
+  callee-of-reads.Asked,
+  callee-of-reads.Learnt,
+  replace-entry-below t,
+  replace-entry.Post,
+) (replace-at t) replace.Post
+replace-callee-of-requires t c κs = search needs
+
+replace-enum-known-y : (t : ℕ) → replace-lts.Need-enum-known-y (
+  name-at-reads.Asked,
+  name-at-reads.Learnt,
+  is-rescanned-reads.Asked,
+  is-rescanned-reads.Learnt,
+  variable-value-reads.Asked,
+  variable-value-reads.Learnt,
+  rescan-below t,
+  rescan.Post,
+  up-to-reads.Asked,
+  up-to-reads.Learnt,
+  copied-variable-reads.Asked,
+  copied-variable-reads.Learnt,
+  callee-of-reads.Asked,
+  callee-of-reads.Learnt,
+  replace-entry-below t,
+  replace-entry.Post,
+) (replace-at t) replace.Post
+replace-enum-known-y t c = search needs
+
+replace-replace-entry-requires : (t : ℕ) → replace-lts.Need-replace-entry-requires (
+  name-at-reads.Asked,
+  name-at-reads.Learnt,
+  is-rescanned-reads.Asked,
+  is-rescanned-reads.Learnt,
+  variable-value-reads.Asked,
+  variable-value-reads.Learnt,
+  rescan-below t,
+  rescan.Post,
+  up-to-reads.Asked,
+  up-to-reads.Learnt,
+  copied-variable-reads.Asked,
+  copied-variable-reads.Learnt,
+  callee-of-reads.Asked,
+  callee-of-reads.Learnt,
+  replace-entry-below t,
+  replace-entry.Post,
+) (replace-at t) replace.Post
+replace-replace-entry-requires t c κs = omega (arith, (c .before .before .before .before .before .before .before .before .before .before .before .before .before .before .before .before .before .before .before .before .before .before .before .before .pre), (c .before .before .before .before .before .before .before .before .before .before .before .before .before .before .if1 .left))
+
+replace-enum-known-y-2 : (t : ℕ) → replace-lts.Need-enum-known-y-2 (
+  name-at-reads.Asked,
+  name-at-reads.Learnt,
+  is-rescanned-reads.Asked,
+  is-rescanned-reads.Learnt,
+  variable-value-reads.Asked,
+  variable-value-reads.Learnt,
+  rescan-below t,
+  rescan.Post,
+  up-to-reads.Asked,
+  up-to-reads.Learnt,
+  copied-variable-reads.Asked,
+  copied-variable-reads.Learnt,
+  callee-of-reads.Asked,
+  callee-of-reads.Learnt,
+  replace-entry-below t,
+  replace-entry.Post,
+) (replace-at t) replace.Post
+replace-enum-known-y-2 t c = search needs
+
+replace-enum-told : (t : ℕ) → replace-lts.Need-enum-told (
+  name-at-reads.Asked,
+  name-at-reads.Learnt,
+  is-rescanned-reads.Asked,
+  is-rescanned-reads.Learnt,
+  variable-value-reads.Asked,
+  variable-value-reads.Learnt,
+  rescan-below t,
+  rescan.Post,
+  up-to-reads.Asked,
+  up-to-reads.Learnt,
+  copied-variable-reads.Asked,
+  copied-variable-reads.Learnt,
+  callee-of-reads.Asked,
+  callee-of-reads.Learnt,
+  replace-entry-below t,
+  replace-entry.Post,
+) (replace-at t) replace.Post
+replace-enum-told t c = search needs
+
+replace-enum-told-2 : (t : ℕ) → replace-lts.Need-enum-told-2 (
+  name-at-reads.Asked,
+  name-at-reads.Learnt,
+  is-rescanned-reads.Asked,
+  is-rescanned-reads.Learnt,
+  variable-value-reads.Asked,
+  variable-value-reads.Learnt,
+  rescan-below t,
+  rescan.Post,
+  up-to-reads.Asked,
+  up-to-reads.Learnt,
+  copied-variable-reads.Asked,
+  copied-variable-reads.Learnt,
+  callee-of-reads.Asked,
+  callee-of-reads.Learnt,
+  replace-entry-below t,
+  replace-entry.Post,
+) (replace-at t) replace.Post
+replace-enum-told-2 t c = search needs
+
 replace-same-length-6 : (t : ℕ) → replace-lts.Need-same-length-6 (
   name-at-reads.Asked,
   name-at-reads.Learnt,
+  is-rescanned-reads.Asked,
+  is-rescanned-reads.Learnt,
   variable-value-reads.Asked,
   variable-value-reads.Learnt,
-  as-text-reads.Asked,
-  as-text-reads.Learnt,
-  outcome-of-below t,
-  outcome-of.Post,
+  rescan-below t,
+  rescan.Post,
   up-to-reads.Asked,
   up-to-reads.Learnt,
+  copied-variable-reads.Asked,
+  copied-variable-reads.Learnt,
   callee-of-reads.Asked,
   callee-of-reads.Learnt,
   replace-entry-below t,
@@ -924,14 +900,16 @@ replace-same-length-6 t c = search needs
 replace-same-length-7 : (t : ℕ) → replace-lts.Need-same-length-7 (
   name-at-reads.Asked,
   name-at-reads.Learnt,
+  is-rescanned-reads.Asked,
+  is-rescanned-reads.Learnt,
   variable-value-reads.Asked,
   variable-value-reads.Learnt,
-  as-text-reads.Asked,
-  as-text-reads.Learnt,
-  outcome-of-below t,
-  outcome-of.Post,
+  rescan-below t,
+  rescan.Post,
   up-to-reads.Asked,
   up-to-reads.Learnt,
+  copied-variable-reads.Asked,
+  copied-variable-reads.Learnt,
   callee-of-reads.Asked,
   callee-of-reads.Learnt,
   replace-entry-below t,
@@ -942,14 +920,16 @@ replace-same-length-7 t c = search needs
 replace-same-length-8 : (t : ℕ) → replace-lts.Need-same-length-8 (
   name-at-reads.Asked,
   name-at-reads.Learnt,
+  is-rescanned-reads.Asked,
+  is-rescanned-reads.Learnt,
   variable-value-reads.Asked,
   variable-value-reads.Learnt,
-  as-text-reads.Asked,
-  as-text-reads.Learnt,
-  outcome-of-below t,
-  outcome-of.Post,
+  rescan-below t,
+  rescan.Post,
   up-to-reads.Asked,
   up-to-reads.Learnt,
+  copied-variable-reads.Asked,
+  copied-variable-reads.Learnt,
   callee-of-reads.Asked,
   callee-of-reads.Learnt,
   replace-entry-below t,
@@ -960,14 +940,16 @@ replace-same-length-8 t c = search needs
 replace-same-length-9 : (t : ℕ) → replace-lts.Need-same-length-9 (
   name-at-reads.Asked,
   name-at-reads.Learnt,
+  is-rescanned-reads.Asked,
+  is-rescanned-reads.Learnt,
   variable-value-reads.Asked,
   variable-value-reads.Learnt,
-  as-text-reads.Asked,
-  as-text-reads.Learnt,
-  outcome-of-below t,
-  outcome-of.Post,
+  rescan-below t,
+  rescan.Post,
   up-to-reads.Asked,
   up-to-reads.Learnt,
+  copied-variable-reads.Asked,
+  copied-variable-reads.Learnt,
   callee-of-reads.Asked,
   callee-of-reads.Learnt,
   replace-entry-below t,
@@ -978,14 +960,16 @@ replace-same-length-9 t c = search needs
 replace-same-length-10 : (t : ℕ) → replace-lts.Need-same-length-10 (
   name-at-reads.Asked,
   name-at-reads.Learnt,
+  is-rescanned-reads.Asked,
+  is-rescanned-reads.Learnt,
   variable-value-reads.Asked,
   variable-value-reads.Learnt,
-  as-text-reads.Asked,
-  as-text-reads.Learnt,
-  outcome-of-below t,
-  outcome-of.Post,
+  rescan-below t,
+  rescan.Post,
   up-to-reads.Asked,
   up-to-reads.Learnt,
+  copied-variable-reads.Asked,
+  copied-variable-reads.Learnt,
   callee-of-reads.Asked,
   callee-of-reads.Learnt,
   replace-entry-below t,
@@ -996,14 +980,16 @@ replace-same-length-10 t c = search needs
 replace-returns-3 : (t : ℕ) → replace-lts.Need-returns-3 (
   name-at-reads.Asked,
   name-at-reads.Learnt,
+  is-rescanned-reads.Asked,
+  is-rescanned-reads.Learnt,
   variable-value-reads.Asked,
   variable-value-reads.Learnt,
-  as-text-reads.Asked,
-  as-text-reads.Learnt,
-  outcome-of-below t,
-  outcome-of.Post,
+  rescan-below t,
+  rescan.Post,
   up-to-reads.Asked,
   up-to-reads.Learnt,
+  copied-variable-reads.Asked,
+  copied-variable-reads.Learnt,
   callee-of-reads.Asked,
   callee-of-reads.Learnt,
   replace-entry-below t,
@@ -1011,17 +997,119 @@ replace-returns-3 : (t : ℕ) → replace-lts.Need-returns-3 (
 ) (replace-at t) replace.Post
 replace-returns-3 t c = search needs
 
+replace-same-length-11 : (t : ℕ) → replace-lts.Need-same-length-11 (
+  name-at-reads.Asked,
+  name-at-reads.Learnt,
+  is-rescanned-reads.Asked,
+  is-rescanned-reads.Learnt,
+  variable-value-reads.Asked,
+  variable-value-reads.Learnt,
+  rescan-below t,
+  rescan.Post,
+  up-to-reads.Asked,
+  up-to-reads.Learnt,
+  copied-variable-reads.Asked,
+  copied-variable-reads.Learnt,
+  callee-of-reads.Asked,
+  callee-of-reads.Learnt,
+  replace-entry-below t,
+  replace-entry.Post,
+) (replace-at t) replace.Post
+replace-same-length-11 t c = search needs
+
+replace-same-length-12 : (t : ℕ) → replace-lts.Need-same-length-12 (
+  name-at-reads.Asked,
+  name-at-reads.Learnt,
+  is-rescanned-reads.Asked,
+  is-rescanned-reads.Learnt,
+  variable-value-reads.Asked,
+  variable-value-reads.Learnt,
+  rescan-below t,
+  rescan.Post,
+  up-to-reads.Asked,
+  up-to-reads.Learnt,
+  copied-variable-reads.Asked,
+  copied-variable-reads.Learnt,
+  callee-of-reads.Asked,
+  callee-of-reads.Learnt,
+  replace-entry-below t,
+  replace-entry.Post,
+) (replace-at t) replace.Post
+replace-same-length-12 t c = search needs
+
+replace-same-length-13 : (t : ℕ) → replace-lts.Need-same-length-13 (
+  name-at-reads.Asked,
+  name-at-reads.Learnt,
+  is-rescanned-reads.Asked,
+  is-rescanned-reads.Learnt,
+  variable-value-reads.Asked,
+  variable-value-reads.Learnt,
+  rescan-below t,
+  rescan.Post,
+  up-to-reads.Asked,
+  up-to-reads.Learnt,
+  copied-variable-reads.Asked,
+  copied-variable-reads.Learnt,
+  callee-of-reads.Asked,
+  callee-of-reads.Learnt,
+  replace-entry-below t,
+  replace-entry.Post,
+) (replace-at t) replace.Post
+replace-same-length-13 t c = search needs
+
+replace-same-length-14 : (t : ℕ) → replace-lts.Need-same-length-14 (
+  name-at-reads.Asked,
+  name-at-reads.Learnt,
+  is-rescanned-reads.Asked,
+  is-rescanned-reads.Learnt,
+  variable-value-reads.Asked,
+  variable-value-reads.Learnt,
+  rescan-below t,
+  rescan.Post,
+  up-to-reads.Asked,
+  up-to-reads.Learnt,
+  copied-variable-reads.Asked,
+  copied-variable-reads.Learnt,
+  callee-of-reads.Asked,
+  callee-of-reads.Learnt,
+  replace-entry-below t,
+  replace-entry.Post,
+) (replace-at t) replace.Post
+replace-same-length-14 t c = search needs
+
+replace-same-length-15 : (t : ℕ) → replace-lts.Need-same-length-15 (
+  name-at-reads.Asked,
+  name-at-reads.Learnt,
+  is-rescanned-reads.Asked,
+  is-rescanned-reads.Learnt,
+  variable-value-reads.Asked,
+  variable-value-reads.Learnt,
+  rescan-below t,
+  rescan.Post,
+  up-to-reads.Asked,
+  up-to-reads.Learnt,
+  copied-variable-reads.Asked,
+  copied-variable-reads.Learnt,
+  callee-of-reads.Asked,
+  callee-of-reads.Learnt,
+  replace-entry-below t,
+  replace-entry.Post,
+) (replace-at t) replace.Post
+replace-same-length-15 t c = search needs
+
 replace-returns-4 : (t : ℕ) → replace-lts.Need-returns-4 (
   name-at-reads.Asked,
   name-at-reads.Learnt,
+  is-rescanned-reads.Asked,
+  is-rescanned-reads.Learnt,
   variable-value-reads.Asked,
   variable-value-reads.Learnt,
-  as-text-reads.Asked,
-  as-text-reads.Learnt,
-  outcome-of-below t,
-  outcome-of.Post,
+  rescan-below t,
+  rescan.Post,
   up-to-reads.Asked,
   up-to-reads.Learnt,
+  copied-variable-reads.Asked,
+  copied-variable-reads.Learnt,
   callee-of-reads.Asked,
   callee-of-reads.Learnt,
   replace-entry-below t,
@@ -1032,14 +1120,16 @@ replace-returns-4 t c = search needs
 replace-returns-5 : (t : ℕ) → replace-lts.Need-returns-5 (
   name-at-reads.Asked,
   name-at-reads.Learnt,
+  is-rescanned-reads.Asked,
+  is-rescanned-reads.Learnt,
   variable-value-reads.Asked,
   variable-value-reads.Learnt,
-  as-text-reads.Asked,
-  as-text-reads.Learnt,
-  outcome-of-below t,
-  outcome-of.Post,
+  rescan-below t,
+  rescan.Post,
   up-to-reads.Asked,
   up-to-reads.Learnt,
+  copied-variable-reads.Asked,
+  copied-variable-reads.Learnt,
   callee-of-reads.Asked,
   callee-of-reads.Learnt,
   replace-entry-below t,
@@ -1050,20 +1140,42 @@ replace-returns-5 t c = search needs
 replace-returns-6 : (t : ℕ) → replace-lts.Need-returns-6 (
   name-at-reads.Asked,
   name-at-reads.Learnt,
+  is-rescanned-reads.Asked,
+  is-rescanned-reads.Learnt,
   variable-value-reads.Asked,
   variable-value-reads.Learnt,
-  as-text-reads.Asked,
-  as-text-reads.Learnt,
-  outcome-of-below t,
-  outcome-of.Post,
+  rescan-below t,
+  rescan.Post,
   up-to-reads.Asked,
   up-to-reads.Learnt,
+  copied-variable-reads.Asked,
+  copied-variable-reads.Learnt,
   callee-of-reads.Asked,
   callee-of-reads.Learnt,
   replace-entry-below t,
   replace-entry.Post,
 ) (replace-at t) replace.Post
 replace-returns-6 t c = search needs
+
+replace-returns-7 : (t : ℕ) → replace-lts.Need-returns-7 (
+  name-at-reads.Asked,
+  name-at-reads.Learnt,
+  is-rescanned-reads.Asked,
+  is-rescanned-reads.Learnt,
+  variable-value-reads.Asked,
+  variable-value-reads.Learnt,
+  rescan-below t,
+  rescan.Post,
+  up-to-reads.Asked,
+  up-to-reads.Learnt,
+  copied-variable-reads.Asked,
+  copied-variable-reads.Learnt,
+  callee-of-reads.Asked,
+  callee-of-reads.Learnt,
+  replace-entry-below t,
+  replace-entry.Post,
+) (replace-at t) replace.Post
+replace-returns-7 t c = search needs
 
 replace-entry-nothing-held-requires : (t : ℕ) → replace-entry-lts.Need-nothing-held-requires (
   nothing-held-reads.Asked,
@@ -1527,6 +1639,174 @@ replace-entry-returns-5 : (t : ℕ) → replace-entry-lts.Need-returns-5 (
 ) (replace-entry-at t) replace-entry.Post
 replace-entry-returns-5 t c = search needs
 
+rescan-as-text-requires : (t : ℕ) → rescan-lts.Need-as-text-requires (
+  as-text-reads.Asked,
+  as-text-reads.Learnt,
+  above-reads.Asked,
+  above-reads.Learnt,
+  scan-below t,
+  scan.Post,
+  settled-reads.Asked,
+  settled-reads.Learnt,
+) (rescan-at t) rescan.Post
+rescan-as-text-requires t c κs = search needs
+
+rescan-enum-known-x : (t : ℕ) → rescan-lts.Need-enum-known-x (
+  as-text-reads.Asked,
+  as-text-reads.Learnt,
+  above-reads.Asked,
+  above-reads.Learnt,
+  scan-below t,
+  scan.Post,
+  settled-reads.Asked,
+  settled-reads.Learnt,
+) (rescan-at t) rescan.Post
+rescan-enum-known-x t c = search needs
+
+rescan-above-requires : (t : ℕ) → rescan-lts.Need-above-requires (
+  as-text-reads.Asked,
+  as-text-reads.Learnt,
+  above-reads.Asked,
+  above-reads.Learnt,
+  scan-below t,
+  scan.Post,
+  settled-reads.Asked,
+  settled-reads.Learnt,
+) (rescan-at t) rescan.Post
+rescan-above-requires t c κs = search needs
+
+rescan-scan-requires : (t : ℕ) → rescan-lts.Need-scan-requires (
+  as-text-reads.Asked,
+  as-text-reads.Learnt,
+  above-reads.Asked,
+  above-reads.Learnt,
+  scan-below t,
+  scan.Post,
+  settled-reads.Asked,
+  settled-reads.Learnt,
+) (rescan-at t) rescan.Post
+rescan-scan-requires t c κs = search needs
+
+rescan-settled-requires : (t : ℕ) → rescan-lts.Need-settled-requires (
+  as-text-reads.Asked,
+  as-text-reads.Learnt,
+  above-reads.Asked,
+  above-reads.Learnt,
+  scan-below t,
+  scan.Post,
+  settled-reads.Asked,
+  settled-reads.Learnt,
+) (rescan-at t) rescan.Post
+rescan-settled-requires t c κs = search needs
+
+rescan-enum-known-x-2 : (t : ℕ) → rescan-lts.Need-enum-known-x-2 (
+  as-text-reads.Asked,
+  as-text-reads.Learnt,
+  above-reads.Asked,
+  above-reads.Learnt,
+  scan-below t,
+  scan.Post,
+  settled-reads.Asked,
+  settled-reads.Learnt,
+) (rescan-at t) rescan.Post
+rescan-enum-known-x-2 t c = search needs
+
+rescan-same-length : (t : ℕ) → rescan-lts.Need-same-length (
+  as-text-reads.Asked,
+  as-text-reads.Learnt,
+  above-reads.Asked,
+  above-reads.Learnt,
+  scan-below t,
+  scan.Post,
+  settled-reads.Asked,
+  settled-reads.Learnt,
+) (rescan-at t) rescan.Post
+rescan-same-length t c = search needs
+
+rescan-same-length-2 : (t : ℕ) → rescan-lts.Need-same-length-2 (
+  as-text-reads.Asked,
+  as-text-reads.Learnt,
+  above-reads.Asked,
+  above-reads.Learnt,
+  scan-below t,
+  scan.Post,
+  settled-reads.Asked,
+  settled-reads.Learnt,
+) (rescan-at t) rescan.Post
+rescan-same-length-2 t c = search needs
+
+rescan-same-length-3 : (t : ℕ) → rescan-lts.Need-same-length-3 (
+  as-text-reads.Asked,
+  as-text-reads.Learnt,
+  above-reads.Asked,
+  above-reads.Learnt,
+  scan-below t,
+  scan.Post,
+  settled-reads.Asked,
+  settled-reads.Learnt,
+) (rescan-at t) rescan.Post
+rescan-same-length-3 t c = search needs
+
+rescan-same-length-4 : (t : ℕ) → rescan-lts.Need-same-length-4 (
+  as-text-reads.Asked,
+  as-text-reads.Learnt,
+  above-reads.Asked,
+  above-reads.Learnt,
+  scan-below t,
+  scan.Post,
+  settled-reads.Asked,
+  settled-reads.Learnt,
+) (rescan-at t) rescan.Post
+rescan-same-length-4 t c = search needs
+
+rescan-same-length-5 : (t : ℕ) → rescan-lts.Need-same-length-5 (
+  as-text-reads.Asked,
+  as-text-reads.Learnt,
+  above-reads.Asked,
+  above-reads.Learnt,
+  scan-below t,
+  scan.Post,
+  settled-reads.Asked,
+  settled-reads.Learnt,
+) (rescan-at t) rescan.Post
+rescan-same-length-5 t c = search needs
+
+rescan-returns : (t : ℕ) → rescan-lts.Need-returns (
+  as-text-reads.Asked,
+  as-text-reads.Learnt,
+  above-reads.Asked,
+  above-reads.Learnt,
+  scan-below t,
+  scan.Post,
+  settled-reads.Asked,
+  settled-reads.Learnt,
+) (rescan-at t) rescan.Post
+rescan-returns t c = search needs
+
+rescan-same-length-6 : (t : ℕ) → rescan-lts.Need-same-length-6 (
+  as-text-reads.Asked,
+  as-text-reads.Learnt,
+  above-reads.Asked,
+  above-reads.Learnt,
+  scan-below t,
+  scan.Post,
+  settled-reads.Asked,
+  settled-reads.Learnt,
+) (rescan-at t) rescan.Post
+rescan-same-length-6 t c = search needs
+
+rescan-returns-2 : (t : ℕ) → rescan-lts.Need-returns-2 (
+  as-text-reads.Asked,
+  as-text-reads.Learnt,
+  above-reads.Asked,
+  above-reads.Learnt,
+  scan-below t,
+  scan.Post,
+  settled-reads.Asked,
+  settled-reads.Learnt,
+) (rescan-at t) rescan.Post
+rescan-returns-2 t c = search needs
+
 abbrev scan-Inv-loop : scan-lts.InvT-loop
 scan-Inv-loop deck s rows names cells₀ low₀ high₀ work₀ text₀ x d u n c size k₀ p₀ m₀ turns₀ cells low high work text k p m turns = (turns ≤ turns₀) × (length cells ≡ length cells₀) × (length low ≡ length low₀) × (length high ≡ length high₀) × (length work ≡ length work₀) × (length text ≡ length text₀)
 
@@ -1536,408 +1816,420 @@ scan-μ-loop deck s rows names cells₀ low₀ high₀ work₀ text₀ x d u n c
 scan-span-requires : (t : ℕ) → scan-lts.Need-span-requires (
   span-reads.Asked,
   span-reads.Learnt,
+  plus-reads.Asked,
+  plus-reads.Learnt,
   charged-reads.Asked,
   charged-reads.Learnt,
   token-below t,
   token.Post,
-  plus-reads.Asked,
-  plus-reads.Learnt,
 ) (scan-at t) scan.Post scan-Inv-loop scan-μ-loop
 scan-span-requires t c κs = search needs
+
+scan-plus-requires : (t : ℕ) → scan-lts.Need-plus-requires (
+  span-reads.Asked,
+  span-reads.Learnt,
+  plus-reads.Asked,
+  plus-reads.Learnt,
+  charged-reads.Asked,
+  charged-reads.Learnt,
+  token-below t,
+  token.Post,
+) (scan-at t) scan.Post scan-Inv-loop scan-μ-loop
+scan-plus-requires t c κs = search needs
 
 scan-loop-holds : (t : ℕ) → scan-lts.Need-loop-holds (
   span-reads.Asked,
   span-reads.Learnt,
+  plus-reads.Asked,
+  plus-reads.Learnt,
   charged-reads.Asked,
   charged-reads.Learnt,
   token-below t,
   token.Post,
-  plus-reads.Asked,
-  plus-reads.Learnt,
 ) (scan-at t) scan.Post scan-Inv-loop scan-μ-loop
 scan-loop-holds t c = search needs
 
 scan-sub-turns : (t : ℕ) → scan-lts.Need-sub-turns (
   span-reads.Asked,
   span-reads.Learnt,
+  plus-reads.Asked,
+  plus-reads.Learnt,
   charged-reads.Asked,
   charged-reads.Learnt,
   token-below t,
   token.Post,
-  plus-reads.Asked,
-  plus-reads.Learnt,
 ) (scan-at t) scan.Post scan-Inv-loop scan-μ-loop
 scan-sub-turns t c = search needs
 
 scan-same-length : (t : ℕ) → scan-lts.Need-same-length (
   span-reads.Asked,
   span-reads.Learnt,
+  plus-reads.Asked,
+  plus-reads.Learnt,
   charged-reads.Asked,
   charged-reads.Learnt,
   token-below t,
   token.Post,
-  plus-reads.Asked,
-  plus-reads.Learnt,
 ) (scan-at t) scan.Post scan-Inv-loop scan-μ-loop
 scan-same-length t c = search needs
 
 scan-same-length-2 : (t : ℕ) → scan-lts.Need-same-length-2 (
   span-reads.Asked,
   span-reads.Learnt,
+  plus-reads.Asked,
+  plus-reads.Learnt,
   charged-reads.Asked,
   charged-reads.Learnt,
   token-below t,
   token.Post,
-  plus-reads.Asked,
-  plus-reads.Learnt,
 ) (scan-at t) scan.Post scan-Inv-loop scan-μ-loop
 scan-same-length-2 t c = search needs
 
 scan-same-length-3 : (t : ℕ) → scan-lts.Need-same-length-3 (
   span-reads.Asked,
   span-reads.Learnt,
+  plus-reads.Asked,
+  plus-reads.Learnt,
   charged-reads.Asked,
   charged-reads.Learnt,
   token-below t,
   token.Post,
-  plus-reads.Asked,
-  plus-reads.Learnt,
 ) (scan-at t) scan.Post scan-Inv-loop scan-μ-loop
 scan-same-length-3 t c = search needs
 
 scan-same-length-4 : (t : ℕ) → scan-lts.Need-same-length-4 (
   span-reads.Asked,
   span-reads.Learnt,
+  plus-reads.Asked,
+  plus-reads.Learnt,
   charged-reads.Asked,
   charged-reads.Learnt,
   token-below t,
   token.Post,
-  plus-reads.Asked,
-  plus-reads.Learnt,
 ) (scan-at t) scan.Post scan-Inv-loop scan-μ-loop
 scan-same-length-4 t c = search needs
 
 scan-same-length-5 : (t : ℕ) → scan-lts.Need-same-length-5 (
   span-reads.Asked,
   span-reads.Learnt,
+  plus-reads.Asked,
+  plus-reads.Learnt,
   charged-reads.Asked,
   charged-reads.Learnt,
   token-below t,
   token.Post,
-  plus-reads.Asked,
-  plus-reads.Learnt,
 ) (scan-at t) scan.Post scan-Inv-loop scan-μ-loop
 scan-same-length-5 t c = search needs
 
 scan-returns : (t : ℕ) → scan-lts.Need-returns (
   span-reads.Asked,
   span-reads.Learnt,
+  plus-reads.Asked,
+  plus-reads.Learnt,
   charged-reads.Asked,
   charged-reads.Learnt,
   token-below t,
   token.Post,
-  plus-reads.Asked,
-  plus-reads.Learnt,
 ) (scan-at t) scan.Post scan-Inv-loop scan-μ-loop
 scan-returns t c = search needs
 
 scan-charged-requires : (t : ℕ) → scan-lts.Need-charged-requires (
   span-reads.Asked,
   span-reads.Learnt,
+  plus-reads.Asked,
+  plus-reads.Learnt,
   charged-reads.Asked,
   charged-reads.Learnt,
   token-below t,
   token.Post,
-  plus-reads.Asked,
-  plus-reads.Learnt,
 ) (scan-at t) scan.Post scan-Inv-loop scan-μ-loop
 scan-charged-requires t c κs = search needs
 
 scan-same-length-6 : (t : ℕ) → scan-lts.Need-same-length-6 (
   span-reads.Asked,
   span-reads.Learnt,
+  plus-reads.Asked,
+  plus-reads.Learnt,
   charged-reads.Asked,
   charged-reads.Learnt,
   token-below t,
   token.Post,
-  plus-reads.Asked,
-  plus-reads.Learnt,
 ) (scan-at t) scan.Post scan-Inv-loop scan-μ-loop
 scan-same-length-6 t c = search needs
 
 scan-same-length-7 : (t : ℕ) → scan-lts.Need-same-length-7 (
   span-reads.Asked,
   span-reads.Learnt,
+  plus-reads.Asked,
+  plus-reads.Learnt,
   charged-reads.Asked,
   charged-reads.Learnt,
   token-below t,
   token.Post,
-  plus-reads.Asked,
-  plus-reads.Learnt,
 ) (scan-at t) scan.Post scan-Inv-loop scan-μ-loop
 scan-same-length-7 t c = search needs
 
 scan-same-length-8 : (t : ℕ) → scan-lts.Need-same-length-8 (
   span-reads.Asked,
   span-reads.Learnt,
+  plus-reads.Asked,
+  plus-reads.Learnt,
   charged-reads.Asked,
   charged-reads.Learnt,
   token-below t,
   token.Post,
-  plus-reads.Asked,
-  plus-reads.Learnt,
 ) (scan-at t) scan.Post scan-Inv-loop scan-μ-loop
 scan-same-length-8 t c = search needs
 
 scan-same-length-9 : (t : ℕ) → scan-lts.Need-same-length-9 (
   span-reads.Asked,
   span-reads.Learnt,
+  plus-reads.Asked,
+  plus-reads.Learnt,
   charged-reads.Asked,
   charged-reads.Learnt,
   token-below t,
   token.Post,
-  plus-reads.Asked,
-  plus-reads.Learnt,
 ) (scan-at t) scan.Post scan-Inv-loop scan-μ-loop
 scan-same-length-9 t c = search needs
 
 scan-same-length-10 : (t : ℕ) → scan-lts.Need-same-length-10 (
   span-reads.Asked,
   span-reads.Learnt,
+  plus-reads.Asked,
+  plus-reads.Learnt,
   charged-reads.Asked,
   charged-reads.Learnt,
   token-below t,
   token.Post,
-  plus-reads.Asked,
-  plus-reads.Learnt,
 ) (scan-at t) scan.Post scan-Inv-loop scan-μ-loop
 scan-same-length-10 t c = search needs
 
 scan-returns-2 : (t : ℕ) → scan-lts.Need-returns-2 (
   span-reads.Asked,
   span-reads.Learnt,
+  plus-reads.Asked,
+  plus-reads.Learnt,
   charged-reads.Asked,
   charged-reads.Learnt,
   token-below t,
   token.Post,
-  plus-reads.Asked,
-  plus-reads.Learnt,
 ) (scan-at t) scan.Post scan-Inv-loop scan-μ-loop
 scan-returns-2 t c = search needs
 
 scan-token-requires : (t : ℕ) → scan-lts.Need-token-requires (
   span-reads.Asked,
   span-reads.Learnt,
+  plus-reads.Asked,
+  plus-reads.Learnt,
   charged-reads.Asked,
   charged-reads.Learnt,
   token-below t,
   token.Post,
-  plus-reads.Asked,
-  plus-reads.Learnt,
 ) (scan-at t) scan.Post scan-Inv-loop scan-μ-loop
 scan-token-requires t c κs = search needs
 
 scan-enum-known-y : (t : ℕ) → scan-lts.Need-enum-known-y (
   span-reads.Asked,
   span-reads.Learnt,
+  plus-reads.Asked,
+  plus-reads.Learnt,
   charged-reads.Asked,
   charged-reads.Learnt,
   token-below t,
   token.Post,
-  plus-reads.Asked,
-  plus-reads.Learnt,
 ) (scan-at t) scan.Post scan-Inv-loop scan-μ-loop
 scan-enum-known-y t c = search needs
 
-scan-plus-requires : (t : ℕ) → scan-lts.Need-plus-requires (
+scan-plus-requires-2 : (t : ℕ) → scan-lts.Need-plus-requires-2 (
   span-reads.Asked,
   span-reads.Learnt,
+  plus-reads.Asked,
+  plus-reads.Learnt,
   charged-reads.Asked,
   charged-reads.Learnt,
   token-below t,
   token.Post,
-  plus-reads.Asked,
-  plus-reads.Learnt,
 ) (scan-at t) scan.Post scan-Inv-loop scan-μ-loop
-scan-plus-requires t c κs = search needs
+scan-plus-requires-2 t c κs = search needs
 
 scan-loop-less : (t : ℕ) → scan-lts.Need-loop-less (
   span-reads.Asked,
   span-reads.Learnt,
+  plus-reads.Asked,
+  plus-reads.Learnt,
   charged-reads.Asked,
   charged-reads.Learnt,
   token-below t,
   token.Post,
-  plus-reads.Asked,
-  plus-reads.Learnt,
 ) (scan-at t) scan.Post scan-Inv-loop scan-μ-loop
 scan-loop-less t c = omega (arith, (c .before .before .before .before .before .before .before .before .before .before .before .before .before .before .before .before .before .before .before .before .before .before .before .before .before .loop-test .taken))
 
 scan-loop-again : (t : ℕ) → scan-lts.Need-loop-again (
   span-reads.Asked,
   span-reads.Learnt,
+  plus-reads.Asked,
+  plus-reads.Learnt,
   charged-reads.Asked,
   charged-reads.Learnt,
   token-below t,
   token.Post,
-  plus-reads.Asked,
-  plus-reads.Learnt,
 ) (scan-at t) scan.Post scan-Inv-loop scan-μ-loop
 scan-loop-again t c = (omega (arith, (c .before .before .before .before .before .before .before .before .before .before .before .before .before .before .before .before .before .before .before .before .before .before .before .before .before .before .loop .inv .0), (c .before .before .before .before .before .before .before .before .before .before .before .before .before .before .before .before .before .before .before .before .before .before .before .before .before .loop-test .taken)), (c .before .before .before .before .before .before .before .before .before .before .before .before .before .before .token .kept .1 .1 .1 .1 .0) ∙ (c .before .before .before .before .before .before .before .before .before .before .before .before .before .before .before .before .before .before .before .before .before .before .before .before .before .before .loop .inv .1), (c .before .before .before .before .before .before .before .before .before .before .before .before .before .before .token .kept .1 .1 .1 .1 .1 .0) ∙ (c .before .before .before .before .before .before .before .before .before .before .before .before .before .before .before .before .before .before .before .before .before .before .before .before .before .before .loop .inv .2), (c .before .before .before .before .before .before .before .before .before .before .before .before .before .before .token .kept .1 .1 .1 .1 .1 .1 .0) ∙ (c .before .before .before .before .before .before .before .before .before .before .before .before .before .before .before .before .before .before .before .before .before .before .before .before .before .before .loop .inv .3), (c .before .before .before .before .before .before .before .before .before .before .before .before .before .before .token .kept .1 .1 .1 .1 .1 .1 .1 .0) ∙ (c .before .before .before .before .before .before .before .before .before .before .before .before .before .before .before .before .before .before .before .before .before .before .before .before .before .before .loop .inv .4), (c .before .before .before .before .before .before .before .before .before .before .before .before .before .before .token .kept .1 .1 .1 .1 .1 .1 .1 .1 .0) ∙ (c .before .before .before .before .before .before .before .before .before .before .before .before .before .before .before .before .before .before .before .before .before .before .before .before .before .before .loop .inv .5))
 
 scan-enum-known-y-2 : (t : ℕ) → scan-lts.Need-enum-known-y-2 (
   span-reads.Asked,
   span-reads.Learnt,
+  plus-reads.Asked,
+  plus-reads.Learnt,
   charged-reads.Asked,
   charged-reads.Learnt,
   token-below t,
   token.Post,
-  plus-reads.Asked,
-  plus-reads.Learnt,
 ) (scan-at t) scan.Post scan-Inv-loop scan-μ-loop
 scan-enum-known-y-2 t c = search needs
 
 scan-same-length-11 : (t : ℕ) → scan-lts.Need-same-length-11 (
   span-reads.Asked,
   span-reads.Learnt,
+  plus-reads.Asked,
+  plus-reads.Learnt,
   charged-reads.Asked,
   charged-reads.Learnt,
   token-below t,
   token.Post,
-  plus-reads.Asked,
-  plus-reads.Learnt,
 ) (scan-at t) scan.Post scan-Inv-loop scan-μ-loop
 scan-same-length-11 t c = search needs
 
 scan-same-length-12 : (t : ℕ) → scan-lts.Need-same-length-12 (
   span-reads.Asked,
   span-reads.Learnt,
+  plus-reads.Asked,
+  plus-reads.Learnt,
   charged-reads.Asked,
   charged-reads.Learnt,
   token-below t,
   token.Post,
-  plus-reads.Asked,
-  plus-reads.Learnt,
 ) (scan-at t) scan.Post scan-Inv-loop scan-μ-loop
 scan-same-length-12 t c = search needs
 
 scan-same-length-13 : (t : ℕ) → scan-lts.Need-same-length-13 (
   span-reads.Asked,
   span-reads.Learnt,
+  plus-reads.Asked,
+  plus-reads.Learnt,
   charged-reads.Asked,
   charged-reads.Learnt,
   token-below t,
   token.Post,
-  plus-reads.Asked,
-  plus-reads.Learnt,
 ) (scan-at t) scan.Post scan-Inv-loop scan-μ-loop
 scan-same-length-13 t c = search needs
 
 scan-same-length-14 : (t : ℕ) → scan-lts.Need-same-length-14 (
   span-reads.Asked,
   span-reads.Learnt,
+  plus-reads.Asked,
+  plus-reads.Learnt,
   charged-reads.Asked,
   charged-reads.Learnt,
   token-below t,
   token.Post,
-  plus-reads.Asked,
-  plus-reads.Learnt,
 ) (scan-at t) scan.Post scan-Inv-loop scan-μ-loop
 scan-same-length-14 t c = search needs
 
 scan-same-length-15 : (t : ℕ) → scan-lts.Need-same-length-15 (
   span-reads.Asked,
   span-reads.Learnt,
+  plus-reads.Asked,
+  plus-reads.Learnt,
   charged-reads.Asked,
   charged-reads.Learnt,
   token-below t,
   token.Post,
-  plus-reads.Asked,
-  plus-reads.Learnt,
 ) (scan-at t) scan.Post scan-Inv-loop scan-μ-loop
 scan-same-length-15 t c = search needs
 
 scan-returns-3 : (t : ℕ) → scan-lts.Need-returns-3 (
   span-reads.Asked,
   span-reads.Learnt,
+  plus-reads.Asked,
+  plus-reads.Learnt,
   charged-reads.Asked,
   charged-reads.Learnt,
   token-below t,
   token.Post,
-  plus-reads.Asked,
-  plus-reads.Learnt,
 ) (scan-at t) scan.Post scan-Inv-loop scan-μ-loop
 scan-returns-3 t c = search needs
 
 scan-same-length-16 : (t : ℕ) → scan-lts.Need-same-length-16 (
   span-reads.Asked,
   span-reads.Learnt,
+  plus-reads.Asked,
+  plus-reads.Learnt,
   charged-reads.Asked,
   charged-reads.Learnt,
   token-below t,
   token.Post,
-  plus-reads.Asked,
-  plus-reads.Learnt,
 ) (scan-at t) scan.Post scan-Inv-loop scan-μ-loop
 scan-same-length-16 t c = search needs
 
 scan-same-length-17 : (t : ℕ) → scan-lts.Need-same-length-17 (
   span-reads.Asked,
   span-reads.Learnt,
+  plus-reads.Asked,
+  plus-reads.Learnt,
   charged-reads.Asked,
   charged-reads.Learnt,
   token-below t,
   token.Post,
-  plus-reads.Asked,
-  plus-reads.Learnt,
 ) (scan-at t) scan.Post scan-Inv-loop scan-μ-loop
 scan-same-length-17 t c = search needs
 
 scan-same-length-18 : (t : ℕ) → scan-lts.Need-same-length-18 (
   span-reads.Asked,
   span-reads.Learnt,
+  plus-reads.Asked,
+  plus-reads.Learnt,
   charged-reads.Asked,
   charged-reads.Learnt,
   token-below t,
   token.Post,
-  plus-reads.Asked,
-  plus-reads.Learnt,
 ) (scan-at t) scan.Post scan-Inv-loop scan-μ-loop
 scan-same-length-18 t c = search needs
 
 scan-same-length-19 : (t : ℕ) → scan-lts.Need-same-length-19 (
   span-reads.Asked,
   span-reads.Learnt,
+  plus-reads.Asked,
+  plus-reads.Learnt,
   charged-reads.Asked,
   charged-reads.Learnt,
   token-below t,
   token.Post,
-  plus-reads.Asked,
-  plus-reads.Learnt,
 ) (scan-at t) scan.Post scan-Inv-loop scan-μ-loop
 scan-same-length-19 t c = search needs
 
 scan-same-length-20 : (t : ℕ) → scan-lts.Need-same-length-20 (
   span-reads.Asked,
   span-reads.Learnt,
+  plus-reads.Asked,
+  plus-reads.Learnt,
   charged-reads.Asked,
   charged-reads.Learnt,
   token-below t,
   token.Post,
-  plus-reads.Asked,
-  plus-reads.Learnt,
 ) (scan-at t) scan.Post scan-Inv-loop scan-μ-loop
 scan-same-length-20 t c = search needs
 
 scan-returns-4 : (t : ℕ) → scan-lts.Need-returns-4 (
   span-reads.Asked,
   span-reads.Learnt,
+  plus-reads.Asked,
+  plus-reads.Learnt,
   charged-reads.Asked,
   charged-reads.Learnt,
   token-below t,
   token.Post,
-  plus-reads.Asked,
-  plus-reads.Learnt,
 ) (scan-at t) scan.Post scan-Inv-loop scan-μ-loop
 scan-returns-4 t c = search needs
 
@@ -3341,14 +3633,14 @@ token-returns-2 : (t : ℕ) → token-lts.Need-returns-2 (
 ) (token-at t) token.Post
 token-returns-2 t c = search needs
 
-pub +call-with+outcome-of+replace+replace-entry+scan+scan-arguments+token-spec :
+pub +call-with+replace+replace-entry+rescan+scan+scan-arguments+token-spec :
     {M : Type 1} → statement M
-+call-with+outcome-of+replace+replace-entry+scan+scan-arguments+token-spec =
++call-with+replace+replace-entry+rescan+scan+scan-arguments+token-spec =
     close
     μ-call-with
-    μ-outcome-of
     μ-replace
     μ-replace-entry
+    μ-rescan
     μ-scan
     μ-scan-arguments
     μ-token
@@ -3359,67 +3651,46 @@ pub +call-with+outcome-of+replace+replace-entry+scan+scan-arguments+token-spec :
       value-given-reads.Learnt,
       meter-of-reads.Asked,
       meter-of-reads.Learnt,
-      as-text-reads.Asked,
-      as-text-reads.Learnt,
-      outcome-of-below t,
-      outcome-of.Post,
+      is-rescanned-reads.Asked,
+      is-rescanned-reads.Learnt,
+      rescan-below t,
+      rescan.Post,
+      copied-result-reads.Asked,
+      copied-result-reads.Learnt,
     )
     (call-with-at t)
     call-with.Post
     (call-with-call-requires t)
     (call-with-value-given-requires t)
     (call-with-meter-of-requires t)
-    (call-with-as-text-requires t)
-    (call-with-outcome-of-requires t)
+    (call-with-is-rescanned-requires t)
+    (call-with-rescan-requires t)
     (call-with-same-length t)
     (call-with-same-length-2 t)
     (call-with-same-length-3 t)
     (call-with-same-length-4 t)
     (call-with-same-length-5 t)
-    (call-with-returns t))
-    (λ t. outcome-of-lts.spec (
-      above-reads.Asked,
-      above-reads.Learnt,
-      scan-below t,
-      scan.Post,
-      settled-reads.Asked,
-      settled-reads.Learnt,
-      copied-value-reads.Asked,
-      copied-value-reads.Learnt,
-    )
-    (outcome-of-at t)
-    outcome-of.Post
-    (outcome-of-enum-known-x t)
-    (outcome-of-enum-told t)
-    (outcome-of-above-requires t)
-    (outcome-of-scan-requires t)
-    (outcome-of-settled-requires t)
-    (outcome-of-enum-told-2 t)
-    (outcome-of-copied-value-requires t)
-    (outcome-of-enum-told-3 t)
-    (outcome-of-enum-known-x-2 t)
-    (outcome-of-same-length t)
-    (outcome-of-same-length-2 t)
-    (outcome-of-same-length-3 t)
-    (outcome-of-same-length-4 t)
-    (outcome-of-same-length-5 t)
-    (outcome-of-returns t)
-    (outcome-of-same-length-6 t)
-    (outcome-of-same-length-7 t)
-    (outcome-of-returns-2 t)
-    (outcome-of-returns-3 t)
-    (outcome-of-returns-4 t))
+    (call-with-returns t)
+    (call-with-copied-result-requires t)
+    (call-with-same-length-6 t)
+    (call-with-same-length-7 t)
+    (call-with-same-length-8 t)
+    (call-with-same-length-9 t)
+    (call-with-same-length-10 t)
+    (call-with-returns-2 t))
     (λ t. replace-lts.spec (
       name-at-reads.Asked,
       name-at-reads.Learnt,
+      is-rescanned-reads.Asked,
+      is-rescanned-reads.Learnt,
       variable-value-reads.Asked,
       variable-value-reads.Learnt,
-      as-text-reads.Asked,
-      as-text-reads.Learnt,
-      outcome-of-below t,
-      outcome-of.Post,
+      rescan-below t,
+      rescan.Post,
       up-to-reads.Asked,
       up-to-reads.Learnt,
+      copied-variable-reads.Asked,
+      copied-variable-reads.Learnt,
       callee-of-reads.Asked,
       callee-of-reads.Learnt,
       replace-entry-below t,
@@ -3430,10 +3701,18 @@ pub +call-with+outcome-of+replace+replace-entry+scan+scan-arguments+token-spec :
     (replace-returns t)
     (replace-name-at-requires t)
     (replace-enum-known-k t)
+    (replace-is-rescanned-requires t)
     (replace-variable-value-requires t)
-    (replace-as-text-requires t)
-    (replace-outcome-of-requires t)
+    (replace-rescan-requires t)
     (replace-up-to-requires t)
+    (replace-same-length t)
+    (replace-same-length-2 t)
+    (replace-same-length-3 t)
+    (replace-same-length-4 t)
+    (replace-same-length-5 t)
+    (replace-returns-2 t)
+    (replace-copied-variable-requires t)
+    (replace-up-to-requires-2 t)
     (replace-enum-known-k-2 t)
     (replace-callee-of-requires t)
     (replace-enum-known-y t)
@@ -3441,21 +3720,21 @@ pub +call-with+outcome-of+replace+replace-entry+scan+scan-arguments+token-spec :
     (replace-enum-known-y-2 t)
     (replace-enum-told t)
     (replace-enum-told-2 t)
-    (replace-same-length t)
-    (replace-same-length-2 t)
-    (replace-same-length-3 t)
-    (replace-same-length-4 t)
-    (replace-same-length-5 t)
-    (replace-returns-2 t)
     (replace-same-length-6 t)
     (replace-same-length-7 t)
     (replace-same-length-8 t)
     (replace-same-length-9 t)
     (replace-same-length-10 t)
     (replace-returns-3 t)
+    (replace-same-length-11 t)
+    (replace-same-length-12 t)
+    (replace-same-length-13 t)
+    (replace-same-length-14 t)
+    (replace-same-length-15 t)
     (replace-returns-4 t)
     (replace-returns-5 t)
-    (replace-returns-6 t))
+    (replace-returns-6 t)
+    (replace-returns-7 t))
     (λ t. replace-entry-lts.spec (
       nothing-held-reads.Asked,
       nothing-held-reads.Learnt,
@@ -3503,21 +3782,48 @@ pub +call-with+outcome-of+replace+replace-entry+scan+scan-arguments+token-spec :
     (replace-entry-returns-4 t)
     (replace-entry-same-length-17 t)
     (replace-entry-returns-5 t))
+    (λ t. rescan-lts.spec (
+      as-text-reads.Asked,
+      as-text-reads.Learnt,
+      above-reads.Asked,
+      above-reads.Learnt,
+      scan-below t,
+      scan.Post,
+      settled-reads.Asked,
+      settled-reads.Learnt,
+    )
+    (rescan-at t)
+    rescan.Post
+    (rescan-as-text-requires t)
+    (rescan-enum-known-x t)
+    (rescan-above-requires t)
+    (rescan-scan-requires t)
+    (rescan-settled-requires t)
+    (rescan-enum-known-x-2 t)
+    (rescan-same-length t)
+    (rescan-same-length-2 t)
+    (rescan-same-length-3 t)
+    (rescan-same-length-4 t)
+    (rescan-same-length-5 t)
+    (rescan-returns t)
+    (rescan-same-length-6 t)
+    (rescan-returns-2 t))
     (λ t. scan-lts.spec (
       span-reads.Asked,
       span-reads.Learnt,
+      plus-reads.Asked,
+      plus-reads.Learnt,
       charged-reads.Asked,
       charged-reads.Learnt,
       token-below t,
       token.Post,
-      plus-reads.Asked,
-      plus-reads.Learnt,
     )
     (scan-at t)
     scan.Post
     scan-Inv-loop
     scan-μ-loop
     (scan-span-requires t)
+    (scan-plus-requires t)
     (scan-loop-holds t)
     (scan-sub-turns t)
     (scan-same-length t)
@@ -3535,7 +3841,7 @@ pub +call-with+outcome-of+replace+replace-entry+scan+scan-arguments+token-spec :
     (scan-returns-2 t)
     (scan-token-requires t)
     (scan-enum-known-y t)
-    (scan-plus-requires t)
+    (scan-plus-requires-2 t)
     (scan-loop-less t)
     (scan-loop-again t)
     (scan-enum-known-y-2 t)
