@@ -3,3 +3,4 @@ pub mod Naming
 pub mod Putting
 pub mod Copying
 pub mod Cutting
+pub mod Meaning

@@ -34,6 +34,10 @@ waitingOf d u k = cond (d .«to_work») (topOf u k) u
 abbrev pub intoWork : Dest
 intoWork = record { «to_work» = true; at = 0; room = 512 }
 
+-- THE OUTCOME of k bytes, where it lies
+unfoldable pub outIn : Dest → List ℕ → List ℕ → ℕ → ℕ → List ℕ
+outIn d t w u k = cond (d .«to_work») (part k u w) (part k (d .at) t)
+
 -- ---- bytes behind an outcome of k bytes
 -- the n bytes of a source from p on
 unfoldable pub bytesAt : List ℕ → List ℕ → Src → ℕ → ℕ → List ℕ
