@@ -129,7 +129,7 @@ pub fn move_down(room: &mut [u8], from: usize, n: usize, to: usize)
 }
 
 // Moves the n bytes at `from` up to `to`, the last first.
-fn move_up(room: &mut [u8], from: usize, n: usize, to: usize)
+pub fn move_up(room: &mut [u8], from: usize, n: usize, to: usize)
     ensures { λ _. ⌜ MovedUp (now (room .entry)) from n to (now (room .exit)) ⌝ }
 {
     let mut j = n;

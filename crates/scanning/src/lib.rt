@@ -1,5 +1,4 @@
-// Values and arguments scanned: their tokens are copied or replaced. What is scanned is a stretch of a body or of the work room,
-// given by numbers, since the work room is read and written at once.
+// Values and arguments scanned: their tokens are copied or replaced.
 use callees::Called;
 use callees::Callee;
 use callees::Held;
@@ -9,401 +8,46 @@ use callees::nothing_held;
 use callees::parameter_at;
 use callees::variable_value;
 use callees::with_held;
-use chars::is_blank;
 use deck::body;
 use definition::ValueType;
 use definition::Why;
-use evaluating::Evaluated;
-use evaluating::Scene;
 use evaluating::call;
-use limits::Filling;
 use meter::Meter;
 use names::Activity;
 use names::Address;
 use names::Denotation;
-use names::Found;
-use names::Owner;
-use names::find;
 use names::name_at;
+use operands::Evaluated;
+use operands::Scene;
 use operators::Given;
 use operators::Value;
 use operators::above;
 use operators::convert;
-use operators::fits;
-use operators::move_down;
 use operators::size_of;
-use operators::to_characters;
-use rooms::byte;
-use rooms::copy;
-use tokens::Piece;
-use tokens::PieceKind;
-use tokens::piece_at;
-
-// What is scanned: a stretch of a body, or of the work room.
-pub struct Src {
-    pub in_work: bool,
-    pub from: usize,
-    pub to: usize,
-}
-
-// Where an outcome goes: into the text room from a place on, or into the work room above what waits; and how many bytes may go.
-pub struct Dest {
-    pub to_work: bool,
-    pub at: usize,
-    pub room: usize,
-}
-
-// Sums of places and lengths in rooms, which stay far below what a usize holds.
-pub fn plus(a: usize, b: usize) -> usize {
-    if a <= Filling::TEXT {
-        if b <= Filling::TEXT {
-            return a + b;
-        }
-    }
-    Filling::TEXT
-}
-
-pub fn span(from: usize, to: usize) -> usize {
-    if to < from {
-        return 0;
-    }
-    to - from
-}
-
-// ---- the text that is scanned
-
-fn piece_in(t: &[u8], from: usize, to: usize, p: usize) -> Piece {
-    if from <= to {
-        if to <= t.len() {
-            return piece_at(&t[from..to], p);
-        }
-    }
-    Piece {
-        kind: PieceKind::Plain,
-        to: p,
-    }
-}
-
-// The token of the text at p.
-pub fn piece_of(s: &[u8], work: &[u8], x: Src, p: usize) -> Piece {
-    if x.in_work {
-        return piece_in(work, x.from, x.to, p);
-    }
-    piece_in(s, x.from, x.to, p)
-}
-
-// A name that is active, by its address.
-pub enum Active {
-    NotActive,
-    IsActive(Address, Activity),
-}
-
-fn active_as(a: Address, y: Activity) -> Active {
-    match y {
-        Activity::Inactive => Active::NotActive,
-        Activity::Rescanned => Active::IsActive(a, Activity::Rescanned),
-        Activity::CopiedOnly => Active::IsActive(a, Activity::CopiedOnly),
-    }
-}
-
-// Whether the n bytes at a place are a name that is active.
-fn active_name(deck: &[u8], t: &[u8], names: &[u16], count: u16, from: usize, n: usize) -> Active {
-    let found = find(deck, names, count, t, from, n, Owner::Everyone);
-    match found {
-        Found::Known(a) => {
-            let x = name_at(names, a);
-            let y = x.activity;
-            active_as(a, y)
-        }
-        Found::Unknown => Active::NotActive,
-    }
-}
-
-fn is_name(k: PieceKind) -> bool {
-    match k {
-        PieceKind::Name => true,
-        PieceKind::Plain => false,
-        PieceKind::Unclosed => false,
-    }
-}
-
-// The same of a token of the text at p.
-pub fn active_in(
-    deck: &[u8],
-    s: &[u8],
-    work: &[u8],
-    names: &[u16],
-    count: u16,
-    x: Src,
-    p: usize,
-    y: Piece,
-) -> Active {
-    let kind = y.kind;
-    if is_name(kind) {
-        let from = plus(x.from, p);
-        let n = span(p, y.to);
-        if x.in_work {
-            return active_name(deck, work, names, count, from, n);
-        }
-        return active_name(deck, s, names, count, from, n);
-    }
-    Active::NotActive
-}
-
-// ---- outcomes
-
-// Whether n bytes go behind an outcome of k bytes, where u bytes wait.
-fn may_put(d: Dest, u: usize, k: usize, n: usize) -> bool {
-    if d.room < k {
-        return false;
-    }
-    if d.room - k < n {
-        return false;
-    }
-    if d.to_work {
-        return fits(u, plus(k, n));
-    }
-    true
-}
-
-// The number that a full room is refused with.
-fn full(d: Dest) -> Why {
-    if d.to_work {
-        return Why::TooLong;
-    }
-    Why::RoomFull
-}
-
-// The same place after k bytes of outcome.
-fn after(d: Dest, k: usize) -> Dest {
-    Dest {
-        to_work: d.to_work,
-        at: plus(d.at, k),
-        room: span(k, d.room),
-    }
-}
-
-// The bytes that wait after k bytes of outcome.
-fn waiting(d: Dest, u: usize, k: usize) -> usize {
-    if d.to_work {
-        return above(u, k);
-    }
-    u
-}
-
-// Puts n bytes of a text, from p on, behind an outcome of k bytes.
-fn put_bytes(
-    s: &[u8],
-    work: &mut [u8],
-    text: &mut [u8],
-    x: Src,
-    p: usize,
-    n: usize,
-    d: Dest,
-    u: usize,
-    k: usize,
-) {
-    let from = plus(x.from, p);
-    if d.to_work {
-        if x.in_work {
-            move_down(work, from, n, above(u, k));
-        } else {
-            copy(s, from, n, work, above(u, k));
-        }
-    } else if x.in_work {
-        copy(work, from, n, text, plus(d.at, k));
-    } else {
-        copy(s, from, n, text, plus(d.at, k));
-    }
-}
-
-// An outcome so far, or a refusal; and the steps.
-pub enum Scanned {
-    Good(usize, Meter),
-    Bad(Why, Meter),
-}
-
-// The outcome of one replacement and the place behind it.
-pub enum Replaced {
-    Good(usize, usize, Meter),
-    Bad(Why, Meter),
-}
-
-fn up_to(x: Scanned, to: usize) -> Replaced {
-    match x {
-        Scanned::Good(n, m) => Replaced::Good(n, to, m),
-        Scanned::Bad(w, m) => Replaced::Bad(w, m),
-    }
-}
-
-// A token copied behind an outcome of k bytes.
-fn copy_token(
-    s: &[u8],
-    work: &mut [u8],
-    text: &mut [u8],
-    x: Src,
-    p: usize,
-    q: usize,
-    d: Dest,
-    u: usize,
-    k: usize,
-    m: Meter,
-) -> Replaced {
-    let n = span(p, q);
-    if may_put(d, u, k, n) {
-        put_bytes(s, work, text, x, p, n, d, u, k);
-        return Replaced::Good(n, q, m);
-    }
-    Replaced::Bad(full(d), m)
-}
-
-// ---- argument lists
-
-// Where an argument ends: at a comma, or at the parenthesis that closes the list.
-enum Ending {
-    Comma(usize),
-    Close(usize),
-    Open,
-}
-
-fn place_after(p: usize) -> usize {
-    plus(p, 1)
-}
-
-// "cut at outer commas": the end of the argument that begins at a place.
-fn argument_end(t: &[u8], from: usize) -> Ending {
-    let mut p = from;
-    let mut open: usize = 0;
-    let mut turns = t.len();
-    while 0 < turns {
-        turns -= 1;
-        if t.len() <= p {
-            return Ending::Open;
-        }
-        let b = t[p];
-        if b == b'(' {
-            open = plus(open, 1);
-            p = place_after(p);
-        } else if b == b')' {
-            if open < 1 {
-                return Ending::Close(p);
-            }
-            open -= 1;
-            p = place_after(p);
-        } else if is_outer_comma(b, open) {
-            return Ending::Comma(p);
-        } else {
-            let x = piece_at(t, p);
-            p = x.to;
-        }
-    }
-    Ending::Open
-}
-
-fn is_outer_comma(b: u8, open: usize) -> bool {
-    if open < 1 {
-        return b == b',';
-    }
-    false
-}
-
-// A list: how many arguments it has, where the first begins, and the place past it.
-enum Listing {
-    Upto(usize, usize, usize),
-    NoList,
-}
-
-fn arguments_from(t: &[u8], first: usize) -> Listing {
-    let mut from = first;
-    let mut n: usize = 0;
-    while n < t.len() {
-        n += 1;
-        let e = argument_end(t, from);
-        match e {
-            Ending::Comma(p) => {
-                from = place_after(p);
-            }
-            Ending::Close(p) => {
-                return Listing::Upto(n, first, place_after(p));
-            }
-            Ending::Open => {
-                return Listing::NoList;
-            }
-        }
-    }
-    Listing::NoList
-}
-
-fn past_blanks(t: &[u8], p: usize) -> usize {
-    let mut i = p;
-    while i < t.len() {
-        if is_blank(t[i]) {
-            i += 1;
-        } else {
-            return i;
-        }
-    }
-    i
-}
-
-// "needs `(`, after blanks only"
-fn list_at(t: &[u8], p: usize) -> Listing {
-    let q = past_blanks(t, p);
-    if byte(t, q, 0) == b'(' {
-        return arguments_from(t, place_after(q));
-    }
-    Listing::NoList
-}
-
-fn list_in(t: &[u8], from: usize, to: usize, p: usize) -> Listing {
-    if from <= to {
-        if to <= t.len() {
-            return list_at(&t[from..to], p);
-        }
-    }
-    Listing::NoList
-}
-
-fn list_of(s: &[u8], work: &[u8], x: Src, p: usize) -> Listing {
-    if x.in_work {
-        return list_in(work, x.from, x.to, p);
-    }
-    list_in(s, x.from, x.to, p)
-}
-
-fn end_place(e: Ending, p: usize) -> usize {
-    match e {
-        Ending::Comma(q) => q,
-        Ending::Close(q) => q,
-        Ending::Open => p,
-    }
-}
-
-fn end_in(t: &[u8], from: usize, to: usize, p: usize) -> usize {
-    if from <= to {
-        if to <= t.len() {
-            return end_place(argument_end(&t[from..to], p), p);
-        }
-    }
-    p
-}
-
-// Where the argument of a list ends that begins at p.
-fn end_of(s: &[u8], work: &[u8], x: Src, p: usize) -> usize {
-    if x.in_work {
-        return end_in(work, x.from, x.to, p);
-    }
-    end_in(s, x.from, x.to, p)
-}
-
-// A part of what is scanned.
-fn part_of(x: Src, from: usize, to: usize) -> Src {
-    Src {
-        in_work: x.in_work,
-        from: plus(x.from, from),
-        to: plus(x.from, to),
-    }
-}
+use outcomes::Active;
+use outcomes::Dest;
+use outcomes::Listing;
+use outcomes::Replaced;
+use outcomes::Scanned;
+use outcomes::Src;
+use outcomes::active_in;
+use outcomes::after;
+use outcomes::as_text;
+use outcomes::copied_result;
+use outcomes::copied_variable;
+use outcomes::copy_token;
+use outcomes::end_of;
+use outcomes::into_work;
+use outcomes::is_rescanned;
+use outcomes::list_of;
+use outcomes::part_of;
+use outcomes::piece_of;
+use outcomes::place_after;
+use outcomes::plus;
+use outcomes::settled;
+use outcomes::span;
+use outcomes::up_to;
+use outcomes::waiting;
 
 // The arguments that wait, or a refusal; and the steps.
 struct Taken {
@@ -447,28 +91,6 @@ fn converted(work: &mut [u8], u: usize, t: ValueType, x: Scanned) -> Evaluated {
     }
 }
 
-fn into_work() -> Dest {
-    Dest {
-        to_work: true,
-        at: 0,
-        room: limits::Value::LONGEST,
-    }
-}
-
-// A value as CHARACTER at u: how long it is.
-fn as_text(work: &mut [u8], u: usize, g: Given, m: Meter) -> Scanned {
-    match g {
-        Given::Gives(v) => {
-            let c = to_characters(work, u, v);
-            match c {
-                Given::Gives(x) => Scanned::Good(size_of(x), m),
-                Given::Fails(w) => Scanned::Bad(w, m),
-            }
-        }
-        Given::Fails(w) => Scanned::Bad(w, m),
-    }
-}
-
 fn value_given(x: Evaluated) -> Given {
     match x {
         Evaluated::Is(v, _, _) => Given::Gives(v),
@@ -483,35 +105,10 @@ fn meter_of(x: Evaluated) -> Meter {
     }
 }
 
-// With NORESCAN a value of n bytes at u is copied.
-fn copied_value(work: &[u8], text: &mut [u8], d: Dest, u: usize, n: usize, m: Meter) -> Scanned {
-    if may_put(d, u, 0, n) {
-        if d.to_work {
-            return Scanned::Good(n, m);
-        }
-        copy(work, u, n, text, d.at);
-        return Scanned::Good(n, m);
-    }
-    Scanned::Bad(full(d), m)
-}
-
-// An outcome of a value that lay at u and of which n bytes were scanned comes down to u.
-fn settled(work: &mut [u8], d: Dest, u: usize, n: usize, x: Scanned) -> Scanned {
-    match x {
-        Scanned::Good(k, m) => {
-            if d.to_work {
-                move_down(work, above(u, n), k, u);
-            }
-            Scanned::Good(k, m)
-        }
-        Scanned::Bad(w, m) => Scanned::Bad(w, m),
-    }
-}
-
 // ---- the cycle: scan, replacement, arguments; n levels of replacement are left
 
-// The characters of a value, x bytes at u, rescanned or copied.
-fn outcome_of(
+// With RESCAN a value, as CHARACTER at u, is scanned by itself.
+fn rescan(
     deck: &[u8],
     s: &[u8],
     rows: &[u16],
@@ -521,45 +118,42 @@ fn outcome_of(
     high: &mut [u8],
     work: &mut [u8],
     text: &mut [u8],
-    x: Scanned,
-    act: Activity,
+    g: Given,
     d: Dest,
     u: usize,
     n: usize,
     c: Scene,
+    m: Meter,
 ) -> Scanned {
+    let x = as_text(work, u, g, m);
     match x {
-        Scanned::Good(size, m) => match act {
-            Activity::Rescanned => {
-                let top = above(u, size);
-                let value = Src {
-                    in_work: true,
-                    from: u,
-                    to: top,
-                };
-                let y = scan(
-                    deck,
-                    s,
-                    rows,
-                    names,
-                    cells,
-                    low,
-                    high,
-                    work,
-                    text,
-                    value,
-                    d,
-                    top,
-                    n,
-                    c,
-                    m,
-                );
-                settled(work, d, u, size, y)
-            }
-            Activity::CopiedOnly => copied_value(work, text, d, u, size, m),
-            Activity::Inactive => Scanned::Good(size, m),
-        },
-        Scanned::Bad(w, m) => Scanned::Bad(w, m),
+        Scanned::Good(size, k) => {
+            let top = above(u, size);
+            let value = Src {
+                in_work: true,
+                from: u,
+                to: top,
+            };
+            let y = scan(
+                deck,
+                s,
+                rows,
+                names,
+                cells,
+                low,
+                high,
+                work,
+                text,
+                value,
+                d,
+                top,
+                n,
+                c,
+                k,
+            );
+            settled(work, d, u, size, y)
+        }
+        Scanned::Bad(w, k) => Scanned::Bad(w, k),
     }
 }
 
@@ -656,24 +250,28 @@ fn call_with(
     m: Meter,
 ) -> Scanned {
     let v = call(deck, rows, names, cells, low, high, work, y, held, u, c, m);
-    let x = as_text(work, u, value_given(v), meter_of(v));
-    outcome_of(
-        deck,
-        s,
-        rows,
-        names,
-        cells,
-        low,
-        high,
-        work,
-        text,
-        x,
-        act,
-        d,
-        u,
-        n,
-        c,
-    )
+    let g = value_given(v);
+    let k = meter_of(v);
+    if is_rescanned(act) {
+        return rescan(
+            deck,
+            s,
+            rows,
+            names,
+            cells,
+            low,
+            high,
+            work,
+            text,
+            g,
+            d,
+            u,
+            n,
+            c,
+            k,
+        );
+    }
+    copied_result(work, text, g, d, u, k)
 }
 
 // The entry whose name ends at p in what is scanned. "Without parameters nothing is read on."
@@ -804,25 +402,28 @@ pub fn replace(
     let k = name.denotation;
     match k {
         Denotation::Variable(t) => {
-            let g = variable_value(cells, low, high, work, a.0, t, u);
-            let v = as_text(work, u, g, m);
-            let z = outcome_of(
-                deck,
-                s,
-                rows,
-                names,
-                cells,
-                low,
-                high,
-                work,
-                text,
-                v,
-                act,
-                d,
-                u,
-                n,
-                c,
-            );
+            if is_rescanned(act) {
+                let g = variable_value(cells, low, high, work, a.0, t, u);
+                let z = rescan(
+                    deck,
+                    s,
+                    rows,
+                    names,
+                    cells,
+                    low,
+                    high,
+                    work,
+                    text,
+                    g,
+                    d,
+                    u,
+                    n,
+                    c,
+                    m,
+                );
+                return up_to(z, p);
+            }
+            let z = copied_variable(cells, low, high, work, text, a.0, t, d, u, m);
             up_to(z, p)
         }
         Denotation::EntryName(e) => {
@@ -931,7 +532,8 @@ fn scan(
     let mut k: usize = 0;
     let mut p: usize = 0;
     let mut m = m0;
-    let mut turns = size;
+    // each token has a byte at least, and one more turn finds the end
+    let mut turns = plus(size, 1);
     while 0 < turns {
         turns -= 1;
         if size <= p {

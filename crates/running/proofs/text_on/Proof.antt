@@ -5,7 +5,7 @@ use Rattle.running.proofs.text_on.Tie as tie
 use Rattle.running.proofs.text_on.Reads as reads
 use Rattle.running.proofs.text_on.Lts as lts
 use Rattle.running.proofs.token_here.Reads as token-here-reads
-use Rattle.scanning.proofs.span.Reads as span-reads
+use Rattle.outcomes.proofs.span.Reads as span-reads
 use Prim.Native.Nat.{_≤_}
 use mathlib.Core.Path.{_≡_, _∙_}
 use lib.ListN.{length}

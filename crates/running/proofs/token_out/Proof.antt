@@ -10,7 +10,7 @@ use Rattle.running.proofs.bad.Reads as bad-reads
 use Rattle.running.proofs.member8.Reads as member8-reads
 use Rattle.running.proofs.place32.Reads as place32-reads
 use Rattle.running.proofs.put_result.Reads as put-result-reads
-use Rattle.scanning.proofs.span.Reads as span-reads
+use Rattle.outcomes.proofs.span.Reads as span-reads
 
 is-fine-requires : tie.Need-is-fine-requires
 is-fine-requires c κs = search needs
