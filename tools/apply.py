@@ -22,7 +22,8 @@ def places(fn, need):
         own = need
         if '@' in name and name.startswith(fn + '@'):
             prefix = name.split('@')[1].replace('_', '-') + '-'
-            if not need.startswith(prefix):
+            # a member of a module: `module·member` in the need's name, `module-member` in the file's
+            if not need.replace('·', '-').startswith(prefix):
                 continue
             own = need[len(prefix):]
         elif name != fn:

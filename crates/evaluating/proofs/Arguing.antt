@@ -227,12 +227,29 @@ module _ (deck rows names s c₀ l₀ h₀ w₀ : List ℕ) (from left u : ℕ) 
         → Took B p e ws (count y) (taken x y ws u (worldIn B c₀ l₀ h₀ (m₀ .used))) turns i listed top at f k m c l h w
 
   pub taking-start : (f : Value) (k : Held) → length (k .numbers) ≡ 256 → (listed n : ℕ) → listed ≡ firstListed t → n ≡ wantedBy t → Taking n 0 listed u from f k m₀ c₀ l₀ h₀ w₀
-  taking-start f k z listed n el en = record
-    { low = omega (arith, en); cells-size = refl; low-size = refl; high-size = refl; work-size = refl
-    ; is = λ B sh p y e q g ws co a b. record
-        { tree = y; reads = record { fuel = length s; rests = going q }; left-over = en ∙ g; done = rw zero-add; values = []; ws = ws
-        ; coming = rw el co; enough = a; few = omega (arith, b); path = (refl, refl, refl); sized = z
-        ; same = bind-good (taken x y ws u (worldIn B c₀ l₀ h₀ (m₀ .used))); shows = sh; below = refl } }
+  taking-start f k z listed n el en = record {
+    low = omega (arith, en);
+    cells-size = refl;
+    low-size = refl;
+    high-size = refl;
+    work-size = refl;
+    is = λ B sh p y e q g ws co a b. record {
+      tree = y;
+      reads = record { fuel = length s; rests = going q };
+      left-over = en ∙ g;
+      done = rw zero-add;
+      values = [];
+      ws = ws;
+      coming = rw el co;
+      enough = a;
+      few = omega (arith, b);
+      path = (refl, refl, refl);
+      sized = z;
+      same = bind-good (taken x y ws u (worldIn B c₀ l₀ h₀ (m₀ .used)));
+      shows = sh;
+      below = refl;
+    };
+  }
 
   module _ (turns i listed top at : ℕ) (f : Value) (k : Held) (m : Meter) (c l h w : List ℕ) (ta : Taking turns i listed top at f k m c l h w) where
     end-by : turns ≤ 0 → (B : World) (p e : ℕ) (ws₀ : List Ev.Wish) (n₀ : ℕ) (R : Res Why (List Val.Value)) → Took B p e ws₀ n₀ R turns i listed top at f k m c l h w → Args B u w₀ c l h w f k ws₀ n₀ e R (Oc.Upto at m)
@@ -241,11 +258,22 @@ module _ (deck rows names s c₀ l₀ h₀ w₀ : List ℕ) (from left u : ℕ) 
         let v : (j .tree ≡ none) × (at ≡ e) = over left s p e (j .tree) at (j .reads .fuel) (j .reads .rests) z in
         let W₁ : World = worldIn B c l h (m .used) in
         let a : bind (taken x (j .tree) (j .ws) top W₁) (λ ys r. good (j .values ++ ys) r) ≡ good (j .values) W₁ =
-              ap (λ (y : Tree). bind (taken x y (j .ws) top W₁) (λ ys r. good (j .values ++ ys) r)) (v .0) ∙ ap (λ (y : Res Why (List Val.Value)). bind y (λ ys r. good (j .values ++ ys) r)) (taken-none x (j .ws) top W₁) ∙ ap (λ (y : List Val.Value). good y W₁) (nil-right (j .values)) in
-        record
-          { is = record { values = j .values; number = i; top = top; rest = j .ws; is = sym (j .same) ∙ a; path = j .path
-                        ; count = (let b : (0 + length (j .values) ≡ i) × (u ≤ top) = path-place w f k 0 u ws₀ (j .values) i top (j .ws) (j .path) in omega (arith, b .0, z, j .done)); end = v .1 }
-          ; below = j .below; limit = j .shows .limit; slots = j .shows .slots }
+        ap (λ (y : Tree). bind (taken x y (j .ws) top W₁) (λ ys r. good (j .values ++ ys) r)) (v .0) ∙ ap (λ (y : Res Why (List Val.Value)). bind y (λ ys r. good (j .values ++ ys) r)) (taken-none x (j .ws) top W₁) ∙ ap (λ (y : List Val.Value). good y W₁) (nil-right (j .values)) in
+        record {
+          is = record {
+            values = j .values;
+            number = i;
+            top = top;
+            rest = j .ws;
+            is = sym (j .same) ∙ a;
+            path = j .path;
+            count = (let b : (0 + length (j .values) ≡ i) × (u ≤ top) = path-place w f k 0 u ws₀ (j .values) i top (j .ws) (j .path) in omega (arith, b .0, z, j .done));
+            end = v .1;
+          };
+          below = j .below;
+          limit = j .shows .limit;
+          slots = j .shows .slots;
+        }
 
     pub taking-end : turns ≤ 0 → TakenIs deck s rows names c₀ l₀ h₀ w₀ from left u t x m₀ c l h w f k (Oc.Upto at m)
     taking-end o = record { is = λ B sh p y e q g ws co a b. end-by o B p e ws (count y) _ (ta .is B sh p y e q g ws co a b) }
@@ -273,14 +301,19 @@ module _ (deck rows names s c₀ l₀ h₀ w₀ : List ℕ) (from left u : ℕ) 
           let wa : (wishFor (r .wish) ≡ g₁) × Coming deck names (x .names) t (suc i) (r .to) gs = wi .is g₁ gs cm in
           let G : Gave B top w c₁ l₁ h₁ w₁ b (st .first .to) (valueOf x (st .first .tree) top (worldIn B c l h (m .used))) = g .is B (j .shows) (st .first .tree) (st .first .to) (inside-same left s p 0 at (st .first) (st .is)) in
           let T₁ : Turns w₁ top top b (wishedOn top (wishFor (r .wish))) w₂ y = ww .is (omega (arith, z₁, j .shows .work)) (G .fits) in
-          record
-            { step = st; wish = g₁; wishes = gs; ws-is = q; coming = wa .1
-            ; value = T₁ .is B c₁ l₁ h₁ ∙ ap (wishedOn top (wishFor (r .wish))) (G .is) ∙ ap (λ (a : Ev.Wish). wishedOn top a (valueOf x (st .first .tree) top (worldIn B c l h (m .used)))) (wa .0)
-            ; end = T₁ .end (st .first .to) (G .end)
-            ; below = T₁ .below ∙ G .below
-            ; fits = T₁ .fits
-            ; limit = T₁ .limit ∙ G .limit
-            ; slots = G .slots }
+          record {
+            step = st;
+            wish = g₁;
+            wishes = gs;
+            ws-is = q;
+            coming = wa .1;
+            value = T₁ .is B c₁ l₁ h₁ ∙ ap (wishedOn top (wishFor (r .wish))) (G .is) ∙ ap (λ (a : Ev.Wish). wishedOn top a (valueOf x (st .first .tree) top (worldIn B c l h (m .used)))) (wa .0);
+            end = T₁ .end (st .first .to) (G .end);
+            below = T₁ .below ∙ G .below;
+            fits = T₁ .fits;
+            limit = T₁ .limit ∙ G .limit;
+            slots = G .slots;
+          }
 
       now : (B : World) (p e : ℕ) (ws₀ : List Ev.Wish) (n₀ : ℕ) (R : Res Why (List Val.Value)) (j : Took B p e ws₀ n₀ R turns i listed top at f k m c l h w) → Now B p e ws₀ n₀ R j
       now B p e ws₀ n₀ R j = now-with B p e ws₀ n₀ R j (step left s p e (j .tree) at (j .reads .fuel) (j .reads .rests) (omega (arith, o, j .left-over))) (j .ws) refl (omega (arith, o, j .left-over, j .enough))
@@ -296,11 +329,12 @@ module _ (deck rows names s c₀ l₀ h₀ w₀ : List ℕ) (from left u : ℕ) 
           ∙ j .same
 
       failed-by : (a : Why) (n : Meter) → y ≡ Failed a n → (f₁ : Value) (k₁ : Held) (B : World) (p e : ℕ) (ws₀ : List Ev.Wish) (n₀ : ℕ) (R : Res Why (List Val.Value)) (j : Took B p e ws₀ n₀ R turns i listed top at f k m c l h w) → Now B p e ws₀ n₀ R j → Args B u w₀ c₁ l₁ h₁ w₂ f₁ k₁ ws₀ n₀ e R (Oc.Failed a n)
-      failed-by a n ey f₁ k₁ B p e ws₀ n₀ R j q = record
-        { is = sym (whole B p e ws₀ n₀ R j q) ∙ rw ey
-        ; below = below-then u top w₀ w w₂ (j .below) (path-place w f k 0 u ws₀ (j .values) i top (j .ws) (j .path) .1) (q .below)
-        ; limit = rw ey at (q .limit)
-        ; slots = q .slots }
+      failed-by a n ey f₁ k₁ B p e ws₀ n₀ R j q = record {
+        is = sym (whole B p e ws₀ n₀ R j q) ∙ rw ey;
+        below = below-then u top w₀ w w₂ (j .below) (path-place w f k 0 u ws₀ (j .values) i top (j .ws) (j .path) .1) (q .below);
+        limit = rw ey at (q .limit);
+        slots = q .slots;
+      }
 
       pub taking-failed : (a : Why) (n : Meter) → y ≡ Failed a n → TakenIs deck s rows names c₀ l₀ h₀ w₀ from left u t x m₀ c₁ l₁ h₁ w₂ f k (Oc.Failed a n)
       taking-failed a n ey = record { is = λ B sh p d e q g ws co a₁ b₁. let j : Took B p e ws (count d) (taken x d ws u (worldIn B c₀ l₀ h₀ (m₀ .used))) turns i listed top at f k m c l h w = ta .is B sh p d e q g ws co a₁ b₁ in failed-by a n ey f k B p e ws (count d) _ j (now B p e ws (count d) _ j) }
@@ -336,24 +370,29 @@ module _ (deck rows names s c₀ l₀ h₀ w₀ : List ℕ) (from left u : ℕ) 
             let qe : q₁ ≡ q .step .first .to = end-is v q₁ (q .step .first .to) n (rw ey at (q .end)) in
             let W₂ : World = worldIn B c₁ l₁ h₁ (n .used) in
             let wh : bind (bind (taken x (q .step .rest) (q .wishes) (top + Val.sizeOf (valueIn w₂ top v)) W₂) (λ ys r. good (valueIn w₂ top v ∷ ys) r)) (λ ys r. good (j .values ++ ys) r) ≡ R = sym (ap (λ (a : Evaluated). bind (bind (resIn B c₁ l₁ h₁ w₂ top a) (λ a z. bind (taken x (q .step .rest) (q .wishes) (top + Val.sizeOf a) z) (λ ys r. good (a ∷ ys) r))) (λ ys r. good (j .values ++ ys) r)) ey) ∙ whole B p e ws₀ n₀ R j q in
-            record
-              { tree = q .step .rest
-              ; reads = rw (lex .to, qe) (q .step .reads)
-              ; left-over = omega (arith, j .left-over, cn)
-              ; done = omega (arith, ii, j .done, cn)
-              ; values = j .values ++ valueIn w₂ top v ∷ []
-              ; ws = q .wishes
-              ; coming = rw ii (q .coming)
-              ; enough = omega (arith, j .enough, cn, ln)
-              ; few = omega (arith, ii, j .few, ln)
-              ; path = rw (ii, tp) pm
-              ; sized = held-size k i v k′ hw sm (j .sized)
-              ; same = sym (bind-last (j .values) (valueIn w₂ top v) (taken x (q .step .rest) (q .wishes) top′ W₂)) ∙ ap (λ (a : ℕ). bind (bind (taken x (q .step .rest) (q .wishes) a W₂) (λ ys r. good (valueIn w₂ top v ∷ ys) r)) (λ ys r. good (j .values ++ ys) r)) (tp ∙ ap (λ (a : ℕ). top + a) (sym (value-size w₂ top v))) ∙ wh
-              ; shows = shows-as deck rows names c l h w top x m B (j .shows) c₁ l₁ h₁ w₂ top′ n (q .slots) (z₂ ∙ z₁) (omega (arith, tp, ft)) (rw ey at (q .limit))
-              ; below = below-then u top w₀ w w₂ (j .below) (path-place w f k 0 u ws₀ (j .values) i top (j .ws) (j .path) .1) (q .below) }
+            record {
+              tree = q .step .rest;
+              reads = rw (lex .to, qe) (q .step .reads);
+              left-over = omega (arith, j .left-over, cn);
+              done = omega (arith, ii, j .done, cn);
+              values = j .values ++ valueIn w₂ top v ∷ [];
+              ws = q .wishes;
+              coming = rw ii (q .coming);
+              enough = omega (arith, j .enough, cn, ln);
+              few = omega (arith, ii, j .few, ln);
+              path = rw (ii, tp) pm;
+              sized = held-size k i v k′ hw sm (j .sized);
+              same = sym (bind-last (j .values) (valueIn w₂ top v) (taken x (q .step .rest) (q .wishes) top′ W₂)) ∙ ap (λ (a : ℕ). bind (bind (taken x (q .step .rest) (q .wishes) a W₂) (λ ys r. good (valueIn w₂ top v ∷ ys) r)) (λ ys r. good (j .values ++ ys) r)) (tp ∙ ap (λ (a : ℕ). top + a) (sym (value-size w₂ top v))) ∙ wh;
+              shows = shows-as deck rows names c l h w top x m B (j .shows) c₁ l₁ h₁ w₂ top′ n (q .slots) (z₂ ∙ z₁) (omega (arith, tp, ft)) (rw ey at (q .limit));
+              below = below-then u top w₀ w w₂ (j .below) (path-place w f k 0 u ws₀ (j .values) i top (j .ws) (j .path) .1) (q .below);
+            }
 
         pub taking-more : length c₁ ≡ length c → length l₁ ≡ length l → length h₁ ≡ length h → Taking (turns - 1) i′ (r .to) top′ (lx .to) f′ k′ n c₁ l₁ h₁ w₂
-        taking-more zc zl zh = record
-          { low = omega (arith, ta .low)
-          ; cells-size = zc ∙ ta .cells-size; low-size = zl ∙ ta .low-size; high-size = zh ∙ ta .high-size; work-size = z₂ ∙ z₁ ∙ ta .work-size
-          ; is = λ B sh p d e q g ws co a₁ b₁. let j : Took B p e ws (count d) (taken x d ws u (worldIn B c₀ l₀ h₀ (m₀ .used))) turns i listed top at f k m c l h w = ta .is B sh p d e q g ws co a₁ b₁ in more-by B p e ws (count d) _ j (now B p e ws (count d) _ j) }
+        taking-more zc zl zh = record {
+          low = omega (arith, ta .low);
+          cells-size = zc ∙ ta .cells-size;
+          low-size = zl ∙ ta .low-size;
+          high-size = zh ∙ ta .high-size;
+          work-size = z₂ ∙ z₁ ∙ ta .work-size;
+          is = λ B sh p d e q g ws co a₁ b₁. let j : Took B p e ws (count d) (taken x d ws u (worldIn B c₀ l₀ h₀ (m₀ .used))) turns i listed top at f k m c l h w = ta .is B sh p d e q g ws co a₁ b₁ in more-by B p e ws (count d) _ j (now B p e ws (count d) _ j);
+        }

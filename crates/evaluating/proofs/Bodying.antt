@@ -254,9 +254,14 @@ module _ (deck s t rows names c l h w : List ℕ) (p : Place) (n : ℕ) (fs : Fr
     test-turns : (c′ l′ h′ w′ : List ℕ) (y : Tested) (R : Res Why Bool) → testedIn B c′ l′ h′ y ≡ R → D.isIterated (rowOf lines n .statement) ≡ false → Leaves B u w c′ l′ h′ w′ (testedMeter y)
         → TurnsTo machine t B u c′ l′ h′ w′ (bind R (λ b v. F.chosen machine (F.alternativeOf machine b n) G n v)) fs (afterTest y (λ b. arrivedAt t fs (chosenWalk t n b))) × Leaves B u w c′ l′ h′ w′ (stepMeter (afterTest y (λ b. arrivedAt t fs (chosenWalk t n b))))
     unfolding bodyMachine
-    test-turns c′ l′ h′ w′ (Te.Is b m₁) R e i lv =
-        ((G, ap (λ (j : Res Why Bool). bind j (λ b v. F.chosen machine (F.alternativeOf machine b n) G n v)) (sym e) ∙ chosen-goes b (worldIn B c′ l′ h′ (m₁ .used)) i
-        , chosen-stands machine t (B .denotations) fs G shown linked n b (k .at .within) (k .at .framed) i), lv)
+    test-turns c′ l′ h′ w′ (Te.Is b m₁) R e i lv = (
+      (
+        G,
+        ap (λ (j : Res Why Bool). bind j (λ b v. F.chosen machine (F.alternativeOf machine b n) G n v)) (sym e) ∙ chosen-goes b (worldIn B c′ l′ h′ (m₁ .used)) i,
+        chosen-stands machine t (B .denotations) fs G shown linked n b (k .at .within) (k .at .framed) i,
+      ),
+      lv,
+    )
     test-turns c′ l′ h′ w′ (Te.Bad f m₁) R e i lv = (ap (λ (j : Res Why Bool). bind j (λ b v. F.chosen machine (F.alternativeOf machine b n) G n v)) (sym e), lv)
 
     -- ---- DO
@@ -308,7 +313,7 @@ module _ (deck s t rows names c l h w : List ℕ) (p : Place) (n : ℕ) (fs : Fr
 
       goes-by : (b : Bool) → mayGoOn t n 2048 (labelFrom t to (a .«is_end»)) ≡ b
           → TurnsTo machine t B u c l h w (bind (Calls.jumpTo lines n to (a .«is_end») now) (λ j v. F.follow machine j G v)) fs
-            (cond b (St.On (arrivedAt t fs (landingWalk t fs to (a .«is_end»))) m) (St.Bad WrongGoto m))
+          (cond b (St.On (arrivedAt t fs (landingWalk t fs to (a .«is_end»))) m) (St.Bad WrongGoto m))
       unfolding bodyMachine
       goes-by true e =
           let g : F.mayGo lines n to (a .«is_end») ≡ true = may-go-is t lines shown n (k .at .within) (k .shows .rowed .few (p .member)) to (a .«is_end») within ∙ e in
@@ -324,7 +329,7 @@ module _ (deck s t rows names c l h w : List ℕ) (p : Place) (n : ℕ) (fs : Fr
         where
           by : (b : Bool) → mayGoOn t n 2048 (labelFrom t to (a .«is_end»)) ≡ b
               → TurnsTo machine t B u c l h w (bind (Calls.jumpTo lines n to (a .«is_end») now) (λ j v. F.follow machine j G v)) fs
-                (cond b (St.On (arrivedAt t fs (landingWalk t fs to (a .«is_end»))) m) (St.Bad WrongGoto m))
+              (cond b (St.On (arrivedAt t fs (landingWalk t fs to (a .«is_end»))) m) (St.Bad WrongGoto m))
           by b e = goes-by b e
 
     jump-turns : (v : List ℕ) (j : Jump) → jumpFor j ≡ targetIn deck names (x .names) (ownerOf (x .owner)) v
@@ -343,7 +348,7 @@ module _ (deck s t rows names c l h w : List ℕ) (p : Place) (n : ℕ) (fs : Fr
         by (Ju.Bad f) q = ap (λ (o : Res Why F.Jump). bind o (λ i z. F.follow machine i G z)) (goes (Ju.Bad f) q)
         by (Ju.To a) q =
             let within : a .place .row < length lines = local-row (λ r. r < length lines) (W.addressOf v (W.procedureAt (p .member) (p .row)) now) v now (record { member = a .place .member; row = a .place .row; isEnd = a .«is_end» })
-                  (λ b y z. k .shows .rowed .labels v (p .member) (p .row) b (a .place .member) (a .place .row) (a .«is_end») y z) (there ∙ sym q) in
+            (λ b y z. k .shows .rowed .labels v (p .member) (p .row) b (a .place .member) (a .place .row) (a .«is_end») y z) (there ∙ sym q) in
             subst (λ (o : Res Why F.Jump). TurnsTo machine t B u c l h w (bind o (λ i z. F.follow machine i G z)) fs (afterJump t fs n (Ju.To a) m)) (sym (goes (Ju.To a) q)) (goes-there a within)
 
     -- ---- RETURN
@@ -408,6 +413,7 @@ module _ (deck s t rows names c l h w : List ℕ) (p : Place) (n : ℕ) (fs : Fr
       assigned B G k v a st =
           let A : (doneIn B c′ l′ h′ d ≡ F.assigned (sceneMachine x u) v a (worldIn B c l h (m .used))) × Leaves B u w c′ l′ h′ w′ (doneMeter d) = ai .is B (k .shows) v a st in
           done-turns B G k c′ l′ h′ w′ d (placed (λ i. i) (F.assigned (bodyOf x p u B) v a (worldIn B c l h (m .used)))) (A .0 ∙ sym (assigned-same (bodyOf x p u B) x u (serves B G k) v a (worldIn B c l h (m .used))) ∙ sym (placed-same (F.assigned (bodyOf x p u B) v a (worldIn B c l h (m .used))))) (A .1)
+
       of : (B : World) (G : List F.Frame) (k : Here B G) (st : D.Statement) → Stated s (rowIn t n .content) st → kindOf st ≡ S.Assign → Turning c′ l′ h′ w′ (turnedBy fs (afterDone d (behindOn t fs (n + 1) n))) B G st
       of B G k D.null st i = clash (cc)
       of B G k (D.declare ns) st i = clash (cc)
@@ -431,6 +437,7 @@ module _ (deck s t rows names c l h w : List ℕ) (p : Place) (n : ℕ) (fs : Fr
       tested B G k a q st =
           let A : (testedIn B c′ l′ h′ y ≡ F.truth (sceneMachine x u) a (worldIn B c l h (m .used))) × Leaves B u w c′ l′ h′ w′ (testedMeter y) = ti .is B (k .shows) a st in
           test-turns B G k c′ l′ h′ w′ y (placed (λ i. i) (F.truth (bodyOf x p u B) a (worldIn B c l h (m .used)))) (A .0 ∙ sym (truth-same (bodyOf x p u B) x u (serves B G k) a (worldIn B c l h (m .used))) ∙ sym (placed-same (F.truth (bodyOf x p u B) a (worldIn B c l h (m .used))))) (rw q) (A .1)
+
       of : (B : World) (G : List F.Frame) (k : Here B G) (st : D.Statement) → rowOf (rowsOf (p .member) B) n .statement ≡ st → Stated s (rowIn t n .content) st → kindOf st ≡ S.Conditional → Turning c′ l′ h′ w′ (turnedBy fs (afterTest y (λ b. arrivedAt t fs (chosenWalk t n b)))) B G st
       of B G k D.null q st i = clash (cc)
       of B G k (D.declare ns) q st i = clash (cc)
@@ -458,12 +465,13 @@ module _ (deck s t rows names c l h w : List ℕ) (p : Place) (n : ℕ) (fs : Fr
           let W₁ : World = worldIn B c l h (m .used) in
           let A : StartsAs B c′ l′ h′ (F.startAt (sceneMachine x u) (seenFrom (ownerOf (x .owner)) v W₁) n a bs W₁) y × Leaves B u w c′ l′ h′ w′ (startedMeter y) = si .is B (k .shows) v a bs st in
           let R : F.startAt (sceneMachine x u) (seenFrom (ownerOf (x .owner)) v W₁) n a bs W₁ ≡ placed (λ i. i) (F.startAt (bodyOf x p u B) (seenFrom (W.procedureAt (p .member) (p .row)) v W₁) n a bs W₁) =
-                sym (placed-same (F.startAt (bodyOf x p u B) (seenFrom (W.procedureAt (p .member) (p .row)) v W₁) n a bs W₁) ∙ start-same (bodyOf x p u B) x u (serves B G k) (seenFrom (W.procedureAt (p .member) (p .row)) v W₁) n a bs W₁
-                ∙ ap (λ (i : W.Owner). F.startAt (sceneMachine x u) (seenFrom i v W₁) n a bs W₁) (owner-is B G k)) in
+          sym (placed-same (F.startAt (bodyOf x p u B) (seenFrom (W.procedureAt (p .member) (p .row)) v W₁) n a bs W₁) ∙ start-same (bodyOf x p u B) x u (serves B G k) (seenFrom (W.procedureAt (p .member) (p .row)) v W₁) n a bs W₁
+          ∙ ap (λ (i : W.Owner). F.startAt (sceneMachine x u) (seenFrom i v W₁) n a bs W₁) (owner-is B G k)) in
           start-turns B G k c′ l′ h′ w′ y (placed (λ i. i) (F.startAt (bodyOf x p u B) (seenFrom (W.procedureAt (p .member) (p .row)) v W₁) n a bs W₁))
           (subst (λ (i : Res Why F.Started). StartsAs B c′ l′ h′ i y) R (A .0))
           (λ d b z g. controls-here B d (controls (sceneMachine x u) n a bs W₁ (record { frame = d; begins = b }) z (seenFrom (ownerOf (x .owner)) v W₁) (R ∙ g)))
           (rw q) (A .1) r er
+
       of : (B : World) (G : List F.Frame) (k : Here B G) (st : D.Statement) → rowOf (rowsOf (p .member) B) n .statement ≡ st → Stated s (rowIn t n .content) st → kindOf st ≡ S.Iterated → Turning c′ l′ h′ w′ r B G st
       of B G k D.null q st i = clash (cc)
       of B G k (D.declare ns) q st i = clash (cc)
@@ -484,6 +492,7 @@ module _ (deck s t rows names c l h w : List ℕ) (p : Place) (n : ℕ) (fs : Fr
     where
       grouped : (B : World) (G : List F.Frame) (k : Here B G) → rowOf (rowsOf (p .member) B) n .statement ≡ D.group → Turning c l h w (turnedBy fs (St.On (intoGroup t fs n) m)) B G D.group
       grouped B G k q = ((G, ap (F.onward (bodyOf x p u B) G) (group-goes B G k (worldIn B c l h (m .used)) (rw q)), group-at B G k (rw q)), stays-here B G k)
+
       of : (B : World) (G : List F.Frame) (k : Here B G) (st : D.Statement) → rowOf (rowsOf (p .member) B) n .statement ≡ st → kindOf st ≡ S.Group → Turning c l h w (turnedBy fs (St.On (intoGroup t fs n) m)) B G st
       of B G k D.null q i = clash (cc)
       of B G k (D.declare ns) q i = clash (cc)
@@ -509,10 +518,12 @@ module _ (deck s t rows names c l h w : List ℕ) (p : Place) (n : ℕ) (fs : Fr
           by : (b : Bool) → Leaves B u w c l h w (stepMeter (cond b (St.On (arrivedAt t fs (landingWalk t fs (a .place .row) (a .«is_end»))) m) (St.Bad WrongGoto m)))
           by true = stays-here B G k
           by false = stays-here B G k
+
       gone : (B : World) (G : List F.Frame) (k : Here B G) (v : List ℕ) → Stated s (rowIn t n .content) (D.goto v) → Turning c l h w (turnedBy fs (afterJump t fs n (ji .jump) m)) B G (D.goto v)
       gone B G k v st =
           let nm : spelledAt s (rowIn t n .content) ≡ v = sym (name-is s (rowIn t n .content) (st .0) (st .1) .spelling) ∙ st .2 in
           (jump-turns B G k v (ji .jump) (ji .is ∙ ap (targetIn deck names (x .names) (ownerOf (x .owner))) nm), left-as B G k (ji .jump))
+
       of : (B : World) (G : List F.Frame) (k : Here B G) (st : D.Statement) → Stated s (rowIn t n .content) st → kindOf st ≡ S.Goto → Turning c l h w (turnedBy fs (afterJump t fs n (ji .jump) m)) B G st
       of B G k D.null st i = clash (cc)
       of B G k (D.declare ns) st i = clash (cc)
@@ -545,12 +556,13 @@ module _ (deck s t rows names c l h w : List ℕ) (p : Place) (n : ℕ) (fs : Fr
           let T₁ : ValueType = rowIn t (p .row) .«value_type» in
           let V₁ : bodyOf x p u B .value a W₁ ≡ valueOf x a u W₁ = serves B G k .value a W₁ in
           let R : F.statement (bodyOf x p u B) (D.return a) G n W₁ ≡ bind (wishedOn u (Ev.asType T₁) (valueOf x a u W₁)) (λ v z. good (F.ended (F.returned v)) z) =
-                act-is B G a q W₁
-                ∙ ap (λ (i : ValueType). bind (bind (bodyOf x p u B .value a W₁) (λ v y. bind (put u (Val.convert i v) y) (λ c z. good (F.gave c) z))) (λ d v. F.done (bodyOf x p u B) d G n v)) (sym (type-is B G k))
-                ∙ returned-as (bodyOf x p u B .value a W₁) u T₁ (λ d v. F.done (bodyOf x p u B) d G n v) (λ v z. refl)
-                ∙ ap (λ (i : Res Why Val.Value). bind (wishedOn u (Ev.asType T₁) i) (λ v z. good (F.ended (F.returned v)) z)) V₁ in
+          act-is B G a q W₁
+          ∙ ap (λ (i : ValueType). bind (bind (bodyOf x p u B .value a W₁) (λ v y. bind (put u (Val.convert i v) y) (λ c z. good (F.gave c) z))) (λ d v. F.done (bodyOf x p u B) d G n v)) (sym (type-is B G k))
+          ∙ returned-as (bodyOf x p u B .value a W₁) u T₁ (λ d v. F.done (bodyOf x p u B) d G n v) (λ v z. refl)
+          ∙ ap (λ (i : Res Why Val.Value). bind (wishedOn u (Ev.asType T₁) i) (λ v z. good (F.ended (F.returned v)) z)) V₁ in
           let K : TurnsTo (bodyOf x p u B) t B u c₁ l₁ h₁ w₂ (bind (wishedOn u (Ev.asType T₁) (valueOf x a u W₁)) (λ v z. good (F.ended (F.returned v)) z)) (r .frames) (r .step) × Leaves B u w c₁ l₁ h₁ w₂ (stepMeter (r .step)) = return-turns B G k c₁ l₁ h₁ w₁ z₁ b a (st .1) gv w₂ r ri in
           (subst (λ (i : Res Why F.Turn). TurnsTo (bodyOf x p u B) t B u c₁ l₁ h₁ w₂ i (r .frames) (r .step)) (sym R) (K .0), K .1)
+
       of : (B : World) (G : List F.Frame) (k : Here B G) (st : D.Statement) → rowOf (rowsOf (p .member) B) n .statement ≡ st → Stated s (rowIn t n .content) st → kindOf st ≡ S.Return → Turning c₁ l₁ h₁ w₂ r B G st
       of B G k D.null q st i = clash (cc)
       of B G k (D.declare ns) q st i = clash (cc)

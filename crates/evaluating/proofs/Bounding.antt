@@ -98,6 +98,7 @@ ask-range a z v w f e = by (Val.toFixed a) (toFixed-small a f) e
   where
     small : (y : ℤ) → Gives Small (Val.gives y) → inRange y ≡ true
     small y (given i) = i
+
     by : (b : Val.Answer ℤ) → Gives Small b → good z v ≡ ask b w → inRange z ≡ true
     by (Val.gives y) k g = let q : z ≡ y = cc in rw q (small y k)
     by (Val.fails y) k g = clash (cc)
@@ -119,16 +120,19 @@ module _ (deck s rows names c l h w : List ℕ) (u : ℕ) (x : Scene) (y : Widen
 
   module _ (f : Frame) (q : ℕ) (m : Meter) (g : y ≡ Wd.Is f q m) (v : Word) (gv : v ≡ wordAt s q) where
     pub bounded-none : v ≡ Wo.Neither → BoundedIs deck s rows names c l h w u x y c l h w (Wd.Is f q m)
-    bounded-none e = record
-      { goes = λ f₁ q₁ m₁ i B sh bs d bd fs. go f₁ q₁ m₁ (let j : Wd.Is f q m ≡ Wd.Is f₁ q₁ m₁ = sym g ∙ i in j) B sh bs d bd fs
-      ; stays = λ e₁ n i. no-frame f q m n e₁ (sym g ∙ i) }
+    bounded-none e = record {
+      goes = λ f₁ q₁ m₁ i B sh bs d bd fs. go f₁ q₁ m₁ (let j : Wd.Is f q m ≡ Wd.Is f₁ q₁ m₁ = sym g ∙ i in j) B sh bs d bd fs;
+      stays = λ e₁ n i. no-frame f q m n e₁ (sym g ∙ i);
+    }
       where
         none : wordAt s q ≡ Wo.Neither
         none = sym gv ∙ e
+
         by : (B : World) (m₁ : Meter) (d : F.Frame) (f₁ : Frame) → FrameShown f₁ d → Leaves B u w c l h w m₁ → (bs : List D.Bound) → Bounded s bs q → WidensAs B s c l h (boundedOn x u bs d (worldIn B c l h (m₁ .used))) (boundsLeft bs) (Wd.Is f₁ q m₁) × Leaves B u w c l h w m₁
         by B m₁ d f₁ fs lv [] bd = ((d, fs, refl, bd), lv)
         by B m₁ d f₁ fs lv (D.by t ∷ bs) bd = no-word Sid.By (tokenAt s q .to) (sym (word-by s q (bd .1)) ∙ none)
         by B m₁ d f₁ fs lv (D.upto t ∷ bs) bd = no-word Sid.Upto (tokenAt s q .to) (sym (word-to s q (bd .1) (bd .2)) ∙ none)
+
         go : (f₁ : Frame) (q₁ : ℕ) (m₁ : Meter) → Wd.Is f q m ≡ Wd.Is f₁ q₁ m₁ → (B : World) → Shows deck rows names c l h w u x m₁ B → (bs : List D.Bound) (d : F.Frame) → Bounded s bs q₁ → FrameShown f₁ d
             → WidensAs B s c l h (boundedOn x u bs d (worldIn B c l h (m₁ .used))) (boundsLeft bs) (Wd.Is f q m) × Leaves B u w c l h w m
         go f₁ q₁ m₁ i B sh bs d bd fs =
@@ -166,8 +170,10 @@ module _ (deck s rows names c l h w : List ℕ) (u : ℕ) (x : Scene) (y : Widen
           let nu : good (z .value) (worldIn B c₁ l₁ h₁ (m₁ .used)) ≡ numberOn (valueOf x t u (worldIn B c l h (m .used))) = rw i at (number B sh t k rd) in
           let pl : Bo.Is z q₁ m₁ ≡ Bo.Is z k m₁ = rw i at (place B sh t k rd) in
           let qk : q₁ ≡ k = cc in
-          rw ea ((record { group = d .group; at = d .at; step = z .value; to = d .to; isOnce = false }, by-shown f d fs (z .value) (range B sh t k rd z q₁ m₁ i), bounded-by x u t d (worldIn B c l h (m .used)) ∙ rw (← nu), rw qk bd)
-          , rw i at (leaves B sh t k rd))
+          rw ea (
+            (record { group = d .group; at = d .at; step = z .value; to = d .to; isOnce = false }, by-shown f d fs (z .value) (range B sh t k rd z q₁ m₁ i), bounded-by x u t d (worldIn B c l h (m .used)) ∙ rw (← nu), rw qk bd),
+            rw i at (leaves B sh t k rd),
+          )
       by-side B sh t k rd bs d bd fs ea (Bo.Bad e₁ m₁) i =
           let nu : bad e₁ (m₁ .used) ≡ numberOn (valueOf x t u (worldIn B c l h (m .used))) = rw i at (number B sh t k rd) in
           (bounded-by x u t d (worldIn B c l h (m .used)) ∙ rw (← nu), rw i at (leaves B sh t k rd))
@@ -178,8 +184,10 @@ module _ (deck s rows names c l h w : List ℕ) (u : ℕ) (x : Scene) (y : Widen
           let nu : good (z .value) (worldIn B c₁ l₁ h₁ (m₁ .used)) ≡ numberOn (valueOf x t u (worldIn B c l h (m .used))) = rw i at (number B sh t k rd) in
           let pl : Bo.Is z q₁ m₁ ≡ Bo.Is z k m₁ = rw i at (place B sh t k rd) in
           let qk : q₁ ≡ k = cc in
-          rw ea ((record { group = d .group; at = d .at; step = d .step; to = F.toAt (z .value); isOnce = false }, to-shown f d fs (z .value) (range B sh t k rd z q₁ m₁ i), bounded-to x u t d (worldIn B c l h (m .used)) ∙ rw (← nu), rw qk bd)
-          , rw i at (leaves B sh t k rd))
+          rw ea (
+            (record { group = d .group; at = d .at; step = d .step; to = F.toAt (z .value); isOnce = false }, to-shown f d fs (z .value) (range B sh t k rd z q₁ m₁ i), bounded-to x u t d (worldIn B c l h (m .used)) ∙ rw (← nu), rw qk bd),
+            rw i at (leaves B sh t k rd),
+          )
       to-side B sh t k rd bs d bd fs ea (Bo.Bad e₁ m₁) i =
           let nu : bad e₁ (m₁ .used) ≡ numberOn (valueOf x t u (worldIn B c l h (m .used))) = rw i at (number B sh t k rd) in
           (bounded-to x u t d (worldIn B c l h (m .used)) ∙ rw (← nu), rw i at (leaves B sh t k rd))
@@ -199,9 +207,10 @@ module _ (deck s rows names c l h w : List ℕ) (u : ℕ) (x : Scene) (y : Widen
           to-side B sh t (bd .0) (rw ep at (bd .3)) bs d (bd .4) fs ea n refl
 
       pub bounded-some : BoundedIs deck s rows names c l h w u x y c₁ l₁ h₁ w₁ r
-      bounded-some = rw er record
-        { goes = λ f₁ q₁ m₁ i B sh bs d bd fs. go f₁ q₁ m₁ (let j : Wd.Is f q m ≡ Wd.Is f₁ q₁ m₁ = sym g ∙ i in j) B sh bs d bd fs
-        ; stays = λ e₁ n₁ i. no-frame f q m n₁ e₁ (sym g ∙ i) }
+      bounded-some = rw er record {
+        goes = λ f₁ q₁ m₁ i B sh bs d bd fs. go f₁ q₁ m₁ (let j : Wd.Is f q m ≡ Wd.Is f₁ q₁ m₁ = sym g ∙ i in j) B sh bs d bd fs;
+        stays = λ e₁ n₁ i. no-frame f q m n₁ e₁ (sym g ∙ i);
+      }
         where
           go : (f₁ : Frame) (q₁ : ℕ) (m₁ : Meter) → Wd.Is f q m ≡ Wd.Is f₁ q₁ m₁ → (B : World) → Shows deck rows names c l h w u x m₁ B → (bs : List D.Bound) (d : F.Frame) → Bounded s bs q₁ → FrameShown f₁ d
               → WidensAs B s c₁ l₁ h₁ (boundedOn x u bs d (worldIn B c l h (m₁ .used))) (boundsLeft bs) (widenedBy f a n) × Leaves B u w c₁ l₁ h₁ w₁ (widenedMeter (widenedBy f a n))
@@ -231,9 +240,10 @@ bounds-two x u (a ∷ b ∷ e ∷ bs) d w i = absurd (omega (arith, i))
 
 module _ (deck s rows names c l h w : List ℕ) (f : Frame) (b : Bound) (u : ℕ) (x : Scene) where
   pub bounds-bad : (e : Why) (m : Meter) → b ≡ Bo.Bad e m → BoundsIs deck s rows names c l h w f b u x c l h w (Sd.Bad e m)
-  bounds-bad e m g = record
-    { goes = λ z q n i. clash (let j : Bo.Is z q n ≡ Bo.Bad e m = sym i ∙ g in cc)
-    ; stays = λ e₁ n i. (let j : Bo.Bad e m ≡ Bo.Bad e₁ n = sym g ∙ i in let k : e ≡ e₁ = cc in let o : m ≡ n = cc in rw (k, o), refl, refl, refl, refl) }
+  bounds-bad e m g = record {
+    goes = λ z q n i. clash (let j : Bo.Is z q n ≡ Bo.Bad e m = sym i ∙ g in cc);
+    stays = λ e₁ n i. (let j : Bo.Bad e m ≡ Bo.Bad e₁ n = sym g ∙ i in let k : e ≡ e₁ = cc in let o : m ≡ n = cc in rw (k, o), refl, refl, refl, refl);
+  }
 
   module _ (z : Fixed) (q : ℕ) (m : Meter) (eb : b ≡ Bo.Is z q m) (c₁ l₁ h₁ w₁ : List ℕ) (z₁ : length w₁ ≡ length w) (y₁ : Widened) (one : BoundedIs deck s rows names c l h w u x (Wd.Is f q m) c₁ l₁ h₁ w₁ y₁)
       (c₂ l₂ h₂ w₂ : List ℕ) (y₂ : Widened) (two : BoundedIs deck s rows names c₁ l₁ h₁ w₁ u x y₁ c₂ l₂ h₂ w₂ y₂) (c₃ : List ℕ) (r : Started) (so : SetOff c₂ z y₂ c₃ r) where
@@ -257,9 +267,9 @@ module _ (deck s rows names c l h w : List ℕ) (f : Frame) (b : Bound) (u : ℕ
           let va₂ : getD (B .denotations) (f₂ .address) builtinName ≡ variableOf FixedType = rw ad va in
           let er : r ≡ Sd.Is f₂ (F.passes d₂ (z .value)) m₂ = off-passes B c₂ l₂ h₂ z y₂ c₃ r so f₂ q₂ m₂ i d₂ (g .1) in
           let ew : worldIn B c₃ l₂ h₂ (m₂ .used) ≡ W.store (d .at) (Val.fixed (z .value)) (worldIn B c₂ l₂ h₂ (m₂ .used)) =
-                off-world B c₂ l₂ h₂ z y₂ c₃ r so f₂ q₂ m₂ i (lv .slots) va₂ iz (m₂ .used) ∙ ap (λ (j : ℕ). W.store j (Val.fixed (z .value)) (worldIn B c₂ l₂ h₂ (m₂ .used))) ad in
+          off-world B c₂ l₂ h₂ z y₂ c₃ r so f₂ q₂ m₂ i (lv .slots) va₂ iz (m₂ .used) ∙ ap (λ (j : ℕ). W.store j (Val.fixed (z .value)) (worldIn B c₂ l₂ h₂ (m₂ .used))) ad in
           let R : bind all begins ≡ good (record { frame = d₂; begins = F.passes d₂ (z .value) }) (worldIn B c₃ l₂ h₂ (m₂ .used)) =
-                ap (λ (j : Res Why F.Frame). bind j begins) (g .2) ∙ ap (λ (j : World). good (record { frame = d₂; begins = F.passes d₂ (z .value) }) j) (sym ew) in
+          ap (λ (j : Res Why F.Frame). bind j begins) (g .2) ∙ ap (λ (j : World). good (record { frame = d₂; begins = F.passes d₂ (z .value) }) j) (sym ew) in
           rw er ((d₂, g .1, R), record { below = lv .below; limit = lv .limit; slots = off-slots B c₂ l₂ h₂ z y₂ c₃ r so f₂ q₂ m₂ i (lv .slots) va₂ iz })
 
       second : (v : Widened) → y₁ ≡ v → WidensAs B s c₁ l₁ h₁ (boundedOn x u bs d (worldIn B c l h (m .used))) (boundsLeft bs) v → Leaves B u w c₁ l₁ h₁ w₁ (widenedMeter v)
@@ -279,9 +289,10 @@ module _ (deck s rows names c l h w : List ℕ) (f : Frame) (b : Bound) (u : ℕ
           (record { below = t .1 .below ∙ lv .below; limit = t .1 .limit; slots = t .1 .slots })
 
     pub bounds-done : BoundsIs deck s rows names c l h w f b u x c₃ l₂ h₂ w₂ r
-    bounds-done = record
-      { goes = λ z₂ q₂ m₂ i B sh iz bs d few bd fs va. go z₂ q₂ m₂ (let j : Bo.Is z₂ q₂ m₂ ≡ Bo.Is z q m = sym i ∙ eb in j) B sh iz bs d few bd fs va
-      ; stays = λ e n i. clash (let j : Bo.Is z q m ≡ Bo.Bad e n = sym eb ∙ i in cc) }
+    bounds-done = record {
+      goes = λ z₂ q₂ m₂ i B sh iz bs d few bd fs va. go z₂ q₂ m₂ (let j : Bo.Is z₂ q₂ m₂ ≡ Bo.Is z q m = sym i ∙ eb in j) B sh iz bs d few bd fs va;
+      stays = λ e n i. clash (let j : Bo.Is z q m ≡ Bo.Bad e n = sym eb ∙ i in cc);
+    }
       where
         go : (z₂ : Fixed) (q₂ : ℕ) (m₂ : Meter) → Bo.Is z₂ q₂ m₂ ≡ Bo.Is z q m → (B : World) → Shows deck rows names c l h w u x m₂ B → inRange (z₂ .value) ≡ true
             → (bs : List D.Bound) (d : F.Frame) → length bs ≤ 2 → Bounded s bs q₂ → FrameShown f d → getD (B .denotations) (d .at) builtinName ≡ variableOf FixedType
@@ -337,9 +348,12 @@ module _ (deck s rows names c l h w : List ℕ) (g at u : ℕ) (x : Scene) (m : 
   fixed-at a M.NoSuch e = clash (cc)
 
   pub start-none : v ≡ L.Nowhere → StartIs deck s rows names c l h w g at u x m c l h w (Sd.Bad WrongName m)
-  start-none e = record { is = λ B sh n tr bs st.
-      (started B sh n tr bs (spelled deck s rows names c l h w at u x m t lex y ti (st .0) (st .1) ∙ st .2) ∙ none (ti .name) (sym e ∙ ev ∙ ap controlOf (ti .variable)) tr bs (worldIn B c l h (m .used))
-      , record { below = refl; limit = sh .limit; slots = sh .slots }) }
+  start-none e = record {
+    is = λ B sh n tr bs st. (
+      started B sh n tr bs (spelled deck s rows names c l h w at u x m t lex y ti (st .0) (st .1) ∙ st .2) ∙ none (ti .name) (sym e ∙ ev ∙ ap controlOf (ti .variable)) tr bs (worldIn B c l h (m .used)),
+      record { below = refl; limit = sh .limit; slots = sh .slots },
+    );
+  }
 
   module _ (a : ℕ) (e : v ≡ L.To a) (o : Lexeme) (lo : Lexed s (t .to) o) (c₁ l₁ h₁ w₁ : List ℕ) (z₁ : length w₁ ≡ length w) (b : Evaluated) (eb : Evaluates deck rows names c l h w u x m c₁ l₁ h₁ w₁ b (wholeExpression s (o .to)))
       (n : Bound) (bi : BoundIs w₁ u b n) (f : Frame) (ef : f ≡ firstFrame g a) (c₂ l₂ h₂ w₂ : List ℕ) (r : Started) (bo : BoundsIs deck s rows names c₁ l₁ h₁ w₁ f n u x c₂ l₂ h₂ w₂ r) where
@@ -384,7 +398,9 @@ module _ (deck s rows names c l h w : List ℕ) (g at u : ℕ) (x : Scene) (m : 
           (subst (λ (j : Res Why F.Started). StartsAs B c₂ l₂ h₂ j r) R (G .0), record { below = G .1 .below ∙ value .below; limit = G .1 .limit; slots = G .1 .slots })
 
     pub start-done : StartIs deck s rows names c l h w g at u x m c₂ l₂ h₂ w₂ r
-    start-done = record { is = λ B sh nm tr bs st.
-        let es : part (t .to - t .from) (t .from) s ≡ nm = spelled deck s rows names c l h w at u x m t lex y ti (st .0) (st .1) ∙ st .2 in
-        let oq : o .to ≡ st .3 .0 = lo .to ∙ ap (λ (i : ℕ). tokenAt s i .to) (lex .to ∙ sym (name-is s at (st .0) (st .1) .to)) ∙ sym (expect-is "=" s (st .0 .to) (st .3 .0) (st .3 .2)) in
-        by B sh nm tr bs es (st .3 .1) (ap (wholeExpression s) oq ∙ st .3 .3) (st .3 .4) (st .3 .5) n refl }
+    start-done = record {
+      is = λ B sh nm tr bs st.
+          let es : part (t .to - t .from) (t .from) s ≡ nm = spelled deck s rows names c l h w at u x m t lex y ti (st .0) (st .1) ∙ st .2 in
+          let oq : o .to ≡ st .3 .0 = lo .to ∙ ap (λ (i : ℕ). tokenAt s i .to) (lex .to ∙ sym (name-is s at (st .0) (st .1) .to)) ∙ sym (expect-is "=" s (st .0 .to) (st .3 .0) (st .3 .2)) in
+          by B sh nm tr bs es (st .3 .1) (ap (wholeExpression s) oq ∙ st .3 .3) (st .3 .4) (st .3 .5) n refl;
+    }

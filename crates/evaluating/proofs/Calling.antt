@@ -79,13 +79,13 @@ module _ (deck rows names c l h w : List ℕ) (u : ℕ) (x : Scene) (m : Meter) 
           let sh′ : Shows deck rows names c₁ l₁ h₁ w u inner m B = record { named = sh .named; rowed = sh .rowed; slots = rw d sl; work = sh .work; taken = sh .taken; limit = sh .limit; left = omega (arith, sg .left, sh .left) } in
           let G : Gave B u w c₂ l₂ h₂ w₂ r 0 (bodyRun (runIn inner) (y .place .member) (y .place .row) u (worldIn B c₁ l₁ h₁ (m .used))) = bo .is B sh′ refl es et (cs .within) in
           let W₁ : worldIn B c₁ l₁ h₁ (m .used) ≡ storeAll (b .parameters) (heldFrom w k 0 u (b .parameters)) (worldIn B c l h (m .used)) =
-                ap (λ (i : List W.Cell). withValues i (m .used) B) (rw d va) ∙ sym (store-all-is (b .parameters) (heldFrom w k 0 u (b .parameters)) (valuesFrom (B .denotations) 0 c l h) (m .used) B) in
+          ap (λ (i : List W.Cell). withValues i (m .used) B) (rw d va) ∙ sym (store-all-is (b .parameters) (heldFrom w k 0 u (b .parameters)) (valuesFrom (B .denotations) 0 c l h) (m .used) B) in
           let n : x .running .left ≡ suc (x .running .left - 1) = omega (arith, some) in
           let Q : runIn x b (heldFrom w k 0 u (b .parameters)) u (worldIn B c l h (m .used)) ≡ bodyRun (calls (x .running .left - 1) (record { member = b .member; row = b .row } ∷ onOf (x .running))) (b .member) (b .row) u (storeAll (b .parameters) (heldFrom w k 0 u (b .parameters)) (worldIn B c l h (m .used))) =
-                ap (λ (i : ℕ). calls i (onOf (x .running)) b (heldFrom w k 0 u (b .parameters)) u (worldIn B c l h (m .used))) n ∙ calls-body (onOf (x .running)) b (heldFrom w k 0 u (b .parameters)) u (worldIn B c l h (m .used)) (x .running .left - 1) (runs b B cs false f) in
+          ap (λ (i : ℕ). calls i (onOf (x .running)) b (heldFrom w k 0 u (b .parameters)) u (worldIn B c l h (m .used))) n ∙ calls-body (onOf (x .running)) b (heldFrom w k 0 u (b .parameters)) u (worldIn B c l h (m .used)) (x .running .left - 1) (runs b B cs false f) in
           let P : bodyRun (runIn inner) (y .place .member) (y .place .row) u (worldIn B c₁ l₁ h₁ (m .used)) ≡ bodyRun (calls (x .running .left - 1) (record { member = b .member; row = b .row } ∷ onOf (x .running))) (b .member) (b .row) u (storeAll (b .parameters) (heldFrom w k 0 u (b .parameters)) (worldIn B c l h (m .used))) =
-                ap (λ (i : Ev.Call). bodyRun i (y .place .member) (y .place .row) u (worldIn B c₁ l₁ h₁ (m .used))) (ap (calls (g .left)) (sg .on (omega (arith, some)) (sh .left)) ∙ ap (λ (i : ℕ). calls i (placeOf (y .place) ∷ onOf (x .running))) (sg .left))
-                ∙ rw (cs .member, cs .row) (ap (bodyRun (calls (x .running .left - 1) (placeOf (y .place) ∷ onOf (x .running))) (y .place .member) (y .place .row) u) W₁) in
+          ap (λ (i : Ev.Call). bodyRun i (y .place .member) (y .place .row) u (worldIn B c₁ l₁ h₁ (m .used))) (ap (calls (g .left)) (sg .on (omega (arith, some)) (sh .left)) ∙ ap (λ (i : ℕ). calls i (placeOf (y .place) ∷ onOf (x .running))) (sg .left))
+          ∙ rw (cs .member, cs .row) (ap (bodyRun (calls (x .running .left - 1) (placeOf (y .place) ∷ onOf (x .running))) (y .place .member) (y .place .row) u) W₁) in
           record { is = G .is ∙ P ∙ sym Q; end = G .end; below = G .below; fits = G .fits; limit = G .limit; slots = G .slots }
 
       pub call-body : CallIs deck rows names c l h w u x m y k c₂ l₂ h₂ w₂ r

@@ -77,9 +77,14 @@ module _ (deck rows names s c l h w : List ℕ) (at n left u : ℕ) (x : Scene) 
     failed-by : (f : Why) (k : Meter) → y ≡ Failed f k → (B : World) → Shows deck rows names c l h w u x m B → (t : Tree) (e : ℕ) (z : Parsed) → levelsIn left s (n - 1) at ≡ read z → chained (z .tree) (z .to) ≡ read (parsed t e) → Gave B u w c₁ l₁ h₁ w₁ (Failed f k) e (valueOf x t u (worldIn B c l h (m .used)))
     failed-by f k i B sh t e z a b =
         let G : Gave B u w c₁ l₁ h₁ w₁ (Failed f k) (z .to) (valueOf x (z .tree) u (worldIn B c l h (m .used))) = rw i at (first-gave B sh z a) in
-        record
-          { is = sym (strict x u (worldIn B c l h (m .used)) (n - 1) (levelsIn left s (n - 1)) s (suc (length s)) (z .tree) (z .to) (parsed t e) f (k .used) (sym (G .is)) b)
-          ; end = refl; below = G .below; fits = G .fits; limit = G .limit; slots = G .slots }
+        record {
+          is = sym (strict x u (worldIn B c l h (m .used)) (n - 1) (levelsIn left s (n - 1)) s (suc (length s)) (z .tree) (z .to) (parsed t e) f (k .used) (sym (G .is)) b);
+          end = refl;
+          below = G .below;
+          fits = G .fits;
+          limit = G .limit;
+          slots = G .slots;
+        }
 
     pub levels-failed : (f : Why) (k : Meter) → y ≡ Failed f k → Evaluates deck rows names c l h w u x m c₁ l₁ h₁ w₁ (Failed f k) (levelsIn left s n at)
     levels-failed f k i = record { is = λ B sh t e q. let j : IsRead (levelsIn left s (n - 1) at) (λ r. chained (r .tree) (r .to)) (parsed t e) = levels-first (operandIn left s) s n at t e big q in failed-by f k i B sh t e (j .first) (j .is) (j .rest) }
@@ -135,9 +140,14 @@ module _ (deck rows names s c₀ l₀ h₀ w₀ : List ℕ) (v : Value) (from le
         → (t : Tree) (e : ℕ) → chain level next s (suc (length s)) t₀ from ≡ read (parsed t e) → Chained B z₀ (parsed t e) turns y at m c l h w
 
   pub chaining-start : (n : ℕ) → n ≡ length s + 1 → Chaining n v from m₀ c₀ l₀ h₀ w₀
-  chaining-start n e = record
-    { low = omega (arith, e); cells-size = refl; low-size = refl; high-size = refl; work-size = refl
-    ; is = λ B sh f t₀ z₀ a t q b. let d : n ≡ suc (length s) = omega (arith, e) in record { tree = t₀; value = a; same = rw d b; shows = sh; fits = f; below = below-same u w₀ } }
+  chaining-start n e = record {
+    low = omega (arith, e);
+    cells-size = refl;
+    low-size = refl;
+    high-size = refl;
+    work-size = refl;
+    is = λ B sh f t₀ z₀ a t q b. let d : n ≡ suc (length s) = omega (arith, e) in record { tree = t₀; value = a; same = rw d b; shows = sh; fits = f; below = below-same u w₀ };
+  }
 
   module _ (turns : ℕ) (y : Value) (at : ℕ) (m : Meter) (c l h w : List ℕ) (k : Chaining turns y at m c l h w) where
     pub chaining-end : turns ≤ 0 → (r : Evaluated) → Chains deck rows names s c₀ l₀ h₀ w₀ v from level left u x m₀ c l h w r
@@ -185,18 +195,19 @@ module _ (deck rows names s c₀ l₀ h₀ w₀ : List ℕ) (v : Value) (from le
             let G : Gave B (u + sizeFor y) w c₁ l₁ h₁ w₁ b (p .to) (valueOf x (p .tree) (u + sizeFor y) (worldIn B c l h (m .used))) = subst (λ (i : ℕ). Gave B i w c₁ l₁ h₁ w₁ b (p .to) (valueOf x (p .tree) i (worldIn B c l h (m .used)))) tp G₀ in
             let T : Turns w₁ u (u + sizeFor y) b (infixOn u o (valueIn w₁ u y)) w₂ r = wi .is (omega (arith, z₁, j .shows .work)) (G .fits) in
             let Vy : valueIn w₁ u y ≡ valueIn w u y = value-below y u w w₁ (G .below) in
-            record
-              { tree = binary o (j .tree) (p .tree)
-              ; place = p .to
-              ; value = T .is B c₁ l₁ h₁ ∙ ap (infixOn u o (valueIn w₁ u y)) (G .is) ∙ ap (λ (i : Val.Value). infixOn u o i (valueOf x (p .tree) (u + sizeFor y) (worldIn B c l h (m .used)))) Vy
+            record {
+              tree = binary o (j .tree) (p .tree);
+              place = p .to;
+              value = T .is B c₁ l₁ h₁ ∙ ap (infixOn u o (valueIn w₁ u y)) (G .is) ∙ ap (λ (i : Val.Value). infixOn u o i (valueOf x (p .tree) (u + sizeFor y) (worldIn B c l h (m .used)))) Vy
                   ∙ ap (λ (i : ℕ). infixOn u o (valueIn w u y) (valueOf x (p .tree) (u + i) (worldIn B c l h (m .used)))) (sym (value-size w u y))
-                  ∙ sym (value-binary x u z₀ o (j .tree) (p .tree) (valueIn w u y) (worldIn B c l h (m .used)) (j .value))
-              ; same = d
-              ; end = T .end (p .to) (G .end)
-              ; below = T .below ∙ below-less u (u + sizeFor y) w w₁ (omega arith) (G .below)
-              ; fits = T .fits
-              ; limit = T .limit ∙ G .limit
-              ; slots = G .slots }
+                  ∙ sym (value-binary x u z₀ o (j .tree) (p .tree) (valueIn w u y) (worldIn B c l h (m .used)) (j .value));
+              same = d;
+              end = T .end (p .to) (G .end);
+              below = T .below ∙ below-less u (u + sizeFor y) w w₁ (omega arith) (G .below);
+              fits = T .fits;
+              limit = T .limit ∙ G .limit;
+              slots = G .slots;
+            }
 
         after : (B z₀ : World) (z : Parsed) → Chained B z₀ z turns y at m c l h w → After B z₀ z
         after B z₀ z j =
@@ -205,13 +216,14 @@ module _ (deck rows names s c₀ l₀ h₀ w₀ : List ℕ) (v : Value) (from le
             after-by B z₀ z j (a .first) (ap next (i .1) ∙ a .is) (a .rest)
 
         failed-with : (f : Why) (i : Meter) → r ≡ Failed f i → (B z₀ : World) (t : Tree) (e : ℕ) → Chained B z₀ (parsed t e) turns y at m c l h w → After B z₀ (parsed t e) → Gave B u w₀ c₁ l₁ h₁ w₂ (Failed f i) e (valueOf x t u z₀)
-        failed-with f i ri B z₀ t e j a = record
-          { is = sym (strict x u z₀ level next s (turns - 1) (a .tree) (a .place) (parsed t e) f (i .used) (sym (rw ri at (a .value))) (a .same))
-          ; end = refl
-          ; below = below-then u u w₀ w w₂ (j .below) (omega arith) (a .below)
-          ; fits = rw ri at (a .fits)
-          ; limit = rw ri at (a .limit)
-          ; slots = a .slots }
+        failed-with f i ri B z₀ t e j a = record {
+          is = sym (strict x u z₀ level next s (turns - 1) (a .tree) (a .place) (parsed t e) f (i .used) (sym (rw ri at (a .value))) (a .same));
+          end = refl;
+          below = below-then u u w₀ w w₂ (j .below) (omega arith) (a .below);
+          fits = rw ri at (a .fits);
+          limit = rw ri at (a .limit);
+          slots = a .slots;
+        }
 
         pub chaining-failed : (f : Why) (i : Meter) → r ≡ Failed f i → Chains deck rows names s c₀ l₀ h₀ w₀ v from level left u x m₀ c₁ l₁ h₁ w₂ (Failed f i)
         chaining-failed f i ri = record { is = λ B sh ff t₀ z₀ a t e d. let j : Chained B z₀ (parsed t e) turns y at m c l h w = k .is B sh ff t₀ z₀ a t e d in failed-with f i ri B z₀ t e j (after B z₀ (parsed t e) j) }
@@ -219,19 +231,24 @@ module _ (deck rows names s c₀ l₀ h₀ w₀ : List ℕ) (v : Value) (from le
         on-with : (y′ : Value) (p : ℕ) (i : Meter) → r ≡ Is y′ p i → length w₂ ≡ length w₁ → (B z₀ : World) (z : Parsed) → Chained B z₀ z turns y at m c l h w → After B z₀ z → Chained B z₀ z (turns - 1) y′ p i c₁ l₁ h₁ w₂
         on-with y′ p i ri z₂ B z₀ z j a =
             let d : p ≡ a .place = end-is y′ p (a .place) i (rw ri at (a .end)) in
-            record
-              { tree = a .tree
-              ; value = sym (rw ri at (a .value))
-              ; same = rw d (a .same)
-              ; shows = shows-as deck rows names c l h w u x m B (j .shows) c₁ l₁ h₁ w₂ u i (a .slots) (z₂ ∙ z₁) (j .shows .taken) (rw ri at (a .limit))
-              ; fits = rw ri at (a .fits)
-              ; below = below-then u u w₀ w w₂ (j .below) (omega arith) (a .below) }
+            record {
+              tree = a .tree;
+              value = sym (rw ri at (a .value));
+              same = rw d (a .same);
+              shows = shows-as deck rows names c l h w u x m B (j .shows) c₁ l₁ h₁ w₂ u i (a .slots) (z₂ ∙ z₁) (j .shows .taken) (rw ri at (a .limit));
+              fits = rw ri at (a .fits);
+              below = below-then u u w₀ w w₂ (j .below) (omega arith) (a .below);
+            }
 
         pub chaining-more : (y′ : Value) (p : ℕ) (i : Meter) → r ≡ Is y′ p i → length c₁ ≡ length c → length l₁ ≡ length l → length h₁ ≡ length h → length w₂ ≡ length w₁ → Chaining (turns - 1) y′ p i c₁ l₁ h₁ w₂
-        chaining-more y′ p i ri zc zl zh z₂ = record
-          { low = omega (arith, k .low)
-          ; cells-size = zc ∙ k .cells-size; low-size = zl ∙ k .low-size; high-size = zh ∙ k .high-size; work-size = z₂ ∙ z₁ ∙ k .work-size
-          ; is = λ B sh ff t₀ z₀ a t e d. let j : Chained B z₀ (parsed t e) turns y at m c l h w = k .is B sh ff t₀ z₀ a t e d in on-with y′ p i ri z₂ B z₀ (parsed t e) j (after B z₀ (parsed t e) j) }
+        chaining-more y′ p i ri zc zl zh z₂ = record {
+          low = omega (arith, k .low);
+          cells-size = zc ∙ k .cells-size;
+          low-size = zl ∙ k .low-size;
+          high-size = zh ∙ k .high-size;
+          work-size = z₂ ∙ z₁ ∙ k .work-size;
+          is = λ B sh ff t₀ z₀ a t e d. let j : Chained B z₀ (parsed t e) turns y at m c l h w = k .is B sh ff t₀ z₀ a t e d in on-with y′ p i ri z₂ B z₀ (parsed t e) j (after B z₀ (parsed t e) j);
+        }
 
 -- ---- an operand
 module _ (deck rows names s c l h w : List ℕ) (at left u : ℕ) (x : Scene) (m : Meter) (p : Prefixes) (pe : p ≡ prefixes (length s) s at) (c₁ l₁ h₁ w₁ : List ℕ) (z₁ : length w₁ ≡ length w) (y : Evaluated)
@@ -240,13 +257,14 @@ module _ (deck rows names s c l h w : List ℕ) (at left u : ℕ) (x : Scene) (m
   prefixed-by B sh t e o =
       let G : Gave B u w c₁ l₁ h₁ w₁ y e (valueOf x (o .first) u (worldIn B c l h (m .used))) = g .is B sh (o .first) e (rw pe (o .is)) in
       let T : Turns w₁ u u y (prefixedBy u (signsAt (length s) s at)) w₂ r = pd .is (omega (arith, z₁, sh .work)) (G .fits) (rw pe (o .count)) in
-      record
-        { is = T .is B c₁ l₁ h₁ ∙ ap (prefixedBy u (signsAt (length s) s at)) (G .is) ∙ sym (o .value u (worldIn B c l h (m .used)))
-        ; end = T .end e (G .end)
-        ; below = below-then u u w w₁ w₂ (G .below) (omega arith) (T .below)
-        ; fits = T .fits
-        ; limit = T .limit ∙ G .limit
-        ; slots = G .slots }
+      record {
+        is = T .is B c₁ l₁ h₁ ∙ ap (prefixedBy u (signsAt (length s) s at)) (G .is) ∙ sym (o .value u (worldIn B c l h (m .used)));
+        end = T .end e (G .end);
+        below = below-then u u w w₁ w₂ (G .below) (omega arith) (T .below);
+        fits = T .fits;
+        limit = T .limit ∙ G .limit;
+        slots = G .slots;
+      }
 
   pub operand-done : Evaluates deck rows names c l h w u x m c₁ l₁ h₁ w₂ r (operandIn left s at)
   operand-done = record { is = λ B sh t e q. prefixed-by B sh t e (operand-is (insideOf left s) s (length s) at x (parsed t e) q) }
@@ -263,11 +281,14 @@ whole deck rows names s c l h w at u x m c′ l′ h′ w′ r g = record { is =
 
 -- ---- primitives
 constant-gave : (deck rows names c l h w : List ℕ) (u to : ℕ) (x : Scene) (m : Meter) (w′ : List ℕ) (r : Evaluated) (t : Tree) → ConstantIs t w u to m w′ r → (B : World) → Shows deck rows names c l h w u x m B → Gave B u w c l h w′ r to (valueOf x t u (worldIn B c l h (m .used)))
-constant-gave deck rows names c l h w u to x m w′ r t k B sh = record
-  { is = k .is (sh .work) (sh .taken) x B c l h
-  ; end = k .end; below = k .below; fits = k .fits (sh .taken)
-  ; limit = ap (λ (i : Meter). i .limit) (k .limit) ∙ sh .limit
-  ; slots = sh .slots }
+constant-gave deck rows names c l h w u to x m w′ r t k B sh = record {
+  is = k .is (sh .work) (sh .taken) x B c l h;
+  end = k .end;
+  below = k .below;
+  fits = k .fits (sh .taken);
+  limit = ap (λ (i : Meter). i .limit) (k .limit) ∙ sh .limit;
+  slots = sh .slots;
+}
 
 module _ (deck rows names s c l h w : List ℕ) (at left u : ℕ) (x : Scene) (m : Meter) (t : Lexeme) (lex : Lexed s at t) where
   abbrev here : Reading Parsed
@@ -354,13 +375,14 @@ module _ (deck rows names s c l h w : List ℕ) (at left u : ℕ) (x : Scene) (m
         let G : Gave B u w c₁ l₁ h₁ w₁ b (p .to) (valueOf x (p .tree) u (worldIn B c l h (m .used))) = g .is B sh (p .tree) (p .to) (inside-same left s (t .from) 0 (t .to) p a) in
         let z : tokenAt s (p .to) .to ≡ q = sym (expect-is ")" s (p .to) i f) ∙ k in
         let d : r ≡ withEnd b q = cl .is (p .to) (G .end) ∙ ap (withEnd b) z in
-        record
-          { is = ap (resIn B c₁ l₁ h₁ w₁ u) d ∙ end-res B b q ∙ G .is ∙ ap (λ (v : Tree). valueOf x v u (worldIn B c l h (m .used))) j
-          ; end = d ∙ end-same b q ∙ ap (λ (v : Evaluated). withEnd v q) (sym d)
-          ; below = G .below
-          ; fits = rw (d, end-size) (G .fits)
-          ; limit = ap (λ (v : Evaluated). meterOf v .limit) d ∙ ap (λ (v : Meter). v .limit) (end-meter b q) ∙ G .limit
-          ; slots = G .slots }
+        record {
+          is = ap (resIn B c₁ l₁ h₁ w₁ u) d ∙ end-res B b q ∙ G .is ∙ ap (λ (v : Tree). valueOf x v u (worldIn B c l h (m .used))) j;
+          end = d ∙ end-same b q ∙ ap (λ (v : Evaluated). withEnd v q) (sym d);
+          below = G .below;
+          fits = rw (d, end-size) (G .fits);
+          limit = ap (λ (v : Evaluated). meterOf v .limit) d ∙ ap (λ (v : Meter). v .limit) (end-meter b q) ∙ G .limit;
+          slots = G .slots;
+        }
 
     closed-with : (B : World) → Shows deck rows names c l h w u x m B → (y : Tree) (q : ℕ) (p : Parsed) → insideOf left s (t .from) (t .to) ≡ read p → IsRead (expectSign ")" s (p .to)) (λ e. read (parsed (p .tree) e)) (parsed y q) → Gave B u w c₁ l₁ h₁ w₁ r q (valueOf x y u (worldIn B c l h (m .used)))
     closed-with B sh y q p a k =
@@ -368,9 +390,11 @@ module _ (deck rows names s c l h w : List ℕ) (at left u : ℕ) (x : Scene) (m
         closed-by B sh y q p a (k .first) (k .is) (ap (λ (v : Parsed). v .tree) d) (ap (λ (v : Parsed). v .to) d)
 
     pub primitive-sign : Evaluates deck rows names c l h w u x m c₁ l₁ h₁ w₁ r here
-    primitive-sign = record { is = λ B sh y q i.
-        let k : IsRead (insideOf left s (t .from) (t .to)) closing (parsed y q) = here-sign e (parsed y q) i in
-        closed-with B sh y q (k .first) (k .is) (then-read (expectSign ")" s (k .first .to)) (λ e. read (parsed (k .first .tree) e)) (parsed y q) (k .rest)) }
+    primitive-sign = record {
+      is = λ B sh y q i.
+          let k : IsRead (insideOf left s (t .from) (t .to)) closing (parsed y q) = here-sign e (parsed y q) i in
+          closed-with B sh y q (k .first) (k .is) (then-read (expectSign ")" s (k .first .to)) (λ e. read (parsed (k .first .tree) e)) (parsed y q) (k .rest));
+    }
 
 -- ---- a name, with a list or without
 module _ (deck rows names s c l h w : List ℕ) (left u : ℕ) (x : Scene) (m : Meter) (t : Lexeme) (y : Meant) where
@@ -429,14 +453,22 @@ module _ (deck rows names s c l h w : List ℕ) (left u : ℕ) (x : Scene) (m : 
               (ap (λ (i : Ev.Meant). listedName (runIn x) (λ ws v z. Ev.arguments (runIn x) (ownerOf (x .owner)) (p .tree) ws v z) (Ev.count (p .tree)) i u (worldIn B c l h (m .used))) (meant-now B sh)
               ∙ sym (value-call (p .tree) (worldIn B c l h (m .used))) ∙ ap (λ (i : Parsed). valueOf x (i .tree) u (worldIn B c l h (m .used))) d)
               (k .is B sh (means B sh) (tokenAt s (t .to) .from) (p .tree) (p .to) a)
+
           by : (B : World) → Shows deck rows names c l h w u x m B → (z : Tree) (e : ℕ) → IsRead (E.arguments (insideOf left s (tokenAt s (t .to) .from)) s (length s) (tokenAt s (t .to) .to)) argued (parsed z e) → Gave B u w c′ l′ h′ w′ r e (valueOf x z u (worldIn B c l h (m .used)))
           by B sh z e i = with B sh z e (i .first) (rw (lex .to) (i .is)) (read-same (parsed (E.call (spelling s t) (i .first .tree)) (i .first .to)) (parsed z e) (i .rest))
 
 -- ---- what a name without a list gives that is no entry
 pub plain-named : (deck rows names c l h w : List ℕ) (u to : ℕ) (x : Scene) (m : Meter) (y : Meant) (w′ : List ℕ) (r : Evaluated) → isEntry y ≡ false → PlainIs c l h w u m y to w′ r → NameIs deck rows names c l h w u x m y to c l h w′ r
-plain-named deck rows names c l h w u to x m y w′ r e k = record { is = λ B sh n. record
-  { is = k .is e (sh .work) (sh .taken) x B n; end = k .end; below = k .below; fits = k .fits (sh .work) (sh .taken)
-  ; limit = ap (λ (i : Meter). i .limit) (k .limit) ∙ sh .limit; slots = sh .slots } }
+plain-named deck rows names c l h w u to x m y w′ r e k = record {
+  is = λ B sh n. record {
+    is = k .is e (sh .work) (sh .taken) x B n;
+    end = k .end;
+    below = k .below;
+    fits = k .fits (sh .work) (sh .taken);
+    limit = ap (λ (i : Meter). i .limit) (k .limit) ∙ sh .limit;
+    slots = sh .slots;
+  };
+}
 
 pub named-variable : (deck rows names c l h w : List ℕ) (u to : ℕ) (x : Scene) (m : Meter) (y : Meant) (w′ : List ℕ) (r : Evaluated) (a : ℕ) (v : ValueType) → y ≡ M.AVariable a v → PlainIs c l h w u m y to w′ r → NameIs deck rows names c l h w u x m y to c l h w′ r
 named-variable deck rows names c l h w u to x m y w′ r a v e k = plain-named deck rows names c l h w u to x m y w′ r (rw e) k

@@ -96,14 +96,15 @@ module _ (deck rows names c l h w : List ℕ) (u : ℕ) (x : Scene) (m : Meter) 
       let d : Declared B₁ (bodyAt (p .member) (p .row)) = rw e at (entry-means b B₁ k) in
       let q : IsRow (p .member) (p .row) B₁ × ((ns : List (List ℕ)) × (v : ValueType) × (rowOf (rowsOf (p .member) B₁) (p .row) .statement ≡ D.procedure ns v)) = sh .rowed .bodies (d .at) (p .member) (p .row) (d .declared) (d .is) in
       let t : Stated (bodyIn deck (p .member)) (rowIn (partIn rows (x .starts) (p .member)) (p .row) .content) (D.procedure (q .1 .0) (q .1 .1)) = rw (q .1 .2) at (sh .rowed .stated (p .member) (p .row) (q .0)) in
-      record
-        { list = t .1 .0
-        ; listed = q .1 .0
-        ; placed = names-of (isSign "(" (tokenAt (bodyIn deck (p .member)) (rowIn (partIn rows (x .starts) (p .member)) (p .row) .content) .token)) (bodyIn deck (p .member)) (q .1 .0) (t .1 .0) (t .1 .1 .names)
-        ; within = record { within = q .0; names = q .1 .0; type = q .1 .1; is = q .1 .2 }
-        ; few = λ ps f. sh .rowed .parameters (p .member) (p .row) (q .1 .0) (q .1 .1) ps (q .0) (q .1 .2) (parameters-there deck names (x .names) B₁ (sh .named .identifiers) (sh .named .denotations) (ownerAt p) (q .1 .0) ∙ f)
-        ; called = co .some p e .is (t .1 .0) (q .1 .0) (t .1 .1) (t .0)
-        ; value = callee-value B₁ sh p (q .1 .0) (q .1 .1) (q .1 .2) }
+      record {
+        list = t .1 .0;
+        listed = q .1 .0;
+        placed = names-of (isSign "(" (tokenAt (bodyIn deck (p .member)) (rowIn (partIn rows (x .starts) (p .member)) (p .row) .content) .token)) (bodyIn deck (p .member)) (q .1 .0) (t .1 .0) (t .1 .1 .names);
+        within = record { within = q .0; names = q .1 .0; type = q .1 .1; is = q .1 .2 };
+        few = λ ps f. sh .rowed .parameters (p .member) (p .row) (q .1 .0) (q .1 .1) ps (q .0) (q .1 .2) (parameters-there deck names (x .names) B₁ (sh .named .identifiers) (sh .named .denotations) (ownerAt p) (q .1 .0) ∙ f);
+        called = co .some p e .is (t .1 .0) (q .1 .0) (t .1 .1) (t .0);
+        value = callee-value B₁ sh p (q .1 .0) (q .1 .1) (q .1 .2);
+      }
 
   -- what the definition does with a callee
   plain-gives : (b₁ : W.Body) (W₁ : World) (q : Ev.Callee) → callee b₁ W₁ ≡ Val.gives q → plainName (runIn x) (Ev.anEntry b₁) u W₁ ≡ when (eqb (length (q .parameters)) 0) (λ _. runIn x q [] u W₁) (λ _. bad WrongArguments (W₁ .used))

@@ -132,11 +132,12 @@ module _ (deck s rows names c l h w : List ℕ) (at left u : ℕ) (x : Scene) (m
         let q : Found deck rows names (x .names) p cy (worldIn B₁ c l h (m .used)) B₁ = found deck rows names c l h w u x m b cy co B₁ sh p j me in
         let g : Got deck rows names c l h w u x m b cy co p (q .list) z (Ev.parameters (ownerAt p) (q .listed) (namesWorld deck names (x .names))) = called-is deck rows names c l h w u x m b cy co p (q .list) _ z (sym e ∙ q .called) in
         let a : callee (bodyAt (p .member) (p .row)) (worldIn B₁ c l h (m .used)) ≡ Val.gives (record { member = p .member; row = p .row; parameters = g .parameters }) = q .value ∙ ap (λ (i : Val.Answer (List Ev.Parameter)). Val.andThen i (λ ps. Val.gives (record { member = p .member; row = p .row; parameters = ps }))) (g .is) in
-        record
-          { callee = record { member = p .member; row = p .row; parameters = g .parameters }
-          ; shown = subst (λ (i : Callee). CalleeShown deck names (x .names) i (record { member = p .member; row = p .row; parameters = g .parameters }) B₁) (sym (g .callee)) record { member = refl; row = refl; listed = q .listed; placed = q .placed; asked = g .is; count = refl; few = q .few (g .parameters) (g .is); within = q .within }
-          ; few = q .few (g .parameters) (g .is)
-          ; value = λ t. named-gives x t (bodyAt (p .member) (p .row)) u (worldIn B₁ c l h (m .used)) (record { member = p .member; row = p .row; parameters = g .parameters }) a }
+        record {
+          callee = record { member = p .member; row = p .row; parameters = g .parameters };
+          shown = subst (λ (i : Callee). CalleeShown deck names (x .names) i (record { member = p .member; row = p .row; parameters = g .parameters }) B₁) (sym (g .callee)) record { member = refl; row = refl; listed = q .listed; placed = q .placed; asked = g .is; count = refl; few = q .few (g .parameters) (g .is); within = q .within };
+          few = q .few (g .parameters) (g .is);
+          value = λ t. named-gives x t (bodyAt (p .member) (p .row)) u (worldIn B₁ c l h (m .used)) (record { member = p .member; row = p .row; parameters = g .parameters }) a;
+        }
 
     entry-refused : (f : Why) → cy ≡ K.Fails f → (o : Body) → b ≡ o → (t : Tree) → named x t (Ev.anEntry (bodyOf o)) u (worldIn B₁ c l h (m .used)) ≡ bad f (m .used)
     entry-refused f e B.Nothing j t =
@@ -200,32 +201,34 @@ module _ (deck s rows names c l h w : List ℕ) (at left u : ℕ) (x : Scene) (m
               let a : eqb (length (k₁ .callee .parameters)) (count tr) ≡ true = eq-eqb (length (k₁ .callee .parameters)) (count tr) pc in
               let vl : named x tr (meantFor y) u (worldIn B₁ c l h (m .used)) ≡ bind (asked x tr (Ev.wishes (k₁ .callee .parameters)) u (worldIn B₁ c l h (m .used))) (λ vs z. runIn x (k₁ .callee) vs u z) = ap (λ (i : Meant). named x tr (meantFor i) u (worldIn B₁ c l h (m .used))) ey ∙ k₁ .value tr ∙ rw a in
               let wl : length (Ev.wishes (k₁ .callee .parameters)) ≡ length (k₁ .callee .parameters) = wishes-length (k₁ .callee .parameters) in
-              record
-                { ws = Ev.wishes (k₁ .callee .parameters)
-                ; made = λ vs z. runIn x (k₁ .callee) vs u z
-                ; value = vl
-                ; coming = rw d (k₁ .callee .parameters, k₁ .shown .listed, k₁ .shown .placed, k₁ .shown .asked, refl)
-                ; wanted = rw d zc
-                ; enough = omega (arith, wl, pc)
-                ; few = omega (arith, wl, k₁ .few)
-                ; is-entry = λ z₂ e₂. let zz : z ≡ z₂ = (let i : T.Entry z ≡ T.Entry z₂ = sym d ∙ e₂ in cc) in (k₁ .callee, rw (← zz) (k₁ .shown), refl, pc, λ vs W₁. refl)
-                ; is-substr = λ j e₂. clash (let i : T.Entry z ≡ T.Substr j = sym d ∙ e₂ in cc) }
+              record {
+                ws = Ev.wishes (k₁ .callee .parameters);
+                made = λ vs z. runIn x (k₁ .callee) vs u z;
+                value = vl;
+                coming = rw d (k₁ .callee .parameters, k₁ .shown .listed, k₁ .shown .placed, k₁ .shown .asked, refl);
+                wanted = rw d zc;
+                enough = omega (arith, wl, pc);
+                few = omega (arith, wl, k₁ .few);
+                is-entry = λ z₂ e₂. let zz : z ≡ z₂ = (let i : T.Entry z ≡ T.Entry z₂ = sym d ∙ e₂ in cc) in (k₁ .callee, rw (← zz) (k₁ .shown), refl, pc, λ vs W₁. refl);
+                is-substr = λ j e₂. clash (let i : T.Entry z ≡ T.Substr j = sym d ∙ e₂ in cc);
+              }
 
       substr-aimed : y ≡ M.TheSubstr → (v : Bool) → (eqb n 2 || eqb n 3) ≡ v → A.At t ≡ cond v (A.At (T.Substr n)) (A.Fails WrongArguments) → Aimed B₁ tr t
       substr-aimed ey false g q = clash (cc)
       substr-aimed ey true g q =
           let d : t ≡ T.Substr n = cc in
           let g₁ : (eqb (count tr) 2 || eqb (count tr) 3) ≡ true = rw en at g in
-          record
-            { ws = Ev.substrWishes
-            ; made = λ vs z. put u (Val.substr vs) z
-            ; value = ap (λ (i : Meant). named x tr (meantFor i) u (worldIn B₁ c l h (m .used))) ey ∙ named-substr x tr u (worldIn B₁ c l h (m .used)) true g₁
-            ; coming = rw d refl
-            ; wanted = rw d en
-            ; enough = two-three (count tr) g₁
-            ; few = omega arith
-            ; is-entry = λ z₂ e₂. clash (let i : T.Substr n ≡ T.Entry z₂ = sym d ∙ e₂ in cc)
-            ; is-substr = λ j e₂. (refl, g₁, en, λ vs W₁. refl) }
+          record {
+            ws = Ev.substrWishes;
+            made = λ vs z. put u (Val.substr vs) z;
+            value = ap (λ (i : Meant). named x tr (meantFor i) u (worldIn B₁ c l h (m .used))) ey ∙ named-substr x tr u (worldIn B₁ c l h (m .used)) true g₁;
+            coming = rw d refl;
+            wanted = rw d en;
+            enough = two-three (count tr) g₁;
+            few = omega arith;
+            is-entry = λ z₂ e₂. clash (let i : T.Substr n ≡ T.Entry z₂ = sym d ∙ e₂ in cc);
+            is-substr = λ j e₂. (refl, g₁, en, λ vs W₁. refl);
+          }
         where
           two-three : (a : ℕ) → (eqb a 2 || eqb a 3) ≡ true → a ≤ 3
           two-three a e = by (eqb a 2) refl (eqb a 3) refl e
@@ -287,13 +290,14 @@ module _ (deck s rows names c l h w : List ℕ) (at left u : ℕ) (x : Scene) (m
             let vs : wt .values ≡ substrValues w₁ u n f k = ph .0 ∙ ap (λ (i : ℕ). substrValues w₁ u i f k) vn in
             let sz : 65536 ≤ length w₁ = omega (arith, z₁, sh .work) in
             let Q : named x tr (meantFor y) u (worldIn B₁ c l h (m .used)) ≡ put u (Val.substr (substrValues w₁ u n f k)) (worldIn B₁ c₁ l₁ h₁ (m₁ .used)) = a .value ∙ ap (λ (i : Res Why (List Val.Value)). bind i (a .made)) (wt .is) ∙ ie .3 (wt .values) (worldIn B₁ c₁ l₁ h₁ (m₁ .used)) ∙ ap (λ (i : List Val.Value). put u (Val.substr i) (worldIn B₁ c₁ l₁ h₁ (m₁ .used))) vs in
-            record
-              { is = sd .is sz (ph .1) B₁ c₁ l₁ h₁ ∙ sym Q
-              ; end = subst (λ (i : ℕ). r ≡ withEnd r i) (wt .end) (sd .end)
-              ; below = sd .below sz (ph .1) ∙ g .below
-              ; fits = sd .fits sz (ph .1)
-              ; limit = ap (λ (i : Meter). i .limit) (sd .limit) ∙ g .limit
-              ; slots = g .slots }
+            record {
+              is = sd .is sz (ph .1) B₁ c₁ l₁ h₁ ∙ sym Q;
+              end = subst (λ (i : ℕ). r ≡ withEnd r i) (wt .end) (sd .end);
+              below = sd .below sz (ph .1) ∙ g .below;
+              fits = sd .fits sz (ph .1);
+              limit = ap (λ (i : Meter). i .limit) (sd .limit) ∙ g .limit;
+              slots = g .slots;
+            }
 
         pub listed-substr : ListedIs deck s rows names c l h w at left u x m y c₁ l₁ h₁ w₂ r
         listed-substr = record { is = λ B₁ sh me p tr e q. let a : Aimed B₁ tr t = aimed B₁ sh me tr (cn .is p tr e q) in substr-by B₁ sh tr e a (subst (λ (i : Outcome). Args B₁ u w c₁ l₁ h₁ w₁ f k (a .ws) (count tr) e (asked x tr (a .ws) u (worldIn B₁ c l h (m .used))) i) eo (args B₁ sh p tr e q a)) }

@@ -122,9 +122,11 @@ stepped-spends d w v b e = by (W.valueAt (d .at) w) e
         let s : Spends (W.store (d .at) (Val.fixed y) w) z = charge-spends (W.store (d .at) (Val.fixed y) w) z q in
         record { left = s .left; used = ap (λ (j : World). j .used) (sym g) ∙ s .used }
     charged y (bad g n) q f = clash (cc)
+
     added : (A : Val.Answer ℤ) → bind (ask A w) (λ y x. bind (W.charge (W.store (d .at) (Val.fixed y) x)) (λ _ z. good (F.passes d y) z)) ≡ good b v → Spends w v
     added (Val.gives y) f = charged y (W.charge (W.store (d .at) (Val.fixed y) w)) refl f
     added (Val.fails g) f = clash (cc)
+
     by : (a : W.Cell) → Fl.numberOf a w (λ z. bind (ask (Val.fromFixed (Fx.sum z (d .step))) w) (λ y x. bind (W.charge (W.store (d .at) (Val.fixed y) x)) (λ _ z. good (F.passes d y) z))) ≡ good b v → Spends w v
     by W.noValue f = clash (cc)
     by (W.holds a) f = added (Val.fromFixed (Fx.sum (Val.asNumber a) (d .step))) f
@@ -197,22 +199,27 @@ module _ (deck s t rows names c l h w : List ℕ) (p : Place) (y : Next) (fs : F
     turn-is B G R q = ap (λ (i : Res Why (Unit {0})). bind i (λ _ v. F.statement (bodyOf x p u B) (rowOf (rowsOf (p .member) B) n .statement) G n v)) (placed-same (W.charge (worldIn B c l h (m .used))) ∙ q)
 
     pub turn-due : k .paid ≡ false → (r : Turned) → r ≡ turnedBy fs (St.Bad NoStep (k .meter)) → TurnIs deck s t rows names c l h w p y fs u x m c l h w r
-    turn-due pd r er = rw (er, e) record { is = λ B sh ib G at.
-        let lf : isLeft (m .limit) (m .used) ≡ false = sym (ch .paid) ∙ pd in
-        let lg : isLeft (B .limit) (m .used) ≡ false = ap (λ (i : ℕ). isLeft i (m .used)) (sym (sh .limit)) ∙ lf in
-        let us : k .meter .used ≡ m .used = ch .used ∙ after-none (m .limit) (m .used) lf in
-        (ap returnsOf (turn-is B G (bad NoStep (m .used)) (charge-none (worldIn B c l h (m .used)) lg)) ∙ ap (λ (i : ℕ). bad NoStep i) (sym us)
-        , record { below = refl; limit = ch .limit ∙ sh .limit; slots = sh .slots }) }
+    turn-due pd r er = rw (er, e) record {
+      is = λ B sh ib G at.
+          let lf : isLeft (m .limit) (m .used) ≡ false = sym (ch .paid) ∙ pd in
+          let lg : isLeft (B .limit) (m .used) ≡ false = ap (λ (i : ℕ). isLeft i (m .used)) (sym (sh .limit)) ∙ lf in
+          let us : k .meter .used ≡ m .used = ch .used ∙ after-none (m .limit) (m .used) lf in (
+            ap returnsOf (turn-is B G (bad NoStep (m .used)) (charge-none (worldIn B c l h (m .used)) lg)) ∙ ap (λ (i : ℕ). bad NoStep i) (sym us),
+            record { below = refl; limit = ch .limit ∙ sh .limit; slots = sh .slots },
+          );
+    }
 
     pub turn-begin : k .paid ≡ true → (c′ l′ h′ w′ : List ℕ) (r : Turned) → StatementIs deck s t rows names c l h w p n fs u x (k .meter) c′ l′ h′ w′ r → TurnIs deck s t rows names c l h w p y fs u x m c′ l′ h′ w′ r
-    turn-begin pd c′ l′ h′ w′ r si = rw e record { is = λ B sh ib G at.
-        let pi : (isLeft (B .limit) (m .used) ≡ true) × (usedAfter (B .limit) (m .used) ≡ k .meter .used) = paid-is m k ch (B .limit) (sh .limit) pd in
-        let sh₁ : Shows deck rows names c l h w u x (k .meter) B = record { named = sh .named; rowed = sh .rowed; slots = sh .slots; work = sh .work; taken = sh .taken; limit = ch .limit ∙ sh .limit; left = sh .left } in
-        let S₁ : TurnsTo (bodyOf x p u B) t B u c′ l′ h′ w′ (F.statement (bodyOf x p u B) (rowOf (rowsOf (p .member) B) n .statement) G n (worldIn B c l h (k .meter .used))) (r .frames) (r .step) × Leaves B u w c′ l′ h′ w′ (stepMeter (r .step)) = si .is B sh₁ ib G (at .begin n refl) in
-        let R : F.turn (bodyOf x p u B) (F.begin n) G (worldIn B c l h (m .used)) ≡ F.statement (bodyOf x p u B) (rowOf (rowsOf (p .member) B) n .statement) G n (worldIn B c l h (k .meter .used)) =
-              turn-is B G (good tt (W.withUsed (usedAfter (B .limit) (m .used)) (worldIn B c l h (m .used)))) (charge-left (worldIn B c l h (m .used)) (pi .0))
-              ∙ ap (λ (i : ℕ). F.statement (bodyOf x p u B) (rowOf (rowsOf (p .member) B) n .statement) G n (worldIn B c l h i)) (pi .1) in
-        (subst (λ (i : Res Why F.Turn). TurnsTo (bodyOf x p u B) t B u c′ l′ h′ w′ (returnsOf i) (r .frames) (r .step)) (sym R) (returns-turns (bodyOf x p u B) t B u c′ l′ h′ w′ _ (r .frames) (r .step) (S₁ .0)), S₁ .1) }
+    turn-begin pd c′ l′ h′ w′ r si = rw e record {
+      is = λ B sh ib G at.
+          let pi : (isLeft (B .limit) (m .used) ≡ true) × (usedAfter (B .limit) (m .used) ≡ k .meter .used) = paid-is m k ch (B .limit) (sh .limit) pd in
+          let sh₁ : Shows deck rows names c l h w u x (k .meter) B = record { named = sh .named; rowed = sh .rowed; slots = sh .slots; work = sh .work; taken = sh .taken; limit = ch .limit ∙ sh .limit; left = sh .left } in
+          let S₁ : TurnsTo (bodyOf x p u B) t B u c′ l′ h′ w′ (F.statement (bodyOf x p u B) (rowOf (rowsOf (p .member) B) n .statement) G n (worldIn B c l h (k .meter .used))) (r .frames) (r .step) × Leaves B u w c′ l′ h′ w′ (stepMeter (r .step)) = si .is B sh₁ ib G (at .begin n refl) in
+          let R : F.turn (bodyOf x p u B) (F.begin n) G (worldIn B c l h (m .used)) ≡ F.statement (bodyOf x p u B) (rowOf (rowsOf (p .member) B) n .statement) G n (worldIn B c l h (k .meter .used)) =
+          turn-is B G (good tt (W.withUsed (usedAfter (B .limit) (m .used)) (worldIn B c l h (m .used)))) (charge-left (worldIn B c l h (m .used)) (pi .0))
+          ∙ ap (λ (i : ℕ). F.statement (bodyOf x p u B) (rowOf (rowsOf (p .member) B) n .statement) G n (worldIn B c l h i)) (pi .1) in
+          (subst (λ (i : Res Why F.Turn). TurnsTo (bodyOf x p u B) t B u c′ l′ h′ w′ (returnsOf i) (r .frames) (r .step)) (sym R) (returns-turns (bodyOf x p u B) t B u c′ l′ h′ w′ _ (r .frames) (r .step) (S₁ .0)), S₁ .1);
+    }
 
   module _ (g : ℕ) (e : y ≡ Again g) (f : Frame) (ef : f ≡ frameIn t fs g) (c′ : List ℕ) (b : Tested) (si : SteppedIs c f m c′ b) where
     module _ (B : World) (sh : Shows deck rows names c l h w u x m B) (ib : InBody deck s t rows x p B) (G : List F.Frame) (at : AtTest (bodyOf x p u B) t (B .denotations) fs G g) where
@@ -225,9 +232,10 @@ module _ (deck s t rows names c l h w : List ℕ) (p : Place) (y : Next) (fs : F
 
       again-by : (a : Tested) → b ≡ a → TurnsTo (bodyOf x p u B) t B u c′ l h w (returnsOf (F.turn (bodyOf x p u B) (F.again g) G (worldIn B c l h (m .used)))) fs (afterTest a (λ o. againIn t fs g o)) × Leaves B u w c′ l h w (stepMeter (afterTest a (λ o. againIn t fs g o)))
       again-by (Te.Is o k) q =
-          let R : F.turn (bodyOf x p u B) (F.again g) G (worldIn B c l h (m .used)) ≡ good (F.on (nextFrom (againIn t fs g o)) G) (worldIn B c′ l h (k .used)) = turn-again-is ∙ rw q (goes-on deck s t rows names c l h w p fs u x m B sh ib G g at o (worldIn B c′ l h (k .used))) in
-          ((G, ap returnsOf R, on-at deck s t rows names c l h w p fs u x m B sh ib G g at o)
-          , record { below = refl; limit = rw q at (si .is B l h (at .own .frame) framing .1); slots = si .is B l h (at .own .frame) framing .2 })
+          let R : F.turn (bodyOf x p u B) (F.again g) G (worldIn B c l h (m .used)) ≡ good (F.on (nextFrom (againIn t fs g o)) G) (worldIn B c′ l h (k .used)) = turn-again-is ∙ rw q (goes-on deck s t rows names c l h w p fs u x m B sh ib G g at o (worldIn B c′ l h (k .used))) in (
+            (G, ap returnsOf R, on-at deck s t rows names c l h w p fs u x m B sh ib G g at o),
+            record { below = refl; limit = rw q at (si .is B l h (at .own .frame) framing .1); slots = si .is B l h (at .own .frame) framing .2 },
+          )
       again-by (Te.Bad z k) q =
           let R : F.turn (bodyOf x p u B) (F.again g) G (worldIn B c l h (m .used)) ≡ bad z (k .used) = turn-again-is ∙ rw q in
           (ap returnsOf R, record { below = refl; limit = rw q at (si .is B l h (at .own .frame) framing .1); slots = si .is B l h (at .own .frame) framing .2 })
@@ -357,15 +365,16 @@ module _ (deck s t rows names c₀ l₀ h₀ w₀ : List ℕ) (p : Place) (u : �
         let shown : Fl.Shown t (rowsOf (p .member) B) = rw (ib .part) (sh .rowed .shown (p .member)) in
         let child : q .child ≡ linkOf (rowOf (rowsOf (p .member) B) (p .row) .child) = rw eq (shown .rows (p .row) (ib .procedure .within) .child) in
         let ye : y ≡ C.firstOf (linkOf (rowOf (rowsOf (p .member) B) (p .row) .child)) = ey ∙ ap C.firstOf child in
-        record
-          { frames = []
-          ; fuel = B .limit - m₀ .used
-          ; turns-are = ek ∙ ap (λ (i : ℕ). suc (i - m₀ .used)) (sh .limit)
-          ; enough = omega arith
-          ; same = ap (λ (i : F.Next). Calls.valueOf (F.runOn (bodyOf x p u B) (B .limit - m₀ .used) i [] (worldIn B c₀ l₀ h₀ (m₀ .used)))) (ap nextFrom ye ∙ first-is (rowOf (rowsOf (p .member) B) (p .row) .child))
-          ; at = rw (ye, ef) (first-stands (bodyOf x p u B) t (B .denotations) C.noFrames [] (rowOf (rowsOf (p .member) B) (p .row) .child) (λ n e.
-              record { within = sh .rowed .linked (p .member) .child (p .row) n (ib .procedure .within) e .within; framed = framed-start (bodyOf x p u B) t (B .denotations) n }))
-          ; leaves = record { below = refl; limit = sh .limit; slots = sh .slots } }
+        record {
+          frames = [];
+          fuel = B .limit - m₀ .used;
+          turns-are = ek ∙ ap (λ (i : ℕ). suc (i - m₀ .used)) (sh .limit);
+          enough = omega arith;
+          same = ap (λ (i : F.Next). Calls.valueOf (F.runOn (bodyOf x p u B) (B .limit - m₀ .used) i [] (worldIn B c₀ l₀ h₀ (m₀ .used)))) (ap nextFrom ye ∙ first-is (rowOf (rowsOf (p .member) B) (p .row) .child));
+          at = rw (ye, ef) (first-stands (bodyOf x p u B) t (B .denotations) C.noFrames [] (rowOf (rowsOf (p .member) B) (p .row) .child) (λ n e.
+              record { within = sh .rowed .linked (p .member) .child (p .row) n (ib .procedure .within) e .within; framed = framed-start (bodyOf x p u B) t (B .denotations) n }));
+          leaves = record { below = refl; limit = sh .limit; slots = sh .slots };
+        }
 
     pub runs-start : Runs k y fs m₀ c₀ l₀ h₀ w₀
     runs-start = record { is = begun; cells-size = refl; low-size = refl; high-size = refl; work-size = refl }
@@ -406,21 +415,22 @@ module _ (deck s t rows names c₀ l₀ h₀ w₀ : List ℕ) (p : Place) (u : �
           of : (f : ℕ) → go .fuel ≡ f → (d : (G : List F.Frame) × (returnsOf turned ≡ good (F.on (nextFrom z) G) (worldIn B c′ l′ h′ (k .used))) × AtNext (bodyOf x p u B) t (B .denotations) (r .frames) G z)
               → turned ≡ good (F.on (nextFrom z) (d .0)) (worldIn B c′ l′ h′ (k .used)) → Advances (worldIn B c l h (m .used)) (worldIn B c′ l′ h′ (k .used)) → Going B (turns - 1) z (r .frames) k c′ l′ h′ w′
           of zero ef d T ad = absurd (omega (arith, go .enough, ef, ad .left))
-          of (suc f) ef d T ad = record
-            { frames = d .0
-            ; fuel = f
-            ; turns-are = omega (arith, go .turns-are, ef)
-            ; enough = omega (arith, go .enough, ef, ad .more)
-            ; same = ap (λ (i : Res Why F.Turn). Calls.valueOf (F.continued (bodyOf x p u B) i (λ a H v. F.runOn (bodyOf x p u B) f a H v))) (sym T)
-                ∙ sym (ap Calls.valueOf (ap (λ (i : ℕ). F.runOn (bodyOf x p u B) i (nextFrom y) (go .frames) (worldIn B c l h (m .used))) ef ∙ run-step (bodyOf x p u B) f (nextFrom y) (go .frames) (worldIn B c l h (m .used)))) ∙ go .same
-            ; at = d .2
-            ; leaves = leaves-now k (ap stepMeter e) }
+          of (suc f) ef d T ad = record {
+            frames = d .0;
+            fuel = f;
+            turns-are = omega (arith, go .turns-are, ef);
+            enough = omega (arith, go .enough, ef, ad .more);
+            same = ap (λ (i : Res Why F.Turn). Calls.valueOf (F.continued (bodyOf x p u B) i (λ a H v. F.runOn (bodyOf x p u B) f a H v))) (sym T)
+                ∙ sym (ap Calls.valueOf (ap (λ (i : ℕ). F.runOn (bodyOf x p u B) i (nextFrom y) (go .frames) (worldIn B c l h (m .used))) ef ∙ run-step (bodyOf x p u B) f (nextFrom y) (go .frames) (worldIn B c l h (m .used)))) ∙ go .same;
+            at = d .2;
+            leaves = leaves-now k (ap stepMeter e);
+          }
 
       gave-by : (v : Value) (k : Meter) → r .step ≡ St.Gave v k → Gave B u w₀ c′ l′ h′ w′ (Is v 0 k) 0 (whole B)
       gave-by v k e =
           let d : (returnsOf turned ≡ good (F.ended (F.returned (valueIn w′ u v))) (worldIn B c′ l′ h′ (k .used))) × (u + sizeFor v ≤ 65536) = subst (λ (i : Step). TurnsTo (bodyOf x p u B) t B u c′ l′ h′ w′ (returnsOf turned) (r .frames) i) e (done .0) in
           let R : Calls.valueOf (F.runOn (bodyOf x p u B) (go .fuel) (nextFrom y) (go .frames) (worldIn B c l h (m .used))) ≡ good (valueIn w′ u v) (worldIn B c′ l′ h′ (k .used)) =
-                ends-as x p u B (go .fuel) (nextFrom y) (go .frames) (worldIn B c l h (m .used)) _ (go .enough) (λ o. value-returned (bodyOf x p u B) turned o (valueIn w′ u v) (worldIn B c′ l′ h′ (k .used)) (d .0)) in
+          ends-as x p u B (go .fuel) (nextFrom y) (go .frames) (worldIn B c l h (m .used)) _ (go .enough) (λ o. value-returned (bodyOf x p u B) turned o (valueIn w′ u v) (worldIn B c′ l′ h′ (k .used)) (d .0)) in
           let lv : Leaves B u w₀ c′ l′ h′ w′ k = leaves-now k (ap stepMeter e) in
           record { is = sym R ∙ go .same; end = refl; below = lv .below; fits = d .1; limit = lv .limit; slots = lv .slots }
 
@@ -428,14 +438,18 @@ module _ (deck s t rows names c₀ l₀ h₀ w₀ : List ℕ) (p : Place) (u : �
       bad-by f k e =
           let d : returnsOf turned ≡ bad f (k .used) = subst (λ (i : Step). TurnsTo (bodyOf x p u B) t B u c′ l′ h′ w′ (returnsOf turned) (r .frames) i) e (done .0) in
           let R : Calls.valueOf (F.runOn (bodyOf x p u B) (go .fuel) (nextFrom y) (go .frames) (worldIn B c l h (m .used))) ≡ bad f (k .used) =
-                ends-as x p u B (go .fuel) (nextFrom y) (go .frames) (worldIn B c l h (m .used)) _ (go .enough) (λ o. value-bad (bodyOf x p u B) turned o f (k .used) d) in
+          ends-as x p u B (go .fuel) (nextFrom y) (go .frames) (worldIn B c l h (m .used)) _ (go .enough) (λ o. value-bad (bodyOf x p u B) turned o f (k .used) d) in
           let lv : Leaves B u w₀ c′ l′ h′ w′ k = leaves-now k (ap stepMeter e) in
           record { is = sym R ∙ go .same; end = refl; below = lv .below; fits = omega (arith, sh .taken); limit = lv .limit; slots = lv .slots }
 
     pub runs-more : (z : Next) (k : Meter) → r .step ≡ St.On z k → length c′ ≡ length c → length l′ ≡ length l → length h′ ≡ length h → length w′ ≡ length w → Runs (turns - 1) z (r .frames) k c′ l′ h′ w′
-    runs-more z k e ec el eh ew = record
-      { is = λ B sh ib. more-by B sh ib z k e (go B sh ib .fuel) refl
-      ; cells-size = ec ∙ ru .cells-size; low-size = el ∙ ru .low-size; high-size = eh ∙ ru .high-size; work-size = ew ∙ ru .work-size }
+    runs-more z k e ec el eh ew = record {
+      is = λ B sh ib. more-by B sh ib z k e (go B sh ib .fuel) refl;
+      cells-size = ec ∙ ru .cells-size;
+      low-size = el ∙ ru .low-size;
+      high-size = eh ∙ ru .high-size;
+      work-size = ew ∙ ru .work-size;
+    }
 
     pub runs-gave : (v : Value) (k : Meter) → r .step ≡ St.Gave v k → BodyIs deck s t rows names c₀ l₀ h₀ w₀ u x m₀ p c′ l′ h′ w′ (Is v 0 k)
     runs-gave v k e = record { is = λ B sh eo es et ip. gave-by B sh (record { owner = eo; body = es; part = et; procedure = ip }) v k e }
@@ -445,9 +459,11 @@ module _ (deck s t rows names c₀ l₀ h₀ w₀ : List ℕ) (p : Place) (u : �
 
   -- the turns do not run out
   pub runs-end : (turns : ℕ) (y : Next) (fs : Frames) (m : Meter) (c l h w : List ℕ) → Runs turns y fs m c l h w → turns ≤ 0 → (a : Evaluated) → BodyIs deck s t rows names c₀ l₀ h₀ w₀ u x m₀ p c l h w a
-  runs-end turns y fs m c l h w ru z a = record { is = λ B sh eo es et ip.
-      let go : Going B turns y fs m c l h w = ru .is B sh (record { owner = eo; body = es; part = et; procedure = ip }) in
-      absurd (omega (arith, z, go .turns-are)) }
+  runs-end turns y fs m c l h w ru z a = record {
+    is = λ B sh eo es et ip.
+        let go : Going B turns y fs m c l h w = ru .is B sh (record { owner = eo; body = es; part = et; procedure = ip }) in
+        absurd (omega (arith, z, go .turns-are));
+  }
 
 -- ---- one turn more than steps are left
 pub turns-none : (m : Meter) → m .limit < m .used → 1 ≡ suc (m .limit - m .used)

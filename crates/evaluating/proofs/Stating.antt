@@ -61,9 +61,10 @@ module _ (deck s rows names c l h w : List ℕ) (at u : ℕ) (x : Scene) (m : Me
       by : (B : World) → Shows deck rows names c l h w u x m B → (t : Tree) (e : ℕ) → wholeExpression s at ≡ read (parsed t e) → (testedIn B c₁ l₁ h₁ r ≡ F.truth (sceneMachine x u) t (worldIn B c l h (m .used))) × Leaves B u w c₁ l₁ h₁ w₂ (testedMeter r)
       by B sh t e q =
           let G : Gave B u w c₁ l₁ h₁ w₁ y e (valueOf x t u (worldIn B c l h (m .used))) = ev .is B sh t e q in
-          let i : 65536 ≤ length w₁ = omega (arith, z₁, sh .work) in
-          (ti .is i (G .fits) B c₁ l₁ h₁ ∙ ap (truthOn u) (G .is) ∙ sym (truth-is t (worldIn B c l h (m .used)))
-          , record { below = ti .below i (G .fits) ∙ G .below; limit = ap (λ (k : Meter). k .limit) (ti .limit) ∙ G .limit; slots = G .slots })
+          let i : 65536 ≤ length w₁ = omega (arith, z₁, sh .work) in (
+            ti .is i (G .fits) B c₁ l₁ h₁ ∙ ap (truthOn u) (G .is) ∙ sym (truth-is t (worldIn B c l h (m .used))),
+            record { below = ti .below i (G .fits) ∙ G .below; limit = ap (λ (k : Meter). k .limit) (ti .limit) ∙ G .limit; slots = G .slots },
+          )
 
 abbrev pub onMeant : {A : Type 0} → Ev.Meant → (ℕ → ValueType → Res Why A) → World → Res Why A
 onMeant (Ev.aVariable a k) f w = f a k
@@ -115,11 +116,14 @@ module _ (deck s rows names c l h w : List ℕ) (at u : ℕ) (x : Scene) (m : Me
   none-by M.NoSuch e f W₁ = refl
 
   pub assign-none : y ≡ Va.None → AssignIs deck s rows names c l h w at u x m c l h w (Dn.Bad WrongName m)
-  assign-none ey = record { is = λ B sh n tr st.
-      let e : part (t .to - t .from) (t .from) s ≡ n = spelled (st .0) (st .1) ∙ st .2 in
-      let W₁ : World = worldIn B c l h (m .used) in
-      (sym (assigned-is x u n tr W₁ ∙ ap (λ (i : Ev.Meant). onMeant i (λ a k. storedOn k a u (valueOf x tr u W₁)) W₁) (sym (meant-now B sh n e)) ∙ none-by (ti .name) (sym ey ∙ ti .variable) (λ a k. storedOn k a u (valueOf x tr u W₁)) W₁)
-      , record { below = refl; limit = sh .limit; slots = sh .slots }) }
+  assign-none ey = record {
+    is = λ B sh n tr st.
+        let e : part (t .to - t .from) (t .from) s ≡ n = spelled (st .0) (st .1) ∙ st .2 in
+        let W₁ : World = worldIn B c l h (m .used) in (
+          sym (assigned-is x u n tr W₁ ∙ ap (λ (i : Ev.Meant). onMeant i (λ a k. storedOn k a u (valueOf x tr u W₁)) W₁) (sym (meant-now B sh n e)) ∙ none-by (ti .name) (sym ey ∙ ti .variable) (λ a k. storedOn k a u (valueOf x tr u W₁)) W₁),
+          record { below = refl; limit = sh .limit; slots = sh .slots },
+        );
+  }
 
   module _ (a : ℕ) (k : ValueType) (ey : y ≡ Va.At a k) (g : Lexeme) (lg : Lexed s (t .to) g) (c₁ l₁ h₁ w₁ : List ℕ) (z₁ : length w₁ ≡ length w) (b : Evaluated)
       (ev : Evaluates deck rows names c l h w u x m c₁ l₁ h₁ w₁ b (wholeExpression s (g .to))) (c₂ l₂ h₂ w₂ : List ℕ) (r : Done) (si : StoredIs c₁ l₁ h₁ w₁ a k u b c₂ l₂ h₂ w₂ r) where
@@ -139,4 +143,3 @@ module _ (deck s rows names c l h w : List ℕ) (at u : ℕ) (x : Scene) (m : Me
 
     pub assign-done : AssignIs deck s rows names c l h w at u x m c₂ l₂ h₂ w₂ r
     assign-done = record { is = λ B sh n tr st. done-by B sh n tr (st .0) (st .1) (st .2) (st .3 .0) (st .3 .1) (st .3 .2) (st .3 .3) }
-
