@@ -9,6 +9,8 @@ use Rattle.definition.specs.Expressions.{read, Named, parsed, nameAt, expectSig
 use Rattle.definition.specs.Program as D
 use Rattle.definition.specs.declared.ValueType.{ValueType}
 use Rattle.definition.specs.Tokens.{tokenAt, isWord}
+use Rattle.definition.specs.Evaluate as Ev
+use Rattle.definition.specs.Values as Val
 use Rattle.definition.specs.World as W
 use Rattle.definition.specs.World.{World, rowOf, rowsOf}
 use Rattle.deck.specs.Answer.{bodyIn}
@@ -36,7 +38,7 @@ Bounded s (D.upto x ∷ bs) at = (e : ℕ) × (isWord "BY" (tokenAt s at .token)
 abbrev pub Stated : List ℕ → ℕ → D.Statement → Type 0
 Stated s at D.null = Unit {0}
 Stated s at (D.declare ns) = Unit {0}
-Stated s at (D.procedure ns v) = (length ns ≤ 256) × (at ≤ length s) × ((list : ℕ) × Headed s at list ns)
+Stated s at (D.procedure ns v) = (at ≤ length s) × ((list : ℕ) × Headed s at list ns)
 Stated s at (D.assign n x) = (m : Named) × (nameAt s at ≡ read m) × (m .spelling ≡ n) × ((q : ℕ) × (e : ℕ) × (expectSign "=" s (m .to) ≡ read q) × (wholeExpression s q ≡ read (parsed x e)))
 Stated s at (D.conditional x) = (e : ℕ) × (wholeExpression s at ≡ read (parsed x e))
 Stated s at D.group = Unit {0}
@@ -48,13 +50,14 @@ Stated s at (D.deactivate ns) = Unit {0}
 Stated s at (D.return x) = (q : ℕ) × (e : ℕ) × (expectSign "(" s at ≡ read q) × (wholeExpression s q ≡ read (parsed x e))
 
 -- the rows of each member are its part of the table, in the body of the member; every body that a name of B has is among them, and
--- every row that a label of a procedure leads to
+-- every row that a label of a procedure leads to; parameters that all have a name are at most as many as names
 pub record RowsShown (deck rows : List ℕ) (starts : Starts) (B : World) : Type 0 where
   pub stated : (m r : ℕ) → IsRow m r B → Stated (bodyIn deck m) (rowIn (partIn rows starts m) r .content) (rowOf (rowsOf m B) r .statement)
   pub shown : (m : ℕ) → F.Shown (partIn rows starts m) (rowsOf m B)
   pub linked : (m : ℕ) → F.Linked (rowsOf m B)
   pub few : (m : ℕ) → length (rowsOf m B) ≤ 2048
   pub bodies : (a m r : ℕ) (x : Bool) → getD (B .denotations) a W.builtinName ≡ W.entryOf x (W.bodyAt m r) → IsRow m r B × ((ns : List (List ℕ)) × (v : ValueType) × (rowOf (rowsOf m B) r .statement ≡ D.procedure ns v))
+  pub parameters : (m r : ℕ) (ns : List (List ℕ)) (v : ValueType) (ps : List Ev.Parameter) → IsRow m r B → rowOf (rowsOf m B) r .statement ≡ D.procedure ns v → Ev.parameters (W.procedureAt m r) ns B ≡ Val.gives ps → length ps ≤ 256
   pub labels : (l : List ℕ) (m k a q r : ℕ) (x : Bool) → W.addressOf l (W.procedureAt m k) B ≡ W.address a → getD (B .denotations) a W.builtinName ≡ W.labelAt q r x → IsRow m r B
 
 -- ---- THE SCENE: what every evaluation asks of the rooms
