@@ -1,0 +1,7 @@
+-- From the reader's contract to what a run needs of the rows.
+pub mod Spellings
+pub mod Linking
+pub mod Meanings
+pub mod Stating
+pub mod Sound
+pub mod Turning
