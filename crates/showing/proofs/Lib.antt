@@ -5,3 +5,5 @@ pub mod Meanings
 pub mod Stating
 pub mod Sound
 pub mod Turning
+pub mod Tabling
+pub mod Distinct
