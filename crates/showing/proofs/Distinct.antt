@@ -78,7 +78,7 @@ out-apart k n qs (x ∷ xs) h =
     by false z = refl
 
 -- ---- declared without a fault, parameters that stand one behind the other are distinct
-abbrev IsFine : N.Declaring → Type 0
+abbrev pub IsFine : N.Declaring → Type 0
 IsFine (N.fine w) = Unit {0}
 IsFine (N.second p) = ⊥
 

@@ -7,3 +7,5 @@ pub mod Sound
 pub mod Turning
 pub mod Tabling
 pub mod Distinct
+pub mod Placing
+pub mod Worlds

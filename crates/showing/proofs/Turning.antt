@@ -212,7 +212,7 @@ pub record SoundSource (x : P.Source) : Type 0 where
   pub names : x .fault ≡ P.sound → AllMean (x .rows) (x .declared)
   pub heads : x .fault ≡ P.sound → Headed (x .rows) (x .declared)
 
-faulty-not : {A : Type 0} (w : Why) (p : ℕ) → P.faulty w p ≡ P.sound → A
+pub faulty-not : {A : Type 0} (w : Why) (p : ℕ) → P.faulty w p ≡ P.sound → A
 faulty-not w p e = let z : _≡_ {A = ℕ} 0 1 = cc in absurd (omega arith)
 
 rowed-source : (st : D.State) (begun : List ℕ) (w : Why) (p : ℕ) → Rowed st → SoundSource (D.source st begun (P.faulty w p))
