@@ -3,7 +3,7 @@
 use mathlib.Core.Path.{_≡_, refl, sym, ap, subst, _∙_}
 use mathlib.Core.Bool.{Bool, true, false, cond, _&&_, _||_, false≢true}
 use mathlib.Core.List.{List, [], _∷_, _++_}
-use Prim.Native.Nat.{ℕ, zero, suc, _<_, _≤_}
+use Prim.Native.Nat.{ℕ, suc, _≤_}
 use native.Mathlib.Omega.{arith}
 use borrow.Author.Tests.{eqb-true, eq-eqb}
 use lib.Dec.{eqb}
@@ -108,9 +108,9 @@ listed-distinct m r (n ∷ ms) ys qs w h =
     listed-fine (N.isListed (own k (n .spelling)) qs) (λ _. N.second (n .place)) (λ _. N.declareAll m (own k (n .spelling) ∷ qs) (St.means (P.inside r) P.parameter ms ++ ys) w)
     (Distinct (n .spelling ∷ spelled ms) × Out k qs (n .spelling ∷ spelled ms))
     (λ e i.
-      let on : Distinct (spelled ms) × Out k (own k (n .spelling) ∷ qs) (spelled ms) = listed-distinct m r ms ys (own k (n .spelling) ∷ qs) w i in
-      let apart : Apart (n .spelling) (spelled ms) × Out k qs (spelled ms) = out-apart k (n .spelling) qs (spelled ms) (on .1) in
-      ((apart .0, on .0), (e, apart .1)))
+    let on : Distinct (spelled ms) × Out k (own k (n .spelling) ∷ qs) (spelled ms) = listed-distinct m r ms ys (own k (n .spelling) ∷ qs) w i in
+    let apart : Apart (n .spelling) (spelled ms) × Out k qs (spelled ms) = out-apart k (n .spelling) qs (spelled ms) (on .1) in
+    ((apart .0, on .0), (e, apart .1)))
     (λ e. absurd e) h
 
 -- of the names of a member that goes in, those of a procedure

@@ -1,10 +1,9 @@
 -- WHAT THE NAMES OF A MEMBER MEAN: a body is the row of a procedure, a label leads to a row; and the parameters of a procedure are
 -- listed one behind the other.
 -- Assumes nothing.
-use mathlib.Core.Path.{_≡_, refl, sym, ap, subst, _∙_}
-use mathlib.Core.Bool.{Bool, true, false}
+use mathlib.Core.Path.{_≡_, refl, sym, ap, _∙_}
 use mathlib.Core.List.{List, [], _∷_, _++_, append-assoc, append-nil}
-use Prim.Native.Nat.{ℕ, zero, suc, _<_, _≤_}
+use Prim.Native.Nat.{ℕ, zero, suc, _<_}
 use native.Mathlib.Omega.{arith}
 use lib.ListN.{length}
 use Rattle.definition.specs.Tokens.{Token, isWord, isSign, tokenAt}
@@ -140,8 +139,8 @@ module _ (s : List ℕ) (k : P.Scope) where
   head-head ns at =
       let ds : List P.Declared = St.means k P.parameter ns in
       let last : (v : ValueType) (z : ℕ) → HeadSo k (St.thenDeclare ds (expectSign ")" s z) λ q. St.thenDeclare ds (expectSign ";" s q) λ y. St.declared (St.clause (P.procedure (St.spellings ds) v) St.opensBody y) ds) = λ v z.
-          after-head ds (expectSign ")" s z) _ λ q. after-head ds (expectSign ";" s q) (λ y. St.declared (St.clause (P.procedure (St.spellings ds) v) St.opensBody y) ds) λ y.
-          (ns, v, refl, ap (λ (l : List (List ℕ)). P.procedure l v) (spelled-means k P.parameter ns)) in
+      after-head ds (expectSign ")" s z) _ λ q. after-head ds (expectSign ";" s q) (λ y. St.declared (St.clause (P.procedure (St.spellings ds) v) St.opensBody y) ds) λ y.
+      (ns, v, refl, ap (λ (l : List (List ℕ)). P.procedure l v) (spelled-means k P.parameter ns)) in
       after-head ds (expectWord "RETURNS" s at) _ λ e. after-head ds (expectSign "(" s e) _ λ q.
       when-has (HeadSo k) (St.isCharacter (tokenAt s q .token)) _ _ (λ _. last CharacterType (tokenAt s q .to)) λ _.
       after-head ds (expectWord "FIXED" s q) _ λ z. last FixedType z

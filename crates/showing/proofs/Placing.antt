@@ -1,28 +1,22 @@
 -- WHAT THE NAMES OF A WORLD LEAD TO: a body is the row of a procedure in a member that was entered; a label in a procedure leads to a row
 -- of the procedure's member. A member that is entered keeps it.
 -- Assumes nothing.
-use mathlib.Core.Path.{_≡_, refl, sym, ap, subst, _∙_}
-use mathlib.Core.Bool.{Bool, true, false, cond, _&&_, false≢true}
+use mathlib.Core.Path.{_≡_, refl, ap, subst}
+use mathlib.Core.Bool.{Bool, true, false}
 use mathlib.Core.List.{List, [], _∷_, _++_}
 use Prim.Native.Nat.{ℕ, zero, suc, _+_, _<_, _≤_}
 use native.Mathlib.Omega.{arith}
-use borrow.Author.Tests.{eqb-true}
-use lib.Dec.{eqb, ltb}
 use lib.ListN.{length, getD, set}
 use Rattle.definition.specs.Choice.{when}
 use Rattle.definition.specs.Lists.{same}
 use Rattle.definition.specs.Program as P
-use Rattle.definition.specs.Reading as D
 use Rattle.definition.specs.World as W
-use Rattle.definition.specs.World.{World, Owner, Denotation, Identifier, rowOf, rowsIn, rowsOf, isIdentifier, sameOwner, addressIn}
+use Rattle.definition.specs.World.{World, Owner, Denotation, Identifier, rowOf, isIdentifier, sameOwner, addressIn}
 use Rattle.definition.specs.Names as N
-use Rattle.definition.specs.declared.Why.{Why}
-use Rattle.definition.specs.declared.ValueType.{ValueType}
 use Rattle.definition.proofs.Choices.{when-has}
 use Rattle.showing.proofs.Spellings.{both-right}
 use Rattle.showing.proofs.Meanings.{IsProcedure, MeansRow, AllMean}
-use Rattle.showing.proofs.Turning.{member-sound}
-use Rattle.showing.proofs.Distinct.{owner-is, Distinct, IsFine, head-distinct}
+use Rattle.showing.proofs.Distinct.{owner-is}
 
 -- ---- what a name leads to, where R are the rows of each member
 abbrev pub InOwner : (ℕ → List P.Row) → Owner → ℕ → Type 0

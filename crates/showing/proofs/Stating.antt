@@ -1,18 +1,17 @@
 -- A statement that is read again at its place stands there: the readers behind `statementAt`, one token after the other.
 -- Assumes nothing.
-use mathlib.Core.Path.{_≡_, refl, sym, ap, subst, _∙_}
-use mathlib.Core.Bool.{Bool, true, false, cond, _||_, false≢true}
+use mathlib.Core.Path.{_≡_, refl, sym, ap, subst}
+use mathlib.Core.Bool.{Bool, true, false, cond, false≢true}
 use mathlib.Core.List.{List, [], _∷_, _++_, append-assoc}
-use Prim.Native.Nat.{ℕ, zero, suc, _<_, _≤_}
+use Prim.Native.Nat.{ℕ, zero, suc, _≤_}
 use Prim.Native.String.{String}
 use native.Mathlib.Omega.{arith}
 use lib.ListN.{length}
-use Rattle.definition.specs.Choice.{when}
 use Rattle.definition.specs.Text.{bytesOf}
 use Rattle.definition.specs.Lists.{same}
 use Rattle.definition.specs.Tokens as Tk
 use Rattle.definition.specs.Tokens.{Token, isWord, isSign, tokenAt}
-use Rattle.definition.specs.Expressions.{Reading, read, refused, then, Tree, Parsed, parsed, Named, nameAt, expectSign, expectWord, wholeExpression}
+use Rattle.definition.specs.Expressions.{Reading, read, refused, then, Tree, Parsed, Named, nameAt, expectSign, expectWord, wholeExpression}
 use Rattle.definition.specs.Program as P
 use Rattle.definition.specs.Statements as D
 use Rattle.definition.specs.Reading.{spelled}
@@ -180,8 +179,8 @@ module _ (s : List ℕ) (c : ℕ) where
       let ds : List P.Declared = D.means k P.parameter ns in
       after-declared ds (expectWord "RETURNS" s at) _ λ e i.
       let last : (v : ValueType) (z : ℕ) → SoDeclared (D.thenDeclare ds (expectSign ")" s z) λ q. D.thenDeclare ds (expectSign ";" s q) λ y. D.declared (D.clause (P.procedure (D.spellings ds) v) D.opensBody y) ds) = λ v z.
-          after-declared ds (expectSign ")" s z) _ λ q j. after-declared ds (expectSign ";" s q) (λ y. D.declared (D.clause (P.procedure (D.spellings ds) v) D.opensBody y) ds) λ y l.
-          subst (λ (xs : List (List ℕ)). Stated s c (P.procedure xs v)) (sym (spelled-means k P.parameter ns)) (h e i) in
+      after-declared ds (expectSign ")" s z) _ λ q j. after-declared ds (expectSign ";" s q) (λ y. D.declared (D.clause (P.procedure (D.spellings ds) v) D.opensBody y) ds) λ y l.
+      subst (λ (xs : List (List ℕ)). Stated s c (P.procedure xs v)) (sym (spelled-means k P.parameter ns)) (h e i) in
       after-declared ds (expectSign "(" s e) _ λ q j.
       when-has SoDeclared (D.isCharacter (tokenAt s q .token)) _ _ (λ _. last CharacterType (tokenAt s q .to)) λ _.
       after-declared ds (expectWord "FIXED" s q) _ λ z l. last FixedType z

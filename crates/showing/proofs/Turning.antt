@@ -4,9 +4,9 @@
 use mathlib.Core.Path.{_≡_, refl, sym, ap, subst, _∙_}
 use mathlib.Core.Bool.{Bool, true, false, not, _&&_, _||_, false≢true}
 use mathlib.Core.List.{List, [], _∷_, _++_}
-use Prim.Native.Nat.{ℕ, zero, suc, _+_, _<_, _≤_}
+use Prim.Native.Nat.{ℕ, zero, suc, _+_}
 use native.Mathlib.Omega.{arith}
-use lib.Dec.{leb, ltb}
+use lib.Dec.{leb}
 use lib.ListN.{length}
 use Rattle.definition.specs.Limits.{openGroups}
 use Rattle.definition.specs.Tokens as Tk
@@ -15,7 +15,6 @@ use Rattle.definition.specs.Expressions.{Reading, read, refused, Named, nameOf}
 use Rattle.definition.specs.Program as P
 use Rattle.definition.specs.Statements as St
 use Rattle.definition.specs.Reading as D
-use Rattle.definition.specs.World.{rowOf}
 use Rattle.definition.specs.declared.Why.{Why}
 use Rattle.definition.specs.declared.Why.the-variants.{Syntax, OverLimit}
 use Rattle.definition.specs.declared.ValueType.{ValueType}
@@ -24,7 +23,7 @@ use Rattle.rows.specs.declared.Statement.{Statement}
 use Rattle.rows.specs.declared.Statement.the-variants as S
 use Rattle.flow.specs.Shown.{StandsIn, Linked}
 use Rattle.statements.specs.Clauses.{goClause, doKind}
-use Rattle.openings.specs.Open.{otherAt, parentIn}
+use Rattle.openings.specs.Open.{otherAt}
 use Rattle.openings.proofs.Keywords.{opensOf, NoBody, OpensBoth, OpensSo, DeclaresSo, if-so, do-so, goto-so, go-so, include-so, activate-so, deactivate-so, return-so, other-so, declare-so, procedure-so}
 use Rattle.reading.proofs.Walking.{too-long, Ended}
 use Rattle.showing.proofs.Linking.{lead-texted, text-texted}
@@ -240,3 +239,7 @@ linked-read s = member-sound s .linked
 
 pub first-read : (s : List ℕ) (n : ℕ) → D.readMember s .first ≡ P.row n → StandsIn (D.readMember s .rows) n P.nowhere
 first-read s n e = member-sound s .first n e
+
+-- bodies and labels, where nothing stopped the reading: each name means a row that is there
+pub names-read : (s : List ℕ) → D.readMember s .fault ≡ P.sound → AllMean (D.readMember s .rows) (D.readMember s .declared)
+names-read s e = member-sound s .names e

@@ -3,7 +3,7 @@
 use mathlib.Core.Path.{_≡_, refl, sym, ap, subst, _∙_}
 use mathlib.Core.Bool.{Bool, true, false, cond}
 use mathlib.Core.List.{List, [], _∷_}
-use Prim.Native.Nat.{ℕ, zero, suc, _+_, _-_, _<_, _≤_}
+use Prim.Native.Nat.{ℕ, _-_, _<_, _≤_}
 use native.Mathlib.Omega.{arith}
 use borrow.Author.Tests.{eqb-true, eq-eqb}
 use lib.Dec.{eqb, ltb}
@@ -16,7 +16,6 @@ use Rattle.definition.specs.World.{World, rowOf, rowsIn, rowsOf}
 use Rattle.definition.specs.Names as N
 use Rattle.definition.specs.Values as Val
 use Rattle.definition.specs.Evaluate as Ev
-use Rattle.definition.specs.declared.Why.{Why}
 use Rattle.definition.specs.declared.Why.the-variants.{OverLimit, DeclaredTwice}
 use Rattle.definition.specs.declared.ValueType.{ValueType}
 use Rattle.definition.proofs.Choices.{when-has}
@@ -27,16 +26,20 @@ use Rattle.rows.specs.declared.Starts.{Starts}
 use Rattle.flow.specs.Shown.{Linked}
 use Rattle.reading.specs.State.{rowsFrom}
 use Rattle.operands.specs.Shown.{IsRow, RowsShown}
-use Rattle.showing.proofs.Meanings.{IsProcedure, AllMean, HeadIn}
+use Rattle.showing.proofs.Meanings.{IsProcedure, AllMean}
 use Rattle.showing.proofs.Turning.{faulty-not, member-sound, linked-read}
 use Rattle.showing.proofs.Tabling.{shown-read, stated-read}
 use Rattle.showing.proofs.Distinct.{Distinct, IsFine, head-distinct, few-called}
 use Rattle.showing.proofs.Placing.{Leads, EntryIn, AllLead, entry-at, lead-at, Led, AllLed, declare-led, Wider, none, kept, all-wider}
 
+-- no procedure of a member lists a parameter twice
+abbrev pub Parted : List P.Row → Type 0
+Parted rs = (r : ℕ) (ns : List (List ℕ)) (v : ValueType) → r < length rs → rowOf rs r .statement ≡ P.procedure ns v → Distinct ns
+
 -- ---- a world whose member m was read in the body b m, or not entered
 pub record Placed (b : ℕ → List ℕ) (w : World) : Type 0 where
   pub names : AllLead (λ m. rowsOf m w) (w .identifiers) (w .denotations)
-  pub apart : (m r : ℕ) (ns : List (List ℕ)) (v : ValueType) → r < length (rowsOf m w) → rowOf (rowsOf m w) r .statement ≡ P.procedure ns v → Distinct ns
+  pub apart : (m : ℕ) → Parted (rowsOf m w)
   pub read : (m : ℕ) → Wider (rowsOf m w) (D.readMember (b m) .rows)
 
 -- only names and members matter
@@ -44,7 +47,7 @@ pub placed-same : (b : ℕ → List ℕ) (w v : World) → v .identifiers ≡ w 
 placed-same b w v e f g h = record {
   names = subst (λ (ms : List W.Entered). AllLead (λ m. rowsIn m ms) (v .identifiers) (v .denotations)) (sym g)
       (subst (λ (is : List W.Identifier). AllLead (λ m. rowsOf m w) is (v .denotations)) (sym e) (subst (λ (ds : List W.Denotation). AllLead (λ m. rowsOf m w) (w .identifiers) ds) (sym f) (h .names)));
-  apart = subst (λ (ms : List W.Entered). (m r : ℕ) (ns : List (List ℕ)) (x : ValueType) → r < length (rowsIn m ms) → rowOf (rowsIn m ms) r .statement ≡ P.procedure ns x → Distinct ns) (sym g) (h .apart);
+  apart = subst (λ (ms : List W.Entered). (m : ℕ) → Parted (rowsIn m ms)) (sym g) (h .apart);
   read = subst (λ (ms : List W.Entered). (m : ℕ) → Wider (rowsIn m ms) (D.readMember (b m) .rows)) (sym g) (h .read);
 }
 
@@ -96,25 +99,35 @@ by-first : (m : ℕ) (s : P.Source) (ms : List W.Entered) → AllMean (s .rows) 
 unfolding rowsIn
 by-first m s ms h = rw (eq-eqb m m refl) h
 
+-- the names of the member lead to its rows, and no other member came in
+entered-led : (b : ℕ → List ℕ) (m : ℕ) (w v : World) → Placed b w → (x : Entered m (D.readMember (b m)) w v) → Led (λ n. rowsIn n (record { member = m; source = D.readMember (b m) } ∷ w .members)) (w .members) (x .named)
+entered-led b m w v h x =
+    let s : P.Source = D.readMember (b m) in
+    let R : ℕ → List P.Row = λ n. rowsIn n (record { member = m; source = s } ∷ w .members) in
+    let wider : (n : ℕ) → Wider (rowsOf n w) (R n) = λ n.
+    rows-by m s (w .members) n (λ (l : List P.Row). Wider (rowsOf n w) l) (λ q. subst (λ (k : ℕ). Wider (rowsOf k w) (s .rows)) q (h .read m)) (kept refl) in
+    subst (AllLed R (w .members)) (x .declared)
+    (declare-led R (w .members) m [] (s .declared) w (by-first m s (w .members) (member-sound (b m) .names (x .fault)))
+    (record { names = all-wider (λ n. rowsOf n w) R wider (w .identifiers) (w .denotations) (h .names); members = refl }))
+
+pub members-enter : (b : ℕ → List ℕ) (m : ℕ) (w v : World) → Placed b w → N.enter m (D.readMember (b m)) w ≡ N.entered v → v .members ≡ record { member = m; source = D.readMember (b m) } ∷ w .members
+members-enter b m w v h e =
+    let x : Entered m (D.readMember (b m)) w v = entered-is m (D.readMember (b m)) w v e in
+    ap (λ (z : World). z .members) (x .world) ∙ ap (λ (ms : List W.Entered). record { member = m; source = D.readMember (b m) } ∷ ms) (entered-led b m w v h x .members)
+
 -- ENTERING keeps it
 pub placed-enter : (b : ℕ → List ℕ) (m : ℕ) (w v : World) → Placed b w → N.enter m (D.readMember (b m)) w ≡ N.entered v → Placed b v
 placed-enter b m w v h e =
     let s : P.Source = D.readMember (b m) in
     let x : Entered m s w v = entered-is m s w v e in
     let u : World = x .named in
-    let new : W.Entered = record { member = m; source = s } in
-    let wider : (n : ℕ) → Wider (rowsOf n w) (rowsIn n (new ∷ w .members)) = λ n.
-        rows-by m s (w .members) n (λ (l : List P.Row). Wider (rowsOf n w) l) (λ q. subst (λ (k : ℕ). Wider (rowsOf k w) (s .rows)) q (h .read m)) (kept refl) in
-    let mean : AllMean (rowsIn m (new ∷ w .members)) (s .declared) = by-first m s (w .members) (member-sound (b m) .names (x .fault)) in
-    let led : Led (λ n. rowsIn n (new ∷ w .members)) (w .members) u = subst (AllLed (λ n. rowsIn n (new ∷ w .members)) (w .members)) (x .declared)
-        (declare-led (λ n. rowsIn n (new ∷ w .members)) (w .members) m [] (s .declared) w mean
-        (record { names = all-wider (λ n. rowsOf n w) (λ n. rowsIn n (new ∷ w .members)) wider (w .identifiers) (w .denotations) (h .names); members = refl })) in
+    let led : Led (λ n. rowsIn n (record { member = m; source = s } ∷ w .members)) (w .members) u = entered-led b m w v h x in
     subst (λ (z : World). Placed b z) (sym (x .world))
     (record {
-      names = subst (λ (ms : List W.Entered). AllLead (λ n. rowsIn n (new ∷ ms)) (u .identifiers) (u .denotations)) (sym (led .members)) (led .names);
-      apart = λ n. rows-by m s (u .members) n (λ (l : List P.Row). (r : ℕ) (ns : List (List ℕ)) (t : ValueType) → r < length l → rowOf l r .statement ≡ P.procedure ns t → Distinct ns)
+      names = subst (λ (ms : List W.Entered). AllLead (λ n. rowsIn n (record { member = m; source = s } ∷ ms)) (u .identifiers) (u .denotations)) (sym (led .members)) (led .names);
+      apart = λ n. rows-by m s (u .members) n (λ (l : List P.Row). Parted l)
           (λ q r ns t l f. head-distinct m r ns (s .declared) w (member-sound (b m) .heads (x .fault) r ns t l f) (subst IsFine (sym (x .declared)) tt))
-          (subst (λ (ms : List W.Entered). (r : ℕ) (ns : List (List ℕ)) (t : ValueType) → r < length (rowsIn n ms) → rowOf (rowsIn n ms) r .statement ≡ P.procedure ns t → Distinct ns) (sym (led .members)) (h .apart n));
+          (subst (λ (ms : List W.Entered). Parted (rowsIn n ms)) (sym (led .members)) (h .apart n));
       read = λ n. rows-by m s (u .members) n (λ (l : List P.Row). Wider l (D.readMember (b n) .rows)) (λ q. kept (ap (λ (k : ℕ). D.readMember (b k) .rows) q))
           (subst (λ (ms : List W.Entered). Wider (rowsIn n ms) (D.readMember (b n) .rows)) (sym (led .members)) (h .read n));
     })
@@ -127,7 +140,8 @@ module _ (b : ℕ → List ℕ) (B : World) (h : Placed b B) where
   pub labels-placed : (l : List ℕ) (m k a q r : ℕ) (x : Bool) → W.addressOf l (W.procedureAt m k) B ≡ W.address a → getD (B .denotations) a W.builtinName ≡ W.labelAt q r x → IsRow m r B
   labels-placed l m k a q r x e f = subst (Leads (λ n. rowsOf n B) (W.procedureAt m k)) f (lead-at (λ n. rowsOf n B) l (W.procedureAt m k) 0 (B .identifiers) (B .denotations) a a (h .names) e (omega arith))
 
-  pub few-placed : (m r : ℕ) (ns : List (List ℕ)) (v : ValueType) (ps : List Ev.Parameter) → IsRow m r B → rowOf (rowsOf m B) r .statement ≡ P.procedure ns v → Ev.parameters (W.procedureAt m r) ns B ≡ Val.gives ps → length ps ≤ length (B .identifiers)
+  pub few-placed : (m r : ℕ) (ns : List (List ℕ)) (v : ValueType) (ps : List Ev.Parameter) → IsRow m r B → rowOf (rowsOf m B) r .statement ≡ P.procedure ns v
+      → Ev.parameters (W.procedureAt m r) ns B ≡ Val.gives ps → length ps ≤ length (B .identifiers)
   few-placed m r ns v ps l e f = few-called (W.procedureAt m r) ns B ps (h .apart m r ns v l e) f
 
   pub linked-placed : (m : ℕ) → Linked (rowsOf m B)
@@ -151,7 +165,14 @@ none-tabled : (s t : List ℕ) → InTable s t []
 unfolding rowsFrom
 none-tabled s t = record {
   read = refl;
-  tabled = record { kind = λ n l. absurd (omega arith); before = λ n g l e. absurd (omega arith); level = λ n g l e. absurd (omega arith); inner = λ n g l e i. absurd (omega arith); shallow = λ g l e. absurd (omega arith); typed = λ n ns v l e. absurd (omega arith) };
+  tabled = record {
+    kind = λ n l. absurd (omega arith);
+    before = λ n g l e. absurd (omega arith);
+    level = λ n g l e. absurd (omega arith);
+    inner = λ n g l e i. absurd (omega arith);
+    shallow = λ g l e. absurd (omega arith);
+    typed = λ n ns v l e. absurd (omega arith);
+  };
   few = omega arith;
 }
 
