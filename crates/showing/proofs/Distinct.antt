@@ -19,6 +19,7 @@ use Rattle.definition.specs.World.{World, isIdentifier, sameOwner, addressIn, a
 use Rattle.definition.specs.Names as N
 use Rattle.definition.specs.Values as Val
 use Rattle.definition.specs.Evaluate as Ev
+use Rattle.showing.specs.Worlds.{Apart, Distinct}
 use Rattle.showing.proofs.Spellings.{both-left, both-right, same-is, same-self}
 use Rattle.showing.proofs.Meanings.{HeadIn}
 
@@ -37,14 +38,6 @@ owner-self (W.procedureAt m r) = rw (eq-eqb m m refl, eq-eqb r r refl)
 -- ---- names of one owner that are all different
 abbrev pub own : W.Owner → List ℕ → W.Identifier
 own k n = record { spelling = n; owner = k }
-
-abbrev pub Apart : List ℕ → List (List ℕ) → Type 0
-Apart n [] = Unit {0}
-Apart n (x ∷ xs) = (same n x ≡ false) × Apart n xs
-
-abbrev pub Distinct : List (List ℕ) → Type 0
-Distinct [] = Unit {0}
-Distinct (n ∷ ns) = Apart n ns × Distinct ns
 
 -- none is listed in qs
 abbrev Out : W.Owner → List W.Identifier → List (List ℕ) → Type 0

@@ -9,3 +9,4 @@ pub mod Tabling
 pub mod Distinct
 pub mod Placing
 pub mod Worlds
+pub mod Laying

@@ -15,12 +15,10 @@ use Rattle.definition.specs.World.{rowOf}
 use Rattle.definition.specs.declared.ValueType.{ValueType}
 use Rattle.definition.specs.declared.ValueType.the-variants.{FixedType, CharacterType}
 use Rattle.definition.proofs.Choices.{when-has}
+use Rattle.showing.specs.Worlds.{IsProcedure}
 use Rattle.showing.proofs.Linking.{Grows}
 
 -- ---- the rows that names mean
-abbrev pub IsProcedure : P.Statement → Type 0
-IsProcedure x = (ns : List (List ℕ)) × (v : ValueType) × (x ≡ P.procedure ns v)
-
 abbrev pub MeansRow : List P.Row → P.Meaning → Type 0
 MeansRow rs (P.variable v) = Unit {0}
 MeansRow rs P.entry = Unit {0}

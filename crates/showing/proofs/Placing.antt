@@ -14,32 +14,12 @@ use Rattle.definition.specs.World as W
 use Rattle.definition.specs.World.{World, Owner, Denotation, Identifier, rowOf, isIdentifier, sameOwner, addressIn}
 use Rattle.definition.specs.Names as N
 use Rattle.definition.proofs.Choices.{when-has}
+use Rattle.showing.specs.Worlds.{IsProcedure, InOwner, BodyIn, Leads, AllLead, Wider, none, kept}
 use Rattle.showing.proofs.Spellings.{both-right}
-use Rattle.showing.proofs.Meanings.{IsProcedure, MeansRow, AllMean}
+use Rattle.showing.proofs.Meanings.{MeansRow, AllMean}
 use Rattle.showing.proofs.Distinct.{owner-is}
 
--- ---- what a name leads to, where R are the rows of each member
-abbrev pub InOwner : (ℕ → List P.Row) → Owner → ℕ → Type 0
-InOwner R W.everyone r = Unit {0}
-InOwner R (W.procedureAt m k) r = r < length (R m)
-
-abbrev pub BodyIn : (ℕ → List P.Row) → W.Body → Type 0
-BodyIn R W.noBody = Unit {0}
-BodyIn R (W.bodyAt m r) = (r < length (R m)) × IsProcedure (rowOf (R m) r .statement)
-
-abbrev pub Leads : (ℕ → List P.Row) → Owner → Denotation → Type 0
-Leads R k (W.variableOf t) = Unit {0}
-Leads R k (W.entryOf x b) = BodyIn R b
-Leads R k (W.labelAt q r x) = InOwner R k r
-Leads R k W.builtinName = Unit {0}
-
-abbrev pub AllLead : (ℕ → List P.Row) → List Identifier → List Denotation → Type 0
-AllLead R [] [] = Unit {0}
-AllLead R [] (d ∷ ds) = ⊥
-AllLead R (i ∷ is) [] = ⊥
-AllLead R (i ∷ is) (d ∷ ds) = Leads R (i .owner) d × AllLead R is ds
-
--- the body that is known of an entry
+-- ---- the body that is known of an entry
 abbrev pub EntryIn : (ℕ → List P.Row) → Denotation → Type 0
 EntryIn R (W.variableOf t) = Unit {0}
 EntryIn R (W.entryOf x b) = BodyIn R b
@@ -171,10 +151,6 @@ module _ (R : ℕ → List P.Row) (ms : List W.Entered) where
       one-led (N.newOf m (d .meaning)) (N.identifierOf m d) ps (d .place) w (λ qs v. N.declareAll m qs ds v) (new-leads R m (d .scope) (d .meaning) (a .0)) h (λ qs v i. declare-led m qs ds v (a .1) i)
 
 -- ---- rows that are more: each member's are as they were, or there were none
-pub data Wider (rs qs : List P.Row) : Type 0 where
-  none : rs ≡ [] → Wider rs qs
-  kept : rs ≡ qs → Wider rs qs
-
 low-wider : (rs qs : List P.Row) (r : ℕ) → Wider rs qs → r < length rs → r < length qs
 low-wider rs qs r (none e) h = let z : length rs ≡ 0 = ap (λ (l : List P.Row). length l) e in absurd (omega (arith, z, h))
 low-wider rs qs r (kept e) h = subst (λ (l : List P.Row). r < length l) e h

@@ -20,8 +20,9 @@ use Rattle.openings.proofs.Keywords.{opensOf}
 use Rattle.flow.specs.Shown.{StandsIn, Linked}
 use Rattle.reading.proofs.Adding.{add-in}
 use Rattle.reading.specs.State.{Around}
+use Rattle.showing.specs.Worlds.{IsProcedure}
 use Rattle.showing.proofs.Linking.{Grows, AllRelinked, row-is, in-linked, Texted, texted-size, texted-grows, texted-linked, Bare, nowhere-not, more-size, more-new, more-grows, more-stands, more-linked}
-use Rattle.showing.proofs.Meanings.{IsProcedure, MeansRow, AllMean, all-grows, all-append, all-means, HeadIn, head-more, head-behind}
+use Rattle.showing.proofs.Meanings.{MeansRow, AllMean, all-grows, all-append, all-means, HeadIn, head-more, head-behind}
 
 -- ---- what is open: the last of its rows stands in it, its own row is there, and the program is around all
 pub record Inside (rs : List P.Row) (o : D.Open) : Type 0 where

@@ -3,9 +3,9 @@
 use mathlib.Core.Path.{_≡_, refl, sym, ap, subst, _∙_}
 use mathlib.Core.Bool.{Bool, true, false, cond}
 use mathlib.Core.List.{List, [], _∷_}
-use Prim.Native.Nat.{ℕ, _-_, _<_, _≤_}
+use Prim.Native.Nat.{ℕ, _-_, _≤_}
 use native.Mathlib.Omega.{arith}
-use borrow.Author.Tests.{eqb-true, eq-eqb}
+use borrow.Author.Tests.{eqb-true, eqb-false, eq-eqb}
 use lib.Dec.{eqb, ltb}
 use lib.ListN.{length, getD}
 use Rattle.definition.specs.Limits.{enteredSentences}
@@ -26,23 +26,14 @@ use Rattle.rows.specs.declared.Starts.{Starts}
 use Rattle.flow.specs.Shown.{Linked}
 use Rattle.reading.specs.State.{rowsFrom}
 use Rattle.operands.specs.Shown.{IsRow, RowsShown}
-use Rattle.showing.proofs.Meanings.{IsProcedure, AllMean}
+use Rattle.showing.specs.Worlds.{IsProcedure, Leads, AllLead, Parted, Wider, none, kept, Placed, Stored, nothing, there}
+use Rattle.showing.proofs.Meanings.{AllMean}
 use Rattle.showing.proofs.Turning.{faulty-not, member-sound, linked-read}
 use Rattle.showing.proofs.Tabling.{shown-read, stated-read}
-use Rattle.showing.proofs.Distinct.{Distinct, IsFine, head-distinct, few-called}
-use Rattle.showing.proofs.Placing.{Leads, EntryIn, AllLead, entry-at, lead-at, Led, AllLed, declare-led, Wider, none, kept, all-wider}
+use Rattle.showing.proofs.Distinct.{IsFine, head-distinct, few-called}
+use Rattle.showing.proofs.Placing.{EntryIn, entry-at, lead-at, Led, AllLed, declare-led, all-wider}
 
--- no procedure of a member lists a parameter twice
-abbrev pub Parted : List P.Row → Type 0
-Parted rs = (r : ℕ) (ns : List (List ℕ)) (v : ValueType) → r < length rs → rowOf rs r .statement ≡ P.procedure ns v → Distinct ns
-
--- ---- a world whose member m was read in the body b m, or not entered
-pub record Placed (b : ℕ → List ℕ) (w : World) : Type 0 where
-  pub names : AllLead (λ m. rowsOf m w) (w .identifiers) (w .denotations)
-  pub apart : (m : ℕ) → Parted (rowsOf m w)
-  pub read : (m : ℕ) → Wider (rowsOf m w) (D.readMember (b m) .rows)
-
--- only names and members matter
+-- ---- only names and members matter
 pub placed-same : (b : ℕ → List ℕ) (w v : World) → v .identifiers ≡ w .identifiers → v .denotations ≡ w .denotations → v .members ≡ w .members → Placed b w → Placed b v
 placed-same b w v e f g h = record {
   names = subst (λ (ms : List W.Entered). AllLead (λ m. rowsIn m ms) (v .identifiers) (v .denotations)) (sym g)
@@ -91,9 +82,9 @@ entered-is m s w v e = by (N.faultOf m s w) refl e
     by P.sound q f = on (N.declareAll m [] (s .declared) w) refl f (fault-sound m s w q)
 
 -- the rows of the members: those of the newest, or those that there were
-rows-by : (m : ℕ) (s : P.Source) (ms : List W.Entered) (n : ℕ) (Q : List P.Row → Type 0) → (m ≡ n → Q (s .rows)) → Q (rowsIn n ms) → Q (rowsIn n (record { member = m; source = s } ∷ ms))
+pub rows-by : (m : ℕ) (s : P.Source) (ms : List W.Entered) (n : ℕ) (Q : List P.Row → Type 0) → (m ≡ n → Q (s .rows)) → ((m ≡ n → ⊥) → Q (rowsIn n ms)) → Q (rowsIn n (record { member = m; source = s } ∷ ms))
 unfolding rowsIn
-rows-by m s ms n Q h i = when-has Q (eqb m n) (λ _. s .rows) (λ _. rowsIn n ms) (λ e. h (eqb-true m n e)) (λ _. i)
+rows-by m s ms n Q h i = when-has Q (eqb m n) (λ _. s .rows) (λ _. rowsIn n ms) (λ e. h (eqb-true m n e)) (λ e. i (eqb-false m n e))
 
 by-first : (m : ℕ) (s : P.Source) (ms : List W.Entered) → AllMean (s .rows) (s .declared) → AllMean (rowsIn m (record { member = m; source = s } ∷ ms)) (s .declared)
 unfolding rowsIn
@@ -105,7 +96,7 @@ entered-led b m w v h x =
     let s : P.Source = D.readMember (b m) in
     let R : ℕ → List P.Row = λ n. rowsIn n (record { member = m; source = s } ∷ w .members) in
     let wider : (n : ℕ) → Wider (rowsOf n w) (R n) = λ n.
-    rows-by m s (w .members) n (λ (l : List P.Row). Wider (rowsOf n w) l) (λ q. subst (λ (k : ℕ). Wider (rowsOf k w) (s .rows)) q (h .read m)) (kept refl) in
+    rows-by m s (w .members) n (λ (l : List P.Row). Wider (rowsOf n w) l) (λ q. subst (λ (k : ℕ). Wider (rowsOf k w) (s .rows)) q (h .read m)) (λ _. kept refl) in
     subst (AllLed R (w .members)) (x .declared)
     (declare-led R (w .members) m [] (s .declared) w (by-first m s (w .members) (member-sound (b m) .names (x .fault)))
     (record { names = all-wider (λ n. rowsOf n w) R wider (w .identifiers) (w .denotations) (h .names); members = refl }))
@@ -127,9 +118,9 @@ placed-enter b m w v h e =
       names = subst (λ (ms : List W.Entered). AllLead (λ n. rowsIn n (record { member = m; source = s } ∷ ms)) (u .identifiers) (u .denotations)) (sym (led .members)) (led .names);
       apart = λ n. rows-by m s (u .members) n (λ (l : List P.Row). Parted l)
           (λ q r ns t l f. head-distinct m r ns (s .declared) w (member-sound (b m) .heads (x .fault) r ns t l f) (subst IsFine (sym (x .declared)) tt))
-          (subst (λ (ms : List W.Entered). Parted (rowsIn n ms)) (sym (led .members)) (h .apart n));
+          (λ _. subst (λ (ms : List W.Entered). Parted (rowsIn n ms)) (sym (led .members)) (h .apart n));
       read = λ n. rows-by m s (u .members) n (λ (l : List P.Row). Wider l (D.readMember (b n) .rows)) (λ q. kept (ap (λ (k : ℕ). D.readMember (b k) .rows) q))
-          (subst (λ (ms : List W.Entered). Wider (rowsIn n ms) (D.readMember (b n) .rows)) (sym (led .members)) (h .read n));
+          (λ _. subst (λ (ms : List W.Entered). Wider (rowsIn n ms) (D.readMember (b n) .rows)) (sym (led .members)) (h .read n));
     })
 
 -- ---- what a run asks of such a world
@@ -151,11 +142,7 @@ module _ (b : ℕ → List ℕ) (B : World) (h : Placed b B) where
       by rs (none e) = subst Linked (sym e) (record { next = λ n k l f. absurd (omega arith); child = λ n k l f. absurd (omega arith); other = λ n k l f. absurd (omega arith) })
       by rs (kept e) = subst Linked (sym e) (linked-read (b m))
 
--- ---- the rows rs of the member m are its part of the table, or there are none
-pub data Stored (deck rows : List ℕ) (starts : Starts) (m : ℕ) (rs : List P.Row) : Type 0 where
-  nothing : rs ≡ [] → Stored deck rows starts m rs
-  there : rowsFrom (bodyIn deck m) (partIn rows starts m) 0 (length rs) ≡ rs → Tabled (partIn rows starts m) rs → length rs ≤ 2048 → Stored deck rows starts m rs
-
+-- ---- what stands in the table
 record InTable (s t : List ℕ) (rs : List P.Row) : Type 0 where
   read : rowsFrom s t 0 (length rs) ≡ rs
   tabled : Tabled t rs
