@@ -23,7 +23,7 @@ use Rattle.rows.specs.declared.Starts.{Starts}
 use Rattle.rows.proofs.Parting.{row-part}
 use Rattle.reading.specs.State.{rowsFrom}
 use Rattle.reading.proofs.Rows.{rows-kept}
-use Rattle.showing.specs.Worlds.{Placed, Stored, nothing, there, Laid, Behind}
+use Rattle.showing.specs.Worlds.{Stored, nothing, there, Laid, Behind}
 use Rattle.showing.proofs.Tabling.{size-read}
 use Rattle.showing.proofs.Worlds.{rows-by, members-enter}
 
@@ -80,13 +80,13 @@ module _ (deck rows rows′ t : List ℕ) (used : ℕ) (h : Behind rows used row
       there (ap (λ (j : ℕ). rowsFrom (bodyIn deck m) (partIn rows′ starts m) 0 j) size ∙ ap (λ (u : List ℕ). rowsFrom (bodyIn deck m) u 0 k) (sym its) ∙ f) (subst (λ (u : List ℕ). Tabled u rs) its y) (omega (arith, l, size))
 
   -- THE MEMBER m goes in, with k rows
-  pub laid-enter : (starts starts′ : Starts) (m k : ℕ) (w v : World) → Placed (bodyIn deck) w → Laid deck rows starts used w → N.enter m (D.readMember (bodyIn deck m)) w ≡ N.entered v → StartsAt starts m used starts′ → m < 32
+  pub laid-enter : (starts starts′ : Starts) (m k : ℕ) (w v : World) → Laid deck rows starts used w → N.enter m (D.readMember (bodyIn deck m)) w ≡ N.entered v → StartsAt starts m used starts′ → m < 32
       → rowsFrom (bodyIn deck m) t 0 k ≡ D.readMember (bodyIn deck m) .rows → Tabled t (D.readMember (bodyIn deck m) .rows) → used + k ≤ 2048 → Laid deck rows′ starts′ (used + k) v
-  laid-enter starts starts′ m k w v p g e st low f y l =
+  laid-enter starts starts′ m k w v g e st low f y l =
       let s : P.Source = D.readMember (bodyIn deck m) in
       let size : length (s .rows) ≡ k = size-read (bodyIn deck m) t k (s .rows) f y in
       let at : (n : ℕ) → m ≡ n → startIn starts′ n ≡ used = λ n q. ap (λ (j : ℕ). startIn starts′ j) (sym q) ∙ st .here low in
-      laid-same deck rows′ starts′ (used + k) (N.withMember m s w) v (members-enter (bodyIn deck) m w v p e)
+      laid-same deck rows′ starts′ (used + k) (N.withMember m s w) v (members-enter m s w v e)
       (record {
         stored = λ n. rows-by m s (w .members) n (λ (rs : List P.Row). Stored deck rows′ starts′ n rs)
             (λ q. subst (λ (j : ℕ). Stored deck rows′ starts′ j (s .rows)) q (stored-new starts′ m k (s .rows) (st .here low) f y l))

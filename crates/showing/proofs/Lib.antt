@@ -8,5 +8,6 @@ pub mod Turning
 pub mod Tabling
 pub mod Distinct
 pub mod Placing
+pub mod Tables
 pub mod Worlds
 pub mod Laying

@@ -85,14 +85,9 @@ abbrev JointLeads : (ℕ → List P.Row) → N.Joint → Type 0
 JointLeads R (N.joint d) = (k : Owner) → Leads R k d
 JointLeads R N.twice = Unit {0}
 
--- the names of what was declared lead somewhere, and no member was entered
-pub record Led (R : ℕ → List P.Row) (ms : List W.Entered) (w : World) : Type 0 where
-  pub names : AllLead R (w .identifiers) (w .denotations)
-  pub members : w .members ≡ ms
-
-abbrev pub AllLed : (ℕ → List P.Row) → List W.Entered → N.Declaring → Type 0
-AllLed R ms (N.fine w) = Led R ms w
-AllLed R ms (N.second p) = Unit {0}
+abbrev pub AllLed : (ℕ → List P.Row) → N.Declaring → Type 0
+AllLed R (N.fine w) = AllLead R (w .identifiers) (w .denotations)
+AllLed R (N.second p) = Unit {0}
 
 label-scope : (R : ℕ → List P.Row) (m : ℕ) (k : P.Scope) (r : ℕ) → r < length (R m) → InOwner R (N.ownerOf m k) r
 label-scope R m P.global r h = tt
@@ -124,27 +119,32 @@ joint-leads R (W.entryOf x c) W.builtinName h i = tt
 joint-leads R (W.labelAt m r x) b h i = tt
 joint-leads R W.builtinName b h i = tt
 
-module _ (R : ℕ → List P.Row) (ms : List W.Entered) where
-  joint-led : (a : ℕ) (i : Identifier) (d : Denotation) (p : ℕ) (w : World) (J : N.Joint) → N.jointOf (W.denotation a w) d ≡ J → JointLeads R J → Led R ms w → AllLed R ms (N.declaredAt (W.address a) i d p w)
-  joint-led a i d p w (N.joint e) q j h = rw q (record { names = lead-set R (w .identifiers) (w .denotations) a e (h .names) j; members = h .members })
+module _ (R : ℕ → List P.Row) where
+  abbrev Led : World → Type 0
+  Led w = AllLead R (w .identifiers) (w .denotations)
+
+  joint-led : (a : ℕ) (i : Identifier) (d : Denotation) (p : ℕ) (w : World) (J : N.Joint) → N.jointOf (W.denotation a w) d ≡ J → JointLeads R J → Led w → AllLed R (N.declaredAt (W.address a) i d p w)
+  joint-led a i d p w (N.joint e) q j h = rw q (lead-set R (w .identifiers) (w .denotations) a e h j)
   joint-led a i d p w N.twice q j h = rw q tt
 
-  declared-led : (x : W.Address) (i : Identifier) (d : Denotation) (p : ℕ) (w : World) → Leads R (i .owner) d → Led R ms w → AllLed R ms (N.declaredAt x i d p w)
-  declared-led W.unknown i d p w l h = record { names = lead-append R (w .identifiers) (w .denotations) i d (h .names) l; members = h .members }
+  declared-led : (x : W.Address) (i : Identifier) (d : Denotation) (p : ℕ) (w : World) → Leads R (i .owner) d → Led w → AllLed R (N.declaredAt x i d p w)
+  declared-led W.unknown i d p w l h = lead-append R (w .identifiers) (w .denotations) i d h l
   declared-led (W.address a) i d p w l h =
       joint-led a i d p w (N.jointOf (W.denotation a w) d) refl
-      (joint-leads R (W.denotation a w) d (entry-at R (w .identifiers) (w .denotations) a (h .names)) (entry-of R (i .owner) d l)) h
+      (joint-leads R (W.denotation a w) d (entry-at R (w .identifiers) (w .denotations) a h) (entry-of R (i .owner) d l)) h
 
-  onward-led : (x : N.Declaring) (f : World → N.Declaring) → AllLed R ms x → ((w : World) → Led R ms w → AllLed R ms (f w)) → AllLed R ms (N.onward x f)
+  onward-led : (x : N.Declaring) (f : World → N.Declaring) → AllLed R x → ((w : World) → Led w → AllLed R (f w)) → AllLed R (N.onward x f)
   onward-led (N.fine w) f h g = g w h
   onward-led (N.second p) f h g = tt
 
-  one-led : (y : N.New) (i : Identifier) (ps : List Identifier) (p : ℕ) (w : World) (f : List Identifier → World → N.Declaring) → NewLeads R (i .owner) y → Led R ms w
-      → ((qs : List Identifier) (v : World) → Led R ms v → AllLed R ms (f qs v)) → AllLed R ms (N.declareOne y i ps p w f)
-  one-led (N.new d) i ps p w f l h g = onward-led (N.declaredAt (addressIn (i .spelling) (i .owner) 0 (w .identifiers)) i d p w) (f ps) (declared-led (addressIn (i .spelling) (i .owner) 0 (w .identifiers)) i d p w l h) (g ps)
-  one-led N.listing i ps p w f l h g = when-has (AllLed R ms) (N.isListed i ps) (λ _. N.second p) (λ _. f (i ∷ ps) w) (λ _. tt) (λ _. g (i ∷ ps) w h)
+  one-led : (y : N.New) (i : Identifier) (ps : List Identifier) (p : ℕ) (w : World) (f : List Identifier → World → N.Declaring) → NewLeads R (i .owner) y → Led w
+      → ((qs : List Identifier) (v : World) → Led v → AllLed R (f qs v)) → AllLed R (N.declareOne y i ps p w f)
+  one-led (N.new d) i ps p w f l h g =
+      let at : W.Address = addressIn (i .spelling) (i .owner) 0 (w .identifiers) in
+      onward-led (N.declaredAt at i d p w) (f ps) (declared-led at i d p w l h) (g ps)
+  one-led N.listing i ps p w f l h g = when-has (AllLed R) (N.isListed i ps) (λ _. N.second p) (λ _. f (i ∷ ps) w) (λ _. tt) (λ _. g (i ∷ ps) w h)
 
-  pub declare-led : (m : ℕ) (ps : List Identifier) (ds : List P.Declared) (w : World) → AllMean (R m) ds → Led R ms w → AllLed R ms (N.declareAll m ps ds w)
+  pub declare-led : (m : ℕ) (ps : List Identifier) (ds : List P.Declared) (w : World) → AllMean (R m) ds → Led w → AllLed R (N.declareAll m ps ds w)
   unfolding N.declareAll
   declare-led m ps [] w a h = h
   declare-led m ps (d ∷ ds) w a h =

@@ -26,12 +26,13 @@ use Rattle.rows.specs.declared.Starts.{Starts}
 use Rattle.flow.specs.Shown.{Linked}
 use Rattle.reading.specs.State.{rowsFrom}
 use Rattle.operands.specs.Shown.{IsRow, RowsShown}
-use Rattle.showing.specs.Worlds.{IsProcedure, Leads, AllLead, Parted, Wider, none, kept, Placed, Stored, nothing, there}
+use Rattle.showing.specs.Worlds.{IsProcedure, Leads, AllLead, Parted, Wider, none, kept, Placed, Stored, nothing, there, Grown}
 use Rattle.showing.proofs.Meanings.{AllMean}
 use Rattle.showing.proofs.Turning.{faulty-not, member-sound, linked-read}
 use Rattle.showing.proofs.Tabling.{shown-read, stated-read}
 use Rattle.showing.proofs.Distinct.{IsFine, head-distinct, few-called}
-use Rattle.showing.proofs.Placing.{EntryIn, entry-at, lead-at, Led, AllLed, declare-led, all-wider}
+use Rattle.showing.proofs.Placing.{EntryIn, entry-at, lead-at, AllLed, declare-led, all-wider}
+use Rattle.showing.proofs.Tables.{AllGrown, declare-grown}
 
 -- ---- only names and members matter
 pub placed-same : (b : ℕ → List ℕ) (w v : World) → v .identifiers ≡ w .identifiers → v .denotations ≡ w .denotations → v .members ≡ w .members → Placed b w → Placed b v
@@ -63,13 +64,13 @@ fault-sound m s w e =
     let past : N.Past = N.sentencesPast (enteredSentences - w .sentences) (s .begun) in
     sooner-sound past (s .fault) (sooner-sound (N.namesPast m (w .identifiers) (s .declared)) (N.sooner past (s .fault)) e)
 
-record Entered (m : ℕ) (s : P.Source) (w v : World) : Type 0 where
-  fault : s .fault ≡ P.sound
-  named : World
-  declared : N.declareAll m [] (s .declared) w ≡ N.fine named
-  world : v ≡ N.withMember m s named
+pub record Entered (m : ℕ) (s : P.Source) (w v : World) : Type 0 where
+  pub fault : s .fault ≡ P.sound
+  pub named : World
+  pub declared : N.declareAll m [] (s .declared) w ≡ N.fine named
+  pub world : v ≡ N.withMember m s named
 
-entered-is : (m : ℕ) (s : P.Source) (w v : World) → N.enter m s w ≡ N.entered v → Entered m s w v
+pub entered-is : (m : ℕ) (s : P.Source) (w v : World) → N.enter m s w ≡ N.entered v → Entered m s w v
 unfolding N.enter
 entered-is m s w v e = by (N.faultOf m s w) refl e
   where
@@ -90,21 +91,28 @@ by-first : (m : ℕ) (s : P.Source) (ms : List W.Entered) → AllMean (s .rows) 
 unfolding rowsIn
 by-first m s ms h = rw (eq-eqb m m refl) h
 
--- the names of the member lead to its rows, and no other member came in
-entered-led : (b : ℕ → List ℕ) (m : ℕ) (w v : World) → Placed b w → (x : Entered m (D.readMember (b m)) w v) → Led (λ n. rowsIn n (record { member = m; source = D.readMember (b m) } ∷ w .members)) (w .members) (x .named)
+-- the names of the member lead to its rows
+entered-led : (b : ℕ → List ℕ) (m : ℕ) (w v : World) → Placed b w → (x : Entered m (D.readMember (b m)) w v)
+    → AllLead (λ n. rowsIn n (record { member = m; source = D.readMember (b m) } ∷ w .members)) (x .named .identifiers) (x .named .denotations)
 entered-led b m w v h x =
     let s : P.Source = D.readMember (b m) in
     let R : ℕ → List P.Row = λ n. rowsIn n (record { member = m; source = s } ∷ w .members) in
     let wider : (n : ℕ) → Wider (rowsOf n w) (R n) = λ n.
     rows-by m s (w .members) n (λ (l : List P.Row). Wider (rowsOf n w) l) (λ q. subst (λ (k : ℕ). Wider (rowsOf k w) (s .rows)) q (h .read m)) (λ _. kept refl) in
-    subst (AllLed R (w .members)) (x .declared)
-    (declare-led R (w .members) m [] (s .declared) w (by-first m s (w .members) (member-sound (b m) .names (x .fault)))
-    (record { names = all-wider (λ n. rowsOf n w) R wider (w .identifiers) (w .denotations) (h .names); members = refl }))
+    subst (AllLed R) (x .declared)
+    (declare-led R m [] (s .declared) w (by-first m s (w .members) (member-sound (b m) .names (x .fault))) (all-wider (λ n. rowsOf n w) R wider (w .identifiers) (w .denotations) (h .names)))
 
-pub members-enter : (b : ℕ → List ℕ) (m : ℕ) (w v : World) → Placed b w → N.enter m (D.readMember (b m)) w ≡ N.entered v → v .members ≡ record { member = m; source = D.readMember (b m) } ∷ w .members
-members-enter b m w v h e =
-    let x : Entered m (D.readMember (b m)) w v = entered-is m (D.readMember (b m)) w v e in
-    ap (λ (z : World). z .members) (x .world) ∙ ap (λ (ms : List W.Entered). record { member = m; source = D.readMember (b m) } ∷ ms) (entered-led b m w v h x .members)
+-- and no other member came in
+pub entered-grown : (m : ℕ) (s : P.Source) (w v : World) (x : Entered m s w v) → Grown w (x .named)
+entered-grown m s w v x = subst (AllGrown w) (x .declared) (declare-grown m [] (s .declared) w)
+
+entered-members : (m : ℕ) (s : P.Source) (w v : World) (x : Entered m s w v) → x .named .members ≡ w .members
+entered-members m s w v x = ap (λ (z : World). z .members) (entered-grown m s w v x .tables)
+
+pub members-enter : (m : ℕ) (s : P.Source) (w v : World) → N.enter m s w ≡ N.entered v → v .members ≡ record { member = m; source = s } ∷ w .members
+members-enter m s w v e =
+    let x : Entered m s w v = entered-is m s w v e in
+    ap (λ (z : World). z .members) (x .world) ∙ ap (λ (ms : List W.Entered). record { member = m; source = s } ∷ ms) (entered-members m s w v x)
 
 -- ENTERING keeps it
 pub placed-enter : (b : ℕ → List ℕ) (m : ℕ) (w v : World) → Placed b w → N.enter m (D.readMember (b m)) w ≡ N.entered v → Placed b v
@@ -112,15 +120,15 @@ placed-enter b m w v h e =
     let s : P.Source = D.readMember (b m) in
     let x : Entered m s w v = entered-is m s w v e in
     let u : World = x .named in
-    let led : Led (λ n. rowsIn n (record { member = m; source = s } ∷ w .members)) (w .members) u = entered-led b m w v h x in
+    let same : w .members ≡ u .members = sym (entered-members m s w v x) in
     subst (λ (z : World). Placed b z) (sym (x .world))
     (record {
-      names = subst (λ (ms : List W.Entered). AllLead (λ n. rowsIn n (record { member = m; source = s } ∷ ms)) (u .identifiers) (u .denotations)) (sym (led .members)) (led .names);
+      names = subst (λ (ms : List W.Entered). AllLead (λ n. rowsIn n (record { member = m; source = s } ∷ ms)) (u .identifiers) (u .denotations)) same (entered-led b m w v h x);
       apart = λ n. rows-by m s (u .members) n (λ (l : List P.Row). Parted l)
           (λ q r ns t l f. head-distinct m r ns (s .declared) w (member-sound (b m) .heads (x .fault) r ns t l f) (subst IsFine (sym (x .declared)) tt))
-          (λ _. subst (λ (ms : List W.Entered). Parted (rowsIn n ms)) (sym (led .members)) (h .apart n));
+          (λ _. subst (λ (ms : List W.Entered). Parted (rowsIn n ms)) same (h .apart n));
       read = λ n. rows-by m s (u .members) n (λ (l : List P.Row). Wider l (D.readMember (b n) .rows)) (λ q. kept (ap (λ (k : ℕ). D.readMember (b k) .rows) q))
-          (λ _. subst (λ (ms : List W.Entered). Wider (rowsIn n ms) (D.readMember (b n) .rows)) (sym (led .members)) (h .read n));
+          (λ _. subst (λ (ms : List W.Entered). Wider (rowsIn n ms) (D.readMember (b n) .rows)) same (h .read n));
     })
 
 -- ---- what a run asks of such a world

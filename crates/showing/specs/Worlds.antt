@@ -3,11 +3,12 @@
 use Prim.Native.Nat.{ℕ, _+_, _*_, _<_, _≤_}
 use mathlib.Core.Bool.{false}
 use mathlib.Core.Path.{_≡_}
-use mathlib.Core.List.{List, [], _∷_}
-use lib.ListN.{length, drop}
+use mathlib.Core.List.{List, [], _∷_, _++_}
+use lib.ListN.{length, drop, replicate}
 use Rattle.definition.specs.Lists.{same}
 use Rattle.definition.specs.Program as P
 use Rattle.definition.specs.Reading as D
+use Rattle.definition.specs.Names as N
 use Rattle.definition.specs.World as W
 use Rattle.definition.specs.World.{World, Owner, Denotation, Identifier, rowOf, rowsOf}
 use Rattle.definition.specs.declared.ValueType.{ValueType}
@@ -16,7 +17,10 @@ use Rattle.rows.specs.Table.{rowIn}
 use Rattle.rows.specs.Parts.{startIn, partIn}
 use Rattle.rows.specs.Tabled.{Tabled}
 use Rattle.rows.specs.declared.Starts.{Starts}
+use Rattle.entering.specs.Entry.{Shows}
 use Rattle.reading.specs.State.{rowsFrom}
+use Rattle.reading.specs.Members.{namesOf}
+use Rattle.operands.specs.Shown.{RowsShown}
 
 -- ---- what a name leads to, where R are the rows of each member: a body is the row of a procedure; a label in a procedure leads to a
 -- row of the procedure's member
@@ -80,3 +84,24 @@ pub record Laid (deck rows : List ℕ) (starts : Starts) (used : ℕ) (w : World
 pub record Behind (rows : List ℕ) (used : ℕ) (rows′ t : List ℕ) : Type 0 where
   pub below : (i : ℕ) → i < used → rowIn rows′ i ≡ rowIn rows i
   pub part : drop (16 * used) rows′ ≡ t
+
+-- ---- a world with more names, which have no value; all but the tables as it was
+pub record Grown (w v : World) : Type 0 where
+  pub tables : v ≡ W.withTables (v .identifiers) (v .denotations) (v .values) (v .activities) w
+  pub more : ℕ
+  pub names : length (v .identifiers) ≡ length (w .identifiers) + more
+  pub values : v .values ≡ w .values ++ replicate more W.noValue
+
+abbrev pub memberIn : List ℕ → ℕ → World → World
+memberIn deck m v = N.withMember m (D.readMember (bodyIn deck m)) v
+
+-- THE MEMBER m goes into w, with its names; then there are `used` rows and `count` names
+pub record Enters (deck rows names : List ℕ) (starts : Starts) (m used count : ℕ) (w : World) : Type 0 where
+  pub named : World
+  pub is : N.enter m (D.readMember (bodyIn deck m)) w ≡ N.entered (memberIn deck m named)
+  pub grown : Grown w named
+  pub book : Shows named (namesOf deck names count)
+  pub sentences : memberIn deck m named .sentences ≡ used
+  pub placed : Placed (bodyIn deck) (memberIn deck m named)
+  pub laid : Laid deck rows starts used (memberIn deck m named)
+  pub shown : RowsShown deck rows starts (memberIn deck m named)
