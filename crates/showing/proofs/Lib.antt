@@ -11,3 +11,4 @@ pub mod Placing
 pub mod Tables
 pub mod Worlds
 pub mod Laying
+pub mod Enters

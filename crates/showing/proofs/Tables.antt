@@ -4,7 +4,7 @@ use mathlib.Core.Path.{_≡_, refl, sym, ap, _∙_}
 use mathlib.Core.List.{List, [], _∷_, _++_, append-assoc, append-nil}
 use Prim.Native.Nat.{ℕ, _+_}
 use native.Mathlib.Omega.{arith}
-use lib.ListN.{length, length-append, replicate, replicate-append-replicate}
+use lib.ListN.{length-append, replicate, replicate-append-replicate}
 use Rattle.definition.specs.Program as P
 use Rattle.definition.specs.World as W
 use Rattle.definition.specs.World.{World, Denotation, Identifier, addressIn}

@@ -210,15 +210,21 @@ pub record SoundSource (x : P.Source) : Type 0 where
   pub first : (n : ℕ) → x .first ≡ P.row n → StandsIn (x .rows) n P.nowhere
   pub names : x .fault ≡ P.sound → AllMean (x .rows) (x .declared)
   pub heads : x .fault ≡ P.sound → Headed (x .rows) (x .declared)
+  pub begun : x .fault ≡ P.sound → length (x .begun) ≡ length (x .rows)
 
 pub faulty-not : {A : Type 0} (w : Why) (p : ℕ) → P.faulty w p ≡ P.sound → A
 faulty-not w p e = let z : _≡_ {A = ℕ} 0 1 = cc in absurd (omega arith)
 
+-- each row is a sentence
+places-size : (rs : List P.Row) → length (D.places rs ++ []) ≡ length rs
+places-size [] = refl
+places-size (r ∷ rs) = ap suc (places-size rs)
+
 rowed-source : (st : D.State) (begun : List ℕ) (w : Why) (p : ℕ) → Rowed st → SoundSource (D.source st begun (P.faulty w p))
-rowed-source st begun w p h = record { linked = h .linked; first = h .first; names = λ e. faulty-not w p e; heads = λ e. faulty-not w p e }
+rowed-source st begun w p h = record { linked = h .linked; first = h .first; names = λ e. faulty-not w p e; heads = λ e. faulty-not w p e; begun = λ e. faulty-not w p e }
 
 sound-source : (st : D.State) → Sound st → SoundSource (D.source st [] P.sound)
-sound-source st h = record { linked = h .core .rowed .linked; first = h .core .rowed .first; names = λ e. h .core .names; heads = λ e. h .core .heads }
+sound-source st h = record { linked = h .core .rowed .linked; first = h .core .rowed .first; names = λ e. h .core .names; heads = λ e. h .core .heads; begun = λ e. places-size (st .rows) }
 
 read-sound : (s : List ℕ) (f : ℕ) (t : D.Turn) → SoundTurn t → SoundSource (D.readOn s f t)
 unfolding D.readOn
