@@ -83,7 +83,8 @@ listed-fine : (b : Bool) (x y : Unit {0} → N.Declaring) (A : Type 0) → (b �
 listed-fine true x y A h g i = g i
 listed-fine false x y A h g i = h refl i
 
-one-fine : (y : N.New) (i : W.Identifier) (ps : List W.Identifier) (p : ℕ) (w : World) (f : List W.Identifier → World → N.Declaring) (A : Type 0) → ((qs : List W.Identifier) (v : World) → IsFine (f qs v) → A) → IsFine (N.declareOne y i ps p w f) → A
+one-fine : (y : N.New) (i : W.Identifier) (ps : List W.Identifier) (p : ℕ) (w : World) (f : List W.Identifier → World → N.Declaring) (A : Type 0)
+    → ((qs : List W.Identifier) (v : World) → IsFine (f qs v) → A) → IsFine (N.declareOne y i ps p w f) → A
 one-fine (N.new d) i ps p w f A h g = onward-fine (N.declaredAt (addressIn (i .spelling) (i .owner) 0 (w .identifiers)) i d p w) (f ps) A (λ v e. h ps v e) g
 one-fine N.listing i ps p w f A h g = listed-fine (N.isListed i ps) (λ _. N.second p) (λ _. f (i ∷ ps) w) A (λ _ e. h (i ∷ ps) w e) (λ e. absurd e) g
 
@@ -93,7 +94,8 @@ unfolding N.declareAll
 from-there m [] ys ps w A h i = h ps w i
 from-there m (d ∷ xs) ys ps w A h i = one-fine (N.newOf m (d .meaning)) (N.identifierOf m d) ps (d .place) w (λ qs v. N.declareAll m qs (xs ++ ys) v) A (λ qs v e. from-there m xs ys qs v A h e) i
 
-pub listed-distinct : (m r : ℕ) (ms : List Named) (ys : List P.Declared) (qs : List W.Identifier) (w : World) → IsFine (N.declareAll m qs (St.means (P.inside r) P.parameter ms ++ ys) w) → Distinct (spelled ms) × Out (W.procedureAt m r) qs (spelled ms)
+listed-distinct : (m r : ℕ) (ms : List Named) (ys : List P.Declared) (qs : List W.Identifier) (w : World) → IsFine (N.declareAll m qs (St.means (P.inside r) P.parameter ms ++ ys) w)
+    → Distinct (spelled ms) × Out (W.procedureAt m r) qs (spelled ms)
 unfolding N.declareAll
 listed-distinct m r [] ys qs w h = (tt, tt)
 listed-distinct m r (n ∷ ms) ys qs w h =
@@ -193,7 +195,8 @@ found-all k [] w ps e = record { all = tt; size = ap (λ (x : Val.Answer (List E
     sizeOf (Val.gives l) = length l
     sizeOf (Val.fails w) = 0
 found-all k (n ∷ ns) w ps e =
-    let a : (p : Ev.Parameter) × (Ev.parameterAt (addressOf n k w) w ≡ Val.gives p) × (Val.andThen (Ev.parameters k ns w) (λ qs. Val.gives (p ∷ qs)) ≡ Val.gives ps) = fails-not (Ev.parameterAt (addressOf n k w) w) (λ p. Val.andThen (Ev.parameters k ns w) λ qs. Val.gives (p ∷ qs)) ps e in
+    let a : (p : Ev.Parameter) × (Ev.parameterAt (addressOf n k w) w ≡ Val.gives p) × (Val.andThen (Ev.parameters k ns w) (λ qs. Val.gives (p ∷ qs)) ≡ Val.gives ps) =
+    fails-not (Ev.parameterAt (addressOf n k w) w) (λ p. Val.andThen (Ev.parameters k ns w) λ qs. Val.gives (p ∷ qs)) ps e in
     let b : (qs : List Ev.Parameter) × (Ev.parameters k ns w ≡ Val.gives qs) × (Val.gives (a .0 ∷ qs) ≡ Val.gives ps) = fails-not (Ev.parameters k ns w) (λ qs. Val.gives (a .0 ∷ qs)) ps (a .2) in
     let r : Found k (w .identifiers) ns (b .0) = found-all k ns w (b .0) (b .1) in
     record { all = (found-at n k w (addressOf n k w) (a .0) refl (a .1), r .all); size = gives-size (a .0) (b .0) ps (b .2) ∙ ap suc (r .size) }

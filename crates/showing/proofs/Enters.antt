@@ -1,6 +1,6 @@
 -- FROM THE READER'S CONTRACT: the member that was read goes in, with its names and its rows, and all rows are shown.
 -- Assumes nothing.
-use mathlib.Core.Path.{_≡_, refl, sym, ap, _∙_}
+use mathlib.Core.Path.{_≡_, sym, ap, _∙_}
 use mathlib.Core.List.{List}
 use Prim.Native.Nat.{ℕ, _+_, _<_}
 use native.Mathlib.Omega.{arith}
@@ -38,10 +38,12 @@ same-book m s u v c e h = record {
   activities = ap (λ (z : World). z .activities) (sym e) ∙ h .activities;
 }
 
-module _ (deck rows rows′ n n′ t : List ℕ) (starts starts′ : Starts) (m entered names : ℕ) (r : Source) (w : World) where
-  by-entry : Whole deck (bodyIn deck m) m entered (namesOf deck n names) t n′ r → Placed (bodyIn deck) w → Laid deck rows starts entered w → w .sentences ≡ entered → Behind rows entered rows′ t → StartsAt starts m entered starts′ → m < 32
-      → (v : World) → N.enter m (D.readMember (bodyIn deck m)) w ≡ N.entered (N.withMember m (D.readMember (bodyIn deck m)) v) → Shows v (namesOf deck n′ (r .names)) → Enters deck rows′ n′ starts′ m (entered + r .rows) (r .names) w
-  by-entry whole p l se back st low v q sh =
+-- the member m was read behind the rows of w
+module _ (deck rows rows′ n n′ t : List ℕ) (starts starts′ : Starts) (m entered names : ℕ) (r : Source) (w : World) (placed : Placed (bodyIn deck) w) (laid : Laid deck rows starts entered w) (count : w .sentences ≡ entered)
+    (back : Behind rows entered rows′ t) (st : StartsAt starts m entered starts′) (low : m < 32) where
+  goes : Whole deck (bodyIn deck m) m entered (namesOf deck n names) t n′ r → (v : World) → N.enter m (D.readMember (bodyIn deck m)) w ≡ N.entered (N.withMember m (D.readMember (bodyIn deck m)) v)
+      → Shows v (namesOf deck n′ (r .names)) → Enters deck rows′ n′ starts′ m (entered + r .rows) (r .names) w
+  goes whole v q sh =
       let s : P.Source = D.readMember (bodyIn deck m) in
       let x : Entered m s w (N.withMember m s v) = entered-is m s w (N.withMember m s v) q in
       let u : World = x .named in
@@ -49,26 +51,25 @@ module _ (deck rows rows′ n n′ t : List ℕ) (starts starts′ : Starts) (m 
       let book : Shows u (namesOf deck n′ (r .names)) = same-book m s u v (namesOf deck n′ (r .names)) (x .world) sh in
       let size : length (s .rows) ≡ r .rows = size-read (bodyIn deck m) t (r .rows) (s .rows) (whole .reads .rows) (whole .reads .tabled) in
       let grown : Grown w u = entered-grown m s w (N.withMember m s v) x in
-      let placed : Placed (bodyIn deck) (N.withMember m s u) = placed-enter (bodyIn deck) m w (N.withMember m s u) p is in
-      let laid : Laid deck rows′ starts′ (entered + r .rows) (N.withMember m s u) =
-      laid-enter deck rows rows′ t entered back starts starts′ m (r .rows) w (N.withMember m s u) l is st low (whole .reads .rows) (whole .reads .tabled) (whole .sentences) in
+      let after : Placed (bodyIn deck) (N.withMember m s u) = placed-enter (bodyIn deck) m w (N.withMember m s u) placed is in
+      let lies : Laid deck rows′ starts′ (entered + r .rows) (N.withMember m s u) =
+      laid-enter deck rows rows′ t entered back starts starts′ m (r .rows) w (N.withMember m s u) laid is st low (whole .reads .rows) (whole .reads .tabled) (whole .sentences) in
       record {
         named = u;
         is = is;
         grown = grown;
         book = book;
-        sentences = omega (arith, ap (λ (z : World). z .sentences) (grown .tables), se, member-sound (bodyIn deck m) .begun (x .fault), size);
-        placed = placed;
-        laid = laid;
-        shown = rows-shown deck rows′ starts′ (N.withMember m s u) (laid .stored) placed (omega (arith, names-size deck n′ (r .names) u book, whole .few));
+        sentences = omega (arith, ap (λ (z : World). z .sentences) (grown .tables), count, member-sound (bodyIn deck m) .begun (x .fault), size);
+        placed = after;
+        laid = lies;
+        shown = rows-shown deck rows′ starts′ (N.withMember m s u) (lies .stored) after (omega (arith, names-size deck n′ (r .names) u book, whole .few));
       }
 
-  by-case : (f : Fault) → r .fault ≡ f → f ≡ Sound → Membered deck (bodyIn deck m) n m entered names t n′ r → Placed (bodyIn deck) w → Laid deck rows starts entered w → w .sentences ≡ entered → Behind rows entered rows′ t → StartsAt starts m entered starts′ → m < 32
+  by-entry : (f : Fault) → f ≡ Sound → Whole deck (bodyIn deck m) m entered (namesOf deck n names) t n′ r
       → Entry m (D.readMember (bodyIn deck m)) (namesOf deck n′ (r .names)) (N.enter m (D.readMember (bodyIn deck m)) w) f → Enters deck rows′ n′ starts′ m (entered + r .rows) (r .names) w
-  by-case f e g h p l se back st low (goes-in v q sh z) = by-entry (h .whole (e ∙ g)) p l se back st low v q sh
-  by-case f e g h p l se back st low (stays-out y k q z) = let c : _≡_ {A = ℕ} 0 1 = cc in absurd (omega arith)
+  by-entry f e whole (goes-in v q sh z) = goes whole v q sh
+  by-entry f e whole (stays-out y k q z) = let c : _≡_ {A = ℕ} 0 1 = cc in absurd (omega arith)
 
   -- THE MEMBER that was read without a fault
-  pub member-enters : Membered deck (bodyIn deck m) n m entered names t n′ r → r .fault ≡ Sound → Shows w (namesOf deck n names) → w .sentences ≡ entered → Placed (bodyIn deck) w → Laid deck rows starts entered w
-      → Behind rows entered rows′ t → StartsAt starts m entered starts′ → m < 32 → Enters deck rows′ n′ starts′ m (entered + r .rows) (r .names) w
-  member-enters h e sh se p l back st low = by-case (r .fault) refl e h p l se back st low (h .enters w sh se)
+  pub member-enters : Membered deck (bodyIn deck m) n m entered names t n′ r → r .fault ≡ Sound → Shows w (namesOf deck n names) → Enters deck rows′ n′ starts′ m (entered + r .rows) (r .names) w
+  member-enters h e sh = by-entry (r .fault) e (h .whole e) (h .enters w sh count)

@@ -97,9 +97,10 @@ module _ (deck rows rows′ t : List ℕ) (used : ℕ) (h : Behind rows used row
       })
 
 -- ---- the part of the table that was lent, when it is back: t lies behind the used rows
-pub behind-back : (rows rows′ t : List ℕ) (used from : ℕ) → PartPlace rows used from → 16 * used ≤ length rows → length t ≡ length rows - from → rows′ ≡ take from rows ++ (t ++ drop (length rows - from) (drop from rows)) → Behind rows used rows′ t
+pub behind-back : (rows rows′ t : List ℕ) (used from : ℕ) → PartPlace rows used from → 16 * used ≤ length rows
+    → rows′ ≡ take from rows ++ (t ++ drop (length rows - from) (drop from rows)) → Behind rows used rows′ t
 unfolding rowIn
-behind-back rows rows′ t used from p l size e =
+behind-back rows rows′ t used from p l e =
     let place : from ≡ 16 * used = omega (arith, ap (λ (x : List ℕ). length x) (p .is), length-drop from rows, length-drop (16 * used) rows, l, p .within) in
     let none : drop (length rows - from) (drop from rows) ≡ [] = drop-of-length-le (drop from rows) {i = length rows - from} (omega (arith, length-drop from rows)) in
     let whole : rows′ ≡ take from rows ++ t = e ∙ ap (λ (x : List ℕ). take from rows ++ (t ++ x)) none ∙ ap (λ (x : List ℕ). take from rows ++ x) (append-nil t) in
@@ -108,6 +109,21 @@ behind-back rows rows′ t used from p l size e =
     record {
       below = λ i k.
           let in′ : (j : ℕ) → j < 16 → getD rows′ (16 * i + j) 0 ≡ getD rows (16 * i + j) 0 = λ j z. same (16 * i + j) (omega (arith, k, z, place)) in
-          rw (in′ 0 (omega arith), in′ 1 (omega arith), in′ 2 (omega arith), in′ 3 (omega arith), in′ 4 (omega arith), in′ 5 (omega arith), in′ 6 (omega arith), in′ 7 (omega arith), in′ 8 (omega arith), in′ 9 (omega arith), in′ 10 (omega arith), in′ 11 (omega arith), in′ 12 (omega arith), in′ 13 (omega arith));
+          rw (
+            in′ 0 (omega arith),
+            in′ 1 (omega arith),
+            in′ 2 (omega arith),
+            in′ 3 (omega arith),
+            in′ 4 (omega arith),
+            in′ 5 (omega arith),
+            in′ 6 (omega arith),
+            in′ 7 (omega arith),
+            in′ 8 (omega arith),
+            in′ 9 (omega arith),
+            in′ 10 (omega arith),
+            in′ 11 (omega arith),
+            in′ 12 (omega arith),
+            in′ 13 (omega arith),
+          );
       part = ap (λ (x : List ℕ). drop (16 * used) x) whole ∙ drop-at (take from rows) t (16 * used) (front ∙ place);
     }

@@ -103,12 +103,16 @@ same-links x = record { statement = refl; parent = refl; next = refl; child = re
 pub texted-self : (rs : List P.Row) → Texted rs rs
 texted-self rs = record { size = refl; each = λ i. same-links (rowOf rs i) }
 
+-- a change of one row that keeps its links
+texted-by : (k : ℕ) (g : P.Row → P.Row) (rs : List P.Row) → ((x : P.Row) → SameLinks x (g x)) → Texted rs (D.change k g rs)
+texted-by k g rs h = record { size = change-length k g rs; each = changed-at (λ (i : ℕ) (x y : P.Row). SameLinks x y) k g rs (λ i x. same-links x) (h (rowOf rs k)) }
+
 module _ (k : ℕ) (x : P.Stretch) (rs : List P.Row) where
   pub lead-texted : Texted rs (D.change k (D.setLead x) rs)
-  lead-texted = record { size = change-length k (D.setLead x) rs; each = changed-at (λ (i : ℕ) (y z : P.Row). SameLinks y z) k (D.setLead x) rs (λ i y. same-links y) (record { statement = refl; parent = refl; next = refl; child = refl; other = refl }) }
+  lead-texted = texted-by k (D.setLead x) rs (λ r. record { statement = refl; parent = refl; next = refl; child = refl; other = refl })
 
   pub text-texted : Texted rs (D.change k (D.setText x) rs)
-  text-texted = record { size = change-length k (D.setText x) rs; each = changed-at (λ (i : ℕ) (y z : P.Row). SameLinks y z) k (D.setText x) rs (λ i y. same-links y) (record { statement = refl; parent = refl; next = refl; child = refl; other = refl }) }
+  text-texted = texted-by k (D.setText x) rs (λ r. record { statement = refl; parent = refl; next = refl; child = refl; other = refl })
 
 module _ (rs qs : List P.Row) (h : Texted rs qs) where
   pub texted-grows : Grows rs qs

@@ -154,7 +154,8 @@ held-last D.inThen k l bs os n qs i h = h
 held-last D.inElse k l bs os n qs i h = h
 
 -- the parameters of the rows before it, and of a new procedure
-added-heads : (rs qs : List P.Row) (ds ls es : List P.Declared) → Grows rs qs → Headed rs ds → ((ns : List (List ℕ)) (v : ValueType) → rowOf qs (length rs) .statement ≡ P.procedure ns v → HeadIn (P.inside (length rs)) ns es) → length qs ≡ suc (length rs)
+added-heads : (rs qs : List P.Row) (ds ls es : List P.Declared) → Grows rs qs → Headed rs ds
+    → ((ns : List (List ℕ)) (v : ValueType) → rowOf qs (length rs) .statement ≡ P.procedure ns v → HeadIn (P.inside (length rs)) ns es) → length qs ≡ suc (length rs)
     → Headed qs (ds ++ (ls ++ es))
 added-heads rs qs ds ls es g h i size r ns v l e = by (ltb r (length rs)) refl
   where
@@ -204,7 +205,10 @@ add-sound (o ∷ os) p ns c es st h a f =
 -- ---- behind a statement, and what it opens
 module _ (s : List ℕ) where
   elsed-sound : (E : D.Else) (i : ℕ) (os : List D.Open) (st : D.State) (up : Unit {0} → D.Turn) → Core st → i < length (st .rows) → Held (st .rows) os → SoundTurn (up tt) → SoundTurn (D.elsed E i os st up)
-  elsed-sound (D.elseTo q) i os st up h l a r = record { core = opened-core (D.opening D.inElse i [] ∷ os) (st .scope) st h; held = (record { last = λ m e. nowhere-not m e; row = λ g e. subst (λ (z : ℕ). z < length (st .rows)) (row-is i g e) l }, a) }
+  elsed-sound (D.elseTo q) i os st up h l a r = record {
+    core = opened-core (D.opening D.inElse i [] ∷ os) (st .scope) st h;
+    held = (record { last = λ m e. nowhere-not m e; row = λ g e. subst (λ (z : ℕ). z < length (st .rows)) (row-is i g e) l }, a);
+  }
   elsed-sound D.noElse i os st up h l a r = r
 
   complete-in : (w : D.Where) (i : ℕ) (l : P.Link) (bs : List (List ℕ)) (os : List D.Open) (n e : ℕ) (st : D.State) (up : ℕ → D.Turn) → Core st → Held (st .rows) (record { kind = w; row = i; last = l; labels = bs } ∷ os)

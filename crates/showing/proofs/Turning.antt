@@ -149,7 +149,8 @@ module _ (s : List ℕ) where
   unfolding D.clauseFrom D.isFull
   clause-sound p L st h =
       when-has SoundTurn (D.isInGroup (D.kindOf (st .opened)) && D.isEnd s (L .behind)) _ _
-      (λ e. too-long SoundTurn (L .long) _ _ (λ q. named-rowed (St.means (st .scope) (P.label 0) (L .labels)) st (h .core .rowed)) (end-sound (st .opened) (L .labels) (L .behind .to) st (h .core) (h .held) (in-group (D.kindOf (st .opened)) (D.isEnd s (L .behind)) e))) λ _.
+      (λ e. too-long SoundTurn (L .long) _ _ (λ q. named-rowed (St.means (st .scope) (P.label 0) (L .labels)) st (h .core .rowed))
+      (end-sound (st .opened) (L .labels) (L .behind .to) st (h .core) (h .held) (in-group (D.kindOf (st .opened)) (D.isEnd s (L .behind)) e))) λ _.
       when-has SoundTurn (leb 1024 (length (st .rows))) _ _ (λ _. h .core .rowed) λ _.
       too-long SoundTurn (L .long) _ _ (λ q. wrong s p (L .labels) st h OverLimit q []) (token-sound s p (L .labels) st h (L .behind .token) (L .behind))
 
