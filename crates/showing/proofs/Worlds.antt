@@ -3,7 +3,7 @@
 use mathlib.Core.Path.{_≡_, refl, sym, ap, subst, _∙_}
 use mathlib.Core.Bool.{Bool, true, false, cond}
 use mathlib.Core.List.{List, [], _∷_}
-use Prim.Native.Nat.{ℕ, _-_, _≤_}
+use Prim.Native.Nat.{ℕ, suc, _-_, _≤_}
 use native.Mathlib.Omega.{arith}
 use borrow.Author.Tests.{eqb-true, eqb-false, eq-eqb}
 use lib.Dec.{eqb, ltb}
@@ -132,6 +132,12 @@ placed-enter b m w v h e =
     })
 
 -- ---- what a run asks of such a world
+lead-size : (R : ℕ → List P.Row) (is : List W.Identifier) (ds : List W.Denotation) → AllLead R is ds → length is ≡ length ds
+lead-size R [] [] h = refl
+lead-size R [] (d ∷ ds) h = absurd h
+lead-size R (i ∷ is) [] h = absurd h
+lead-size R (i ∷ is) (d ∷ ds) h = ap suc (lead-size R is ds (h .1))
+
 module _ (b : ℕ → List ℕ) (B : World) (h : Placed b B) where
   pub bodies-placed : (a m r : ℕ) (x : Bool) → getD (B .denotations) a W.builtinName ≡ W.entryOf x (W.bodyAt m r) → IsRow m r B × IsProcedure (rowOf (rowsOf m B) r .statement)
   bodies-placed a m r x e = subst (EntryIn (λ n. rowsOf n B)) e (entry-at (λ n. rowsOf n B) (B .identifiers) (B .denotations) a (h .names))
@@ -142,6 +148,9 @@ module _ (b : ℕ → List ℕ) (B : World) (h : Placed b B) where
   pub few-placed : (m r : ℕ) (ns : List (List ℕ)) (v : ValueType) (ps : List Ev.Parameter) → IsRow m r B → rowOf (rowsOf m B) r .statement ≡ P.procedure ns v
       → Ev.parameters (W.procedureAt m r) ns B ≡ Val.gives ps → length ps ≤ length (B .identifiers)
   few-placed m r ns v ps l e f = few-called (W.procedureAt m r) ns B ps (h .apart m r ns v l e) f
+
+  pub size-placed : length (B .identifiers) ≡ length (B .denotations)
+  size-placed = lead-size (λ n. rowsOf n B) (B .identifiers) (B .denotations) (h .names)
 
   pub linked-placed : (m : ℕ) → Linked (rowsOf m B)
   linked-placed m = by (rowsOf m B) (h .read m)
