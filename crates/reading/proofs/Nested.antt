@@ -347,7 +347,7 @@ row-at s t a (suc n) (suc i) l =
     let e : suc a + i ≡ a + suc i = omega arith in
     row-at s t (suc a) n i (omega arith) ∙ ap (λ (k : ℕ). T.rowOf s (rowIn t k)) e
 
-row-first : (s t : List ℕ) (n i : ℕ) → i < n → rowOf (rowsFrom s t 0 n) i ≡ T.rowOf s (rowIn t i)
+pub row-first : (s t : List ℕ) (n i : ℕ) → i < n → rowOf (rowsFrom s t 0 n) i ≡ T.rowOf s (rowIn t i)
 row-first s t n i l = let e : 0 + i ≡ i = omega arith in row-at s t 0 n i l ∙ ap (λ (k : ℕ). T.rowOf s (rowIn t k)) e
 
 -- THE TABLE of n rows
