@@ -3,17 +3,13 @@
 use mathlib.Core.Path.{_≡_, refl, sym, ap, subst, _∙_}
 use mathlib.Core.Bool.{Bool, true, false, cond}
 use mathlib.Core.List.{List, [], _∷_, _++_}
-use Prim.Native.Nat.{ℕ, zero, suc, _+_, _-_, _%_, _<_, _≤_}
-use native.Mathlib.Nat.{zero-add, add-zero}
-use native.Mathlib.Numerals.{add-one}
+use Prim.Native.Nat.{ℕ, suc, _+_, _-_, _<_, _≤_}
 use native.Mathlib.Omega.{arith}
 use lib.ListN.{length, take, length-set}
 use lib.IntN.{ℤ}
 use Rattle.definition.specs.Lists.{part}
-use Rattle.definition.specs.Fixed as F
 use Rattle.definition.specs.Tokens.{tokenAt}
 use Rattle.definition.specs.Values as Val
-use Rattle.definition.specs.World as W
 use Rattle.definition.specs.World.{World, Res, good, bad, bind, ask}
 use Rattle.definition.specs.Evaluate as Ev
 use Rattle.definition.specs.Scan as D
@@ -25,7 +21,6 @@ use Rattle.definition.specs.declared.ValueType.the-variants.{FixedType, Charact
 use Rattle.definition.proofs.Parts.{length-part, part-of-part}
 use Rattle.definition.proofs.Keeping.{Gives, given, failed}
 use Rattle.definition.proofs.Ranges.{Small, toFixed-small}
-use Rattle.fixed.specs.Signed.{storedOf, fromStored}
 use Rattle.fixed.proofs.Magnitude.{stored-back}
 use lib.Dec.{leb}
 use borrow.Author.Tests.{leb-true}
@@ -44,8 +39,8 @@ use Rattle.callees.specs.declared.Held.{Held}
 use Rattle.callees.specs.declared.Parameter.{Parameter}
 use Rattle.callees.specs.declared.ParameterAt.{ParameterAt}
 use Rattle.callees.specs.declared.ParameterAt.the-variants as P
-use Rattle.callees.specs.Shown.{namesWorld, worldIn, Slots}
-use Rattle.callees.specs.Answer.{ownerAt, spelledAt, parameterFor, parameterOf, ParameterIs, Names, HeldWith, heldNumber, heldAt, fixedIn, heldIn, heldSize, heldFrom, Waiting}
+use Rattle.callees.specs.Shown.{namesWorld, worldIn}
+use Rattle.callees.specs.Answer.{ownerAt, parameterOf, ParameterIs, Names, HeldWith, heldNumber, heldAt, fixedIn, heldIn, heldSize, heldFrom, Waiting}
 use Rattle.callees.proofs.Listing.{First, first-of}
 use Rattle.outcomes.specs.declared.Src.{Src}
 use Rattle.outcomes.specs.declared.Dest.{Dest}
@@ -58,12 +53,12 @@ use Rattle.outcomes.proofs.Sources.{plus-sum}
 use Rattle.operands.specs.declared.Scene.{Scene}
 use Rattle.operands.specs.declared.Evaluated.{Evaluated}
 use Rattle.operands.specs.declared.Evaluated.the-variants as E
-use Rattle.scanning.specs.declared.Outcome.{Outcome}
 use Rattle.scanning.specs.declared.Outcome.the-variants as O
 use Rattle.operands.specs.Answer.{resIn}
 use Rattle.evaluating.specs.Cycle.{CalleeShown}
-use Rattle.scanning.specs.Cycle.{Sourced, Aims, Stage, Put, Left, scannedIn, Came, scannerIn, Scans, TextFits, typeFor, nextFor, meterFor, convertedBy, convertedFor, ConvertedIs, takenIn, meterTaken, Taking, TakenIs}
+use Rattle.scanning.specs.Cycle.{Sourced, Aims, Stage, Left, Came, scannerIn, Scans, TextFits, typeFor, nextFor, meterFor, convertedBy, convertedFor, ConvertedIs, Taking, TakenIs}
 use Rattle.scanning.proofs.Common.{never, source-same, source-still, text-length, stage-on, left-same, out-work, with-work}
+use Rattle.scanning.proofs.Entries.{nil-is}
 use Rattle.scanning.proofs.Holding.{heldEnd, end-low, held-here, end-there, from-there, waiting-there, from-more, end-more, waiting-more}
 
 -- ---- the list of arguments that are left
@@ -94,10 +89,6 @@ append-one {A} (z ∷ xs) ys x = ap (λ (l : List A). z ∷ l) (append-one xs ys
 length-one : (xs : List Ev.Parameter) (x : Ev.Parameter) → length (xs ++ x ∷ []) ≡ length xs + 1
 length-one [] x = refl
 length-one (z ∷ xs) x = let e : length (xs ++ x ∷ []) ≡ length xs + 1 = length-one xs x in omega arith
-
-nil-is : (ps : List Ev.Parameter) → length ps ≡ 0 → ps ≡ []
-nil-is [] e = refl
-nil-is (p ∷ ps) e = absurd (omega (arith, e))
 
 -- ---- THE INVARIANT
 module _ (deck s rows names c₀ l₀ h₀ w₀ t₀ : List ℕ) (x : Src) (first u n : ℕ) (sc : Scene) (m₀ : Meter) (pl : Place) (list count : ℕ) where

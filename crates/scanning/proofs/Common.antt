@@ -2,34 +2,32 @@
 -- Assumes nothing.
 use mathlib.Core.Path.{_≡_, refl, sym, ap, _∙_}
 use mathlib.Core.Bool.{Bool, true, false, cond}
-use mathlib.Core.List.{List, [], _∷_, _++_}
-use Prim.Native.Nat.{ℕ, zero, suc, _+_, _-_, _<_, _≤_}
-use native.Mathlib.Nat.{zero-add, add-zero}
+use mathlib.Core.List.{List, [], _++_}
+use Prim.Native.Nat.{ℕ, _+_, _-_, _≤_}
 use native.Mathlib.Omega.{arith}
 use lib.ListN.{length, take}
 use Rattle.definition.specs.Lists.{part}
 use Rattle.definition.specs.Room.{over}
-use Rattle.definition.specs.World.{World, Res, good, bad}
+use Rattle.definition.specs.World.{World, Res, bad}
 use Rattle.definition.specs.Scan as D
 use Rattle.definition.specs.declared.Why.{Why}
 use Rattle.definition.proofs.Parts.{length-part}
-use Rattle.definition.proofs.Rooms.{length-over, over-nil, over-next-at}
+use Rattle.definition.proofs.Rooms.{over-nil, over-next-at}
 use Rattle.meter.specs.declared.Meter.{Meter}
 use Rattle.operators.specs.Stands.{topOf}
 use Rattle.operators.proofs.Room.{top-in, part-below, below-over, part-append}
-use Rattle.callees.specs.Shown.{worldIn, Slots}
+use Rattle.callees.specs.Shown.{Slots}
 use Rattle.outcomes.specs.declared.Src.{Src}
 use Rattle.outcomes.specs.declared.Dest.{Dest}
 use Rattle.outcomes.specs.declared.Scanned.{Scanned}
 use Rattle.outcomes.specs.declared.Scanned.the-variants as S
 use Rattle.outcomes.specs.declared.Replaced.{Replaced}
 use Rattle.outcomes.specs.declared.Replaced.the-variants as R
-use Rattle.outcomes.specs.Texts.{plusOf, roomOf, stretchOf, textOf, Within, Awake}
-use Rattle.outcomes.specs.Places.{intoOf, afterOf, waitingOf, upToOf, outIn, meterOf}
+use Rattle.outcomes.specs.Texts.{plusOf, roomOf, stretchOf, textOf}
+use Rattle.outcomes.specs.Places.{intoOf, afterOf, waitingOf, upToOf, outIn}
 use Rattle.outcomes.proofs.Sources.{plus-sum, stretch-length}
 use Rattle.operands.specs.declared.Scene.{Scene}
-use Rattle.operands.specs.Shown.{Shows}
-use Rattle.scanning.specs.Cycle.{Sourced, Aims, Stage, textWith, Put, Left, scannedIn, replacedIn, meterIn, Came, Gone}
+use Rattle.scanning.specs.Cycle.{Sourced, Aims, Stage, textWith, Put, Left, Came, Gone}
 
 pub never : (A : Type 0) → _≡_ {A = ℕ} 0 1 → A
 never A e = absurd (omega arith)

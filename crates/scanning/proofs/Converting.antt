@@ -1,12 +1,12 @@
 -- The outcome of an argument made of its parameter's type.
 -- Assumes nothing.
-use mathlib.Core.Path.{_≡_, refl, sym, ap, _∙_}
+use mathlib.Core.Path.{_≡_, refl, ap}
 use mathlib.Core.List.{List}
 use Prim.Native.Nat.{ℕ, _+_, _≤_}
 use lib.ListN.{length}
 use Rattle.definition.specs.Lists.{part}
 use Rattle.definition.specs.Values as Val
-use Rattle.definition.specs.World.{World, ask}
+use Rattle.definition.specs.World.{ask}
 use Rattle.definition.specs.declared.Why.{Why}
 use Rattle.definition.specs.declared.ValueType.{ValueType}
 use Rattle.meter.specs.declared.Meter.{Meter}
@@ -15,13 +15,12 @@ use Rattle.operators.specs.declared.Value.the-variants.{Characters}
 use Rattle.operators.specs.declared.Given.{Given}
 use Rattle.operators.specs.declared.Given.the-variants.{Gives, Fails}
 use Rattle.operators.specs.Stands as O
-use Rattle.operators.specs.Stands.{valueIn, givenIn, sizeFor, stacked, Ready}
+use Rattle.operators.specs.Stands.{valueIn, givenIn, sizeFor, stacked}
 use Rattle.callees.specs.Shown.{worldIn}
 use Rattle.outcomes.specs.declared.Scanned.{Scanned}
 use Rattle.outcomes.specs.declared.Scanned.the-variants as S
-use Rattle.operands.specs.declared.Evaluated.{Evaluated}
 use Rattle.operands.specs.declared.Evaluated.the-variants as E
-use Rattle.scanning.specs.Cycle.{convertedBy, convertedFor, ConvertedIs, TextFits}
+use Rattle.scanning.specs.Cycle.{convertedBy, ConvertedIs}
 
 module _ (w : List ℕ) (u : ℕ) (t : ValueType) (x : Scanned) where
   pub converted-bad : (e : Why) (m : Meter) → x ≡ S.Bad e m → ConvertedIs w u t x w (E.Failed e m)

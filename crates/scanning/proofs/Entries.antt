@@ -1,16 +1,15 @@
 -- An entry, with its arguments or without.
 -- Assumes nothing.
 use mathlib.Core.Path.{_≡_, refl, sym, ap, subst, _∙_}
-use mathlib.Core.Bool.{Bool, true, false, cond}
+use mathlib.Core.Bool.{true, false}
 use mathlib.Core.List.{List, [], _∷_}
-use Prim.Native.Nat.{ℕ, zero, suc, _+_, _-_, _<_, _≤_}
+use Prim.Native.Nat.{ℕ, _+_, _-_, _<_, _≤_}
 use native.Mathlib.Omega.{arith}
 use borrow.Author.Tests.{eq-eqb, ne-eqb}
 use lib.Dec.{eqb}
 use lib.ListN.{length}
-use Rattle.definition.specs.Choice.{when}
 use Rattle.definition.specs.Values as Val
-use Rattle.definition.specs.World.{World, Res, good, bad, bind}
+use Rattle.definition.specs.World.{World, Res, bad, bind}
 use Rattle.definition.specs.Evaluate as Ev
 use Rattle.definition.specs.Scan as D
 use Rattle.definition.specs.Scan.{Argument, listUpTo, noList, listAt}
@@ -31,7 +30,7 @@ use Rattle.outcomes.specs.declared.Replaced.the-variants as R
 use Rattle.outcomes.specs.declared.Listing.{Listing}
 use Rattle.outcomes.specs.declared.Listing.the-variants as L
 use Rattle.outcomes.specs.Texts.{roomOf, textOf}
-use Rattle.outcomes.specs.Places.{intoOf, upToOf, meterOf}
+use Rattle.outcomes.specs.Places.{intoOf, upToOf}
 use Rattle.outcomes.specs.Arguments.{cutFrom, pastBlanks, listingFor, ListIn}
 use Rattle.outcomes.proofs.Cutting.{list-cut}
 use Rattle.operands.specs.declared.Scene.{Scene}
@@ -39,7 +38,7 @@ use Rattle.scanning.specs.declared.Outcome.{Outcome}
 use Rattle.scanning.specs.declared.Outcome.the-variants as O
 use Rattle.operands.specs.Answer.{runIn}
 use Rattle.evaluating.specs.Cycle.{CalleeShown}
-use Rattle.scanning.specs.Cycle.{Sourced, Stage, Left, Came, Gone, scannerIn, isOn, EntryIs, CallWith, takenIn, meterTaken, WaitingTaken, Taking, TakenIs}
+use Rattle.scanning.specs.Cycle.{Sourced, Stage, Came, Gone, scannerIn, isOn, EntryIs, CallWith, Taking, TakenIs}
 use Rattle.scanning.proofs.Common.{never, stage-on, aims-same, gone-bad, left-same, up-gone}
 use Rattle.scanning.proofs.Values.{came-over}
 
@@ -58,7 +57,7 @@ listed-none : (a : D.Arguments) (f : ℕ) → L.NoList ≡ listingFor f a → a 
 listed-none (listUpTo xs r) f e = never _ (cc)
 listed-none noList f e = refl
 
-nil-is : (ps : List Ev.Parameter) → length ps ≡ 0 → ps ≡ []
+pub nil-is : (ps : List Ev.Parameter) → length ps ≡ 0 → ps ≡ []
 nil-is [] e = refl
 nil-is (p ∷ ps) e = absurd (omega (arith, e))
 

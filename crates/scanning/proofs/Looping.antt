@@ -1,20 +1,17 @@
 -- The tokens one after the other.
 -- Assumes nothing.
 use mathlib.Core.Path.{_≡_, refl, sym, ap, _∙_}
-use mathlib.Core.Bool.{Bool, true, false, cond}
-use mathlib.Core.List.{List, [], _∷_, _++_}
+use mathlib.Core.Bool.{Bool, true, false}
+use mathlib.Core.List.{List, _++_}
 use Prim.Native.Nat.{ℕ, zero, suc, _+_, _-_, _<_, _≤_}
-use native.Mathlib.Nat.{zero-add, add-zero}
 use native.Mathlib.Numerals.{add-one}
 use native.Mathlib.Omega.{arith}
 use borrow.Author.Tests.{le-leb, lt-leb}
-use lib.Dec.{leb}
-use lib.ListN.{length, take}
+use lib.ListN.{length}
 use Rattle.definition.specs.Choice.{when}
 use Rattle.definition.specs.Lists.{part}
 use Rattle.definition.specs.Steps.{isLeft, usedAfter}
 use Rattle.definition.specs.Tokens.{pieceAt}
-use Rattle.definition.specs.World as W
 use Rattle.definition.specs.World.{World, Res, good, bad, bind, charge}
 use Rattle.definition.specs.Scan as D
 use Rattle.definition.specs.Scan.{Into, Replacer}
@@ -23,11 +20,10 @@ use Rattle.definition.specs.declared.Why.the-variants.{NoStep}
 use Rattle.meter.specs.declared.Meter.{Meter}
 use Rattle.meter.specs.declared.Charged.{Charged}
 use Rattle.meter.specs.Charges.{Charges}
-use Rattle.callees.specs.Shown.{worldIn, Slots}
+use Rattle.callees.specs.Shown.{worldIn}
 use Rattle.operators.proofs.Callers.{below-less}
 use Rattle.outcomes.specs.declared.Src.{Src}
 use Rattle.outcomes.specs.declared.Dest.{Dest}
-use Rattle.outcomes.specs.declared.Scanned.{Scanned}
 use Rattle.outcomes.specs.declared.Scanned.the-variants as S
 use Rattle.outcomes.specs.declared.Replaced.{Replaced}
 use Rattle.outcomes.specs.declared.Replaced.the-variants as R
@@ -35,8 +31,8 @@ use Rattle.outcomes.specs.Texts.{plusOf, textOf}
 use Rattle.outcomes.specs.Places.{intoOf, afterOf, waitingOf, outIn}
 use Rattle.outcomes.proofs.Sources.{plus-in, plus-sum}
 use Rattle.operands.specs.declared.Scene.{Scene}
-use Rattle.scanning.specs.Cycle.{Sourced, Aims, Stage, Put, Left, scannedIn, replacedIn, ReplacedPut, meterIn, Came, Gone, scannerIn, replacerIn, Scans, tokenBy, tokenAt, TokenIs}
-use Rattle.scanning.proofs.Common.{never, bool-has, source-same, source-still, text-length, stage-on, aims-same, wait-low, wait-work, out-length, out-none, put-none, out-next, put-next, left-same, came-bad}
+use Rattle.scanning.specs.Cycle.{Sourced, Aims, Stage, Put, Left, Came, Gone, scannerIn, replacerIn, Scans, tokenBy, tokenAt, TokenIs}
+use Rattle.scanning.proofs.Common.{bool-has, source-same, source-still, text-length, stage-on, aims-same, wait-low, wait-work, out-length, out-none, put-none, out-next, put-next, left-same, came-bad}
 
 -- ---- a step
 module _ (B : World) (c l h : List ℕ) (m : Meter) (r : Charged) (k : Charges m r) (e : m .limit ≡ B .limit) where

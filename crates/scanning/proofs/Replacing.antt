@@ -9,7 +9,7 @@ use native.Mathlib.Omega.{arith}
 use lib.ListN.{length, getD}
 use Rattle.definition.specs.Values as Val
 use Rattle.definition.specs.World as W
-use Rattle.definition.specs.World.{World, Res, good, bad, bind, ask, variableOf, entryOf, builtinName}
+use Rattle.definition.specs.World.{World, bad, bind, ask, variableOf, entryOf, builtinName}
 use Rattle.definition.specs.Evaluate as Ev
 use Rattle.definition.specs.Evaluate.{callee}
 use Rattle.definition.specs.Scan as D
@@ -33,7 +33,7 @@ use Rattle.callees.specs.declared.Callee.{Callee}
 use Rattle.callees.specs.declared.Called.{Called}
 use Rattle.callees.specs.declared.Called.the-variants as K
 use Rattle.callees.specs.Shown.{denotationsFrom, namesWorld, worldIn, valuesFrom, cellAs}
-use Rattle.callees.specs.Answer.{ownerAt, CalleeOf, readIn, VariableIs}
+use Rattle.callees.specs.Answer.{ownerAt, CalleeOf, VariableIs}
 use Rattle.callees.proofs.Naming.{denotations-length}
 use Rattle.outcomes.specs.declared.Src.{Src}
 use Rattle.outcomes.specs.declared.Dest.{Dest}

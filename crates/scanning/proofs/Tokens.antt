@@ -2,23 +2,20 @@
 -- Assumes nothing.
 use mathlib.Core.Path.{_≡_, refl, sym, ap, _∙_}
 use mathlib.Core.Bool.{Bool, true, false, cond, _&&_}
-use mathlib.Core.List.{List, [], _∷_, _++_}
+use mathlib.Core.List.{List, [], _∷_}
 use Prim.Native.Nat.{ℕ, zero, suc, _+_, _-_, _<_, _≤_}
-use native.Mathlib.Nat.{zero-add, add-zero}
 use native.Mathlib.Omega.{arith}
 use borrow.Author.Tests.{leb-true}
 use lib.Dec.{leb}
-use lib.ListN.{length, take, getD}
+use lib.ListN.{length, take}
 use Rattle.definition.specs.Choice.{when}
 use Rattle.definition.specs.Lists.{part}
 use Rattle.definition.specs.Room.{over}
 use Rattle.definition.specs.Tokens as T
 use Rattle.definition.specs.Tokens.{pieceAt}
 use Rattle.definition.specs.World as W
-use Rattle.definition.specs.World.{World, Res, good, bad, bind, addressIn, isIdentifier}
+use Rattle.definition.specs.World.{World, good, bad, addressIn, isIdentifier}
 use Rattle.definition.specs.Scan as D
-use Rattle.definition.specs.Scan.{Replacer}
-use Rattle.definition.specs.declared.Why.{Why}
 use Rattle.definition.proofs.Parts.{length-part, part-of-part}
 use Rattle.definition.proofs.Rooms.{length-over}
 use Rattle.definition.proofs.Ends.{pieceAt-past}
@@ -31,19 +28,19 @@ use Rattle.tokens.specs.declared.Piece.{Piece}
 use Rattle.tokens.specs.Answer.{pieceFor}
 use Rattle.operators.specs.Stands.{topOf}
 use Rattle.operators.proofs.Room.{top-in, part-written, below-over}
-use Rattle.callees.specs.Shown.{worldIn, Slots}
+use Rattle.callees.specs.Shown.{worldIn}
 use Rattle.outcomes.specs.declared.Src.{Src}
 use Rattle.outcomes.specs.declared.Dest.{Dest}
 use Rattle.outcomes.specs.declared.Active.{Active}
 use Rattle.outcomes.specs.declared.Active.the-variants.{NotActive, IsActive}
 use Rattle.outcomes.specs.declared.Replaced.{Replaced}
 use Rattle.outcomes.specs.declared.Replaced.the-variants as R
-use Rattle.outcomes.specs.Texts.{plusOf, roomOf, stretchOf, textOf, Within, PieceIn, Awake, activeFor, ActiveHere}
+use Rattle.outcomes.specs.Texts.{plusOf, roomOf, stretchOf, textOf, PieceIn, activeFor, ActiveHere}
 use Rattle.outcomes.specs.Places.{intoOf, afterOf, waitingOf, bytesAt, workPut, textPut, Puts, copiedFor, Copied, outIn}
 use Rattle.outcomes.proofs.Sources.{plus-sum, stretch-length}
 use Rattle.operands.specs.declared.Scene.{Scene}
-use Rattle.scanning.specs.Cycle.{Sourced, Aims, Stage, textWith, Put, Left, replacedIn, ReplacedPut, meterIn, Gone, replacerIn, isOn, tokenBy, tokenAt, TokenIs, ReplaceIs}
-use Rattle.scanning.proofs.Common.{never, source-still, stage-on, aims-same, aims-after, into-after, waiting-is, wait-work, wait-text, wait-low, wait-top, bool-has, out-work, out-text, with-work, with-text, gone-bad}
+use Rattle.scanning.specs.Cycle.{Sourced, Aims, Stage, Put, Gone, replacerIn, isOn, tokenBy, tokenAt, TokenIs, ReplaceIs}
+use Rattle.scanning.proofs.Common.{never, source-still, stage-on, aims-after, into-after, waiting-is, wait-work, wait-low, wait-top, bool-has, out-work, out-text, with-work, with-text, gone-bad}
 
 -- ---- what an active name is
 ids-length : (d t : List ℕ) (a n : ℕ) → length (identifiersFrom d t a n) ≡ n

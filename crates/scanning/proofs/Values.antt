@@ -26,7 +26,7 @@ use Rattle.names.specs.Table.{activityOf}
 use Rattle.operators.specs.declared.Value.{Value}
 use Rattle.operators.specs.declared.Given.{Given}
 use Rattle.operators.specs.declared.Given.the-variants.{Gives, Fails}
-use Rattle.operators.specs.Stands.{topOf, valueIn, givenIn}
+use Rattle.operators.specs.Stands.{topOf, givenIn}
 use Rattle.operators.proofs.Room.{top-in, part-written, below-over}
 use Rattle.operators.proofs.Callers.{below-less}
 use Rattle.callees.specs.declared.Callee.{Callee}
@@ -37,7 +37,7 @@ use Rattle.outcomes.specs.declared.Dest.{Dest}
 use Rattle.outcomes.specs.declared.Scanned.{Scanned}
 use Rattle.outcomes.specs.declared.Scanned.the-variants as S
 use Rattle.outcomes.specs.Texts.{roomOf, stretchOf, textOf}
-use Rattle.outcomes.specs.Places.{intoOf, outIn, gotIn, charactersAt, charactersOf, TextIs, settledIn, Settled}
+use Rattle.outcomes.specs.Places.{intoOf, outIn, charactersAt, charactersOf, TextIs, settledIn, Settled}
 use Rattle.outcomes.specs.Copies.{isRescanned, copiedValue, workCopied, textCopied, CopiedValue, heldBy, CopiedAs, CopiedFrom}
 use Rattle.outcomes.proofs.Meaning.{copied-out}
 use Rattle.operands.specs.declared.Scene.{Scene}
@@ -176,13 +176,11 @@ module _ (deck rows names c l h w t : List ℕ) (o : Dest) (u n : ℕ) (sc : Sce
   value-by : (v : Val.Value) → CopiedValue w t (Val.toCharacters v) o u m w′ t′ r → (b : Bool) → D.fits (intoOf o) u 0 (length (Val.toCharacters v)) ≡ b → Came B o u w t c l h w′ t′ r (outcomeOf sc n W.copiedOnly o u (Val.gives v) (worldIn B c l h (m .used)))
   unfolding outcomeOf copiedValue workCopied textCopied
   value-by v cv true f =
-      let bs : List ℕ = Val.toCharacters v in
-      let k : ℕ = length (Val.toCharacters v) in
       let i : r ≡ S.Good (length (Val.toCharacters v)) m = cv .is ∙ rw f in
       let ww : o .«to_work» ≡ true → w′ ≡ over w u (Val.toCharacters v) = λ z. cv .work ∙ rw (f, z) in
       let wt : o .«to_work» ≡ false → w′ ≡ w = λ z. cv .work ∙ rw (f, z) in
       let tw : o .«to_work» ≡ true → t′ ≡ t = λ z. cv .text ∙ rw (f, z) in
-      let tt₁ : o .«to_work» ≡ false → t′ ≡ over t (o .at) (Val.toCharacters v) = λ z. cv .text ∙ rw (f, z) in
+      let tx : o .«to_work» ≡ false → t′ ≡ over t (o .at) (Val.toCharacters v) = λ z. cv .text ∙ rw (f, z) in
       let out : outIn o t′ w′ u (length (Val.toCharacters v)) ≡ Val.toCharacters v = copied-out w t (Val.toCharacters v) o u m w′ t′ r cv (g .shows .work) (g .aims .room) f in
       let room : length (Val.toCharacters v) ≤ o .room = omega (arith, fits-room o u 0 (length (Val.toCharacters v)) f) in
       let q : outcomeOf sc n W.copiedOnly o u (Val.gives v) (worldIn B c l h (m .used)) ≡ good (Val.toCharacters v) (worldIn B c l h (m .used)) = rw f in
@@ -191,14 +189,14 @@ module _ (deck rows names c l h w t : List ℕ) (o : Dest) (u n : ℕ) (sc : Sce
         put = record {
           text = bool-has (t′ ≡ textWith o (outIn o t′ w′ u (length (Val.toCharacters v))) t) (o .«to_work»)
               (λ z. tw z ∙ sym (with-work o (outIn o t′ w′ u (length (Val.toCharacters v))) t z))
-              (λ z. tt₁ z ∙ ap (over t (o .at)) (sym out) ∙ sym (with-text o (outIn o t′ w′ u (length (Val.toCharacters v))) t z));
+              (λ z. tx z ∙ ap (over t (o .at)) (sym out) ∙ sym (with-text o (outIn o t′ w′ u (length (Val.toCharacters v))) t z));
           room = room;
           fits = λ z. omega (arith, fits-work o u 0 (length (Val.toCharacters v)) f z);
         };
         left = record {
           below = bool-has (take u w′ ≡ take u w) (o .«to_work») (λ z. below-over u u w w′ (Val.toCharacters v) (omega arith) (ww z)) (λ z. ap (take u) (wt z));
           work = bool-has (length w′ ≡ length w) (o .«to_work») (λ z. ap length (ww z) ∙ length-over w u (Val.toCharacters v)) (λ z. ap length (wt z));
-          long = bool-has (length t′ ≡ length t) (o .«to_work») (λ z. ap length (tw z)) (λ z. ap length (tt₁ z) ∙ length-over t (o .at) (Val.toCharacters v));
+          long = bool-has (length t′ ≡ length t) (o .«to_work») (λ z. ap length (tw z)) (λ z. ap length (tx z) ∙ length-over t (o .at) (Val.toCharacters v));
           limit = g .shows .limit;
           slots = g .shows .slots;
         };

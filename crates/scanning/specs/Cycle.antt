@@ -1,8 +1,8 @@
 -- THE CONTRACTS OF SCANNING. An outcome so far of k bytes lies in the text room from `at` on, or in the work room above u.
-use Prim.Native.Nat.{ℕ, zero, suc, _+_, _-_, _<_, _≤_}
+use Prim.Native.Nat.{ℕ, _+_, _-_, _<_, _≤_}
 use mathlib.Core.Bool.{Bool, true, false, cond}
 use mathlib.Core.Path.{_≡_}
-use mathlib.Core.List.{List, [], _∷_, _++_}
+use mathlib.Core.List.{List}
 use lib.ListN.{length, take}
 use Rattle.definition.specs.Choice.{when}
 use Rattle.definition.specs.Limits.{textBytes, unfinishedBytes}
@@ -13,7 +13,6 @@ use Rattle.definition.specs.Values as Val
 use Rattle.definition.specs.World as W
 use Rattle.definition.specs.World.{World, Res, good, bad, bind}
 use Rattle.definition.specs.Evaluate as Ev
-use Rattle.definition.specs.Evaluate.{Call}
 use Rattle.definition.specs.Scan as D
 use Rattle.definition.specs.Scan.{Into, Replacer, Scanner, Argument, listUpTo}
 use Rattle.definition.specs.declared.Why.{Why}
