@@ -1,4 +1,6 @@
 // Values and arguments scanned: their tokens are copied or replaced.
+ghost use mathlib.Core.Path.{_≡_};
+ghost use Rattle.scanning.specs.Cycle.{typeFor, nextFor, ConvertedIs, givenFor, meterFor, RescanIs, TakenIs, CallWith, EntryIs, ReplaceIs, TokenIs, Scans};
 use callees::Called;
 use callees::Callee;
 use callees::Held;
@@ -60,7 +62,9 @@ enum Outcome {
     Bad(Why, Meter),
 }
 
-fn type_of(x: ParameterAt) -> ValueType {
+fn type_of(x: ParameterAt) -> ValueType
+    ensures { λ r. ⌜ r ≡ typeFor x ⌝ }
+{
     match x {
         ParameterAt::Is(p) => {
             let t = p.value_type;
@@ -70,7 +74,9 @@ fn type_of(x: ParameterAt) -> ValueType {
     }
 }
 
-fn next_of(x: ParameterAt, at: usize) -> usize {
+fn next_of(x: ParameterAt, at: usize) -> usize
+    ensures { λ r. ⌜ r ≡ nextFor x at ⌝ }
+{
     match x {
         ParameterAt::Is(p) => p.to,
         ParameterAt::Wrong => at,
@@ -78,7 +84,9 @@ fn next_of(x: ParameterAt, at: usize) -> usize {
 }
 
 // The outcome of an argument made of its parameter's type.
-fn converted(work: &mut [u8], u: usize, t: ValueType, x: Scanned) -> Evaluated {
+fn converted(work: &mut [u8], u: usize, t: ValueType, x: Scanned) -> Evaluated
+    ensures { λ r. ⌜ ConvertedIs (now (work .entry)) u t x (now (work .exit)) r ⌝ }
+{
     match x {
         Scanned::Good(n, m) => {
             let g = convert(work, u, t, Value::Characters(n));
@@ -91,14 +99,18 @@ fn converted(work: &mut [u8], u: usize, t: ValueType, x: Scanned) -> Evaluated {
     }
 }
 
-fn value_given(x: Evaluated) -> Given {
+fn value_given(x: Evaluated) -> Given
+    ensures { λ r. ⌜ r ≡ givenFor x ⌝ }
+{
     match x {
         Evaluated::Is(v, _, _) => Given::Gives(v),
         Evaluated::Failed(w, _) => Given::Fails(w),
     }
 }
 
-fn meter_of(x: Evaluated) -> Meter {
+fn meter_of(x: Evaluated) -> Meter
+    ensures { λ r. ⌜ r ≡ meterFor x ⌝ }
+{
     match x {
         Evaluated::Is(_, _, m) => m,
         Evaluated::Failed(_, m) => m,
@@ -124,7 +136,9 @@ fn rescan(
     n: usize,
     c: Scene,
     m: Meter,
-) -> Scanned {
+) -> Scanned
+    ensures { λ r. ⌜ RescanIs (now (deck .entry)) (now (s .entry)) (now (rows .entry)) (now (names .entry)) (now (cells .entry)) (now (low .entry)) (now (high .entry)) (now (work .entry)) (now (text .entry)) g d u n c m (now (cells .exit)) (now (low .exit)) (now (high .exit)) (now (work .exit)) (now (text .exit)) r ⌝ }
+{
     let x = as_text(work, u, g, m);
     match x {
         Scanned::Good(size, k) => {
@@ -175,7 +189,9 @@ fn scan_arguments(
     n: usize,
     c: Scene,
     m0: Meter,
-) -> Taken {
+) -> Taken
+    ensures { λ r. ⌜ TakenIs (now (deck .entry)) (now (s .entry)) (now (rows .entry)) (now (names .entry)) (now (cells .entry)) (now (low .entry)) (now (high .entry)) (now (work .entry)) (now (text .entry)) x first y u n c m0 (now (cells .exit)) (now (low .exit)) (now (high .exit)) (now (work .exit)) (now (text .exit)) (r .held) (r .outcome) ⌝ }
+{
     let p = y.place;
     let mut held = nothing_held();
     let mut from = first;
@@ -248,7 +264,9 @@ fn call_with(
     n: usize,
     c: Scene,
     m: Meter,
-) -> Scanned {
+) -> Scanned
+    ensures { λ r. ⌜ CallWith (now (deck .entry)) (now (s .entry)) (now (rows .entry)) (now (names .entry)) (now (cells .entry)) (now (low .entry)) (now (high .entry)) (now (work .entry)) (now (text .entry)) y held act d u n c m (now (cells .exit)) (now (low .exit)) (now (high .exit)) (now (work .exit)) (now (text .exit)) r ⌝ }
+{
     let v = call(deck, rows, names, cells, low, high, work, y, held, u, c, m);
     let g = value_given(v);
     let k = meter_of(v);
@@ -294,7 +312,9 @@ fn replace_entry(
     n: usize,
     c: Scene,
     m: Meter,
-) -> Replaced {
+) -> Replaced
+    ensures { λ r. ⌜ EntryIs (now (deck .entry)) (now (s .entry)) (now (rows .entry)) (now (names .entry)) (now (cells .entry)) (now (low .entry)) (now (high .entry)) (now (work .entry)) (now (text .entry)) x p y act d u n c m (now (cells .exit)) (now (low .exit)) (now (high .exit)) (now (work .exit)) (now (text .exit)) r ⌝ }
+{
     if y.count < 1 {
         let z = call_with(
             deck,
@@ -393,7 +413,9 @@ pub fn replace(
     left: usize,
     c: Scene,
     m: Meter,
-) -> Replaced {
+) -> Replaced
+    ensures { λ r. ⌜ ReplaceIs (now (deck .entry)) (now (s .entry)) (now (rows .entry)) (now (names .entry)) (now (cells .entry)) (now (low .entry)) (now (high .entry)) (now (work .entry)) (now (text .entry)) x p (a .0) act d u left c m (now (cells .exit)) (now (low .exit)) (now (high .exit)) (now (work .exit)) (now (text .exit)) r ⌝ }
+{
     if left < 1 {
         return Replaced::Bad(Why::TooDeep, m);
     }
@@ -480,7 +502,9 @@ fn token(
     n: usize,
     c: Scene,
     m: Meter,
-) -> Replaced {
+) -> Replaced
+    ensures { λ r. ⌜ TokenIs (now (deck .entry)) (now (s .entry)) (now (rows .entry)) (now (names .entry)) (now (cells .entry)) (now (low .entry)) (now (high .entry)) (now (work .entry)) (now (text .entry)) x p k d u n c m (now (cells .exit)) (now (low .exit)) (now (high .exit)) (now (work .exit)) (now (text .exit)) r ⌝ }
+{
     let y = piece_of(s, work, x, p);
     let active = active_in(deck, s, work, names, c.names, x, p, y);
     match active {
@@ -527,7 +551,9 @@ fn scan(
     n: usize,
     c: Scene,
     m0: Meter,
-) -> Scanned {
+) -> Scanned
+    ensures { λ r. ⌜ Scans (now (deck .entry)) (now (s .entry)) (now (rows .entry)) (now (names .entry)) (now (cells .entry)) (now (low .entry)) (now (high .entry)) (now (work .entry)) (now (text .entry)) x d u n c m0 (now (cells .exit)) (now (low .exit)) (now (high .exit)) (now (work .exit)) (now (text .exit)) r ⌝ }
+{
     let size = span(x.from, x.to);
     let mut k: usize = 0;
     let mut p: usize = 0;

@@ -30,7 +30,6 @@ use Rattle.callees.proofs.parameter_at.Reads as parameter-at-reads
 use Rattle.callees.proofs.variable_value.Reads as variable-value-reads
 use Rattle.callees.proofs.with_held.Reads as with-held-reads
 use Rattle.deck.proofs.body.Reads as body-reads
-use Rattle.evaluating.proofs.call.Reads as call-reads
 use Rattle.meter.proofs.Meter.charged.Reads as charged-reads
 use Rattle.names.proofs.name_at.Reads as name-at-reads
 use Rattle.operators.proofs.above.Reads as above-reads
@@ -53,6 +52,7 @@ use Rattle.outcomes.proofs.settled.Reads as settled-reads
 use Rattle.outcomes.proofs.span.Reads as span-reads
 use Rattle.outcomes.proofs.up_to.Reads as up-to-reads
 use Rattle.outcomes.proofs.waiting.Reads as waiting-reads
+use Rattle.evaluating.proofs.call.Reads as call-reads
 use Rattle.scanning.proofs.converted.Reads as converted-reads
 use Rattle.scanning.proofs.meter_of.Reads as meter-of-reads
 use Rattle.scanning.proofs.next_of.Reads as next-of-reads
@@ -64,10 +64,16 @@ use Rattle.scanning.proofs.+call_with+replace+replace_entry+rescan+scan
 use Rattle.scanning.proofs.+call_with+replace+replace_entry+rescan+scan+scan_arguments+token.Tie.{
   close,
 }
-use Prim.Native.Nat.{_+_, _*_, _≤_, _-_}
-use mathlib.Core.Path.{_≡_, _∙_}
-use lib.ListN.{length}
+use Prim.Native.Nat.{_+_, _*_}
+use mathlib.Core.Path.{_∙_}
 use native.Mathlib.Omega.{arith}
+use borrow.Author.Tests.{not-true, not-false}
+use Rattle.scanning.proofs.Looping.{Scanning, scanning-start, scanning-end, scanning-out, scanning-none, scanning-bad, scanning-more}
+use Rattle.scanning.proofs.Tokens.{token-copied, token-replaced}
+use Rattle.scanning.proofs.Values.{rescan-bad, rescan-scanned, call-rescanned, call-copied}
+use Rattle.scanning.proofs.Replacing.{replace-deep, replace-rescanned, replace-copied, replace-label, replace-builtin, replace-fails, replace-some}
+use Rattle.scanning.proofs.Entries.{entry-plain, entry-none, entry-many, entry-refused, entry-called}
+use Rattle.scanning.proofs.Arguing.{Arguing, arguing-start, arguing-done, arguing-failed, arguing-more}
 
 abbrev μ-call-with : Measures 9 call-with-kinds.ps ℕ
 μ-call-with κs a = 8 * a .1 .1 .1 .1 .1 .1 .1 .1 .1 .1 .1 .1 .1 .1 .0 + 5
@@ -243,7 +249,7 @@ call-with-same-length : (t : ℕ) → call-with-lts.Need-same-length (
   copied-result-reads.Asked,
   copied-result-reads.Learnt,
 ) (call-with-at t) call-with.Post
-call-with-same-length t c = search needs
+call-with-same-length t c = (c .before .before .before .before .before .before .before .before .before .before .rescan .kept .1 .1 .1 .1 .0) ∙ (c .before .before .before .before .before .before .before .before .before .before .before .before .before .before .before .before .before .before .before .before .before .before .before .before .before .before .before .before .call .kept .1 .1 .1 .0)
 
 call-with-same-length-2 : (t : ℕ) → call-with-lts.Need-same-length-2 (
   call-reads.Asked,
@@ -259,7 +265,7 @@ call-with-same-length-2 : (t : ℕ) → call-with-lts.Need-same-length-2 (
   copied-result-reads.Asked,
   copied-result-reads.Learnt,
 ) (call-with-at t) call-with.Post
-call-with-same-length-2 t c = search needs
+call-with-same-length-2 t c = (c .before .before .before .before .before .before .before .before .before .before .rescan .kept .1 .1 .1 .1 .1 .0) ∙ (c .before .before .before .before .before .before .before .before .before .before .before .before .before .before .before .before .before .before .before .before .before .before .before .before .before .before .before .before .call .kept .1 .1 .1 .1 .0)
 
 call-with-same-length-3 : (t : ℕ) → call-with-lts.Need-same-length-3 (
   call-reads.Asked,
@@ -275,7 +281,7 @@ call-with-same-length-3 : (t : ℕ) → call-with-lts.Need-same-length-3 (
   copied-result-reads.Asked,
   copied-result-reads.Learnt,
 ) (call-with-at t) call-with.Post
-call-with-same-length-3 t c = search needs
+call-with-same-length-3 t c = (c .before .before .before .before .before .before .before .before .before .before .rescan .kept .1 .1 .1 .1 .1 .1 .0) ∙ (c .before .before .before .before .before .before .before .before .before .before .before .before .before .before .before .before .before .before .before .before .before .before .before .before .before .before .before .before .call .kept .1 .1 .1 .1 .1 .0)
 
 call-with-same-length-4 : (t : ℕ) → call-with-lts.Need-same-length-4 (
   call-reads.Asked,
@@ -291,7 +297,7 @@ call-with-same-length-4 : (t : ℕ) → call-with-lts.Need-same-length-4 (
   copied-result-reads.Asked,
   copied-result-reads.Learnt,
 ) (call-with-at t) call-with.Post
-call-with-same-length-4 t c = search needs
+call-with-same-length-4 t c = (c .before .before .before .before .before .before .before .before .before .before .rescan .kept .1 .1 .1 .1 .1 .1 .1 .0) ∙ (c .before .before .before .before .before .before .before .before .before .before .before .before .before .before .before .before .before .before .before .before .before .before .before .before .before .before .before .before .call .kept .1 .1 .1 .1 .1 .1 .0)
 
 call-with-same-length-5 : (t : ℕ) → call-with-lts.Need-same-length-5 (
   call-reads.Asked,
@@ -307,7 +313,7 @@ call-with-same-length-5 : (t : ℕ) → call-with-lts.Need-same-length-5 (
   copied-result-reads.Asked,
   copied-result-reads.Learnt,
 ) (call-with-at t) call-with.Post
-call-with-same-length-5 t c = search needs
+call-with-same-length-5 t c = (c .before .before .before .before .before .before .before .before .before .before .rescan .kept .1 .1 .1 .1 .1 .1 .1 .1 .0)
 
 call-with-returns : (t : ℕ) → call-with-lts.Need-returns (
   call-reads.Asked,
@@ -323,7 +329,7 @@ call-with-returns : (t : ℕ) → call-with-lts.Need-returns (
   copied-result-reads.Asked,
   copied-result-reads.Learnt,
 ) (call-with-at t) call-with.Post
-call-with-returns t c = search needs
+call-with-returns t c = call-rescanned _ _ _ _ _ _ _ _ _ _ _ _ _ _ _ _ _ _ _ _ _ _ (c .before .before .before .before .before .before .before .before .before .before .before .before .before .before .before .before .before .before .before .before .before .before .before .before .before .before .before .before .call .ensures) (c .before .before .before .before .before .before .before .before .before .before .before .before .before .before .before .before .before .before .before .before .before .before .before .before .before .before .before .before .call .kept .1 .1 .1 .1 .1 .1 .0) _ _ (c .before .before .before .before .before .before .before .before .before .before .before .before .before .before .before .before .before .before .before .value-given .ensures) (c .before .before .before .before .before .before .before .before .before .before .before .before .before .before .before .before .before .before .meter-of .ensures) _ (c .before .before .before .before .before .before .before .before .before .before .before .before .before .before .before .before .before .is-rescanned .ensures) _ _ _ _ _ _ (c .before .before .before .before .before .before .before .before .before .before .before .before .before .before .before .before .if1 .taken) (c .before .before .before .before .before .before .before .before .before .before .rescan .ensures)
 
 call-with-copied-result-requires : (t : ℕ) → call-with-lts.Need-copied-result-requires (
   call-reads.Asked,
@@ -435,7 +441,7 @@ call-with-returns-2 : (t : ℕ) → call-with-lts.Need-returns-2 (
   copied-result-reads.Asked,
   copied-result-reads.Learnt,
 ) (call-with-at t) call-with.Post
-call-with-returns-2 t c = search needs
+call-with-returns-2 t c = call-copied _ _ _ _ _ _ _ _ _ _ _ _ _ _ _ _ _ _ _ _ _ _ (c .before .before .before .before .before .before .before .before .before .before .before .before .before .before .before .before .before .before .before .call .ensures) (c .before .before .before .before .before .before .before .before .before .before .before .before .before .before .before .before .before .before .before .call .kept .1 .1 .1 .1 .1 .1 .0) _ _ (c .before .before .before .before .before .before .before .before .before .before .value-given .ensures) (c .before .before .before .before .before .before .before .before .before .meter-of .ensures) _ (c .before .before .before .before .before .before .before .before .is-rescanned .ensures) _ _ _ (c .before .before .before .before .before .before .before .if1 .left) (c .before .before .before .before .copied-result .ensures)
 
 replace-returns : (t : ℕ) → replace-lts.Need-returns (
   name-at-reads.Asked,
@@ -455,7 +461,7 @@ replace-returns : (t : ℕ) → replace-lts.Need-returns (
   replace-entry-below t,
   replace-entry.Post,
 ) (replace-at t) replace.Post
-replace-returns t c = search needs
+replace-returns t c = replace-deep _ _ _ _ _ _ _ _ _ _ _ _ _ _ _ _ _ _ (c .if1 .taken)
 
 replace-name-at-requires : (t : ℕ) → replace-lts.Need-name-at-requires (
   name-at-reads.Asked,
@@ -695,7 +701,7 @@ replace-returns-2 : (t : ℕ) → replace-lts.Need-returns-2 (
   replace-entry-below t,
   replace-entry.Post,
 ) (replace-at t) replace.Post
-replace-returns-2 t c = search needs
+replace-returns-2 t c = replace-rescanned _ _ _ _ _ _ _ _ _ _ _ _ _ _ _ _ _ _ (c .before .before .before .before .before .before .before .before .before .before .before .before .before .before .before .before .before .before .before .before .before .before .before .before .before .before .before .before .before .before .if1 .left) _ (c .before .before .before .before .before .before .before .before .before .before .before .before .before .before .before .before .before .before .before .before .before .before .before .before .before .before .before .before .before .name-at .ensures) _ (c .before .before .before .before .before .before .before .before .before .before .before .before .before .before .before .before .before .before .before .before .before .before .before .before .before .before .before .k .given .1) _ (c .before .before .before .before .before .before .before .before .before .before .before .before .before .before .before .before .before .before .before .before .before .before .before .before .before .is-rescanned .ensures) _ _ _ _ _ _ _ _ _ (c .before .before .before .before .before .before .before .before .before .before .before .before .before .before .before .before .before .before .before .before .before .before .before .before .if2 .taken) (c .before .before .before .before .before .before .before .before .before .before .before .before .before .before .before .before .before .before .before .variable-value .ensures) (c .before .before .before .before .before .before .before .before .before .before .before .rescan .ensures) (c .before .before .before .before .before .before .before .before .before .before .before .before .before .before .before .before .before .before .before .variable-value .kept .1 .1 .1 .0) (c .up-to .ensures)
 
 replace-copied-variable-requires : (t : ℕ) → replace-lts.Need-copied-variable-requires (
   name-at-reads.Asked,
@@ -995,7 +1001,7 @@ replace-returns-3 : (t : ℕ) → replace-lts.Need-returns-3 (
   replace-entry-below t,
   replace-entry.Post,
 ) (replace-at t) replace.Post
-replace-returns-3 t c = search needs
+replace-returns-3 t c = replace-copied _ _ _ _ _ _ _ _ _ _ _ _ _ _ _ _ _ _ (c .before .before .before .before .before .before .before .before .before .before .before .before .before .before .before .before .before .if1 .left) _ (c .before .before .before .before .before .before .before .before .before .before .before .before .before .before .before .before .name-at .ensures) _ (c .before .before .before .before .before .before .before .before .before .before .before .before .before .before .k .given .1) _ (c .before .before .before .before .before .before .before .before .before .before .before .before .is-rescanned .ensures) _ _ _ _ (c .before .before .before .before .before .before .before .before .before .before .before .if2 .left) (c .before .before .before .before .before .copied-variable .ensures) (c .up-to2 .ensures)
 
 replace-same-length-11 : (t : ℕ) → replace-lts.Need-same-length-11 (
   name-at-reads.Asked,
@@ -1115,7 +1121,7 @@ replace-returns-4 : (t : ℕ) → replace-lts.Need-returns-4 (
   replace-entry-below t,
   replace-entry.Post,
 ) (replace-at t) replace.Post
-replace-returns-4 t c = search needs
+replace-returns-4 t c = replace-some _ _ _ _ _ _ _ _ _ _ _ _ _ _ _ _ _ _ (c .before .before .before .before .before .before .before .before .before .before .before .before .before .before .before .before .before .before .before .before .before .before .before .before .before .if1 .left) _ (c .before .before .before .before .before .before .before .before .before .before .before .before .before .before .before .before .before .before .before .before .before .before .before .before .name-at .ensures) _ (c .before .before .before .before .before .before .before .before .before .before .before .before .before .before .before .before .before .before .before .before .before .before .k2 .given .1) _ (c .before .before .before .before .before .before .before .before .before .before .before .before .before .before .before .before .before .before .before .callee-of .ensures) _ _ _ _ _ _ _ (c .before .before .before .before .before .before .before .before .before .before .before .before .before .before .before .before .before .y .given .1) (c .before .before .before .before .before .before .before .before .before .before .replace-entry .ensures)
 
 replace-returns-5 : (t : ℕ) → replace-lts.Need-returns-5 (
   name-at-reads.Asked,
@@ -1135,7 +1141,7 @@ replace-returns-5 : (t : ℕ) → replace-lts.Need-returns-5 (
   replace-entry-below t,
   replace-entry.Post,
 ) (replace-at t) replace.Post
-replace-returns-5 t c = search needs
+replace-returns-5 t c = replace-fails _ _ _ _ _ _ _ _ _ _ _ _ _ _ _ _ _ _ (c .before .before .before .before .before .before .before .before .before .if1 .left) _ (c .before .before .before .before .before .before .before .before .name-at .ensures) _ (c .before .before .before .before .before .before .k2 .given .1) _ (c .before .before .before .callee-of .ensures) _ (c .before .y2 .given .1)
 
 replace-returns-6 : (t : ℕ) → replace-lts.Need-returns-6 (
   name-at-reads.Asked,
@@ -1155,7 +1161,7 @@ replace-returns-6 : (t : ℕ) → replace-lts.Need-returns-6 (
   replace-entry-below t,
   replace-entry.Post,
 ) (replace-at t) replace.Post
-replace-returns-6 t c = search needs
+replace-returns-6 t c = replace-label _ _ _ _ _ _ _ _ _ _ _ _ _ _ _ _ _ _ (c .before .before .before .if1 .left) _ (c .before .before .name-at .ensures) _ (c .enum-told .given .1)
 
 replace-returns-7 : (t : ℕ) → replace-lts.Need-returns-7 (
   name-at-reads.Asked,
@@ -1175,7 +1181,7 @@ replace-returns-7 : (t : ℕ) → replace-lts.Need-returns-7 (
   replace-entry-below t,
   replace-entry.Post,
 ) (replace-at t) replace.Post
-replace-returns-7 t c = search needs
+replace-returns-7 t c = replace-builtin _ _ _ _ _ _ _ _ _ _ _ _ _ _ _ _ _ _ (c .before .before .before .if1 .left) _ (c .before .before .name-at .ensures) (c .enum-told2 .given .1)
 
 replace-entry-nothing-held-requires : (t : ℕ) → replace-entry-lts.Need-nothing-held-requires (
   nothing-held-reads.Asked,
@@ -1301,7 +1307,7 @@ replace-entry-returns : (t : ℕ) → replace-entry-lts.Need-returns (
   scan-arguments-below t,
   scan-arguments.Post,
 ) (replace-entry-at t) replace-entry.Post
-replace-entry-returns t c = search needs
+replace-entry-returns t c = entry-plain _ _ _ _ _ _ _ _ _ _ _ _ _ _ _ _ _ _ _ _ _ _ _ _ _ _ (c .before .before .before .before .before .before .before .before .before .before .before .before .before .before .before .before .before .before .if1 .taken) (c .before .before .before .before .before .before .before .before .before .before .before .call-with .ensures) (c .up-to .ensures)
 
 replace-entry-list-of-requires : (t : ℕ) → replace-entry-lts.Need-list-of-requires (
   nothing-held-reads.Asked,
@@ -1357,7 +1363,7 @@ replace-entry-returns-2 : (t : ℕ) → replace-entry-lts.Need-returns-2 (
   scan-arguments-below t,
   scan-arguments.Post,
 ) (replace-entry-at t) replace-entry.Post
-replace-entry-returns-2 t c = search needs
+replace-entry-returns-2 t c = entry-many _ _ _ _ _ _ _ _ _ _ _ _ _ _ _ _ _ _ (c .before .before .before .before .before .before .before .if1 .left) _ (c .before .before .before .before .before .list-of .ensures) _ _ _ (c .before .before .before .l .given .1) (c .if2 .taken)
 
 replace-entry-scan-arguments-requires : (t : ℕ) → replace-entry-lts.Need-scan-arguments-requires (
   nothing-held-reads.Asked,
@@ -1525,7 +1531,7 @@ replace-entry-returns-3 : (t : ℕ) → replace-entry-lts.Need-returns-3 (
   scan-arguments-below t,
   scan-arguments.Post,
 ) (replace-entry-at t) replace-entry.Post
-replace-entry-returns-3 t c = search needs
+replace-entry-returns-3 t c = entry-called _ _ _ _ _ _ _ _ _ _ _ _ _ _ _ _ _ _ (c .before .before .before .before .before .before .before .before .before .before .before .before .before .before .before .before .before .before .before .before .before .before .before .before .before .before .before .before .before .before .before .before .before .before .before .before .before .before .before .before .before .before .before .before .if1 .left) _ (c .before .before .before .before .before .before .before .before .before .before .before .before .before .before .before .before .before .before .before .before .before .before .before .before .before .before .before .before .before .before .before .before .before .before .before .before .before .before .before .before .before .before .list-of .ensures) _ _ _ (c .before .before .before .before .before .before .before .before .before .before .before .before .before .before .before .before .before .before .before .before .before .before .before .before .before .before .before .before .before .before .before .before .before .before .before .before .before .before .before .before .l .given .1) (c .before .before .before .before .before .before .before .before .before .before .before .before .before .before .before .before .before .before .before .before .before .before .before .before .before .before .before .before .before .before .before .before .before .before .before .before .before .if2 .left) _ _ _ _ _ _ _ (c .before .before .before .before .before .before .before .before .before .before .before .before .before .before .before .before .before .before .before .before .before .before .before .before .before .before .before .before .before .before .before .scan-arguments .ensures) _ _ _ _ _ _ _ _ (c .before .before .before .before .before .before .before .before .before .before .before .before .before .before .before .before .before .before .o .given .1) (c .before .before .before .before .before .before .before .before .before .before .before .call-with2 .ensures) (c .up-to2 .ensures)
 
 replace-entry-same-length-12 : (t : ℕ) → replace-entry-lts.Need-same-length-12 (
   nothing-held-reads.Asked,
@@ -1609,7 +1615,7 @@ replace-entry-returns-4 : (t : ℕ) → replace-entry-lts.Need-returns-4 (
   scan-arguments-below t,
   scan-arguments.Post,
 ) (replace-entry-at t) replace-entry.Post
-replace-entry-returns-4 t c = search needs
+replace-entry-returns-4 t c = entry-refused _ _ _ _ _ _ _ _ _ _ _ _ _ _ _ _ _ _ (c .before .before .before .before .before .before .before .before .before .before .before .before .before .before .before .before .before .before .before .before .before .before .before .before .before .before .before .if1 .left) _ (c .before .before .before .before .before .before .before .before .before .before .before .before .before .before .before .before .before .before .before .before .before .before .before .before .before .list-of .ensures) _ _ _ (c .before .before .before .before .before .before .before .before .before .before .before .before .before .before .before .before .before .before .before .before .before .before .before .l .given .1) (c .before .before .before .before .before .before .before .before .before .before .before .before .before .before .before .before .before .before .before .before .if2 .left) _ _ _ _ _ _ _ (c .before .before .before .before .before .before .before .before .before .before .before .before .before .before .scan-arguments .ensures) _ _ (c .before .o2 .given .1)
 
 replace-entry-same-length-17 : (t : ℕ) → replace-entry-lts.Need-same-length-17 (
   nothing-held-reads.Asked,
@@ -1637,7 +1643,7 @@ replace-entry-returns-5 : (t : ℕ) → replace-entry-lts.Need-returns-5 (
   scan-arguments-below t,
   scan-arguments.Post,
 ) (replace-entry-at t) replace-entry.Post
-replace-entry-returns-5 t c = search needs
+replace-entry-returns-5 t c = entry-none _ _ _ _ _ _ _ _ _ _ _ _ _ _ _ _ _ _ (c .before .before .before .before .if1 .left) _ (c .before .before .list-of .ensures) (c .enum-told .given .1)
 
 rescan-as-text-requires : (t : ℕ) → rescan-lts.Need-as-text-requires (
   as-text-reads.Asked,
@@ -1781,7 +1787,7 @@ rescan-returns : (t : ℕ) → rescan-lts.Need-returns (
   settled-reads.Asked,
   settled-reads.Learnt,
 ) (rescan-at t) rescan.Post
-rescan-returns t c = search needs
+rescan-returns t c = rescan-scanned _ _ _ _ _ _ _ _ _ _ _ _ _ _ _ _ _ (c .before .before .before .before .before .before .before .before .before .before .before .before .before .before .before .before .before .before .before .before .before .before .before .before .before .before .as-text .ensures) (c .before .before .before .before .before .before .before .before .before .before .before .before .before .before .before .before .before .before .before .before .before .before .before .before .before .before .as-text .kept .0) _ _ (c .before .before .before .before .before .before .before .before .before .before .before .before .before .before .before .before .before .before .before .before .before .before .x .given .1) _ _ _ _ _ _ _ _ (c .before .before .settled .ensures) _ (c .before .before .before .before .before .before .before .before .before .before .before .before .before .before .before .before .before .before .before .before .above .ensures) (c .before .before .before .before .before .before .before .before .before .before .before .before .before .before .scan .ensures)
 
 rescan-same-length-6 : (t : ℕ) → rescan-lts.Need-same-length-6 (
   as-text-reads.Asked,
@@ -1805,10 +1811,10 @@ rescan-returns-2 : (t : ℕ) → rescan-lts.Need-returns-2 (
   settled-reads.Asked,
   settled-reads.Learnt,
 ) (rescan-at t) rescan.Post
-rescan-returns-2 t c = search needs
+rescan-returns-2 t c = rescan-bad _ _ _ _ _ _ _ _ _ _ _ _ _ _ _ _ _ (c .before .before .before .before .before .as-text .ensures) (c .before .before .before .before .before .as-text .kept .0) _ _ (c .before .x2 .given .1)
 
 abbrev scan-Inv-loop : scan-lts.InvT-loop
-scan-Inv-loop deck s rows names cells₀ low₀ high₀ work₀ text₀ x d u n c size k₀ p₀ m₀ turns₀ cells low high work text k p m turns = (turns ≤ turns₀) × (length cells ≡ length cells₀) × (length low ≡ length low₀) × (length high ≡ length high₀) × (length work ≡ length work₀) × (length text ≡ length text₀)
+scan-Inv-loop deck s rows names cells₀ low₀ high₀ work₀ text₀ x d u n c size k₀ p₀ m₀ turns₀ cells low high work text k p m turns = Scanning deck s rows names cells₀ low₀ high₀ work₀ text₀ x d u n c m₀ turns k p m cells low high work text
 
 abbrev scan-μ-loop : scan-lts.MeasureT-loop
 scan-μ-loop deck s rows names cells₀ low₀ high₀ work₀ text₀ x d u n c size k₀ p₀ m₀ turns₀ cells low high work text k p m turns = turns
@@ -1847,7 +1853,7 @@ scan-loop-holds : (t : ℕ) → scan-lts.Need-loop-holds (
   token-below t,
   token.Post,
 ) (scan-at t) scan.Post scan-Inv-loop scan-μ-loop
-scan-loop-holds t c = search needs
+scan-loop-holds t c = scanning-start _ _ _ _ _ _ _ _ _ _ _ _ _ _ _ _ _ (c .before .span .ensures) (c .plus .ensures)
 
 scan-sub-turns : (t : ℕ) → scan-lts.Need-sub-turns (
   span-reads.Asked,
@@ -1871,7 +1877,7 @@ scan-same-length : (t : ℕ) → scan-lts.Need-same-length (
   token-below t,
   token.Post,
 ) (scan-at t) scan.Post scan-Inv-loop scan-μ-loop
-scan-same-length t c = search needs
+scan-same-length t c = (c .before .before .loop .inv .cells)
 
 scan-same-length-2 : (t : ℕ) → scan-lts.Need-same-length-2 (
   span-reads.Asked,
@@ -1883,7 +1889,7 @@ scan-same-length-2 : (t : ℕ) → scan-lts.Need-same-length-2 (
   token-below t,
   token.Post,
 ) (scan-at t) scan.Post scan-Inv-loop scan-μ-loop
-scan-same-length-2 t c = search needs
+scan-same-length-2 t c = (c .before .before .loop .inv .low)
 
 scan-same-length-3 : (t : ℕ) → scan-lts.Need-same-length-3 (
   span-reads.Asked,
@@ -1895,7 +1901,7 @@ scan-same-length-3 : (t : ℕ) → scan-lts.Need-same-length-3 (
   token-below t,
   token.Post,
 ) (scan-at t) scan.Post scan-Inv-loop scan-μ-loop
-scan-same-length-3 t c = search needs
+scan-same-length-3 t c = (c .before .before .loop .inv .high)
 
 scan-same-length-4 : (t : ℕ) → scan-lts.Need-same-length-4 (
   span-reads.Asked,
@@ -1907,7 +1913,7 @@ scan-same-length-4 : (t : ℕ) → scan-lts.Need-same-length-4 (
   token-below t,
   token.Post,
 ) (scan-at t) scan.Post scan-Inv-loop scan-μ-loop
-scan-same-length-4 t c = search needs
+scan-same-length-4 t c = (c .before .before .loop .inv .work)
 
 scan-same-length-5 : (t : ℕ) → scan-lts.Need-same-length-5 (
   span-reads.Asked,
@@ -1919,7 +1925,7 @@ scan-same-length-5 : (t : ℕ) → scan-lts.Need-same-length-5 (
   token-below t,
   token.Post,
 ) (scan-at t) scan.Post scan-Inv-loop scan-μ-loop
-scan-same-length-5 t c = search needs
+scan-same-length-5 t c = (c .before .before .loop .inv .long)
 
 scan-returns : (t : ℕ) → scan-lts.Need-returns (
   span-reads.Asked,
@@ -1931,7 +1937,7 @@ scan-returns : (t : ℕ) → scan-lts.Need-returns (
   token-below t,
   token.Post,
 ) (scan-at t) scan.Post scan-Inv-loop scan-μ-loop
-scan-returns t c = search needs
+scan-returns t c = scanning-end _ _ _ _ _ _ _ _ _ _ _ _ _ _ _ _ _ _ _ _ _ _ _ _ (c .before .before .loop .inv) _ (c .before .before .before .before .span .ensures) (c .if1 .taken)
 
 scan-charged-requires : (t : ℕ) → scan-lts.Need-charged-requires (
   span-reads.Asked,
@@ -1955,7 +1961,7 @@ scan-same-length-6 : (t : ℕ) → scan-lts.Need-same-length-6 (
   token-below t,
   token.Post,
 ) (scan-at t) scan.Post scan-Inv-loop scan-μ-loop
-scan-same-length-6 t c = search needs
+scan-same-length-6 t c = (c .before .before .before .before .before .before .loop .inv .cells)
 
 scan-same-length-7 : (t : ℕ) → scan-lts.Need-same-length-7 (
   span-reads.Asked,
@@ -1967,7 +1973,7 @@ scan-same-length-7 : (t : ℕ) → scan-lts.Need-same-length-7 (
   token-below t,
   token.Post,
 ) (scan-at t) scan.Post scan-Inv-loop scan-μ-loop
-scan-same-length-7 t c = search needs
+scan-same-length-7 t c = (c .before .before .before .before .before .before .loop .inv .low)
 
 scan-same-length-8 : (t : ℕ) → scan-lts.Need-same-length-8 (
   span-reads.Asked,
@@ -1979,7 +1985,7 @@ scan-same-length-8 : (t : ℕ) → scan-lts.Need-same-length-8 (
   token-below t,
   token.Post,
 ) (scan-at t) scan.Post scan-Inv-loop scan-μ-loop
-scan-same-length-8 t c = search needs
+scan-same-length-8 t c = (c .before .before .before .before .before .before .loop .inv .high)
 
 scan-same-length-9 : (t : ℕ) → scan-lts.Need-same-length-9 (
   span-reads.Asked,
@@ -1991,7 +1997,7 @@ scan-same-length-9 : (t : ℕ) → scan-lts.Need-same-length-9 (
   token-below t,
   token.Post,
 ) (scan-at t) scan.Post scan-Inv-loop scan-μ-loop
-scan-same-length-9 t c = search needs
+scan-same-length-9 t c = (c .before .before .before .before .before .before .loop .inv .work)
 
 scan-same-length-10 : (t : ℕ) → scan-lts.Need-same-length-10 (
   span-reads.Asked,
@@ -2003,7 +2009,7 @@ scan-same-length-10 : (t : ℕ) → scan-lts.Need-same-length-10 (
   token-below t,
   token.Post,
 ) (scan-at t) scan.Post scan-Inv-loop scan-μ-loop
-scan-same-length-10 t c = search needs
+scan-same-length-10 t c = (c .before .before .before .before .before .before .loop .inv .long)
 
 scan-returns-2 : (t : ℕ) → scan-lts.Need-returns-2 (
   span-reads.Asked,
@@ -2015,7 +2021,7 @@ scan-returns-2 : (t : ℕ) → scan-lts.Need-returns-2 (
   token-below t,
   token.Post,
 ) (scan-at t) scan.Post scan-Inv-loop scan-μ-loop
-scan-returns-2 t c = search needs
+scan-returns-2 t c = scanning-none _ _ _ _ _ _ _ _ _ _ _ _ _ _ _ _ _ _ _ _ _ _ _ _ (c .before .before .before .before .before .before .loop .inv) _ (c .before .before .before .before .before .before .before .before .span .ensures) (c .before .before .before .before .if1 .left) (c .before .before .before .before .before .loop-test .taken) _ (c .before .before .before .charged .ensures) (not-true _ (c .if2 .taken))
 
 scan-token-requires : (t : ℕ) → scan-lts.Need-token-requires (
   span-reads.Asked,
@@ -2075,7 +2081,7 @@ scan-loop-again : (t : ℕ) → scan-lts.Need-loop-again (
   token-below t,
   token.Post,
 ) (scan-at t) scan.Post scan-Inv-loop scan-μ-loop
-scan-loop-again t c = (omega (arith, (c .before .before .before .before .before .before .before .before .before .before .before .before .before .before .before .before .before .before .before .before .before .before .before .before .before .before .loop .inv .0), (c .before .before .before .before .before .before .before .before .before .before .before .before .before .before .before .before .before .before .before .before .before .before .before .before .before .loop-test .taken)), (c .before .before .before .before .before .before .before .before .before .before .before .before .before .before .token .kept .1 .1 .1 .1 .0) ∙ (c .before .before .before .before .before .before .before .before .before .before .before .before .before .before .before .before .before .before .before .before .before .before .before .before .before .before .loop .inv .1), (c .before .before .before .before .before .before .before .before .before .before .before .before .before .before .token .kept .1 .1 .1 .1 .1 .0) ∙ (c .before .before .before .before .before .before .before .before .before .before .before .before .before .before .before .before .before .before .before .before .before .before .before .before .before .before .loop .inv .2), (c .before .before .before .before .before .before .before .before .before .before .before .before .before .before .token .kept .1 .1 .1 .1 .1 .1 .0) ∙ (c .before .before .before .before .before .before .before .before .before .before .before .before .before .before .before .before .before .before .before .before .before .before .before .before .before .before .loop .inv .3), (c .before .before .before .before .before .before .before .before .before .before .before .before .before .before .token .kept .1 .1 .1 .1 .1 .1 .1 .0) ∙ (c .before .before .before .before .before .before .before .before .before .before .before .before .before .before .before .before .before .before .before .before .before .before .before .before .before .before .loop .inv .4), (c .before .before .before .before .before .before .before .before .before .before .before .before .before .before .token .kept .1 .1 .1 .1 .1 .1 .1 .1 .0) ∙ (c .before .before .before .before .before .before .before .before .before .before .before .before .before .before .before .before .before .before .before .before .before .before .before .before .before .before .loop .inv .5))
+scan-loop-again t c = scanning-more _ _ _ _ _ _ _ _ _ _ _ _ _ _ _ _ _ _ _ _ _ _ _ _ (c .before .before .before .before .before .before .before .before .before .before .before .before .before .before .before .before .before .before .before .before .before .before .before .before .before .before .loop .inv) _ (c .before .before .before .before .before .before .before .before .before .before .before .before .before .before .before .before .before .before .before .before .before .before .before .before .before .before .before .before .span .ensures) (c .before .before .before .before .before .before .before .before .before .before .before .before .before .before .before .before .before .before .before .before .before .before .before .before .if1 .left) (c .before .before .before .before .before .before .before .before .before .before .before .before .before .before .before .before .before .before .before .before .before .before .before .before .before .loop-test .taken) _ (c .before .before .before .before .before .before .before .before .before .before .before .before .before .before .before .before .before .before .before .before .before .before .before .charged .ensures) _ _ _ _ _ _ (c .before .before .before .before .before .before .before .before .before .before .before .before .before .before .token .ensures) (not-false _ (c .before .before .before .before .before .before .before .before .before .before .before .before .before .before .before .before .before .before .before .before .if2 .left)) _ _ _ _ (c .before .before .y .given .1) (c .plus2 .ensures) (c .before .before .before .before .before .before .before .before .before .before .before .before .before .before .token .kept .1 .1 .1 .1 .0) (c .before .before .before .before .before .before .before .before .before .before .before .before .before .before .token .kept .1 .1 .1 .1 .1 .0) (c .before .before .before .before .before .before .before .before .before .before .before .before .before .before .token .kept .1 .1 .1 .1 .1 .1 .0) (c .before .before .before .before .before .before .before .before .before .before .before .before .before .before .token .kept .1 .1 .1 .1 .1 .1 .1 .0) (c .before .before .before .before .before .before .before .before .before .before .before .before .before .before .token .kept .1 .1 .1 .1 .1 .1 .1 .1 .0)
 
 scan-enum-known-y-2 : (t : ℕ) → scan-lts.Need-enum-known-y-2 (
   span-reads.Asked,
@@ -2099,7 +2105,7 @@ scan-same-length-11 : (t : ℕ) → scan-lts.Need-same-length-11 (
   token-below t,
   token.Post,
 ) (scan-at t) scan.Post scan-Inv-loop scan-μ-loop
-scan-same-length-11 t c = search needs
+scan-same-length-11 t c = (c .before .before .before .before .before .before .before .before .before .before .before .before .before .token .kept .1 .1 .1 .1 .0) ∙ (c .before .before .before .before .before .before .before .before .before .before .before .before .before .before .before .before .before .before .before .before .before .before .before .before .before .loop .inv .cells)
 
 scan-same-length-12 : (t : ℕ) → scan-lts.Need-same-length-12 (
   span-reads.Asked,
@@ -2111,7 +2117,7 @@ scan-same-length-12 : (t : ℕ) → scan-lts.Need-same-length-12 (
   token-below t,
   token.Post,
 ) (scan-at t) scan.Post scan-Inv-loop scan-μ-loop
-scan-same-length-12 t c = search needs
+scan-same-length-12 t c = (c .before .before .before .before .before .before .before .before .before .before .before .before .before .token .kept .1 .1 .1 .1 .1 .0) ∙ (c .before .before .before .before .before .before .before .before .before .before .before .before .before .before .before .before .before .before .before .before .before .before .before .before .before .loop .inv .low)
 
 scan-same-length-13 : (t : ℕ) → scan-lts.Need-same-length-13 (
   span-reads.Asked,
@@ -2123,7 +2129,7 @@ scan-same-length-13 : (t : ℕ) → scan-lts.Need-same-length-13 (
   token-below t,
   token.Post,
 ) (scan-at t) scan.Post scan-Inv-loop scan-μ-loop
-scan-same-length-13 t c = search needs
+scan-same-length-13 t c = (c .before .before .before .before .before .before .before .before .before .before .before .before .before .token .kept .1 .1 .1 .1 .1 .1 .0) ∙ (c .before .before .before .before .before .before .before .before .before .before .before .before .before .before .before .before .before .before .before .before .before .before .before .before .before .loop .inv .high)
 
 scan-same-length-14 : (t : ℕ) → scan-lts.Need-same-length-14 (
   span-reads.Asked,
@@ -2135,7 +2141,7 @@ scan-same-length-14 : (t : ℕ) → scan-lts.Need-same-length-14 (
   token-below t,
   token.Post,
 ) (scan-at t) scan.Post scan-Inv-loop scan-μ-loop
-scan-same-length-14 t c = search needs
+scan-same-length-14 t c = (c .before .before .before .before .before .before .before .before .before .before .before .before .before .token .kept .1 .1 .1 .1 .1 .1 .1 .0) ∙ (c .before .before .before .before .before .before .before .before .before .before .before .before .before .before .before .before .before .before .before .before .before .before .before .before .before .loop .inv .work)
 
 scan-same-length-15 : (t : ℕ) → scan-lts.Need-same-length-15 (
   span-reads.Asked,
@@ -2147,7 +2153,7 @@ scan-same-length-15 : (t : ℕ) → scan-lts.Need-same-length-15 (
   token-below t,
   token.Post,
 ) (scan-at t) scan.Post scan-Inv-loop scan-μ-loop
-scan-same-length-15 t c = search needs
+scan-same-length-15 t c = (c .before .before .before .before .before .before .before .before .before .before .before .before .before .token .kept .1 .1 .1 .1 .1 .1 .1 .1 .0) ∙ (c .before .before .before .before .before .before .before .before .before .before .before .before .before .before .before .before .before .before .before .before .before .before .before .before .before .loop .inv .long)
 
 scan-returns-3 : (t : ℕ) → scan-lts.Need-returns-3 (
   span-reads.Asked,
@@ -2159,7 +2165,7 @@ scan-returns-3 : (t : ℕ) → scan-lts.Need-returns-3 (
   token-below t,
   token.Post,
 ) (scan-at t) scan.Post scan-Inv-loop scan-μ-loop
-scan-returns-3 t c = search needs
+scan-returns-3 t c = scanning-bad _ _ _ _ _ _ _ _ _ _ _ _ _ _ _ _ _ _ _ _ _ _ _ _ (c .before .before .before .before .before .before .before .before .before .before .before .before .before .before .before .before .before .before .before .before .before .before .before .before .before .loop .inv) _ (c .before .before .before .before .before .before .before .before .before .before .before .before .before .before .before .before .before .before .before .before .before .before .before .before .before .before .before .span .ensures) (c .before .before .before .before .before .before .before .before .before .before .before .before .before .before .before .before .before .before .before .before .before .before .before .if1 .left) (c .before .before .before .before .before .before .before .before .before .before .before .before .before .before .before .before .before .before .before .before .before .before .before .before .loop-test .taken) _ (c .before .before .before .before .before .before .before .before .before .before .before .before .before .before .before .before .before .before .before .before .before .before .charged .ensures) _ _ _ _ _ _ (c .before .before .before .before .before .before .before .before .before .before .before .before .before .token .ensures) (not-false _ (c .before .before .before .before .before .before .before .before .before .before .before .before .before .before .before .before .before .before .before .if2 .left)) _ _ (c .before .y2 .given .1)
 
 scan-same-length-16 : (t : ℕ) → scan-lts.Need-same-length-16 (
   span-reads.Asked,
@@ -2171,7 +2177,7 @@ scan-same-length-16 : (t : ℕ) → scan-lts.Need-same-length-16 (
   token-below t,
   token.Post,
 ) (scan-at t) scan.Post scan-Inv-loop scan-μ-loop
-scan-same-length-16 t c = search needs
+scan-same-length-16 t c = (c .before .loop .inv .cells)
 
 scan-same-length-17 : (t : ℕ) → scan-lts.Need-same-length-17 (
   span-reads.Asked,
@@ -2183,7 +2189,7 @@ scan-same-length-17 : (t : ℕ) → scan-lts.Need-same-length-17 (
   token-below t,
   token.Post,
 ) (scan-at t) scan.Post scan-Inv-loop scan-μ-loop
-scan-same-length-17 t c = search needs
+scan-same-length-17 t c = (c .before .loop .inv .low)
 
 scan-same-length-18 : (t : ℕ) → scan-lts.Need-same-length-18 (
   span-reads.Asked,
@@ -2195,7 +2201,7 @@ scan-same-length-18 : (t : ℕ) → scan-lts.Need-same-length-18 (
   token-below t,
   token.Post,
 ) (scan-at t) scan.Post scan-Inv-loop scan-μ-loop
-scan-same-length-18 t c = search needs
+scan-same-length-18 t c = (c .before .loop .inv .high)
 
 scan-same-length-19 : (t : ℕ) → scan-lts.Need-same-length-19 (
   span-reads.Asked,
@@ -2207,7 +2213,7 @@ scan-same-length-19 : (t : ℕ) → scan-lts.Need-same-length-19 (
   token-below t,
   token.Post,
 ) (scan-at t) scan.Post scan-Inv-loop scan-μ-loop
-scan-same-length-19 t c = search needs
+scan-same-length-19 t c = (c .before .loop .inv .work)
 
 scan-same-length-20 : (t : ℕ) → scan-lts.Need-same-length-20 (
   span-reads.Asked,
@@ -2219,7 +2225,7 @@ scan-same-length-20 : (t : ℕ) → scan-lts.Need-same-length-20 (
   token-below t,
   token.Post,
 ) (scan-at t) scan.Post scan-Inv-loop scan-μ-loop
-scan-same-length-20 t c = search needs
+scan-same-length-20 t c = (c .before .loop .inv .long)
 
 scan-returns-4 : (t : ℕ) → scan-lts.Need-returns-4 (
   span-reads.Asked,
@@ -2231,10 +2237,10 @@ scan-returns-4 : (t : ℕ) → scan-lts.Need-returns-4 (
   token-below t,
   token.Post,
 ) (scan-at t) scan.Post scan-Inv-loop scan-μ-loop
-scan-returns-4 t c = search needs
+scan-returns-4 t c = scanning-out _ _ _ _ _ _ _ _ _ _ _ _ _ _ _ _ _ _ _ _ _ _ _ _ (c .before .loop .inv) (c .loop-test .left)
 
 abbrev scan-arguments-Inv-loop : scan-arguments-lts.InvT-loop
-scan-arguments-Inv-loop deck s rows names cells₀ low₀ high₀ work₀ text₀ x first u n c p held₀ from₀ listed₀ top₀ m₀ i₀ turns₀ cells low high work text held from listed top m i turns = (turns ≤ turns₀) × (length cells ≡ length cells₀) × (length low ≡ length low₀) × (length high ≡ length high₀) × (length work ≡ length work₀) × (length text ≡ length text₀)
+scan-arguments-Inv-loop deck s rows names cells₀ low₀ high₀ work₀ text₀ x first u n c p held₀ from₀ listed₀ top₀ m₀ i₀ turns₀ cells low high work text held from listed top m i turns = Arguing deck s rows names cells₀ low₀ high₀ work₀ text₀ x first u n c m₀ p listed₀ turns₀ held from listed top m i turns cells low high work text
 
 abbrev scan-arguments-μ-loop : scan-arguments-lts.MeasureT-loop
 scan-arguments-μ-loop deck s rows names cells₀ low₀ high₀ work₀ text₀ x first u n c p held₀ from₀ listed₀ top₀ m₀ i₀ turns₀ cells low high work text held from listed top m i turns = turns
@@ -2305,7 +2311,7 @@ scan-arguments-loop-holds : (t : ℕ) → scan-arguments-lts.Need-loop-holds (
   plus-reads.Asked,
   plus-reads.Learnt,
 ) (scan-arguments-at t) scan-arguments.Post scan-arguments-Inv-loop scan-arguments-μ-loop
-scan-arguments-loop-holds t c = search needs
+scan-arguments-loop-holds t c = arguing-start _ _ _ _ _ _ _ _ _ _ _ _ _ _ _ _ _ _ _ (c .nothing-held .ensures)
 
 scan-arguments-sub-turns : (t : ℕ) → scan-arguments-lts.Need-sub-turns (
   nothing-held-reads.Asked,
@@ -2883,7 +2889,7 @@ scan-arguments-same-length : (t : ℕ) → scan-arguments-lts.Need-same-length (
   plus-reads.Asked,
   plus-reads.Learnt,
 ) (scan-arguments-at t) scan-arguments.Post scan-arguments-Inv-loop scan-arguments-μ-loop
-scan-arguments-same-length t c = (c .before .before .before .before .before .before .before .before .before .before .before .before .before .before .before .before .before .before .scan .kept .1 .1 .1 .1 .0) ∙ (c .before .before .before .before .before .before .before .before .before .before .before .before .before .before .before .before .before .before .before .before .before .before .before .before .before .before .before .before .before .before .before .before .loop .inv .1)
+scan-arguments-same-length t c = (c .before .before .before .before .before .before .before .before .before .before .before .before .before .before .before .before .before .before .scan .kept .1 .1 .1 .1 .0) ∙ (c .before .before .before .before .before .before .before .before .before .before .before .before .before .before .before .before .before .before .before .before .before .before .before .before .before .before .before .before .before .before .before .before .loop .inv .cells)
 
 scan-arguments-same-length-2 : (t : ℕ) → scan-arguments-lts.Need-same-length-2 (
   nothing-held-reads.Asked,
@@ -2917,7 +2923,7 @@ scan-arguments-same-length-2 : (t : ℕ) → scan-arguments-lts.Need-same-length
   plus-reads.Asked,
   plus-reads.Learnt,
 ) (scan-arguments-at t) scan-arguments.Post scan-arguments-Inv-loop scan-arguments-μ-loop
-scan-arguments-same-length-2 t c = (c .before .before .before .before .before .before .before .before .before .before .before .before .before .before .before .before .before .before .scan .kept .1 .1 .1 .1 .1 .0) ∙ (c .before .before .before .before .before .before .before .before .before .before .before .before .before .before .before .before .before .before .before .before .before .before .before .before .before .before .before .before .before .before .before .before .loop .inv .2)
+scan-arguments-same-length-2 t c = (c .before .before .before .before .before .before .before .before .before .before .before .before .before .before .before .before .before .before .scan .kept .1 .1 .1 .1 .1 .0) ∙ (c .before .before .before .before .before .before .before .before .before .before .before .before .before .before .before .before .before .before .before .before .before .before .before .before .before .before .before .before .before .before .before .before .loop .inv .low)
 
 scan-arguments-same-length-3 : (t : ℕ) → scan-arguments-lts.Need-same-length-3 (
   nothing-held-reads.Asked,
@@ -2951,7 +2957,7 @@ scan-arguments-same-length-3 : (t : ℕ) → scan-arguments-lts.Need-same-length
   plus-reads.Asked,
   plus-reads.Learnt,
 ) (scan-arguments-at t) scan-arguments.Post scan-arguments-Inv-loop scan-arguments-μ-loop
-scan-arguments-same-length-3 t c = (c .before .before .before .before .before .before .before .before .before .before .before .before .before .before .before .before .before .before .scan .kept .1 .1 .1 .1 .1 .1 .0) ∙ (c .before .before .before .before .before .before .before .before .before .before .before .before .before .before .before .before .before .before .before .before .before .before .before .before .before .before .before .before .before .before .before .before .loop .inv .3)
+scan-arguments-same-length-3 t c = (c .before .before .before .before .before .before .before .before .before .before .before .before .before .before .before .before .before .before .scan .kept .1 .1 .1 .1 .1 .1 .0) ∙ (c .before .before .before .before .before .before .before .before .before .before .before .before .before .before .before .before .before .before .before .before .before .before .before .before .before .before .before .before .before .before .before .before .loop .inv .high)
 
 scan-arguments-same-length-4 : (t : ℕ) → scan-arguments-lts.Need-same-length-4 (
   nothing-held-reads.Asked,
@@ -2985,7 +2991,7 @@ scan-arguments-same-length-4 : (t : ℕ) → scan-arguments-lts.Need-same-length
   plus-reads.Asked,
   plus-reads.Learnt,
 ) (scan-arguments-at t) scan-arguments.Post scan-arguments-Inv-loop scan-arguments-μ-loop
-scan-arguments-same-length-4 t c = (c .before .before .before .before .before .converted .kept .0) ∙ (c .before .before .before .before .before .before .before .before .before .before .before .before .before .before .before .before .before .before .scan .kept .1 .1 .1 .1 .1 .1 .1 .0) ∙ (c .before .before .before .before .before .before .before .before .before .before .before .before .before .before .before .before .before .before .before .before .before .before .before .before .before .before .before .before .before .before .before .before .loop .inv .4)
+scan-arguments-same-length-4 t c = (c .before .before .before .before .before .converted .kept .0) ∙ (c .before .before .before .before .before .before .before .before .before .before .before .before .before .before .before .before .before .before .scan .kept .1 .1 .1 .1 .1 .1 .1 .0) ∙ (c .before .before .before .before .before .before .before .before .before .before .before .before .before .before .before .before .before .before .before .before .before .before .before .before .before .before .before .before .before .before .before .before .loop .inv .work)
 
 scan-arguments-same-length-5 : (t : ℕ) → scan-arguments-lts.Need-same-length-5 (
   nothing-held-reads.Asked,
@@ -3019,7 +3025,7 @@ scan-arguments-same-length-5 : (t : ℕ) → scan-arguments-lts.Need-same-length
   plus-reads.Asked,
   plus-reads.Learnt,
 ) (scan-arguments-at t) scan-arguments.Post scan-arguments-Inv-loop scan-arguments-μ-loop
-scan-arguments-same-length-5 t c = (c .before .before .before .before .before .before .before .before .before .before .before .before .before .before .before .before .before .before .scan .kept .1 .1 .1 .1 .1 .1 .1 .1 .0) ∙ (c .before .before .before .before .before .before .before .before .before .before .before .before .before .before .before .before .before .before .before .before .before .before .before .before .before .before .before .before .before .before .before .before .loop .inv .5)
+scan-arguments-same-length-5 t c = (c .before .before .before .before .before .before .before .before .before .before .before .before .before .before .before .before .before .before .scan .kept .1 .1 .1 .1 .1 .1 .1 .1 .0) ∙ (c .before .before .before .before .before .before .before .before .before .before .before .before .before .before .before .before .before .before .before .before .before .before .before .before .before .before .before .before .before .before .before .before .loop .inv .long)
 
 scan-arguments-returns : (t : ℕ) → scan-arguments-lts.Need-returns (
   nothing-held-reads.Asked,
@@ -3053,7 +3059,7 @@ scan-arguments-returns : (t : ℕ) → scan-arguments-lts.Need-returns (
   plus-reads.Asked,
   plus-reads.Learnt,
 ) (scan-arguments-at t) scan-arguments.Post scan-arguments-Inv-loop scan-arguments-μ-loop
-scan-arguments-returns t c = search needs
+scan-arguments-returns t c = arguing-failed _ _ _ _ _ _ _ _ _ _ _ _ _ _ _ _ _ _ _ _ _ _ _ _ _ _ _ _ (c .before .before .before .before .before .before .before .before .before .before .before .before .before .before .before .before .before .before .before .before .before .before .before .before .before .before .before .before .before .before .before .before .loop .inv) (c .before .before .before .before .before .before .before .before .before .before .before .before .before .before .before .before .before .before .before .before .before .before .before .before .before .before .before .before .before .before .before .loop-test .taken) _ (c .before .before .before .before .before .before .before .before .before .before .before .before .before .before .before .before .before .before .before .before .before .before .before .before .before .before .before .before .before .before .body .ensures) _ (c .before .before .before .before .before .before .before .before .before .before .before .before .before .before .before .before .before .before .before .before .before .before .before .before .before .before .before .before .before .parameter-at .ensures) _ (c .before .before .before .before .before .before .before .before .before .before .before .before .before .before .before .before .before .before .before .before .before .before .before .before .before .before .end-of .ensures) _ (c .before .before .before .before .before .before .before .before .before .before .before .before .before .before .before .before .before .before .before .before .part-of .ensures) _ (c .before .before .before .before .before .before .before .before .before .before .before .before .before .before .before .before .before .before .before .into-work .ensures) _ _ _ _ _ _ (c .before .before .before .before .before .before .before .before .before .before .before .before .before .before .before .before .before .before .scan .ensures) _ (c .before .before .before .before .before .before .type-of .ensures) _ _ (c .before .before .before .before .before .converted .ensures) (c .before .before .before .before .before .converted .kept .0) _ _ (c .before .v2 .given .1)
 
 scan-arguments-plus-requires : (t : ℕ) → scan-arguments-lts.Need-plus-requires (
   nothing-held-reads.Asked,
@@ -3155,7 +3161,7 @@ scan-arguments-loop-again : (t : ℕ) → scan-arguments-lts.Need-loop-again (
   plus-reads.Asked,
   plus-reads.Learnt,
 ) (scan-arguments-at t) scan-arguments.Post scan-arguments-Inv-loop scan-arguments-μ-loop
-scan-arguments-loop-again t c = (omega (arith, (c .before .before .before .before .before .before .before .before .before .before .before .before .before .before .before .before .before .before .before .before .before .before .before .before .before .before .before .before .before .before .before .before .before .before .before .before .before .loop .inv .0), (c .before .before .before .before .before .before .before .before .before .before .before .before .before .before .before .before .before .before .before .before .before .before .before .before .before .before .before .before .before .before .before .before .before .before .before .before .loop-test .taken)), (c .before .before .before .before .before .before .before .before .before .before .before .before .before .before .before .before .before .before .before .before .before .before .before .scan .kept .1 .1 .1 .1 .0) ∙ (c .before .before .before .before .before .before .before .before .before .before .before .before .before .before .before .before .before .before .before .before .before .before .before .before .before .before .before .before .before .before .before .before .before .before .before .before .before .loop .inv .1), (c .before .before .before .before .before .before .before .before .before .before .before .before .before .before .before .before .before .before .before .before .before .before .before .scan .kept .1 .1 .1 .1 .1 .0) ∙ (c .before .before .before .before .before .before .before .before .before .before .before .before .before .before .before .before .before .before .before .before .before .before .before .before .before .before .before .before .before .before .before .before .before .before .before .before .before .loop .inv .2), (c .before .before .before .before .before .before .before .before .before .before .before .before .before .before .before .before .before .before .before .before .before .before .before .scan .kept .1 .1 .1 .1 .1 .1 .0) ∙ (c .before .before .before .before .before .before .before .before .before .before .before .before .before .before .before .before .before .before .before .before .before .before .before .before .before .before .before .before .before .before .before .before .before .before .before .before .before .loop .inv .3), (c .before .before .before .before .before .before .before .before .before .before .converted .kept .0) ∙ (c .before .before .before .before .before .before .before .before .before .before .before .before .before .before .before .before .before .before .before .before .before .before .before .scan .kept .1 .1 .1 .1 .1 .1 .1 .0) ∙ (c .before .before .before .before .before .before .before .before .before .before .before .before .before .before .before .before .before .before .before .before .before .before .before .before .before .before .before .before .before .before .before .before .before .before .before .before .before .loop .inv .4), (c .before .before .before .before .before .before .before .before .before .before .before .before .before .before .before .before .before .before .before .before .before .before .before .scan .kept .1 .1 .1 .1 .1 .1 .1 .1 .0) ∙ (c .before .before .before .before .before .before .before .before .before .before .before .before .before .before .before .before .before .before .before .before .before .before .before .before .before .before .before .before .before .before .before .before .before .before .before .before .before .loop .inv .5))
+scan-arguments-loop-again t c = arguing-more _ _ _ _ _ _ _ _ _ _ _ _ _ _ _ _ _ _ _ _ _ _ _ _ _ _ _ _ (c .before .before .before .before .before .before .before .before .before .before .before .before .before .before .before .before .before .before .before .before .before .before .before .before .before .before .before .before .before .before .before .before .before .before .before .before .before .loop .inv) (c .before .before .before .before .before .before .before .before .before .before .before .before .before .before .before .before .before .before .before .before .before .before .before .before .before .before .before .before .before .before .before .before .before .before .before .before .loop-test .taken) _ (c .before .before .before .before .before .before .before .before .before .before .before .before .before .before .before .before .before .before .before .before .before .before .before .before .before .before .before .before .before .before .before .before .before .before .before .body .ensures) _ (c .before .before .before .before .before .before .before .before .before .before .before .before .before .before .before .before .before .before .before .before .before .before .before .before .before .before .before .before .before .before .before .before .before .before .parameter-at .ensures) _ (c .before .before .before .before .before .before .before .before .before .before .before .before .before .before .before .before .before .before .before .before .before .before .before .before .before .before .before .before .before .before .before .end-of .ensures) _ (c .before .before .before .before .before .before .before .before .before .before .before .before .before .before .before .before .before .before .before .before .before .before .before .before .before .part-of .ensures) _ (c .before .before .before .before .before .before .before .before .before .before .before .before .before .before .before .before .before .before .before .before .before .before .before .before .into-work .ensures) _ _ _ _ _ _ (c .before .before .before .before .before .before .before .before .before .before .before .before .before .before .before .before .before .before .before .before .before .before .before .scan .ensures) _ (c .before .before .before .before .before .before .before .before .before .before .before .type-of .ensures) _ _ (c .before .before .before .before .before .before .before .before .before .before .converted .ensures) (c .before .before .before .before .before .before .before .before .before .before .converted .kept .0) _ _ _ _ _ _ _ _ _ (c .before .before .before .before .before .before .v .given .1) (c .before .before .before .before .with-held .ensures) (c .before .before .before .size-of .ensures) (c .before .before .above .ensures) (c .before .place-after .ensures) (c .before .before .before .before .before .before .before .before .before .before .before .before .before .before .before .before .before .before .before .before .before .before .before .before .before .before .before .before .before .before .before .before .before .next-of .ensures) (c .plus .ensures) (c .before .before .before .before .before .before .before .before .before .before .before .before .before .before .before .before .before .before .before .before .before .before .before .scan .kept .1 .1 .1 .1 .0) (c .before .before .before .before .before .before .before .before .before .before .before .before .before .before .before .before .before .before .before .before .before .before .before .scan .kept .1 .1 .1 .1 .1 .0) (c .before .before .before .before .before .before .before .before .before .before .before .before .before .before .before .before .before .before .before .before .before .before .before .scan .kept .1 .1 .1 .1 .1 .1 .0) (c .before .before .before .before .before .before .before .before .before .before .before .before .before .before .before .before .before .before .before .before .before .before .before .scan .kept .1 .1 .1 .1 .1 .1 .1 .0) (c .before .before .before .before .before .before .before .before .before .before .before .before .before .before .before .before .before .before .before .before .before .before .before .scan .kept .1 .1 .1 .1 .1 .1 .1 .1 .0)
 
 scan-arguments-same-length-6 : (t : ℕ) → scan-arguments-lts.Need-same-length-6 (
   nothing-held-reads.Asked,
@@ -3189,7 +3195,7 @@ scan-arguments-same-length-6 : (t : ℕ) → scan-arguments-lts.Need-same-length
   plus-reads.Asked,
   plus-reads.Learnt,
 ) (scan-arguments-at t) scan-arguments.Post scan-arguments-Inv-loop scan-arguments-μ-loop
-scan-arguments-same-length-6 t c = search needs
+scan-arguments-same-length-6 t c = (c .before .loop .inv .cells)
 
 scan-arguments-same-length-7 : (t : ℕ) → scan-arguments-lts.Need-same-length-7 (
   nothing-held-reads.Asked,
@@ -3223,7 +3229,7 @@ scan-arguments-same-length-7 : (t : ℕ) → scan-arguments-lts.Need-same-length
   plus-reads.Asked,
   plus-reads.Learnt,
 ) (scan-arguments-at t) scan-arguments.Post scan-arguments-Inv-loop scan-arguments-μ-loop
-scan-arguments-same-length-7 t c = search needs
+scan-arguments-same-length-7 t c = (c .before .loop .inv .low)
 
 scan-arguments-same-length-8 : (t : ℕ) → scan-arguments-lts.Need-same-length-8 (
   nothing-held-reads.Asked,
@@ -3257,7 +3263,7 @@ scan-arguments-same-length-8 : (t : ℕ) → scan-arguments-lts.Need-same-length
   plus-reads.Asked,
   plus-reads.Learnt,
 ) (scan-arguments-at t) scan-arguments.Post scan-arguments-Inv-loop scan-arguments-μ-loop
-scan-arguments-same-length-8 t c = search needs
+scan-arguments-same-length-8 t c = (c .before .loop .inv .high)
 
 scan-arguments-same-length-9 : (t : ℕ) → scan-arguments-lts.Need-same-length-9 (
   nothing-held-reads.Asked,
@@ -3291,7 +3297,7 @@ scan-arguments-same-length-9 : (t : ℕ) → scan-arguments-lts.Need-same-length
   plus-reads.Asked,
   plus-reads.Learnt,
 ) (scan-arguments-at t) scan-arguments.Post scan-arguments-Inv-loop scan-arguments-μ-loop
-scan-arguments-same-length-9 t c = search needs
+scan-arguments-same-length-9 t c = (c .before .loop .inv .work)
 
 scan-arguments-same-length-10 : (t : ℕ) → scan-arguments-lts.Need-same-length-10 (
   nothing-held-reads.Asked,
@@ -3325,7 +3331,7 @@ scan-arguments-same-length-10 : (t : ℕ) → scan-arguments-lts.Need-same-lengt
   plus-reads.Asked,
   plus-reads.Learnt,
 ) (scan-arguments-at t) scan-arguments.Post scan-arguments-Inv-loop scan-arguments-μ-loop
-scan-arguments-same-length-10 t c = search needs
+scan-arguments-same-length-10 t c = (c .before .loop .inv .long)
 
 scan-arguments-returns-2 : (t : ℕ) → scan-arguments-lts.Need-returns-2 (
   nothing-held-reads.Asked,
@@ -3359,7 +3365,7 @@ scan-arguments-returns-2 : (t : ℕ) → scan-arguments-lts.Need-returns-2 (
   plus-reads.Asked,
   plus-reads.Learnt,
 ) (scan-arguments-at t) scan-arguments.Post scan-arguments-Inv-loop scan-arguments-μ-loop
-scan-arguments-returns-2 t c = search needs
+scan-arguments-returns-2 t c = arguing-done _ _ _ _ _ _ _ _ _ _ _ _ _ _ _ _ _ _ _ _ _ _ _ _ _ _ _ _ (c .before .loop .inv) (c .loop-test .left)
 
 token-piece-of-requires : (t : ℕ) → token-lts.Need-piece-of-requires (
   piece-of-reads.Asked,
@@ -3535,7 +3541,7 @@ token-returns : (t : ℕ) → token-lts.Need-returns (
   replace-below t,
   replace.Post,
 ) (token-at t) token.Post
-token-returns t c = search needs
+token-returns t c = token-copied _ _ _ _ _ _ _ _ _ _ _ _ _ _ _ _ _ _ (c .before .before .before .before .before .before .before .before .before .before .before .piece-of .ensures) _ (c .before .before .before .before .before .before .before .before .before .active-in .ensures) _ _ _ (c .before .before .before .before .before .before .before .enum-told .given .1) (c .before .before .before .before .copy-token .ensures)
 
 token-same-length-3 : (t : ℕ) → token-lts.Need-same-length-3 (
   piece-of-reads.Asked,
@@ -3631,7 +3637,7 @@ token-returns-2 : (t : ℕ) → token-lts.Need-returns-2 (
   replace-below t,
   replace.Post,
 ) (token-at t) token.Post
-token-returns-2 t c = search needs
+token-returns-2 t c = token-replaced _ _ _ _ _ _ _ _ _ _ _ _ _ _ _ _ _ _ (c .before .before .before .before .before .before .before .before .before .before .before .before .before .before .before .before .before .before .before .before .before .before .before .piece-of .ensures) _ (c .before .before .before .before .before .before .before .before .before .before .before .before .before .before .before .before .before .before .before .before .before .active-in .ensures) _ _ _ _ _ _ _ _ _ _ (c .before .before .before .before .before .before .before .before .before .before .before .before .before .before .before .before .before .before .before .active .given .1) (c .before .before .before .before .before .before .before .before .before .before .before .before .after .ensures) (c .before .before .before .before .before .before .before .before .before .before .before .waiting .ensures) (c .before .before .before .before .before .before .before .before .before .before .replace .ensures)
 
 pub +call-with+replace+replace-entry+rescan+scan+scan-arguments+token-spec :
     {M : Type 1} → statement M

@@ -1,0 +1,10 @@
+pub mod Common
+pub mod Tokens
+pub mod Looping
+pub mod Converting
+pub mod Holding
+pub mod Values
+pub mod Finding
+pub mod Replacing
+pub mod Entries
+pub mod Arguing

@@ -1,0 +1,2 @@
+-- What the contracts of `scanning` cite beside the definition.
+pub mod Cycle
