@@ -5,7 +5,6 @@ use mathlib.Core.Bool.{Bool, true, false, cond}
 use mathlib.Core.List.{List, [], _∷_}
 use Prim.Native.Nat.{ℕ, _+_}
 use native.Mathlib.Nat.{zero-add}
-use native.Mathlib.Omega.{arith}
 use lib.IntN.{ℤ}
 use lib.ListN.{getD}
 use Rattle.definition.specs.Room.{over}
@@ -40,9 +39,7 @@ use Rattle.bodies.specs.Deeds.{testedIn, testedMeter}
 use Rattle.bodies.specs.Groups.{addedOn, SummedIs, Framing, SteppedBy, SteppedIs}
 use Rattle.operands.proofs.Leaves.{values-at}
 use Rattle.bodies.proofs.Grouping.{number-world, number-slots, passes-shown}
-
-clash : {A : Type 0} → _≡_ {A = ℕ} 0 1 → A
-clash z = absurd (omega arith)
+use Rattle.operands.proofs.Trees.{clash}
 
 -- ---- the sum
 pub summed-some : (x : Fixed) (by : Answer) (n : Fixed) → by ≡ A.Is n → (r : Answer) → resultOf r ≡ Fx.sum (x .value) (n .value) → SummedIs x by r
@@ -76,16 +73,16 @@ no-zero x y e = by _ e
     by : (v : ℤ) → Fx.zeroDivisor ≡ Fx.ranged v → {T : Type 0} → T
     by v f = of v (Fx.inRange v) f
 
-after : (l n : ℕ) → isLeft l n ≡ false → usedAfter l n ≡ n
+pub after-none : (l n : ℕ) → isLeft l n ≡ false → usedAfter l n ≡ n
 unfolding usedAfter
-after l n e = rw e
+after-none l n e = rw e
 
 -- ---- the step
-charge-left : (w : World) → isLeft (w .limit) (w .used) ≡ true → W.charge w ≡ good tt (W.withUsed (usedAfter (w .limit) (w .used)) w)
+pub charge-left : (w : World) → isLeft (w .limit) (w .used) ≡ true → W.charge w ≡ good tt (W.withUsed (usedAfter (w .limit) (w .used)) w)
 unfolding W.charge
 charge-left w e = rw e
 
-charge-none : (w : World) → isLeft (w .limit) (w .used) ≡ false → W.charge w ≡ bad NoStep (w .used)
+pub charge-none : (w : World) → isLeft (w .limit) (w .used) ≡ false → W.charge w ≡ bad NoStep (w .used)
 unfolding W.charge
 charge-none w e = rw e
 
@@ -141,7 +138,7 @@ module _ (c : List ℕ) (f : Frame) (x : Fixed) (by : Answer) (m : Meter) (y : A
           let W₁ : World = W.store (d .at) (Val.fixed (n .value)) (worldIn B c l h (m .used)) in
           let lf : isLeft (m .limit) (m .used) ≡ false = sym (ch .paid) ∙ pd in
           let lg : isLeft (B .limit) (m .used) ≡ false = ap (λ (i : ℕ). isLeft i (m .used)) (sym (fr .limit)) ∙ lf in
-          let us : p .meter .used ≡ m .used = ch .used ∙ after (m .limit) (m .used) lf in (
+          let us : p .meter .used ≡ m .used = ch .used ∙ after-none (m .limit) (m .used) lf in (
             sym (added-is d (worldIn B c l h (m .used)) nu ∙ ap (λ (i : Res Why (Unit {0})). bind i (λ _ z. good (F.passes d (n .value)) z)) (charge-none W₁ lg) ∙ ap (λ (i : ℕ). bad NoStep i) (sym us)),
             ch .limit ∙ fr .limit,
             number-slots B c l h (f .address) n c′ ec (fr .slots) (fr .variable) rg,

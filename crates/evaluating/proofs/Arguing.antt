@@ -47,14 +47,11 @@ use Rattle.operands.specs.Answer.{Below, resIn, sizeOf, meterOf, withEnd, Gave,
 use Rattle.evaluating.specs.Cycle.{Evaluates}
 use Rattle.operands.specs.Takes.{wishFor, wishedOn, WithWish, Coming, WishIs, firstListed, wantedBy, Path}
 use Rattle.evaluating.specs.Cycle.{Args, TakenIs}
-use Rattle.operands.proofs.Trees.{never, read-same, IsRead, then-read, inside-same, expect-is}
+use Rattle.operands.proofs.Trees.{clash, never, read-same, IsRead, then-read, inside-same, expect-is}
 use Rattle.operands.proofs.Leaves.{end-is, below-then, value-size}
 use Rattle.operands.proofs.Ranging.{value-fine, convert-typed}
 use Rattle.evaluating.proofs.Cycle.{shows-as}
 use Rattle.operands.proofs.Taking.{One, path-place, path-kept, path-more, subject-first, held-other, held-size, held-typed}
-
-clash : {A : Type 0} → _≡_ {A = ℕ} 0 1 → A
-clash z = absurd (omega arith)
 
 -- ---- the list, as it is read
 module _ (left : ℕ) (s : List ℕ) (p : ℕ) where

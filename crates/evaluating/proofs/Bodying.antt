@@ -5,7 +5,6 @@ use mathlib.Core.Bool.{Bool, true, false, cond}
 use mathlib.Core.List.{List, _∷_}
 use Prim.Native.Nat.{ℕ, _+_, _-_, _<_}
 use native.Mathlib.Omega.{arith}
-use lib.Dec.{ltb}
 use lib.ListN.{length, getD}
 use Rattle.definition.specs.Choice.{when}
 use Rattle.definition.specs.Expressions.{Tree, wholeExpression}
@@ -41,12 +40,12 @@ use Rattle.flow.specs.declared.Frame.{Frame}
 use Rattle.flow.specs.declared.Frames.{Frames}
 use Rattle.flow.specs.declared.Next.{Next}
 use Rattle.flow.specs.declared.Walk.{Walk}
-use Rattle.flow.specs.Walks.{framesWith, behindOn, arrivedAt, firstWalk, chosenWalk, mayGoOn, labelFrom, landingWalk}
+use Rattle.flow.specs.Walks.{framesWith, frameIn, behindOn, arrivedAt, chosenWalk, mayGoOn, labelFrom, landingWalk}
 use Rattle.flow.specs.Shown as Fl
-use Rattle.flow.specs.Shown.{FrameShown, nextFrom, Linked, AtRow, AtNext, AtWalk, Owns, walked}
-use Rattle.flow.proofs.Flows.{behind-is, first-arrives, chosen-is, landing-row-is, landing-end-is, arrived-as, may-go-is}
-use Rattle.flow.proofs.Framing.{once-of, once-has, has-entered, framed-entered, start-own, end-own}
-use Rattle.flow.proofs.Arriving.{behind-stands, into-stands, chosen-stands, chosen-walk-stands, landing-code-stands, arrived-stands, entered-walk-stands}
+use Rattle.flow.specs.Shown.{FrameShown, FrameOf, having, Framed, nextFrom, Linked, AtRow, AtNext, AtWalk, Owns, walked}
+use Rattle.flow.proofs.Flows.{behind-is, chosen-is, landing-row-is, landing-end-is, arrived-as, may-go-is}
+use Rattle.flow.proofs.Framing.{once-of, has-entered, framed-entered, start-own, end-own}
+use Rattle.flow.proofs.Arriving.{chosen-stands, chosen-walk-stands, landing-code-stands, arrived-stands}
 use Rattle.operators.specs.Stands.{valueIn}
 use Rattle.operands.specs.declared.Scene.{Scene}
 use Rattle.operands.specs.declared.Evaluated.{Evaluated}
@@ -54,7 +53,7 @@ use Rattle.operands.specs.declared.Evaluated.the-variants.{Is, Failed}
 use Rattle.operands.specs.Shown.{Stated, Shows}
 use Rattle.operands.specs.Answer.{Gave, runIn, valueOf, Turns}
 use Rattle.operands.specs.Takes.{wishedOn}
-use Rattle.operands.proofs.Trees.{expect-is}
+use Rattle.operands.proofs.Trees.{clash, expect-is}
 use Rattle.bodies.specs.declared.Done.{Done}
 use Rattle.bodies.specs.declared.Done.the-variants as Dn
 use Rattle.bodies.specs.declared.Tested.{Tested}
@@ -70,11 +69,9 @@ use Rattle.bodies.specs.Ways.{turnedBy, afterDone, afterTest, intoGroup, afterS
 use Rattle.bodies.specs.Jumps.{jumpFor, localTarget, globalTarget, outTarget, targetFor, targetIn, jumpBy, afterJump, JumpsIn}
 use Rattle.bodies.proofs.Doing.{truth-same, assigned-same, start-same}
 use Rattle.bodies.proofs.Jumping.{jump-is, target-there}
+use Rattle.evaluating.proofs.Ways.{quiet, behind-goes, behind-at, into-goes, into-at}
 use Rattle.evaluating.specs.Cycle.{Evaluates}
 use Rattle.evaluating.specs.Statements.{AssignIs, TestIs, StartsAs, startedMeter, StartIs, InBody, bodyOf, TurnsTo, stepMeter, StatementIs}
-
-clash : {A : Type 0} → _≡_ {A = ℕ} 0 1 → A
-clash z = absurd (omega arith)
 
 -- ---- statements that do nothing in a body
 abbrev isPassed : D.Statement → Bool
@@ -123,14 +120,6 @@ kind-passed (D.return e) = refl
 pub placed-same : {A : Type 0} (R : Res Why A) → placed (λ e. e) R ≡ R
 placed-same (good a w) = refl
 placed-same (bad e n) = refl
-
-pub lead-none : {E : Type 0} (M : Machine E) → ((y : D.Stretch) (w : World) → M .out y w ≡ good tt w) → (y : D.Stretch) (w : World) → F.leadOut M y w ≡ good tt w
-unfolding F.leadOut
-lead-none M q y w = by (ltb (y .from) (y .to))
-  where
-    by : (b : Bool) → when b (λ _. M .out y w) (λ _. good tt w) ≡ good tt w
-    by true = q y w
-    by false = refl
 
 returned-as : (R : Res Why Val.Value) (u : ℕ) (t : ValueType) (k : F.Deed → World → Res Why F.Turn) → ((v : Val.Value) (w : World) → k (F.gave v) w ≡ good (F.ended (F.returned v)) w)
     → bind (bind R (λ v y. bind (put u (Val.convert t v) y) (λ c z. good (F.gave c) z))) k ≡ bind (wishedOn u (Ev.asType t) R) (λ v z. good (F.ended (F.returned v)) z)
@@ -202,10 +191,6 @@ module _ (deck s t rows names c l h w : List ℕ) (p : Place) (n : ℕ) (fs : Fr
     abbrev now : World
     now = worldIn B c l h (m .used)
 
-    quiet : (y : D.Stretch) (v : World) → machine .out y v ≡ good tt v
-    unfolding bodyMachine
-    quiet y v = refl
-
     shown : Fl.Shown t lines
     shown = rw (k .inside .part) (k .shows .rowed .shown (p .member))
 
@@ -228,22 +213,22 @@ module _ (deck s t rows names c l h w : List ℕ) (p : Place) (n : ℕ) (fs : Fr
     serves = record { owner = owner-is; waiting = refl; value = λ e v. ap (λ (i : W.Owner). evaluate (runIn x) i e u v) owner-is }
 
     -- ---- where control goes
-    behind-goes : (v : World) → F.behind machine G n v ≡ good (nextFrom (behindOn t fs (n + 1) n)) v
+    behind-good : (v : World) → F.behind machine G n v ≡ good (nextFrom (behindOn t fs (n + 1) n)) v
     unfolding bodyMachine
-    behind-goes v = behind-is machine quiet t shown fs G n v (k .at .within) (k .at .framed)
+    behind-good v = behind-goes x p u B t shown linked fs G n (k .at .within) (k .at .framed) v
 
-    behind-at : AtNext machine t (B .denotations) fs G (behindOn t fs (n + 1) n)
+    behind-stands-here : AtNext machine t (B .denotations) fs G (behindOn t fs (n + 1) n)
     unfolding bodyMachine
-    behind-at = behind-stands machine t (B .denotations) fs G shown linked n (k .at .within) (k .at .framed)
+    behind-stands-here = behind-at x p u B t shown linked fs G n (k .at .within) (k .at .framed)
 
     arrives : (y : Walk) (v : World) → AtWalk machine t (B .denotations) fs G y → walked y (λ g z. F.behind machine G g z) v ≡ good (nextFrom (arrivedAt t fs y)) v
     unfolding bodyMachine
-    arrives y v aw = arrived-as machine quiet t shown fs G y v (λ q e. behind-is machine quiet t shown fs G q v (aw .up q e .within) (aw .up q e .framed))
+    arrives y v aw = arrived-as machine (quiet x p u B) t shown fs G y v (λ q e. behind-is machine (quiet x p u B) t shown fs G q v (aw .up q e .within) (aw .up q e .framed))
 
     done-turns : (c′ l′ h′ w′ : List ℕ) (d : Done) (R : Res Why (Unit {0})) → doneIn B c′ l′ h′ d ≡ R → Leaves B u w c′ l′ h′ w′ (doneMeter d)
         → TurnsTo machine t B u c′ l′ h′ w′ (bind R (λ _ v. F.onward machine G (F.behind machine G n v))) fs (afterDone d (behindOn t fs (n + 1) n)) × Leaves B u w c′ l′ h′ w′ (stepMeter (afterDone d (behindOn t fs (n + 1) n)))
     unfolding bodyMachine
-    done-turns c′ l′ h′ w′ (Dn.Good m₁) R e lv = ((G, ap (λ (i : Res Why (Unit {0})). bind i (λ _ v. F.onward machine G (F.behind machine G n v))) (sym e) ∙ ap (F.onward machine G) (behind-goes (worldIn B c′ l′ h′ (m₁ .used))), behind-at), lv)
+    done-turns c′ l′ h′ w′ (Dn.Good m₁) R e lv = ((G, ap (λ (i : Res Why (Unit {0})). bind i (λ _ v. F.onward machine G (F.behind machine G n v))) (sym e) ∙ ap (F.onward machine G) (behind-good (worldIn B c′ l′ h′ (m₁ .used))), behind-stands-here), lv)
     done-turns c′ l′ h′ w′ (Dn.Bad f m₁) R e lv = (ap (λ (i : Res Why (Unit {0})). bind i (λ _ v. F.onward machine G (F.behind machine G n v))) (sym e), lv)
 
     -- ---- IF
@@ -265,27 +250,25 @@ module _ (deck s t rows names c l h w : List ℕ) (p : Place) (n : ℕ) (fs : Fr
     test-turns c′ l′ h′ w′ (Te.Bad f m₁) R e i lv = (ap (λ (j : Res Why Bool). bind j (λ b v. F.chosen machine (F.alternativeOf machine b n) G n v)) (sym e), lv)
 
     -- ---- DO
-    group-goes : (v : World) → D.isIterated (rowOf lines n .statement) ≡ false → F.into machine G n v ≡ good (nextFrom (intoGroup t fs n)) v
-    unfolding F.into intoGroup bodyMachine
-    group-goes v i = ap (λ (j : Res Why (Unit {0})). bind j (λ _ z. F.firstIn machine (rowOf lines n .child) n G z)) (lead-none machine quiet (rowOf lines n .lead) v)
-        ∙ first-arrives machine quiet t shown fs G n v (k .at .within) (k .at .framed) (λ j. clash (let q : true ≡ false = sym j ∙ i in cc))
-
-    group-at : D.isIterated (rowOf lines n .statement) ≡ false → AtNext machine t (B .denotations) fs G (intoGroup t fs n)
-    unfolding intoGroup bodyMachine
-    group-at i = into-stands machine t (B .denotations) fs G shown linked n (k .at .within) (k .at .framed) (λ j. clash (let q : true ≡ false = sym j ∙ i in cc))
+    plain : D.isIterated (rowOf lines n .statement) ≡ false → D.isIterated (rowOf lines n .statement) ≡ true → FrameOf (B .denotations) (frameIn t fs n) n G
+    plain i j = clash (let q : true ≡ false = sym j ∙ i in cc)
 
     module _ (i : D.isIterated (rowOf lines n .statement) ≡ true) (f : Frame) (d : F.Frame) (sh : FrameShown f d) (co : Controls n d B) where
+      entered : Framed machine t (B .denotations) (framesWith t fs n f) (d ∷ G) n
+      unfolding bodyMachine
+      entered = framed-entered machine t shown (B .denotations) fs G n (k .at .within) i f d sh (co .group) (co .variable) (k .at .framed)
+
+      own : D.isIterated (rowOf lines n .statement) ≡ true → FrameOf (B .denotations) (frameIn t (framesWith t fs n f) n) n (d ∷ G)
+      unfolding bodyMachine
+      own j = having (has-entered machine t shown (B .denotations) fs G n (k .at .within) i f d sh (co .group) (co .variable) (k .at .framed))
+
       enter-goes : (v : World) → F.into machine (d ∷ G) n v ≡ good (nextFrom (intoGroup t (framesWith t fs n f) n)) v
-      unfolding F.into intoGroup bodyMachine
-      enter-goes v = ap (λ (j : Res Why (Unit {0})). bind j (λ _ z. F.firstIn machine (rowOf lines n .child) n (d ∷ G) z)) (lead-none machine quiet (rowOf lines n .lead) v)
-          ∙ first-arrives machine quiet t shown (framesWith t fs n f) (d ∷ G) n v (k .at .within)
-          (framed-entered machine t shown (B .denotations) fs G n (k .at .within) i f d sh (co .group) (co .variable) (k .at .framed))
-          (λ j. once-has (has-entered machine t shown (B .denotations) fs G n (k .at .within) i f d sh (co .group) (co .variable) (k .at .framed)))
+      unfolding bodyMachine
+      enter-goes v = into-goes x p u B t shown linked (framesWith t fs n f) (d ∷ G) n (k .at .within) entered own v
 
       enter-at : AtNext machine t (B .denotations) (framesWith t fs n f) (d ∷ G) (intoGroup t (framesWith t fs n f) n)
-      unfolding intoGroup bodyMachine
-      enter-at = arrived-stands machine t (B .denotations) (framesWith t fs n f) (d ∷ G) shown linked (firstWalk t (framesWith t fs n f) n)
-          (entered-walk-stands machine t (B .denotations) fs G shown linked n (k .at .within) i f d sh (co .group) (co .variable) (k .at .framed))
+      unfolding bodyMachine
+      enter-at = into-at x p u B t shown linked (framesWith t fs n f) (d ∷ G) n (k .at .within) entered own
 
     abbrev starts : F.Started → World → Res Why F.Turn
     starts y v = when (y .begins) (λ _. F.onward machine (y .frame ∷ G) (F.into machine (y .frame ∷ G) n v)) (λ _. F.onward machine G (F.behind machine G n v))
@@ -299,7 +282,7 @@ module _ (deck s t rows names c l h w : List ℕ) (p : Place) (n : ℕ) (fs : Fr
         let cc₁ : Controls n (e .0) B = co (e .0) true (worldIn B c′ l′ h′ (m₁ .used)) (e .2) in
         rw er ((e .0 ∷ G, ap (λ (j : Res Why F.Started). bind j starts) (e .2) ∙ ap (F.onward machine (e .0 ∷ G)) (enter-goes i f (e .0) (e .1) cc₁ (worldIn B c′ l′ h′ (m₁ .used))), enter-at i f (e .0) (e .1) cc₁), lv)
     start-turns c′ l′ h′ w′ (Sd.Is f false m₁) R e co i lv r er =
-        rw er ((G, ap (λ (j : Res Why F.Started). bind j starts) (e .2) ∙ ap (F.onward machine G) (behind-goes (worldIn B c′ l′ h′ (m₁ .used))), behind-at), lv)
+        rw er ((G, ap (λ (j : Res Why F.Started). bind j starts) (e .2) ∙ ap (F.onward machine G) (behind-good (worldIn B c′ l′ h′ (m₁ .used))), behind-stands-here), lv)
 
     -- ---- GOTO
     module _ (a : Label) (within : a .place .row < length lines) where
@@ -491,7 +474,7 @@ module _ (deck s t rows names c l h w : List ℕ) (p : Place) (n : ℕ) (fs : Fr
   statement-group e y ey r er = rw (er, ey) (statement-by c l h w (turnedBy fs (St.On (intoGroup t fs n) m)) (λ B G k. of B G k (rowOf (rowsOf (p .member) B) n .statement) refl (sym (kind-is B G k) ∙ e)))
     where
       grouped : (B : World) (G : List F.Frame) (k : Here B G) → rowOf (rowsOf (p .member) B) n .statement ≡ D.group → Turning c l h w (turnedBy fs (St.On (intoGroup t fs n) m)) B G D.group
-      grouped B G k q = ((G, ap (F.onward (bodyOf x p u B) G) (group-goes B G k (worldIn B c l h (m .used)) (rw q)), group-at B G k (rw q)), stays-here B G k)
+      grouped B G k q = ((G, ap (F.onward (bodyOf x p u B) G) (into-goes x p u B t (shown B G k) (linked B G k) fs G n (k .at .within) (k .at .framed) (plain B G k (rw q)) (worldIn B c l h (m .used))), into-at x p u B t (shown B G k) (linked B G k) fs G n (k .at .within) (k .at .framed) (plain B G k (rw q))), stays-here B G k)
 
       of : (B : World) (G : List F.Frame) (k : Here B G) (st : D.Statement) → rowOf (rowsOf (p .member) B) n .statement ≡ st → kindOf st ≡ S.Group → Turning c l h w (turnedBy fs (St.On (intoGroup t fs n) m)) B G st
       of B G k D.null q i = clash (cc)

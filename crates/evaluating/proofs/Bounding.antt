@@ -1,7 +1,7 @@
 -- The start of an iterated group: its variable, its numbers, its frame.
 -- Assumes nothing.
 use mathlib.Core.Path.{_≡_, refl, sym, ap, subst, _∙_}
-use mathlib.Core.Bool.{Bool, true, false}
+use mathlib.Core.Bool.{true, false}
 use mathlib.Core.List.{List, [], _∷_}
 use Prim.Native.Nat.{ℕ, _-_, _≤_}
 use native.Mathlib.Omega.{arith}
@@ -14,15 +14,13 @@ use Rattle.definition.specs.Lists.{part}
 use Rattle.definition.specs.Program as D
 use Rattle.definition.specs.Values as Val
 use Rattle.definition.specs.World as W
-use Rattle.definition.specs.World.{World, Res, good, bad, bind, ask, variableOf, entryOf, labelAt, builtinName, seenFrom}
+use Rattle.definition.specs.World.{World, Res, good, bad, bind, variableOf, entryOf, labelAt, builtinName, seenFrom}
 use Rattle.definition.specs.Evaluate as Ev
 use Rattle.definition.specs.Evaluate.{meant}
 use Rattle.definition.specs.Flow as F
 use Rattle.definition.specs.declared.Why.{Why}
 use Rattle.definition.specs.declared.Why.the-variants.{WrongName}
 use Rattle.definition.specs.declared.ValueType.the-variants.{FixedType, CharacterType}
-use Rattle.definition.proofs.Keeping.{Gives, given}
-use Rattle.definition.proofs.Ranges.{Fine, Small, toFixed-small}
 use Rattle.fixed.specs.declared.Fixed.{Fixed}
 use Rattle.meter.specs.declared.Meter.{Meter}
 use Rattle.tokens.specs.declared.Lexeme.{Lexeme}
@@ -42,9 +40,8 @@ use Rattle.operands.specs.declared.Scene.{Scene}
 use Rattle.operands.specs.declared.Evaluated.{Evaluated}
 use Rattle.operands.specs.Shown.{Bounded, Shows}
 use Rattle.operands.specs.Answer.{Gave, valueOf}
-use Rattle.operands.proofs.Trees.{expect-is}
+use Rattle.operands.proofs.Trees.{clash, expect-is}
 use Rattle.operands.proofs.Leaves.{variable-denotes}
-use Rattle.operands.proofs.Ranging.{value-fine}
 use Rattle.bodies.specs.declared.Variable.{Variable}
 use Rattle.bodies.specs.declared.Bound.{Bound}
 use Rattle.bodies.specs.declared.Bound.the-variants as Bo
@@ -58,16 +55,11 @@ use Rattle.bodies.specs.declared.Started.{Started}
 use Rattle.bodies.specs.declared.Started.the-variants as Sd
 use Rattle.bodies.specs.Deeds.{sceneMachine, Leaves, variableFor, TargetIs, boundIn, boundMeter, boundEnd, numberOn, BoundIs}
 use Rattle.bodies.specs.Groups.{wordAt, firstFrame, widenedBy, controlOf, SetOff}
+use Rattle.bodies.proofs.Doing.{gave-fine, bound-range}
 use Rattle.bodies.proofs.Grouping.{first-shown, by-shown, to-shown, off-world, off-slots, off-passes}
 use Rattle.evaluating.specs.Cycle.{Evaluates}
 use Rattle.evaluating.specs.Statements.{WidensAs, widenedMeter, boundedOn, boundsLeft, BoundedIs, StartsAs, startedMeter, boundsOn, BoundsIs, StartIs}
 use Rattle.evaluating.proofs.Stating.{onMeant, meant-cond, spelled, means, meant-now}
-
-clash : {A : Type 0} → _≡_ {A = ℕ} 0 1 → A
-clash z = absurd (omega arith)
-
-true-false : {A : Type 0} (b : Bool) → b ≡ true → b ≡ false → A
-true-false b e f = clash (let g : true ≡ false = sym e ∙ f in cc)
 
 -- ---- the next bound
 word-by : (s : List ℕ) (at : ℕ) → isWord "BY" (tokenAt s at .token) ≡ true → wordAt s at ≡ Wo.Of Sid.By (tokenAt s at .to)
@@ -92,21 +84,6 @@ no-frame f q m n e g = clash (cc)
 number-is : (x : Scene) (u : ℕ) (t : Tree) (w : World) → F.number (sceneMachine x u) t w ≡ numberOn (valueOf x t u w)
 unfolding F.number numberOn
 number-is x u t w = refl
-
-ask-range : (a : Val.Value) (z : ℤ) (v w : World) → Fine a → good z v ≡ ask (Val.toFixed a) w → inRange z ≡ true
-ask-range a z v w f e = by (Val.toFixed a) (toFixed-small a f) e
-  where
-    small : (y : ℤ) → Gives Small (Val.gives y) → inRange y ≡ true
-    small y (given i) = i
-
-    by : (b : Val.Answer ℤ) → Gives Small b → good z v ≡ ask b w → inRange z ≡ true
-    by (Val.gives y) k g = let q : z ≡ y = cc in rw q (small y k)
-    by (Val.fails y) k g = clash (cc)
-
-number-range : (R : Res Why Val.Value) (z : ℤ) (v : World) → good z v ≡ numberOn R → ((a : Val.Value) (y : World) → R ≡ good a y → Fine a) → inRange z ≡ true
-unfolding numberOn
-number-range (good a y) z v i j = ask-range a z v y (j a y refl) i
-number-range (bad e n) z v i j = clash (cc)
 
 bounded-by : (x : Scene) (u : ℕ) (t : Tree) (d : F.Frame) (w : World) → F.bounded (sceneMachine x u) (D.by t) d w ≡ bind (numberOn (valueOf x t u w)) λ z y. good (record { group = d .group; at = d .at; step = z; to = d .to; isOnce = false }) y
 bounded-by x u t d w = ap (λ (i : Res Why ℤ). bind i λ z y. good (record { group = d .group; at = d .at; step = z; to = d .to; isOnce = false }) y) (number-is x u t w)
@@ -161,8 +138,7 @@ module _ (deck s rows names c l h w : List ℕ) (u : ℕ) (x : Scene) (y : Widen
         place = bi .end k (gave .end)
 
         range : (z : Fixed) (q₁ : ℕ) (m₁ : Meter) → n ≡ Bo.Is z q₁ m₁ → inRange (z .value) ≡ true
-        range z q₁ m₁ i = number-range (valueOf x t u (worldIn B c l h (m .used))) (z .value) (worldIn B c₁ l₁ h₁ (m₁ .used)) (rw i at number)
-            (λ a₁ v₂ j. value-fine B c l h x t u (m .used) a₁ v₂ (sh .slots) j)
+        range z q₁ m₁ i = bound-range B c₁ l₁ h₁ w₁ u b z q₁ m₁ (rw i at bi) (gave-fine B c l h x t u (m .used) w c₁ l₁ h₁ w₁ b k (sh .slots) gave)
 
       by-side : (B : World) (sh : Shows deck rows names c l h w u x m B) (t : Tree) (k : ℕ) (rd : wholeExpression s p ≡ read (parsed t k)) (bs : List D.Bound) (d : F.Frame) → Bounded s bs k → FrameShown f d → a ≡ Sid.By
           → (n₁ : Bound) → n ≡ n₁ → WidensAs B s c₁ l₁ h₁ (F.bounded (sceneMachine x u) (D.by t) d (worldIn B c l h (m .used))) bs (widenedBy f a n₁) × Leaves B u w c₁ l₁ h₁ w₁ (widenedMeter (widenedBy f a n₁))
@@ -391,7 +367,7 @@ module _ (deck s rows names c l h w : List ℕ) (g at u : ℕ) (x : Scene) (m : 
           let pl : Bo.Is z q m₁ ≡ Bo.Is z k m₁ = rw i at (bi .end k (value .end)) in
           let qk : q ≡ k = cc in
           let lm : m₁ .limit ≡ B .limit = ap (λ (j : Meter). j .limit) (rw i at (bi .limit)) ∙ value .limit in
-          let iz : inRange (z .value) ≡ true = number-range (valueOf x tr u now) (z .value) (worldIn B c₁ l₁ h₁ (m₁ .used)) nu (λ a₁ v₂ j. value-fine B c l h x tr u (m .used) a₁ v₂ (sh .slots) j) in
+          let iz : inRange (z .value) ≡ true = bound-range B c₁ l₁ h₁ w₁ u b z q m₁ (rw i at bi) (gave-fine B c l h x tr u (m .used) w c₁ l₁ h₁ w₁ b k (sh .slots) value) in
           let sh₁ : Shows deck rows names c₁ l₁ h₁ w₁ u x m₁ B = record { named = sh .named; rowed = sh .rowed; slots = value .slots; work = omega (arith, z₁, sh .work); taken = sh .taken; limit = lm; left = sh .left } in
           let G : StartsAs B c₂ l₂ h₂ (boundsOn x u bs newest (z .value) (worldIn B c₁ l₁ h₁ (m₁ .used))) r × Leaves B u w₁ c₂ l₂ h₂ w₂ (startedMeter r) = bo .goes z q m₁ i B sh₁ iz bs newest few (rw qk bd) (rw ef (first-shown g a)) variable in
           let R : boundsOn x u bs newest (z .value) (worldIn B c₁ l₁ h₁ (m₁ .used)) ≡ F.startAt (sceneMachine x u) (seenFrom (ownerOf (x .owner)) nm now) g tr bs now = sym (whole ∙ rw (← nu)) in

@@ -5,5 +5,6 @@ pub mod Entries
 pub mod Listing
 pub mod Stating
 pub mod Bounding
+pub mod Ways
 pub mod Bodying
 pub mod Looping

@@ -60,9 +60,7 @@ use Rattle.evaluating.specs.Cycle.{ListedIs, CalleeShown, CallIs}
 use Rattle.operands.specs.Blocks.{CountIs}
 use Rattle.operands.specs.Takes.{aimFor, AimAs, AimIs}
 use Rattle.evaluating.proofs.Entries.{Found, found, Got, called-is, called-fails, callee-none}
-
-clash : {A : Type 0} → _≡_ {A = ℕ} 0 1 → A
-clash z = absurd (omega arith)
+use Rattle.operands.proofs.Trees.{clash}
 
 -- ---- the definition's name with a list
 module _ (x : Scene) where

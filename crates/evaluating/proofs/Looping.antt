@@ -1,14 +1,14 @@
 -- The turns of a body, and its loop: every turn that goes on takes a step, so that the turns are enough.
 -- Assumes nothing.
 use mathlib.Core.Path.{_≡_, refl, sym, ap, subst, _∙_}
-use mathlib.Core.Bool.{Bool, true, false, cond}
-use mathlib.Core.List.{List, [], _∷_}
+use mathlib.Core.Bool.{Bool, true, false}
+use mathlib.Core.List.{List, []}
 use Prim.Native.Nat.{ℕ, zero, suc, _+_, _-_, _<_, _≤_}
 use native.Mathlib.Omega.{arith}
-use borrow.Author.Tests.{ltb-true, ltb-false}
+use borrow.Author.Tests.{ltb-true}
 use lib.Dec.{ltb}
 use lib.IntN.{ℤ}
-use lib.ListN.{length, getD}
+use lib.ListN.{length}
 use Rattle.definition.specs.Choice.{when}
 use Rattle.definition.specs.Fixed as Fx
 use Rattle.definition.specs.Steps.{isLeft, usedAfter}
@@ -36,12 +36,11 @@ use Rattle.flow.specs.declared.Frames.{Frames}
 use Rattle.flow.specs.declared.Next.{Next}
 use Rattle.flow.specs.declared.Next.the-variants.{Begin, Again, Over}
 use Rattle.flow.specs.Walks as C
-use Rattle.flow.specs.Walks.{behindOn, frameIn}
+use Rattle.flow.specs.Walks.{frameIn}
 use Rattle.flow.specs.Shown as Fl
-use Rattle.flow.specs.Shown.{nextFrom, linkOf, Linked, AtTest, AtNext, steppedOn, having}
-use Rattle.flow.proofs.Flows.{behind-is, first-arrives}
-use Rattle.flow.proofs.Framing.{once-has, stepped-own, framed-start}
-use Rattle.flow.proofs.Arriving.{behind-stands, into-stands, first-stands}
+use Rattle.flow.specs.Shown.{nextFrom, FrameOf, linkOf, Linked, AtTest, AtNext, steppedOn, having}
+use Rattle.flow.proofs.Framing.{stepped-own, framed-start}
+use Rattle.flow.proofs.Arriving.{first-stands}
 use Rattle.operators.specs.declared.Value.{Value}
 use Rattle.operators.specs.Stands.{sizeFor, valueIn}
 use Rattle.operands.specs.declared.Scene.{Scene}
@@ -56,21 +55,17 @@ use Rattle.bodies.specs.declared.Step.the-variants as St
 use Rattle.bodies.specs.declared.Turned.{Turned}
 use Rattle.bodies.specs.Deeds.{Leaves, testedIn}
 use Rattle.bodies.specs.Groups.{Framing, SteppedIs}
-use Rattle.bodies.specs.Ways.{turnedBy, afterTest, intoGroup, againIn}
+use Rattle.bodies.specs.Ways.{turnedBy, afterTest, againIn}
+use Rattle.bodies.proofs.Stepping.{after-none, charge-left, charge-none}
 use Rattle.evaluating.specs.Cycle.{BodyIs}
 use Rattle.evaluating.specs.Statements.{InBody, bodyOf, TurnsTo, stepMeter, StatementIs, returnsOf, TurnIs}
-use Rattle.evaluating.proofs.Bodying.{placed-same, lead-none}
-
-clash : {A : Type 0} → _≡_ {A = ℕ} 0 1 → A
-clash z = absurd (omega arith)
+use Rattle.evaluating.proofs.Bodying.{placed-same}
+use Rattle.evaluating.proofs.Ways.{behind-goes, behind-at, into-goes, into-at}
+use Rattle.operands.proofs.Trees.{clash}
 
 -- ---- the meter
 paid-is : (m : Meter) (k : Charged) → Charges m k → (n : ℕ) → m .limit ≡ n → k .paid ≡ true → (isLeft n (m .used) ≡ true) × (usedAfter n (m .used) ≡ k .meter .used)
 paid-is m k ch n e p = (ap (λ (i : ℕ). isLeft i (m .used)) (sym e) ∙ sym (ch .paid) ∙ p, ap (λ (i : ℕ). usedAfter i (m .used)) (sym e) ∙ sym (ch .used))
-
-after-none : (n k : ℕ) → isLeft n k ≡ false → usedAfter n k ≡ k
-unfolding usedAfter
-after-none n k e = rw e
 
 after-one : (n k : ℕ) → isLeft n k ≡ true → usedAfter n k ≡ suc k
 unfolding usedAfter
@@ -79,14 +74,6 @@ after-one n k e = let f : k + 1 ≡ suc k = omega arith in rw e f
 left-less : (n k : ℕ) → isLeft n k ≡ true → k < n
 unfolding isLeft
 left-less n k e = ltb-true k n e
-
-charge-left : (w : World) → isLeft (w .limit) (w .used) ≡ true → W.charge w ≡ good tt (W.withUsed (usedAfter (w .limit) (w .used)) w)
-unfolding W.charge
-charge-left w e = rw e
-
-charge-none : (w : World) → isLeft (w .limit) (w .used) ≡ false → W.charge w ≡ bad NoStep (w .used)
-unfolding W.charge
-charge-none w e = rw e
 
 -- a charge that is paid
 pub record Spends (w v : World) : Type 0 where
@@ -146,45 +133,27 @@ module _ (deck s t rows names c l h w : List ℕ) (p : Place) (fs : Frames) (u :
   abbrev lines : List D.Row
   lines = rowsOf (p .member) B
 
-  quiet : (z : D.Stretch) (v : World) → machine .out z v ≡ good tt v
-  unfolding bodyMachine
-  quiet z v = refl
-
   shown : Fl.Shown t lines
   shown = rw (ib .part) (sh .rowed .shown (p .member))
 
   linked : Linked lines
   linked = sh .rowed .linked (p .member)
 
-  into-goes : (v : World) → F.into machine G g v ≡ good (nextFrom (intoGroup t fs g)) v
-  unfolding F.into intoGroup bodyMachine
-  into-goes v = ap (λ (j : Res Why (Unit {0})). bind j (λ _ z. F.firstIn machine (rowOf lines g .child) g G z)) (lead-none machine quiet (rowOf lines g .lead) v)
-      ∙ first-arrives machine quiet t shown fs G g v (at .within) (at .framed) (λ j. once-has (at .own))
-
-  into-at : AtNext machine t (B .denotations) fs G (intoGroup t fs g)
-  unfolding intoGroup bodyMachine
-  into-at = into-stands machine t (B .denotations) fs G shown linked g (at .within) (at .framed) (λ j. having (at .own))
-
-  behind-goes : (v : World) → F.behind machine G g v ≡ good (nextFrom (behindOn t fs (g + 1) g)) v
-  unfolding bodyMachine
-  behind-goes v = behind-is machine quiet t shown fs G g v (at .within) (at .framed)
-
-  behind-at : AtNext machine t (B .denotations) fs G (behindOn t fs (g + 1) g)
-  unfolding bodyMachine
-  behind-at = behind-stands machine t (B .denotations) fs G shown linked g (at .within) (at .framed)
+  own : D.isIterated (rowOf lines g .statement) ≡ true → FrameOf (B .denotations) (frameIn t fs g) g G
+  own j = having (at .own)
 
   abbrev goes : Bool → World → Res Why F.Turn
   goes o v = when o (λ _. F.onward machine G (F.into machine G g v)) (λ _. F.onward machine G (F.behind machine G g v))
 
   goes-on : (o : Bool) (v : World) → goes o v ≡ good (F.on (nextFrom (againIn t fs g o)) G) v
-  unfolding againIn
-  goes-on true v = ap (F.onward machine G) (into-goes v)
-  goes-on false v = ap (F.onward machine G) (behind-goes v)
+  unfolding againIn bodyMachine
+  goes-on true v = ap (F.onward machine G) (into-goes x p u B t shown linked fs G g (at .within) (at .framed) own v)
+  goes-on false v = ap (F.onward machine G) (behind-goes x p u B t shown linked fs G g (at .within) (at .framed) v)
 
   on-at : (o : Bool) → AtNext machine t (B .denotations) fs G (againIn t fs g o)
-  unfolding againIn
-  on-at true = into-at
-  on-at false = behind-at
+  unfolding againIn bodyMachine
+  on-at true = into-at x p u B t shown linked fs G g (at .within) (at .framed) own
+  on-at false = behind-at x p u B t shown linked fs G g (at .within) (at .framed)
 
 -- ---- a turn
 module _ (deck s t rows names c l h w : List ℕ) (p : Place) (y : Next) (fs : Frames) (u : ℕ) (x : Scene) (m : Meter) where
@@ -464,10 +433,3 @@ module _ (deck s t rows names c₀ l₀ h₀ w₀ : List ℕ) (p : Place) (u : �
         let go : Going B turns y fs m c l h w = ru .is B sh (record { owner = eo; body = es; part = et; procedure = ip }) in
         absurd (omega (arith, z, go .turns-are));
   }
-
--- ---- one turn more than steps are left
-pub turns-none : (m : Meter) → m .limit < m .used → 1 ≡ suc (m .limit - m .used)
-turns-none m h = omega (arith, h)
-
-pub turns-some : (m : Meter) → m .used ≤ m .limit → (m .limit - m .used) + 1 ≡ suc (m .limit - m .used)
-turns-some m h = omega (arith, h)

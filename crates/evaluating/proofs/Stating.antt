@@ -41,12 +41,9 @@ use Rattle.operands.specs.Answer.{resIn, Gave, valueOf}
 use Rattle.evaluating.specs.Cycle.{Evaluates}
 use Rattle.bodies.specs.Deeds.{sceneMachine, Leaves, variableFor, TargetIs, doneIn, doneMeter, storedOn, StoredIs, testedIn, testedMeter, truthOn, TruthIs}
 use Rattle.evaluating.specs.Statements.{AssignIs, TestIs}
-use Rattle.operands.proofs.Trees.{expect-is}
+use Rattle.operands.proofs.Trees.{clash, expect-is}
 use Rattle.bodies.proofs.Doing.{gave-fine}
 use Rattle.operands.proofs.Leaves.{variable-denotes}
-
-clash : {A : Type 0} → _≡_ {A = ℕ} 0 1 → A
-clash z = absurd (omega arith)
 
 -- ---- IF
 module _ (deck s rows names c l h w : List ℕ) (at u : ℕ) (x : Scene) (m : Meter) (c₁ l₁ h₁ w₁ : List ℕ) (z₁ : length w₁ ≡ length w) (y : Evaluated)

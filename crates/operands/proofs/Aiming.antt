@@ -1,91 +1,47 @@
 -- A name with a list: whose arguments it takes, the call, and SUBSTR.
 -- Assumes nothing.
-use mathlib.Core.Path.{_≡_, refl, sym, ap, subst, _∙_}
-use mathlib.Core.Bool.{Bool, true, false, cond}
-use mathlib.Core.List.{List, [], _∷_, _++_}
-use Prim.Native.Nat.{ℕ, zero, suc, _+_, _-_, _%_, _<_, _≤_}
-use native.Mathlib.Nat.{add-zero, zero-add, add-suc, suc-add, mod-eq-of-lt}
-use native.Mathlib.Numerals.{add-one}
+use mathlib.Core.Path.{_≡_, refl, sym, ap, _∙_}
+use mathlib.Core.List.{List, [], _∷_}
+use Prim.Native.Nat.{ℕ, _+_, _-_, _<_, _≤_}
 use native.Mathlib.Omega.{arith}
-use borrow.Author.Tests.{lt-ltb, le-ltb, ltb-true, ltb-false}
-use lib.Dec.{ltb}
-use lib.ListN.{length, getD, set, take}
-use Rattle.definition.specs.Choice.{when}
-use Rattle.definition.specs.Lists.{part}
-use Rattle.definition.specs.Fixed as F
-use Rattle.definition.specs.Tokens.{tokenAt, isSign}
-use Rattle.definition.specs.Expressions as E
-use Rattle.definition.specs.Expressions.{Reading, read, refused, then, Parsed, parsed, Tree, more, none, expectSign}
+use borrow.Author.Tests.{lt-ltb, le-ltb}
+use lib.ListN.{length}
 use Rattle.definition.specs.Values as Val
-use Rattle.definition.specs.World.{World, Res, good, bad, bind, ask}
-use Rattle.definition.specs.Evaluate as Ev
-use Rattle.definition.specs.Evaluate.{put, count, evaluate}
+use Rattle.definition.specs.World.{ask}
+use Rattle.definition.specs.Evaluate.{put, count}
 use Rattle.definition.specs.declared.Why.{Why}
-use Rattle.definition.specs.declared.Why.the-variants.{Syntax, WrongName}
+use Rattle.definition.specs.declared.Why.the-variants.{WrongName}
 use Rattle.definition.specs.declared.ValueType.{ValueType}
-use Rattle.definition.specs.declared.ValueType.the-variants.{FixedType, CharacterType}
-use Rattle.definition.proofs.Ranges.{Fine}
 use Rattle.fixed.specs.declared.Fixed.{Fixed}
-use Rattle.fixed.specs.Signed.{storedOf, fromStored}
-use Rattle.fixed.proofs.Magnitude.{stored-back}
 use Rattle.meter.specs.declared.Meter.{Meter}
-use Rattle.tokens.specs.declared.Lexeme.{Lexeme}
-use Rattle.tokens.specs.Answer.{Lexed}
-use Rattle.names.specs.Table.{ownerOf}
-use Rattle.expressions.specs.Check.{insideOf}
 use Rattle.operators.specs.declared.Value.{Value}
-use Rattle.operators.specs.declared.Value.the-variants.{Number, Characters, Bits}
 use Rattle.operators.specs.declared.Given.{Given}
 use Rattle.operators.specs.declared.Given.the-variants.{Gives, Fails}
-use Rattle.operators.specs.Stands.{sizeFor, valueIn, givenIn, stacked, asSubject, topOf, Ready, Stood}
+use Rattle.operators.specs.Stands.{sizeFor, valueIn, stacked, Stood}
 use Rattle.operators.specs.Stands as O
-use Rattle.operators.proofs.Room.{part-below, top-in}
-use Rattle.operators.proofs.Callers.{below-less}
 use Rattle.operators.proofs.Callers as R
 use Rattle.callees.specs.declared.Held.{Held}
 use Rattle.callees.specs.declared.Callee.{Callee}
-use Rattle.callees.specs.declared.ParameterAt.{ParameterAt}
-use Rattle.callees.specs.declared.ParameterAt.the-variants as P
-use Rattle.callees.specs.declared.Parameter.{Parameter}
-use Rattle.callees.specs.Shown.{namesWorld, worldIn, Slots, Typed}
-use Rattle.callees.specs.Answer.{ownerAt, spelledAt, parameterFor, parameterOf, ParameterIs, Names, heldNumber, HeldWith, heldAt, numberOf, fixedIn, FixedHeld, heldIn, heldSize}
-use Rattle.callees.proofs.Listing.{First, first-of}
-use Rattle.deck.specs.Answer.{bodyIn}
-use Rattle.operands.specs.declared.Scene.{Scene}
+use Rattle.callees.specs.Shown.{worldIn}
+use Rattle.callees.specs.Answer.{FixedHeld}
 use Rattle.operands.specs.declared.Evaluated.{Evaluated}
-use Rattle.operands.specs.declared.Evaluated.the-variants.{Is, Failed}
-use Rattle.operands.specs.declared.Wish.{Wish}
-use Rattle.operands.specs.declared.Wish.the-variants as Wi
-use Rattle.operands.specs.declared.Wished.{Wished}
-use Rattle.operands.specs.declared.Target.{Target}
+use Rattle.operands.specs.declared.Evaluated.the-variants.{Is}
 use Rattle.operands.specs.declared.Target.the-variants as T
-use Rattle.operands.specs.Answer.{Below, resIn, sizeOf, meterOf, withEnd, evaluatedFor}
+use Rattle.operands.specs.Answer.{sizeOf, evaluatedFor}
 use Rattle.operands.specs.Takes.{substrValues, SubstrDone}
-use Rattle.operands.proofs.Trees.{never, read-same, IsRead, then-read, inside-same, expect-is}
-use Rattle.operands.proofs.Leaves.{true-false, end-is, below-then, value-size, res-given, given-end, given-meter, stood-turns, failed-turns}
-use Rattle.operands.proofs.Ranging.{value-fine, convert-typed}
-use mathlib.Core.Bool.{_||_}
-use lib.Dec.{eqb}
-use borrow.Author.Tests.{eq-eqb, ne-eqb, eqb-true}
-use Rattle.definition.specs.World as W
-use Rattle.definition.specs.World.{bodyAt, noBody}
-use Rattle.definition.specs.Evaluate.{callee, listedName}
+use Rattle.operands.proofs.Leaves.{res-given, given-end, given-meter}
+use borrow.Author.Tests.{eq-eqb, ne-eqb}
 use Rattle.definition.specs.declared.Why.the-variants.{WrongArguments}
 use Rattle.rows.specs.declared.Starts.{Starts}
 use Rattle.names.specs.declared.Body.{Body}
-use Rattle.names.specs.declared.Body.the-variants as B
-use Rattle.names.specs.Table.{bodyOf}
 use Rattle.callees.specs.declared.Meant.{Meant}
 use Rattle.callees.specs.declared.Meant.the-variants as M
 use Rattle.callees.specs.declared.Called.{Called}
 use Rattle.callees.specs.declared.Called.the-variants as K
-use Rattle.callees.specs.Answer.{meantFor, CalleeOf, Waiting, heldFrom, calledFor}
+use Rattle.callees.specs.Answer.{CalleeOf}
 use Rattle.operands.specs.declared.Aim.{Aim}
 use Rattle.operands.specs.declared.Aim.the-variants as A
-use Rattle.operands.specs.Takes.{aimFor, AimAs, AimIs}
-
-clash : {A : Type 0} → _≡_ {A = ℕ} 0 1 → A
-clash z = absurd (omega arith)
+use Rattle.operands.specs.Takes.{aimFor, AimIs}
 
 -- ---- SUBSTR
 given-fits : (w : List ℕ) (u to : ℕ) (m : Meter) (a : Val.Answer Val.Value) (w′ : List ℕ) (g : Given) → u ≤ 65536 → Stood w u (stacked u a) w′ g → u + sizeOf (evaluatedFor g to m) ≤ 65536

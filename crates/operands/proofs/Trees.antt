@@ -25,6 +25,9 @@ use Rattle.expressions.specs.Check.{insideOf, operandIn, levelsIn, primitiveAt,
 use Rattle.operands.specs.declared.Scene.{Scene}
 use Rattle.operands.specs.Answer.{runIn, valueOf, infixOn, withSign, signsAt, prefixedBy}
 
+pub clash : {A : Type 0} → _≡_ {A = ℕ} 0 1 → A
+clash z = absurd (omega arith)
+
 -- ---- a reading that is no refusal
 pub never : {A B : Type 0} (w : Why) (p : ℕ) (x : A) → _≡_ {A = Reading A} (refused w p) (read x) → B
 never w p x e = absurd (let z : _≡_ {A = ℕ} 0 1 = cc in omega arith)

@@ -325,15 +325,6 @@ end-in t from to p k e r i h l g j =
     let f : k ≡ stretchOf t from to = slice-is t k from to i h l in
     record { is = λ w xs q c. rw j (ends-are (stretchOf t from to) p e (rw f at g) (omega (arith, stretch-length t from to, w .short)) xs q c) }
 
-pub place-comma : (e : Ending) (p q : ℕ) → e ≡ E.Comma q → q ≡ endPlace e p
-place-comma e p q f = rw f
-
-pub place-close : (e : Ending) (p q : ℕ) → e ≡ E.Close q → q ≡ endPlace e p
-place-close e p q f = rw f
-
-pub place-open : (e : Ending) (p : ℕ) → e ≡ E.Open → p ≡ endPlace e p
-place-open e p f = rw f
-
 -- ---- in the room of a source
 pub list-work : (s w : List ℕ) (x : Src) (p : ℕ) (r : Listing) → x .«in_work» ≡ true → ListIn w (x .from) (x .to) p r → ListIn (roomOf s w x) (x .from) (x .to) p r
 list-work s w x p r e h = rw (← room-work s w x e) h

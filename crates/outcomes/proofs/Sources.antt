@@ -32,9 +32,6 @@ plus-first a b h = rw (lt-leb a 4294967295 h)
 pub plus-sum : (a b : ℕ) → a + b ≤ 4294967295 → plusOf a b ≡ a + b
 plus-sum a b h = sym (plus-in a b (omega arith) (omega arith))
 
-pub span-none : (from to : ℕ) → to < from → 0 ≡ to - from
-span-none from to h = omega arith
-
 -- ---- a stretch
 pub part-is : (n from : ℕ) (t : List ℕ) → from + n ≤ length t → take n (drop from t) ≡ part n from t
 part-is zero from t h = refl
