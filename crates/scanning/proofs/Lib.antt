@@ -8,3 +8,4 @@ pub mod Finding
 pub mod Replacing
 pub mod Entries
 pub mod Arguing
+pub mod Outside
