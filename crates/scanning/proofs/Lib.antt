@@ -9,3 +9,4 @@ pub mod Replacing
 pub mod Entries
 pub mod Arguing
 pub mod Outside
+pub mod Examples
