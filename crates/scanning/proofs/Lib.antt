@@ -8,3 +8,5 @@ pub mod Finding
 pub mod Replacing
 pub mod Entries
 pub mod Arguing
+pub mod Outside
+pub mod Examples

@@ -35,7 +35,7 @@ use Rattle.outcomes.specs.declared.Active.{Active}
 use Rattle.outcomes.specs.declared.Active.the-variants.{NotActive, IsActive}
 use Rattle.outcomes.specs.declared.Replaced.{Replaced}
 use Rattle.outcomes.specs.declared.Replaced.the-variants as R
-use Rattle.outcomes.specs.Texts.{plusOf, roomOf, stretchOf, textOf, PieceIn, activeFor, ActiveHere}
+use Rattle.outcomes.specs.Texts.{plusOf, roomOf, stretchOf, textOf, PieceIn, Awake, activeFor, ActiveHere}
 use Rattle.outcomes.specs.Places.{intoOf, afterOf, waitingOf, bytesAt, workPut, textPut, Puts, copiedFor, Copied, outIn}
 use Rattle.outcomes.proofs.Sources.{plus-sum, stretch-length}
 use Rattle.operands.specs.declared.Scene.{Scene}
@@ -81,6 +81,14 @@ on-is : (y : Activity) → (activityOf y ≡ W.inactive → ⊥) → isOn y ≡ 
 on-is A.Inactive f = absurd (f refl)
 on-is A.Rescanned f = refl
 on-is A.CopiedOnly f = refl
+
+-- a name that is active in a world whose names the table has: its address is in the table, and it is on
+pub awake-active : (deck names : List ℕ) (n : ℕ) (B : World) → Awake deck names n B → (x : T.Piece) (act : Active) (a : Address) (v : Activity) → activeFor act ≡ D.activeIn x B → act ≡ IsActive a v
+    → (D.activeIn x B ≡ D.active (a .0) (activityOf v)) × (a .0 < n) × (isOn v ≡ true)
+awake-active deck names n B k x act a v f e =
+    let g : D.activeIn x B ≡ D.active (a .0) (activityOf v) = sym f ∙ ap activeFor e in
+    let aw : Awakened B (a .0) (activityOf v) = awakened B x (a .0) (activityOf v) g in
+    (g, omega (arith, aw .low, ap (λ (z : List W.Identifier). length z) (k .identifiers), ids-length deck names 0 n), on-is v (aw .on))
 
 -- ---- what fits
 and-first : (a b : Bool) → (a && b) ≡ true → a ≡ true
@@ -233,14 +241,13 @@ module _ (deck s rows names c l h w t : List ℕ) (x : Src) (p k : ℕ) (o : Des
     replaced-by : (c′ l′ h′ w′ t′ : List ℕ) (r : Replaced) (a : Address) (v : Activity) → act ≡ IsActive a v → ReplaceIs deck s rows names c l h w t x (y .to) (a .0) v (afterOf o k) (waitingOf o u k) n sc m c′ l′ h′ w′ t′ r
         → k ≤ o .room → (o .«to_work» ≡ true → u + k ≤ 65536) → Gone B (afterOf o k) (waitingOf o u k) w t c′ l′ h′ w′ t′ r (tokenAt (replacerIn sc n) (intoOf o) text k u p world)
     replaced-by c′ l′ h′ w′ t′ r a v e ri kr kf =
-        let e₂ : D.active (a .0) (activityOf v) ≡ D.activeIn (pieceAt text p .piece) world = rw e at active-at in
-        let aw : Awakened world (a .0) (activityOf v) = awakened world (pieceAt text p .piece) (a .0) (activityOf v) (sym e₂) in
-        let low : a .0 < sc .names = omega (arith, aw .low, ap (λ (z : List W.Identifier). length z) (g .awake .identifiers), ids-length deck names 0 (sc .names)) in
+        let aw : (D.activeIn (pieceAt text p .piece) world ≡ D.active (a .0) (activityOf v)) × (a .0 < sc .names) × (isOn v ≡ true) =
+        awake-active deck names (sc .names) world (record { identifiers = g .awake .identifiers; activities = g .awake .activities }) (pieceAt text p .piece) act a v active-at e in
         let st : Stage deck rows names c l h w (waitingOf o u k) sc m t (afterOf o k) B = stage-on deck rows names c l h w u sc m t o B c l h w (waitingOf o u k) m t (afterOf o k) g (g .shows .slots) refl (wait-top o u k (g .shows .taken) kf) (g .shows .limit) (aims-after t o k (g .aims) kr) in
         let ss : Sourced s w x (waitingOf o u k) = source-still s w w x u (waitingOf o u k) so refl (wait-low o u k kf) in
         let q : tokenAt (replacerIn sc n) (intoOf o) text k u p world ≡ replacerIn sc n text (y .to) (a .0) (activityOf v) (intoOf (afterOf o k)) (waitingOf o u k) world =
-        token-is (D.active (a .0) (activityOf v)) (sym e₂) ∙ rw (into-after o k, waiting-is o u k kf) in
-        rw q (ri .is B st ss low (on-is v (aw .on)))
+        token-is (D.active (a .0) (activityOf v)) (aw .0) ∙ rw (into-after o k, waiting-is o u k kf) in
+        rw q (ri .is B st ss (aw .1) (aw .2))
 
   pub token-copied : (w′ t′ : List ℕ) (r : Replaced) → act ≡ NotActive → Copied s w t x p (y .to) o u k m w′ t′ r → TokenIs deck s rows names c l h w t x p k o u n sc m c l h w′ t′ r
   token-copied w′ t′ r e cp = record { is = λ B g so lt kr kf. copied-by B g so lt w′ t′ r e cp kr kf (D.fits (intoOf o) u k (y .to - p)) refl }

@@ -30,6 +30,7 @@ use Rattle.callees.proofs.parameter_at.Reads as parameter-at-reads
 use Rattle.callees.proofs.variable_value.Reads as variable-value-reads
 use Rattle.callees.proofs.with_held.Reads as with-held-reads
 use Rattle.deck.proofs.body.Reads as body-reads
+use Rattle.evaluating.proofs.call.Reads as call-reads
 use Rattle.meter.proofs.Meter.charged.Reads as charged-reads
 use Rattle.names.proofs.name_at.Reads as name-at-reads
 use Rattle.operators.proofs.above.Reads as above-reads
@@ -52,7 +53,6 @@ use Rattle.outcomes.proofs.settled.Reads as settled-reads
 use Rattle.outcomes.proofs.span.Reads as span-reads
 use Rattle.outcomes.proofs.up_to.Reads as up-to-reads
 use Rattle.outcomes.proofs.waiting.Reads as waiting-reads
-use Rattle.evaluating.proofs.call.Reads as call-reads
 use Rattle.scanning.proofs.converted.Reads as converted-reads
 use Rattle.scanning.proofs.meter_of.Reads as meter-of-reads
 use Rattle.scanning.proofs.next_of.Reads as next-of-reads
