@@ -25,7 +25,7 @@ use Rattle.running.proofs.turn.Reads as turn
 use Rattle.running.proofs.turn.Kinds as turn-kinds
 use Rattle.running.proofs.+begin+enter_and_run+include_all+include_one+run_rows+run_source+turn.Lts-turn as turn-lts
 use Rattle.deck.proofs.body.Reads as body-reads
-use Rattle.evaluating.proofs.turns_left.Reads as turns-left-reads
+use Rattle.evaluating.proofs.deeds.turns_left.Reads as turns-left-reads
 use Rattle.flow.proofs.first_of.Reads as first-of-reads
 use Rattle.flow.proofs.no_frames.Reads as no-frames-reads
 use Rattle.meter.proofs.Meter.charged.Reads as charged-reads
