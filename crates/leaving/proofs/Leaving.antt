@@ -13,8 +13,7 @@ use Rattle.definition.specs.Calls.{Place}
 use Rattle.definition.specs.Flow as F
 use Rattle.definition.specs.Run.{landing, jumpAway, jumpLabel, jumpBy, jumpFrom}
 use Rattle.definition.specs.World as W
-use Rattle.definition.specs.World.{World, Res, good, bad, ask, addressIn, addressOf, everyone, rowsOf}
-use Rattle.definition.specs.declared.Why.{Why}
+use Rattle.definition.specs.World.{World, good, bad, ask, addressIn, addressOf, everyone, rowsOf}
 use Rattle.definition.specs.declared.Why.the-variants.{WrongName, WrongGoto}
 use Rattle.definition.specs.declared.ValueType.{ValueType}
 use Rattle.names.specs.declared.Address.{Address}
@@ -33,7 +32,7 @@ use Rattle.rows.specs.Parts.{partIn}
 use Rattle.tokens.specs.declared.Lexeme.{Lexeme}
 use Rattle.tokens.specs.Answer.{Lexed}
 use Rattle.flow.proofs.Flows.{may-go-is}
-use Rattle.callees.specs.Shown.{namesWorld, denotationsFrom, Named}
+use Rattle.callees.specs.Shown.{namesWorld, Named}
 use Rattle.callees.specs.Answer.{spelledAt}
 use Rattle.callees.proofs.Naming.{denotation-is, low-own, known-is, unknown-is}
 use Rattle.leaving.specs.declared.Below.{Below}

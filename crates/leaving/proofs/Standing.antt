@@ -7,10 +7,9 @@ use Prim.Native.Nat.{ℕ, zero, suc, _+_, _-_, _<_, _≤_}
 use native.Mathlib.Numerals.{add-one}
 use native.Mathlib.Omega.{arith}
 use borrow.Author.Tests.{lt-ltb, le-ltb, eq-eqb, ne-eqb, eqb-true, eqb-false}
-use lib.Dec.{eqb, ltb}
+use lib.Dec.{eqb}
 use lib.ListN.{length, getD, set}
 use lib.Seq.{getD-set-same, getD-set-other}
-use Rattle.rows.specs.declared.Link.{Link}
 use Rattle.rows.specs.declared.Link.the-variants.{Nowhere, To}
 use Rattle.leaving.specs.declared.Below.{Below}
 use Rattle.leaving.specs.Places.{placeAt, placesIn, belowOf, rowFor, NoneBelow, WithBelow}
