@@ -1,4 +1,7 @@
 // Members run: program text is put out and scanned, statements do what they say, members are included. A refusal gets its place here.
+use activating::activate_all;
+use activating::deactivate_all;
+use activating::declare_all;
 use bodies::Done;
 use bodies::Started;
 use bodies::Tested;
@@ -14,18 +17,17 @@ use evaluating::deeds::turns_left;
 use flow::Frames;
 use flow::Next;
 use flow::Walk;
+use leaving::Below;
+use leaving::Jump;
+use leaving::jump_from;
+use leaving::none_below;
+use leaving::with_below;
 use limits::Levels;
 use meter::Meter;
 use names::Activity;
 use names::Address;
-use names::Denotation;
-use names::Found;
 use names::Label;
-use names::Name;
 use names::Owner;
-use names::find;
-use names::name_at;
-use names::put_name;
 use operands::Scene;
 use outcomes::Active;
 use outcomes::Dest;
@@ -43,7 +45,6 @@ use output::put_copied;
 use output::put_replaced;
 use reading::Source;
 use reading::read_member;
-use rows::Link;
 use rows::Role;
 use rows::Row;
 use rows::Starts;
@@ -57,7 +58,6 @@ use rows::with_start;
 use scanning::replace;
 use tokens::Lexeme;
 use tokens::is_sign;
-use tokens::is_word;
 use tokens::token_at;
 
 // What a run changes beside the rooms: the steps, what was put out, the rows and names that there are.
@@ -600,291 +600,6 @@ fn follow(
     Onward::Good(Next::Over, g)
 }
 
-// ---- ACTIVATE, DEACTIVATE, DECLARE
-
-// Sets the activity of a variable or an entry, and says whether the name is one.
-fn activate(
-    deck: &[u8],
-    s: &[u8],
-    names: &mut [u16],
-    count: u16,
-    t: Lexeme,
-    act: Activity,
-) -> bool {
-    let found = find(
-        deck,
-        names,
-        count,
-        s,
-        t.from,
-        span(t.from, t.to),
-        Owner::Everyone,
-    );
-    match found {
-        Found::Unknown => false,
-        Found::Known(a) => {
-            let x = name_at(names, a);
-            if is_active_kind(x) {
-                let identifier = x.identifier;
-                let owner = x.owner;
-                let denotation = x.denotation;
-                put_name(
-                    names,
-                    a,
-                    Name {
-                        identifier,
-                        owner,
-                        denotation,
-                        activity: act,
-                    },
-                );
-                return true;
-            }
-            false
-        }
-    }
-}
-
-fn is_active_kind(x: Name) -> bool {
-    let d = x.denotation;
-    match d {
-        Denotation::Variable(_) => true,
-        Denotation::EntryName(_) => true,
-        Denotation::LabelName(_) => false,
-        Denotation::Builtin => false,
-    }
-}
-
-// The words that a list of names may have beside its names, by statement.
-enum Listed {
-    Plainly,
-    WithRescan,
-    WithAttributes,
-}
-
-// What a name in ACTIVATE becomes: the word behind it says.
-fn activity_at(s: &[u8], at: usize, kind: Listed, act: Activity) -> Activity {
-    match kind {
-        Listed::Plainly => act,
-        Listed::WithAttributes => act,
-        Listed::WithRescan => {
-            let t = token_at(s, at);
-            if is_word(s, t, b"NORESCAN") {
-                return Activity::CopiedOnly;
-            }
-            Activity::Rescanned
-        }
-    }
-}
-
-// The place of the next name behind one that ends at a place, or that the statement ends. Only names, commas, parentheses and one
-// word behind each stand there, since the statement was read.
-enum Following {
-    NameAt(usize),
-    AtEnd,
-}
-
-// One token that may stand between two names.
-enum Gap {
-    More(usize),
-    Name(usize),
-    End,
-}
-
-fn gap_at(s: &[u8], at: usize, was_comma: bool) -> Gap {
-    let t = token_at(s, at);
-    if is_sign(s, t, b";") {
-        return Gap::End;
-    }
-    if was_comma {
-        if is_sign(s, t, b"(") {
-            return Gap::More(t.to);
-        }
-        return Gap::Name(at);
-    }
-    Gap::More(t.to)
-}
-
-fn is_comma_before(s: &[u8], at: usize, was_comma: bool) -> bool {
-    let t = token_at(s, at);
-    if is_sign(s, t, b",") {
-        return true;
-    }
-    if was_comma {
-        return is_sign(s, t, b"(");
-    }
-    false
-}
-
-// From a place between names to the next name: a name stands behind a comma or a parenthesis that opens.
-fn next_name(s: &[u8], from: usize, at_start: bool) -> Following {
-    let mut at = from;
-    let mut was_comma = at_start;
-    let mut turns = s.len();
-    while 0 < turns {
-        turns -= 1;
-        let g = gap_at(s, at, was_comma);
-        match g {
-            Gap::More(e) => {
-                was_comma = is_comma_before(s, at, was_comma);
-                at = e;
-            }
-            Gap::Name(p) => {
-                return Following::NameAt(p);
-            }
-            Gap::End => {
-                return Following::AtEnd;
-            }
-        }
-    }
-    Following::AtEnd
-}
-
-// Sets the activity of each name of the list at a place; false where one is no variable and no entry.
-fn activate_all(
-    deck: &[u8],
-    s: &[u8],
-    names: &mut [u16],
-    count: u16,
-    from: usize,
-    kind: Listed,
-    act: Activity,
-) -> bool {
-    let mut next = next_name(s, from, true);
-    let mut turns = s.len();
-    while 0 < turns {
-        turns -= 1;
-        match next {
-            Following::NameAt(p) => {
-                let t = token_at(s, p);
-                if activate(deck, s, names, count, t, activity_at(s, t.to, kind, act)) {
-                    next = next_name(s, t.to, false);
-                } else {
-                    return false;
-                }
-            }
-            Following::AtEnd => {
-                return true;
-            }
-        }
-    }
-    true
-}
-
-// ---- GOTO
-
-// Members that are running below this one: how many, and of each the row where it stands.
-pub struct Below {
-    pub count: usize,
-    pub members: [u16; 16],
-    pub rows: [u16; 16],
-}
-
-fn none_below() -> Below {
-    Below {
-        count: 0,
-        members: [0; 16],
-        rows: [0; 16],
-    }
-}
-
-fn with_below(b: Below, member: u16, row: u16) -> Below {
-    let n = b.count;
-    let mut all = b;
-    if n < 16 {
-        all.members[n] = member;
-        all.rows[n] = row;
-        all.count = n + 1;
-    }
-    all
-}
-
-// The row where the newest running member of this number stands.
-fn row_below(b: Below, member: u16) -> Link {
-    let mut i: usize = 16;
-    while 0 < i {
-        i -= 1;
-        if i < b.count {
-            if b.members[i] == member {
-                return Link::To(b.rows[i]);
-            }
-        }
-    }
-    Link::Nowhere
-}
-
-// A label that GOTO leads to, here or in a member below, or why it may not.
-enum Jump {
-    Here(Label),
-    Away(Label),
-    Bad(Why),
-}
-
-// The label stands in a member below, whose rows are `part`.
-fn jump_away(part: &[u16], below: Below, l: Label) -> Jump {
-    let p = l.place;
-    let from = row_below(below, p.member);
-    match from {
-        Link::To(n) => {
-            if flow::may_go(part, n, p.row, l.is_end) {
-                return Jump::Away(l);
-            }
-            Jump::Bad(Why::WrongGoto)
-        }
-        Link::Nowhere => Jump::Bad(Why::WrongGoto),
-    }
-}
-
-fn jump_label(rows: &[u16], below: Below, here: Here, n: u16, l: Label) -> Jump {
-    let p = l.place;
-    let starts = here.starts;
-    let part = part_of(rows, starts, p.member);
-    if p.member == here.member {
-        if flow::may_go(part, n, p.row, l.is_end) {
-            return Jump::Here(l);
-        }
-        return Jump::Bad(Why::WrongGoto);
-    }
-    jump_away(part, below, l)
-}
-
-// The GOTO of row n, whose label stands at a place: kind first, then 13.
-fn jump_from(
-    deck: &[u8],
-    s: &[u8],
-    rows: &[u16],
-    names: &[u16],
-    count: u16,
-    below: Below,
-    here: Here,
-    n: u16,
-    at: usize,
-) -> Jump {
-    let t = token_at(s, at);
-    let found = find(
-        deck,
-        names,
-        count,
-        s,
-        t.from,
-        span(t.from, t.to),
-        Owner::Everyone,
-    );
-    match found {
-        Found::Unknown => Jump::Bad(Why::WrongName),
-        Found::Known(a) => {
-            let x = name_at(names, a);
-            let d = x.denotation;
-            match d {
-                Denotation::LabelName(l) => jump_label(rows, below, here, n, l),
-                Denotation::Variable(_) => Jump::Bad(Why::WrongName),
-                Denotation::EntryName(_) => Jump::Bad(Why::WrongName),
-                Denotation::Builtin => Jump::Bad(Why::WrongName),
-            }
-        }
-    }
-}
-
 // ---- statements
 
 // What a statement does: control goes on, a GOTO leads out of the member, or a refusal.
@@ -1203,43 +918,20 @@ fn statement(
             g,
         ),
         Statement::Goto => {
-            let j = jump_from(deck, s, rows, names, g.names, below, here, n, at);
+            let starts = here.starts;
+            let j = jump_from(deck, s, rows, names, g.names, below, member, starts, n, at);
             on_jump(part, fs, j, g, member, place)
         }
         Statement::Declare => {
-            let b = activate_all(
-                deck,
-                s,
-                names,
-                g.names,
-                at,
-                Listed::WithAttributes,
-                Activity::Rescanned,
-            );
+            let b = declare_all(deck, s, names, g.names, at);
             on_activated(fs, n, b, g, member, place)
         }
         Statement::Activate => {
-            let b = activate_all(
-                deck,
-                s,
-                names,
-                g.names,
-                at,
-                Listed::WithRescan,
-                Activity::Rescanned,
-            );
+            let b = activate_all(deck, s, names, g.names, at);
             on_activated(fs, n, b, g, member, place)
         }
         Statement::Deactivate => {
-            let b = activate_all(
-                deck,
-                s,
-                names,
-                g.names,
-                at,
-                Listed::Plainly,
-                Activity::Inactive,
-            );
+            let b = deactivate_all(deck, s, names, g.names, at);
             on_activated(fs, n, b, g, member, place)
         }
         Statement::Null => with_step(fs, Step::On(Walk::Up(n), g)),

@@ -28,6 +28,7 @@ use Rattle.deck.proofs.body.Reads as body-reads
 use Rattle.evaluating.proofs.deeds.turns_left.Reads as turns-left-reads
 use Rattle.flow.proofs.first_of.Reads as first-of-reads
 use Rattle.flow.proofs.no_frames.Reads as no-frames-reads
+use Rattle.leaving.proofs.with_below.Reads as with-below-reads
 use Rattle.meter.proofs.Meter.charged.Reads as charged-reads
 use Rattle.rows.proofs.row_at.Reads as row-at-reads
 use Rattle.running.proofs.entered.Reads as entered-reads
@@ -47,7 +48,6 @@ use Rattle.running.proofs.since.Reads as since-reads
 use Rattle.running.proofs.statement.Reads as statement-reads
 use Rattle.running.proofs.stopped.Reads as stopped-reads
 use Rattle.running.proofs.turned_at.Reads as turned-at-reads
-use Rattle.running.proofs.with_below.Reads as with-below-reads
 use Rattle.running.proofs.with_meter.Reads as with-meter-reads
 use Rattle.running.proofs.with_source.Reads as with-source-reads
 use Rattle.running.proofs.with_step.Reads as with-step-reads

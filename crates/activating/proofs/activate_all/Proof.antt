@@ -1,0 +1,20 @@
+-- As the definition reads it.
+use borrow.Author.Needs.{needs}
+use Rattle.activating.proofs.activate_all.Statement.{statement}
+use Rattle.activating.proofs.activate_all.Tie as tie
+use Rattle.activating.proofs.activate_all.Reads as reads
+use Rattle.activating.proofs.activate_all.Lts as lts
+use Rattle.activating.proofs.set_all.Reads as set-all-reads
+use Rattle.activating.proofs.Readers.{activates}
+
+set-all-requires : tie.Need-set-all-requires
+set-all-requires c κs = search needs
+
+same-length : tie.Need-same-length
+same-length c = search needs
+
+returns : tie.Need-returns
+returns c = search activates
+
+pub activate-all-spec : {M : Type 1} → statement M
+activate-all-spec = tie.close (tie.spec set-all-requires same-length returns)

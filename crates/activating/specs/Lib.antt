@@ -1,0 +1,3 @@
+-- What the contracts of `activating` cite.
+pub mod Lists
+pub mod Sets

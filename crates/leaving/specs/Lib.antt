@@ -1,0 +1,3 @@
+-- What the contracts of `leaving` cite.
+pub mod Places
+pub mod Leads
