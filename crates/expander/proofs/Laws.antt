@@ -21,10 +21,10 @@ use Rattle.deck.specs.declared.Contents.the-variants.{Malformed, Sound}
 use Rattle.deck.specs.declared.Deck.{Deck}
 use Rattle.deck.specs.Answer as C
 use Rattle.rooms.proofs.Laws.{drop-cleared}
-use Rattle.running.specs.declared.Progress.{Progress}
-use Rattle.running.specs.declared.Stop.{Stop}
-use Rattle.running.specs.declared.Ran.{Ran}
-use Rattle.running.specs.declared.Ran.the-variants.{Good, Bad}
+use Rattle.texts.specs.declared.Progress.{Progress}
+use Rattle.texts.specs.declared.Stop.{Stop}
+use Rattle.texts.specs.declared.Ran.{Ran}
+use Rattle.texts.specs.declared.Ran.the-variants.{Good, Bad}
 use Rattle.expander.specs.declared.Expansion.{Expansion}
 use Rattle.expander.specs.Answer.{bare, stopNumber, refusalAt, refusedFor, finishedFor, answerFor}
 use Rattle.expander.specs.Promise.{areRoomy, Numbers, Working, isRoomy, Cleared, Nothing, Expanded, sixOf}

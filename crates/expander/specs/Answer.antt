@@ -4,10 +4,10 @@ use mathlib.Core.Bool.{cond}
 use lib.Dec.{leb}
 use Rattle.definition.specs.declared.Why.{Why}
 use Rattle.definition.specs.Refusal.{numberOf}
-use Rattle.running.specs.declared.Progress.{Progress}
-use Rattle.running.specs.declared.Stop.{Stop}
-use Rattle.running.specs.declared.Ran.{Ran}
-use Rattle.running.specs.declared.Ran.the-variants.{Good, Bad}
+use Rattle.texts.specs.declared.Progress.{Progress}
+use Rattle.texts.specs.declared.Stop.{Stop}
+use Rattle.texts.specs.declared.Ran.{Ran}
+use Rattle.texts.specs.declared.Ran.the-variants.{Good, Bad}
 use Rattle.expander.specs.declared.Expansion.{Expansion}
 
 -- a refusal: text length and lines are 0

@@ -15,10 +15,10 @@ use rooms::zero_from;
 use rooms::zero_u8;
 use rooms::zero_u16;
 use rooms::zero_u32;
-use running::Progress;
-use running::Ran;
-use running::Stop;
 use running::run;
+use texts::Progress;
+use texts::Ran;
+use texts::Stop;
 
 // The six numbers of an answer.
 pub struct Expansion {

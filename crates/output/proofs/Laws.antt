@@ -18,7 +18,7 @@ use Rattle.output.specs.declared.Newest.{Newest}
 use Rattle.output.specs.declared.Out.{Out}
 use Rattle.output.specs.declared.Put.{Put}
 use Rattle.output.specs.declared.Put.the-variants.{Done, Full}
-use Rattle.output.specs.Shows.{top, lineIn, growsFrom, Fine, Shows, taken, fits, More, Answers, Puts, Ends, Begins}
+use Rattle.output.specs.Shows.{top, lineIn, growsFrom, Fine, TellsFine, Shows, taken, fits, More, Answers, Puts, Ends, Begins}
 use Rattle.output.specs.Line.{At, Wrote}
 
 -- ---- twelve bytes, written in six parts
@@ -253,9 +253,12 @@ begin-fine T L o b =
     }
 
 -- ---- the test of a cursor against the rooms
-pub never : {A : Type 0} → false ≡ true → A
+never : {A : Type 0} → false ≡ true → A
 never e = absurd (false≢true e)
 
+pub fine-not : (o : Out) (t l : ℕ) → (Fine o t l → ⊥) → TellsFine o t l false
+fine-not o t l f = record { yes = λ e. never e; no = λ _ g. f g }
+
 pub fine-all : (o : Out) (t l : ℕ) → o .text ≤ t → o .room ≤ t - o .text → o .text + o .room ≤ 4294967295 → o .lines ≤ l / 12 → o .free ≤ l / 12 - o .lines
-    → o .newest .size ≤ o .text → (o .newest .kind ≡ 2 → 1 ≤ o .lines) → Fine o t l
-fine-all o t l a b c d e f g = record { text = omega arith; most = c; list = omega arith; line = f; some = g }
+    → o .newest .size ≤ o .text → (o .newest .kind ≡ 2 → 1 ≤ o .lines) → TellsFine o t l true
+fine-all o t l a b c d e f g = record { yes = λ _. record { text = omega arith; most = c; list = omega arith; line = f; some = g }; no = λ v. never (sym v) }

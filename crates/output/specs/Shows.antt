@@ -33,6 +33,11 @@ pub record Fine (o : Out) (t l : ℕ) : Type 0 where
   pub line : o .newest .size ≤ o .text
   pub some : o .newest .kind ≡ 2 → 1 ≤ o .lines
 
+-- an answer that tells whether they do
+pub record TellsFine (o : Out) (t l : ℕ) (r : Bool) : Type 0 where
+  pub yes : r ≡ true → Fine o t l
+  pub no : r ≡ false → Fine o t l → ⊥
+
 pub record Shows (es : List Event) (o : Out) (t l : List ℕ) : Type 0 where
   pub text : t ≡ over (zeros (length t)) 0 (textOf es)
   pub at : o .text ≡ length (textOf es)

@@ -4,12 +4,12 @@ ghost use mathlib.Core.List.{_∷_, []};
 ghost use Prim.Native.Nat.{_+_, _*_, _≤_};
 ghost use lib.ListN.{length};
 ghost use lib.Dec.{leb};
-ghost use mathlib.Core.Bool.{cond, true};
+ghost use mathlib.Core.Bool.{cond};
 ghost use Rattle.definition.specs.Limits.{textBytes};
 ghost use Rattle.definition.specs.Lists.{part};
 ghost use Rattle.definition.specs.Room.{over};
 ghost use Rattle.definition.specs.Events.{blank, copied, lineBytes};
-ghost use Rattle.output.specs.Shows.{lineIn, growsFrom, Fine, Puts, Ends, Begins};
+ghost use Rattle.output.specs.Shows.{lineIn, growsFrom, Fine, TellsFine, Puts, Ends, Begins};
 ghost use Rattle.output.specs.Line.{At, Wrote};
 use rooms::copy;
 use rooms::put_byte;
@@ -70,7 +70,7 @@ impl Out {
 
 // Whether the numbers fit rooms of so many bytes of text and of lines.
 pub fn is_fine(o: Out, text: usize, list: usize) -> bool
-    ensures { λ r. ⌜ (r ≡ true → Fine o text list) ⌝ }
+    ensures { λ r. ⌜ TellsFine o text list r ⌝ }
 {
     if text < o.text {
         return false;

@@ -36,7 +36,6 @@ use Rattle.running.proofs.in_member.Reads as in-member-reads
 use Rattle.running.proofs.into_again.Reads as into-again-reads
 use Rattle.running.proofs.is_include.Reads as is-include-reads
 use Rattle.running.proofs.is_over.Reads as is-over-reads
-use Rattle.running.proofs.lead_out.Reads as lead-out-reads
 use Rattle.running.proofs.left_at.Reads as left-at-reads
 use Rattle.running.proofs.member_named.Reads as member-named-reads
 use Rattle.running.proofs.on_ended.Reads as on-ended-reads
@@ -48,9 +47,10 @@ use Rattle.running.proofs.since.Reads as since-reads
 use Rattle.running.proofs.statement.Reads as statement-reads
 use Rattle.running.proofs.stopped.Reads as stopped-reads
 use Rattle.running.proofs.turned_at.Reads as turned-at-reads
-use Rattle.running.proofs.with_meter.Reads as with-meter-reads
 use Rattle.running.proofs.with_source.Reads as with-source-reads
 use Rattle.running.proofs.with_step.Reads as with-step-reads
+use Rattle.texts.proofs.lead_out.Reads as lead-out-reads
+use Rattle.texts.proofs.with_meter.Reads as with-meter-reads
 use Rattle.tokens.proofs.is_sign.Reads as is-sign-reads
 use Rattle.tokens.proofs.token_at.Reads as token-at-reads
 use Rattle.running.proofs.+begin+enter_and_run+include_all+include_one+run_rows+run_source+turn.{
