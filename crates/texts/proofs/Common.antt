@@ -7,13 +7,16 @@ use Prim.Native.Nat.{ℕ, _+_, _-_, _%_, _<_, _≤_}
 use native.Mathlib.Omega.{arith}
 use lib.ListN.{length}
 use Rattle.definition.specs.Lists.{part}
+use Rattle.definition.specs.Room.{zeros}
 use Rattle.definition.specs.Events.{Event}
 use Rattle.definition.specs.World as W
-use Rattle.definition.specs.World.{Pass, World, withEvent}
+use Rattle.definition.specs.World.{Pass, World, newWorld, withEvent}
 use Rattle.definition.specs.Calls.{calls, callOut}
 use Rattle.meter.specs.declared.Meter.{Meter}
 use Rattle.rows.specs.declared.Starts.{Starts}
 use Rattle.output.specs.declared.Out.{Out}
+use Rattle.output.specs.Shows.{Begins}
+use Rattle.output.proofs.Laws.{begin-shows, begin-fine}
 use Rattle.names.specs.Table.{identifiersFrom}
 use Rattle.callees.specs.Shown.{denotationsFrom, Named, Slots}
 use Rattle.callees.specs.Answer.{onFrom}
@@ -90,12 +93,16 @@ module _ (deck rows names c l h w t ls : List ℕ) (starts : Starts) (g : Progre
     written = wr;
   }
 
-  pub stage-meter : (m : Meter) → m .limit ≡ B .limit → Onstage deck rows names c l h w t ls starts (withMeter g m) B
-  stage-meter m v = record {
-    shows = record { named = s .shows .named; rowed = s .shows .rowed; slots = s .shows .slots; work = s .shows .work; taken = s .shows .taken; limit = v; left = s .shows .left };
+  -- other values and steps alone
+  pub stage-values : (c′ l′ h′ w′ : List ℕ) (m : Meter) → Slots (B .denotations) c′ l′ h′ → length w′ ≡ length w → m .limit ≡ B .limit → Onstage deck rows names c′ l′ h′ w′ t ls starts (withMeter g m) B
+  stage-values c′ l′ h′ w′ m i j v = record {
+    shows = record { named = s .shows .named; rowed = s .shows .rowed; slots = i; work = omega (arith, s .shows .work, j); taken = s .shows .taken; limit = v; left = s .shows .left };
     awake = s .awake;
     written = s .written;
   }
+
+  pub stage-meter : (m : Meter) → m .limit ≡ B .limit → Onstage deck rows names c l h w t ls starts (withMeter g m) B
+  stage-meter m v = stage-values c l h w m (s .shows .slots) refl v
 
   -- a scene as this one
   pub stage-scene : (sc : Scene) → SceneIs starts g sc → Shows deck rows names c l h w 0 sc (g .meter) B
@@ -111,6 +118,10 @@ module _ (deck rows names c l h w t ls : List ℕ) (starts : Starts) (g : Progre
 
   pub stage-awake : (sc : Scene) → SceneIs starts g sc → Awake deck names (sc .names) B
   stage-awake sc i = subst (λ (n : ℕ). Awake deck names n B) (sym (i .names)) (s .awake)
+
+-- ---- nothing is put out yet
+pub written-none : (t ls : List ℕ) (o : Out) (limit : ℕ) → t ≡ zeros (length t) → ls ≡ zeros (length ls) → Begins (length t) (length ls) o → Written t ls o (newWorld limit (o .room) (o .free))
+written-none t ls o limit e f b = record { out = begin-shows t ls o e f b; fine = begin-fine (length t) (length ls) o b; text = refl; lines = refl }
 
 -- ---- the rest of the world
 pub goes-event : (B : World) (e : Event) (z : Pass) (k : ℕ) → Goes B (withEvent e z k B)

@@ -222,3 +222,7 @@ module _ (deck s rows names c l h w t ls : List ℕ) (x : Stretch) (here : Here)
 pub lead-is : (inner : Level) (d : List ℕ) (m : ℕ) (on : List Place) (q : Program.Source) (x : Program.Stretch) (v : World) → leadOut (memberMachine inner d m on q) x v ≡ leadText m (bodyOf d m) x v
 unfolding leadOut memberMachine leadText
 lead-is inner d m on q x v = refl
+
+pub out-is : (inner : Level) (d : List ℕ) (m : ℕ) (on : List Place) (q : Program.Source) (x : Program.Stretch) (v : World) → memberMachine inner d m on q .out x v ≡ textOut m (bodyOf d m) x v
+unfolding memberMachine
+out-is inner d m on q x v = refl
