@@ -1,58 +1,53 @@
-// Members run: statements do what they say, members are included. A refusal gets its place here.
-use activating::activate_all;
-use activating::deactivate_all;
-use activating::declare_all;
-use bodies::Done;
-use bodies::Started;
-use bodies::Tested;
-use bodies::stepped;
+// Members are read, entered and run, one inside the other by INCLUDE; what a statement of a member does is below, in `stepping`.
 use deck::body;
 use definition::Why;
 use entering::Fault;
-use evaluating::deeds::assign;
-use evaluating::deeds::start;
-use evaluating::deeds::test;
 use evaluating::deeds::turns_left;
 use flow::Frames;
 use flow::Next;
 use flow::Walk;
 use leaving::Below;
-use leaving::Jump;
-use leaving::jump_from;
 use leaving::none_below;
 use leaving::with_below;
 use limits::Levels;
 use meter::Meter;
-use names::Label;
 use outcomes::plus;
 use outcomes::span;
 use output::Out;
 use reading::Source;
 use reading::read_member;
-use rows::Role;
-use rows::Row;
+use rooms::put_number32;
 use rows::Starts;
-use rows::Statement;
 use rows::no_starts;
-use rows::part_of;
 use rows::part_place;
 use rows::row_at;
 use rows::with_start;
+use stepping::Ended;
+use stepping::Settled;
+use stepping::Step;
+use stepping::Turned;
+use stepping::into_again;
+use stepping::is_include;
+use stepping::is_over;
+use stepping::part_here;
+use stepping::refused;
+use stepping::settle;
+use stepping::statement;
+use stepping::went_to;
+use stepping::with_step;
 use texts::Here;
 use texts::Progress;
 use texts::Ran;
 use texts::Stop;
 use texts::lead_out;
-use texts::scene;
-use texts::text_out;
 use texts::with_meter;
 use tokens::Lexeme;
 use tokens::is_sign;
 use tokens::token_at;
 
-// ---- members
+// ---- where members stand
 
-// How they have ended, and where the rows of each member start since.
+// How the rows of a member have ended, and where the rows of each member start since.
 struct Left {
     ended: Ended,
     starts: Starts,
@@ -61,14 +56,6 @@ struct Left {
 fn left_at(here: Here, ended: Ended) -> Left {
     let starts = here.starts;
     Left { ended, starts }
-}
-
-// The member that runs, when others may have been entered.
-fn since(here: Here, starts: Starts) -> Here {
-    Here {
-        member: here.member,
-        starts,
-    }
 }
 
 // A turn of a member, and where the rows of each member start since.
@@ -82,6 +69,43 @@ fn turned_at(here: Here, turned: Turned) -> Begun {
     Begun { turned, starts }
 }
 
+fn in_member(here: Here, k: u16) -> Here {
+    let starts = here.starts;
+    Here { member: k, starts }
+}
+
+// The same member, where the rows of each start since.
+fn since(here: Here, starts: Starts) -> Here {
+    Here {
+        member: here.member,
+        starts,
+    }
+}
+
+// The member starts at row n of the table.
+fn entered(here: Here, n: u16) -> Here {
+    let starts = here.starts;
+    Here {
+        member: here.member,
+        starts: with_start(starts, here.member, n),
+    }
+}
+
+// The row where the member that runs starts.
+fn start_here(here: Here) -> u16 {
+    let k = here.member as usize;
+    let starts = here.starts;
+    if k < 32 {
+        return starts.at[k];
+    }
+    0
+}
+
+// Back in the member, when others were entered. Where it was one of them, its rows are still where they were, too.
+fn resumed(here: Here, starts: Starts) -> Here {
+    entered(since(here, starts), start_here(here))
+}
+
 // What an INCLUDE gives: it is passed, or a GOTO came out of a member.
 fn on_ended(rows: &[u16], fs: Frames, n: u16, before: Here, x: Left) -> Begun {
     let starts = x.starts;
@@ -93,6 +117,8 @@ fn on_ended(rows: &[u16], fs: Frames, n: u16, before: Here, x: Left) -> Begun {
         Ended::Bad(stop, g) => turned_at(here, with_step(fs, Step::Bad(stop, g))),
     }
 }
+
+// ---- members are read
 
 // All rows, with those of a member; 01 allows 2,048.
 fn rows_with(n: u16, more: u16) -> u16 {
@@ -113,19 +139,22 @@ fn with_source(g: Progress, x: Source) -> Progress {
     }
 }
 
-fn in_member(here: Here, k: u16) -> Here {
-    let starts = here.starts;
-    Here { member: k, starts }
+// Member k is read behind the rows that there are.
+fn read_behind(deck: &[u8], rows: &mut [u16], names: &mut [u16], k: u16, g: Progress) -> Source {
+    let from = part_place(rows, g.rows);
+    read_member(deck, &mut rows[from..], names, k, g.rows, g.names)
 }
 
-// The member starts at row n of the table. Where it was entered before, its rows are the same again.
-fn entered(here: Here, n: u16) -> Here {
-    let starts = here.starts;
-    Here {
-        member: here.member,
-        starts: with_start(starts, here.member, n),
+// A name that is declared has no value.
+fn forget(cells: &mut [u32], from: u16, to: u16) {
+    let mut a = from;
+    while a < to {
+        put_number32(cells, 0, a as usize, 0);
+        a += 1;
     }
 }
+
+// ---- INCLUDE
 
 // The line of the member whose name is t, which the body of member `here` spells.
 fn member_named(deck: &[u8], here: u16, t: Lexeme) -> deck::Found {
@@ -227,17 +256,17 @@ fn include_all(
             g,
         );
         let starts = x.starts;
-        here = since(here, starts);
+        here = resumed(here, starts);
         let e = x.ended;
         match e {
             Ended::Ran(h) => {
                 g = h;
             }
             Ended::Went(_, _) => {
-                return x;
+                return left_at(here, e);
             }
             Ended::Bad(_, _) => {
-                return x;
+                return left_at(here, e);
             }
         }
         let comma = token_at(s, t.to);
@@ -249,6 +278,8 @@ fn include_all(
     }
     left_at(here, Ended::Ran(g))
 }
+
+// ---- turns
 
 // The statement of row n begins: its step is charged.
 fn begin(
@@ -450,17 +481,19 @@ fn run_rows(
             here,
         );
         match a {
-            After::On(y, h) => {
+            Settled::On(y, h) => {
                 next = y;
                 g = h;
             }
-            After::End(e) => {
+            Settled::End(e) => {
                 return left_at(here, e);
             }
         }
     }
     left_at(here, Ended::Ran(g))
 }
+
+// ---- a member
 
 // A member that was entered: its leading text, then its rows.
 fn run_source(
@@ -519,12 +552,6 @@ fn run_source(
     }
 }
 
-// Member k is read behind the rows that there are.
-fn read_behind(deck: &[u8], rows: &mut [u16], names: &mut [u16], k: u16, g: Progress) -> Source {
-    let from = part_place(rows, g.rows);
-    read_member(deck, &mut rows[from..], names, k, g.rows, g.names)
-}
-
 // The member is read, its names are declared, and it is run.
 fn enter_and_run(
     deck: &[u8],
@@ -545,6 +572,7 @@ fn enter_and_run(
     let fault = x.fault;
     match fault {
         Fault::Sound => {
+            forget(cells, g.names, x.names);
             run_source(
                 deck,
                 rows,

@@ -225,14 +225,7 @@ fn on_jump(part: &[u16], fs: Frames, j: Jump, g: Progress, member: u16, place: u
     }
 }
 
-fn on_activated(
-    fs: Frames,
-    n: u16,
-    is_good: bool,
-    g: Progress,
-    member: u16,
-    place: usize,
-) -> Turned
+fn on_activated(fs: Frames, n: u16, is_good: bool, g: Progress, member: u16, place: usize) -> Turned
     ensures { λ r. ⌜ r ≡ activatedTo fs n «is_good» g member place ⌝ }
 {
     if is_good {
@@ -533,6 +526,7 @@ pub fn went_to(rows: &[u16], fs: Frames, here: Here, l: Label, g: Progress) -> T
     }
     with_step(fs, Step::Went(l, g))
 }
+
 pub fn is_include(r: Row) -> bool
     ensures { λ b. ⌜ b ≡ isInclude (r .statement) ⌝ }
 {

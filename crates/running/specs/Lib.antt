@@ -1,0 +1,3 @@
+-- What the contracts of `running` cite.
+pub mod Included
+pub mod Members

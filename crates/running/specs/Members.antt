@@ -1,0 +1,142 @@
+-- THE CONTRACTS of members that run: what an answer stands for, with the table of rows and the world as they have grown.
+use Prim.Native.Nat.{ℕ, zero, suc, _+_, _-_, _<_, _≤_}
+use mathlib.Core.Bool.{Bool, true, cond}
+use mathlib.Core.Path.{_≡_}
+use mathlib.Core.List.{List, [], _∷_}
+use lib.Dec.{leb}
+use lib.ListN.{length}
+use Rattle.definition.specs.Lists.{part}
+use Rattle.definition.specs.Room.{zeros}
+use Rattle.definition.specs.Limits.{includeLevels}
+use Rattle.definition.specs.Deck as Deck
+use Rattle.definition.specs.Program as P
+use Rattle.definition.specs.Reading.{readMember}
+use Rattle.definition.specs.World.{World, Res}
+use Rattle.definition.specs.Flow as F
+use Rattle.definition.specs.Calls.{Place}
+use Rattle.definition.specs.Run as Run
+use Rattle.definition.specs.Run.{bodyOf}
+use Rattle.definition.specs.Expansion as X
+use Rattle.definition.specs.declared.Why.{Why}
+use Rattle.deck.specs.declared.Found.{Found}
+use Rattle.deck.specs.Answer.{bodyIn, foundFor}
+use Rattle.meter.specs.declared.Meter.{Meter}
+use Rattle.tokens.specs.declared.Lexeme.{Lexeme}
+use Rattle.rows.specs.Table.{rowIn}
+use Rattle.rows.specs.Parts.{startIn, StartsAt}
+use Rattle.rows.specs.declared.Starts.{Starts}
+use Rattle.flow.specs.declared.Frames.{Frames}
+use Rattle.flow.specs.declared.Next.{Next}
+use Rattle.flow.specs.Walks.{noFrames}
+use Rattle.flow.specs.Shown.{nextFrom, AtNext}
+use Rattle.callees.specs.Shown.{worldIn}
+use Rattle.openings.specs.Open.{linkOf}
+use Rattle.reading.specs.declared.Source.{Source}
+use Rattle.reading.specs.State.{stretchOf}
+use Rattle.showing.specs.Listed.{Named}
+use Rattle.showing.specs.Later.{Later, Grew}
+use Rattle.leaving.specs.declared.Below.{Below}
+use Rattle.leaving.specs.Places.{belowOf, Stand}
+use Rattle.texts.specs.declared.Progress.{Progress}
+use Rattle.texts.specs.declared.Here.{Here}
+use Rattle.texts.specs.declared.Ran.{Ran}
+use Rattle.texts.specs.declared.Ran.the-variants as Rn
+use Rattle.texts.specs.Shown.{stopFor, Written}
+use Rattle.stepping.specs.declared.Ended.{Ended}
+use Rattle.stepping.specs.declared.Turned.{Turned}
+use Rattle.stepping.specs.Stage.{Roomy, Stage, InMember, partHere, machineOf}
+use Rattle.stepping.specs.Steps.{StepNow, EndNow}
+use Rattle.running.specs.declared.Left.{Left}
+use Rattle.running.specs.declared.Begun.{Begun}
+use Rattle.running.specs.Included.{levelOf, enterRun, foundRun, includeOn}
+
+-- member m, where the rows of each member start so
+abbrev pub hereAt : ℕ → Starts → Here
+hereAt m starts = record { member = m; starts = starts }
+
+-- ---- what there is later: a world, and a table that grew behind its `used` rows
+pub record Since (rows : List ℕ) (B : World) (rows′ : List ℕ) (B′ : World) : Type 0 where
+  pub later : Later B B′
+  pub more : B .sentences ≤ B′ .sentences
+  pub grew : Grew rows (B .sentences) rows′
+
+-- THE END R of rows, of a list of members, of a member
+pub record EndsAs (on : List Place) (deck rows : List ℕ) (B : World) (rows′ names c l h w t ls : List ℕ) (m : ℕ) (R : Res Run.Stop F.End) (r : Left) : Type 0 where
+  pub world : World
+  pub since : Since rows B rows′ world
+  pub now : EndNow on deck rows′ names c l h w t ls (hereAt m (r .starts)) R world (r .ended)
+
+-- ---- the levels: those left, and the members below
+abbrev pub Deep : Below → ℕ → Type 0
+Deep below left = below .count + left ≤ includeLevels
+
+-- what every member that runs asks for: a sound deck, and that the members below stand at rows
+pub record Running (deck s rows : List ℕ) (here : Here) (below : Below) (left : ℕ) (B : World) : Type 0 where
+  pub sound : Deck.isSound deck ≡ true
+  pub line : here .member < Deck.count deck
+  pub member : InMember deck s rows here B
+  pub stand : Stand (belowOf below) B
+  pub deep : Deep below left
+
+-- ---- INCLUDE
+-- the line of the deck for the name t, which the body of the member spells
+pub record FoundIs (deck : List ℕ) (m : ℕ) (t : Lexeme) (r : Found) : Type 0 where
+  pub is : Deck.isSound deck ≡ true → m < Deck.count deck → t .to ≤ length (bodyIn deck m) → r ≡ foundFor (Deck.find (part (t .to - t .from) (t .from) (bodyIn deck m)) 0 (Deck.lines deck))
+
+-- one of its members; `below` has the INCLUDE itself, of the member m
+pub record IncludeOneIs (deck rows names c l h w t ls : List ℕ) (x : Lexeme) (p : ℕ) (below : Below) (here : Here) (left : ℕ) (g : Progress) (rows′ names′ c′ l′ h′ w′ t′ ls′ : List ℕ) (r : Left) : Type 0 where
+  pub is : (B : World) → Stage deck rows names c l h w t ls (here .starts) g B → Deck.isSound deck ≡ true → here .member < Deck.count deck → x .to ≤ length (bodyIn deck (here .member)) → Stand (belowOf below) B
+      → below .count + left ≤ suc includeLevels → 1 ≤ below .count
+      → EndsAs (belowOf below) deck rows B rows′ names′ c′ l′ h′ w′ t′ ls′ (here .member)
+      (foundRun (Deck.find (part (x .to - x .from) (x .from) (bodyIn deck (here .member))) 0 (Deck.lines deck)) left deck p (here .member) (belowOf below) (worldIn B c l h (g .meter .used))) r
+
+-- all of them: its rows are looked at where they were
+pub record IncludeAllIs (deck rows names c l h w t ls : List ℕ) (n : ℕ) (below : Below) (here : Here) (left : ℕ) (g : Progress) (rows′ names′ c′ l′ h′ w′ t′ ls′ : List ℕ) (r : Left) : Type 0 where
+  pub is : (B : World) → Stage deck rows names c l h w t ls (here .starts) g B → Running deck (bodyIn deck (here .member)) rows here below left B → (ns : List (List ℕ))
+      → n < length (readMember (bodyOf deck (here .member)) .rows) → Named (bodyIn deck (here .member)) (rowIn (partHere rows here) n .content) ns
+      → EndsAs (record { member = here .member; row = n } ∷ belowOf below) deck rows B rows′ names′ c′ l′ h′ w′ t′ ls′ (here .member)
+      (includeOn left deck (rowIn (partHere rows here) n .place) (here .member) (record { member = here .member; row = n } ∷ belowOf below) ns (worldIn B c l h (g .meter .used))) r
+      × (startIn (r .starts) (here .member) ≡ startIn (here .starts) (here .member))
+
+-- ---- TURNS of member m
+pub record TurnsAs (M : F.Machine Run.Stop) (on : List Place) (deck rows : List ℕ) (B : World) (rows′ names c l h w t ls : List ℕ) (here : Here) (R : Res Run.Stop F.Turn) (r : Begun) : Type 0 where
+  pub world : World
+  pub since : Since rows B rows′ world
+  pub start : startIn (r .starts) (here .member) ≡ startIn (here .starts) (here .member)
+  pub now : StepNow M on deck rows′ names c l h w t ls (hereAt (here .member) (r .starts)) (r .turned .frames) R world (r .turned .step)
+
+pub record TurnIs (deck s rows names c l h w t ls : List ℕ) (fs : Frames) (x : Next) (below : Below) (here : Here) (left : ℕ) (g : Progress) (rows′ names′ c′ l′ h′ w′ t′ ls′ : List ℕ) (r : Begun) : Type 0 where
+  pub is : (B : World) → Stage deck rows names c l h w t ls (here .starts) g B → Running deck s rows here below left B → (G : List F.Frame)
+      → AtNext (machineOf (levelOf left deck) deck (here .member) (belowOf below)) (partHere rows here) (B .denotations) fs G x
+      → TurnsAs (machineOf (levelOf left deck) deck (here .member) (belowOf below)) (belowOf below) deck rows B rows′ names′ c′ l′ h′ w′ t′ ls′ here
+      (F.turn (machineOf (levelOf left deck) deck (here .member) (belowOf below)) (nextFrom x) G (worldIn B c l h (g .meter .used))) r
+
+-- ---- THE ROWS of a member, from the first on
+pub record RowsAre (deck rows names c l h w t ls : List ℕ) (x : Next) (below : Below) (here : Here) (left : ℕ) (g : Progress) (rows′ names′ c′ l′ h′ w′ t′ ls′ : List ℕ) (r : Left) : Type 0 where
+  pub is : (B : World) → Stage deck rows names c l h w t ls (here .starts) g B → Running deck (bodyIn deck (here .member)) rows here below left B
+      → AtNext (machineOf (levelOf left deck) deck (here .member) (belowOf below)) (partHere rows here) (B .denotations) noFrames [] x
+      → EndsAs (belowOf below) deck rows B rows′ names′ c′ l′ h′ w′ t′ ls′ (here .member)
+      (F.runOn (machineOf (levelOf left deck) deck (here .member) (belowOf below)) (B .limit - g .meter .used) (nextFrom x) [] (worldIn B c l h (g .meter .used))) r
+
+-- THE MEMBER, which was entered: y is what was read of it
+pub record SourceOf (x : P.Source) (y : Source) : Type 0 where
+  pub lead : stretchOf (y .lead) ≡ x .lead
+  pub first : linkOf (y .first) ≡ x .first
+
+pub record SourceIs (deck rows names c l h w t ls : List ℕ) (y : Source) (below : Below) (here : Here) (left : ℕ) (g : Progress) (rows′ names′ c′ l′ h′ w′ t′ ls′ : List ℕ) (r : Left) : Type 0 where
+  pub is : (B : World) → Stage deck rows names c l h w t ls (here .starts) g B → Running deck (bodyIn deck (here .member)) rows here below left B → SourceOf (readMember (bodyOf deck (here .member))) y
+      → EndsAs (belowOf below) deck rows B rows′ names′ c′ l′ h′ w′ t′ ls′ (here .member) (Run.runMember left deck (here .member) (belowOf below) (worldIn B c l h (g .meter .used))) r
+
+-- THE MEMBER of a line of the deck, which is read, entered and run
+pub record EnterIs (deck rows names c l h w t ls : List ℕ) (below : Below) (here : Here) (left : ℕ) (g : Progress) (rows′ names′ c′ l′ h′ w′ t′ ls′ : List ℕ) (r : Left) : Type 0 where
+  pub is : (B : World) → Stage deck rows names c l h w t ls (here .starts) g B → Deck.isSound deck ≡ true → here .member < Deck.count deck → Stand (belowOf below) B → Deep below left
+      → EndsAs (belowOf below) deck rows B rows′ names′ c′ l′ h′ w′ t′ ls′ (here .member) (enterRun left deck (here .member) (belowOf below) (worldIn B c l h (g .meter .used))) r
+
+-- ---- THE RUN of a sound deck, where the text room and the list room are zero: R is the end of the main program
+abbrev pub RanTo : List ℕ → List ℕ → Res Run.Stop F.End → Ran → Type 0
+RanTo t ls R (Rn.Good g) = (B : World) × Written t ls (g .out) B × (X.result R ≡ X.finished B) × (g .meter .used ≡ B .used)
+RanTo t ls R (Rn.Bad x g) = (e : Run.Stop) × (e ≡ stopFor x) × (X.result R ≡ X.refusal (e .why) (e .member) (e .place) (g .meter .used))
+
+pub record RunIs (deck rows names c l h w t ls : List ℕ) (steps : ℕ) (t′ ls′ : List ℕ) (r : Ran) : Type 0 where
+  pub is : Deck.isSound deck ≡ true → Roomy rows names c → 65536 ≤ length l → 65536 ≤ length h → 65536 ≤ length w → t ≡ zeros (length t) → ls ≡ zeros (length ls)
+      → RanTo t′ ls′ (enterRun includeLevels deck 0 [] (X.mainWorld (length t) (length ls) steps)) r
