@@ -3,7 +3,7 @@
 use mathlib.Core.Path.{_≡_, refl, sym, ap, subst, _∙_}
 use mathlib.Core.Bool.{Bool, true, false, cond}
 use mathlib.Core.List.{List, [], _∷_}
-use Prim.Native.Nat.{ℕ, suc, _-_, _≤_}
+use Prim.Native.Nat.{ℕ, suc, _-_, _<_, _≤_}
 use native.Mathlib.Omega.{arith}
 use borrow.Author.Tests.{eqb-true, eqb-false, eq-eqb}
 use lib.Dec.{eqb, ltb}
@@ -144,6 +144,10 @@ module _ (b : ℕ → List ℕ) (B : World) (h : Placed b B) where
 
   pub labels-placed : (l : List ℕ) (m k a q r : ℕ) (x : Bool) → W.addressOf l (W.procedureAt m k) B ≡ W.address a → getD (B .denotations) a W.builtinName ≡ W.labelAt q r x → IsRow m r B
   labels-placed l m k a q r x e f = subst (Leads (λ n. rowsOf n B) (W.procedureAt m k)) f (lead-at (λ n. rowsOf n B) l (W.procedureAt m k) 0 (B .identifiers) (B .denotations) a a (h .names) e (omega arith))
+
+  -- a label outside procedures
+  pub global-placed : (l : List ℕ) (a k r : ℕ) (q : Bool) → W.addressOf l W.everyone B ≡ W.address a → getD (B .denotations) a W.builtinName ≡ W.labelAt k r q → r < length (rowsOf k B)
+  global-placed l a k r q e f = subst (Leads (λ n. rowsOf n B) W.everyone) f (lead-at (λ n. rowsOf n B) l W.everyone 0 (B .identifiers) (B .denotations) a a (h .names) e (omega arith))
 
   pub few-placed : (m r : ℕ) (ns : List (List ℕ)) (v : ValueType) (ps : List Ev.Parameter) → IsRow m r B → rowOf (rowsOf m B) r .statement ≡ P.procedure ns v
       → Ev.parameters (W.procedureAt m r) ns B ≡ Val.gives ps → length ps ≤ length (B .identifiers)
