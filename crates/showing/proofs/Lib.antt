@@ -5,6 +5,7 @@ pub mod Meanings
 pub mod Stating
 pub mod Sound
 pub mod Turning
+pub mod Listing
 pub mod Tabling
 pub mod Distinct
 pub mod Placing

@@ -14,6 +14,7 @@ use Rattle.rows.specs.declared.Link.the-variants as L
 use Rattle.rows.specs.declared.Role.{Role}
 use Rattle.rows.specs.declared.Role.the-variants as Rl
 use Rattle.rows.specs.declared.Row.{Row}
+use Rattle.statements.specs.Again.{statementAt}
 use Rattle.openings.specs.Open as O
 use Rattle.flow.specs.Shown as F
 use Rattle.reading.specs.State as T
@@ -21,7 +22,9 @@ use Rattle.reading.specs.State.{rowsFrom}
 use Rattle.reading.proofs.Rows.{rows-length}
 use Rattle.reading.proofs.Nested.{row-first}
 use Rattle.operands.specs.Shown.{Stated}
+use Rattle.showing.specs.Listed.{Lists}
 use Rattle.showing.proofs.Stating.{stated-again}
+use Rattle.showing.proofs.Listing.{lists-again}
 
 link-back : (x : Link) → x ≡ F.linkOf (O.linkOf x)
 link-back L.Nowhere = refl
@@ -53,6 +56,12 @@ module _ (s t : List ℕ) (k : ℕ) (rs : List P.Row) (e : rowsFrom s t 0 k ≡ 
   pub shown-read : F.Shown t rs
   shown-read = record { rows = λ n l. row-stands s (rowIn t n) (rowOf rs n) (row-read n l); tabled = h }
 
-  pub stated-read : (n : ℕ) → n < length rs → Stated s (rowIn t n .content) (rowOf rs n .statement)
+  again-read : (n : ℕ) → n < length rs → statementAt s (rowIn t n .statement) (rowIn t n .content) ≡ rowOf rs n .statement
   unfolding T.rowOf
-  stated-read n l = stated-again s (rowIn t n .statement) (rowIn t n .content) (rowOf rs n .statement) (ap (λ (y : P.Row). y .statement) (row-read n l)) (h .kind n l)
+  again-read n l = ap (λ (y : P.Row). y .statement) (row-read n l)
+
+  pub stated-read : (n : ℕ) → n < length rs → Stated s (rowIn t n .content) (rowOf rs n .statement)
+  stated-read n l = stated-again s (rowIn t n .statement) (rowIn t n .content) (rowOf rs n .statement) (again-read n l) (h .kind n l)
+
+  pub lists-read : (n : ℕ) → n < length rs → Lists s (rowIn t n .content) (rowOf rs n .statement)
+  lists-read n l = lists-again s (rowIn t n .statement) (rowIn t n .content) (rowOf rs n .statement) (again-read n l) (h .kind n l)

@@ -1,0 +1,23 @@
+-- WHAT A RUN READS AGAIN of a row: the names that its statement lists.
+use Prim.Native.Nat.{ℕ}
+use mathlib.Core.Path.{_≡_}
+use mathlib.Core.List.{List, []}
+use lib.ListN.{length}
+use Rattle.definition.specs.Expressions.{read}
+use Rattle.definition.specs.Program as P
+use Rattle.definition.specs.Statements as St
+
+-- the names that the statement lists, as they are read again behind the place `at`
+abbrev pub Lists : List ℕ → ℕ → P.Statement → Type 0
+Lists s at P.null = Unit {0}
+Lists s at (P.declare ns) = (k : P.Scope) × (c : St.Clause) × (ds : List P.Declared) × (St.declareFrom k s (length s) [] at ≡ St.declared c ds) × (c .statement ≡ P.declare ns)
+Lists s at (P.procedure ns v) = Unit {0}
+Lists s at (P.assign n x) = Unit {0}
+Lists s at (P.conditional x) = Unit {0}
+Lists s at P.group = Unit {0}
+Lists s at (P.iterated n x bs) = Unit {0}
+Lists s at (P.goto n) = Unit {0}
+Lists s at (P.include ns) = (c : St.Clause) × (St.includeClause s at ≡ read c) × (c .statement ≡ P.include ns)
+Lists s at (P.activate xs) = (c : St.Clause) × (St.activateClause s at ≡ read c) × (c .statement ≡ P.activate xs)
+Lists s at (P.deactivate ns) = (c : St.Clause) × (St.deactivateClause s at ≡ read c) × (c .statement ≡ P.deactivate ns)
+Lists s at (P.return x) = Unit {0}
