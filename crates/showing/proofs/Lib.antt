@@ -6,6 +6,7 @@ pub mod Stating
 pub mod Sound
 pub mod Turning
 pub mod Listing
+pub mod Including
 pub mod Tabling
 pub mod Distinct
 pub mod Placing

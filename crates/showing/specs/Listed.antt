@@ -1,11 +1,14 @@
 -- WHAT A RUN READS AGAIN of a row: the names that its statement lists.
-use Prim.Native.Nat.{ℕ}
+use Prim.Native.Nat.{ℕ, _<_, _≤_}
+use mathlib.Core.Bool.{true, false}
 use mathlib.Core.Path.{_≡_}
-use mathlib.Core.List.{List, []}
+use mathlib.Core.List.{List, [], _∷_}
 use lib.ListN.{length}
+use Rattle.definition.specs.Tokens.{isSign, tokenAt}
 use Rattle.definition.specs.Expressions.{read}
 use Rattle.definition.specs.Program as P
 use Rattle.definition.specs.Statements as St
+use Rattle.callees.specs.Answer.{spelledAt}
 
 -- the names that the statement lists, as they are read again behind the place `at`
 abbrev pub Lists : List ℕ → ℕ → P.Statement → Type 0
@@ -21,3 +24,15 @@ Lists s at (P.include ns) = (c : St.Clause) × (St.includeClause s at ≡ read c
 Lists s at (P.activate xs) = (c : St.Clause) × (St.activateClause s at ≡ read c) × (c .statement ≡ P.activate xs)
 Lists s at (P.deactivate ns) = (c : St.Clause) × (St.deactivateClause s at ≡ read c) × (c .statement ≡ P.deactivate ns)
 Lists s at (P.return x) = Unit {0}
+
+-- ---- INCLUDE: the token behind a place is spelled n, and has bytes
+pub record Spells (s : List ℕ) (at : ℕ) (n : List ℕ) : Type 0 where
+  pub is : spelledAt s at ≡ n
+  pub above : at < tokenAt s at .to
+  pub within : tokenAt s at .to ≤ length s
+
+-- names from the place `at` on, with commas between
+abbrev pub Named : List ℕ → ℕ → List (List ℕ) → Type 0
+Named s at [] = ⊥
+Named s at (n ∷ []) = Spells s at n × (isSign "," (tokenAt s (tokenAt s at .to) .token) ≡ false)
+Named s at (n ∷ m ∷ ns) = Spells s at n × (isSign "," (tokenAt s (tokenAt s at .to) .token) ≡ true) × Named s (tokenAt s (tokenAt s at .to) .to) (m ∷ ns)
