@@ -1,4 +1,4 @@
--- The rows of a member in the table: their links and roles, and their statements.
+-- The rows of a member in the table: their links and roles, their statements, and their places and texts.
 -- Assumes nothing.
 use mathlib.Core.Path.{_≡_, refl, sym, ap, _∙_}
 use mathlib.Core.List.{List}
@@ -22,7 +22,7 @@ use Rattle.reading.specs.State.{rowsFrom}
 use Rattle.reading.proofs.Rows.{rows-length}
 use Rattle.reading.proofs.Nested.{row-first}
 use Rattle.operands.specs.Shown.{Stated}
-use Rattle.showing.specs.Listed.{Lists}
+use Rattle.showing.specs.Listed.{Lists, Written}
 use Rattle.showing.proofs.Stating.{stated-again}
 use Rattle.showing.proofs.Listing.{lists-again}
 
@@ -45,6 +45,10 @@ row-stands s x d e = record {
   other = link-back (x .other) ∙ ap (λ (y : P.Row). F.linkOf (y .other)) e;
 }
 
+row-written : (s : List ℕ) (x : Row) (d : P.Row) → T.rowOf s x ≡ d → Written x d
+unfolding T.rowOf
+row-written s x d e = record { place = ap (λ (y : P.Row). y .place) e; lead = ap (λ (y : P.Row). y .lead) e; text = ap (λ (y : P.Row). y .text) e }
+
 -- ---- the k rows of the table t, in the body s
 module _ (s t : List ℕ) (k : ℕ) (rs : List P.Row) (e : rowsFrom s t 0 k ≡ rs) (h : Tabled t rs) where
   pub size-read : length rs ≡ k
@@ -65,3 +69,6 @@ module _ (s t : List ℕ) (k : ℕ) (rs : List P.Row) (e : rowsFrom s t 0 k ≡ 
 
   pub lists-read : (n : ℕ) → n < length rs → Lists s (rowIn t n .content) (rowOf rs n .statement)
   lists-read n l = lists-again s (rowIn t n .statement) (rowIn t n .content) (rowOf rs n .statement) (again-read n l) (h .kind n l)
+
+  pub written-read : (n : ℕ) → n < length rs → Written (rowIn t n) (rowOf rs n)
+  written-read n l = row-written s (rowIn t n) (rowOf rs n) (row-read n l)

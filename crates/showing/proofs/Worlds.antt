@@ -20,16 +20,18 @@ use Rattle.definition.specs.declared.Why.the-variants.{OverLimit, DeclaredTwice
 use Rattle.definition.specs.declared.ValueType.{ValueType}
 use Rattle.definition.proofs.Choices.{when-has}
 use Rattle.deck.specs.Answer.{bodyIn}
+use Rattle.rows.specs.Table.{rowIn}
 use Rattle.rows.specs.Parts.{partIn}
 use Rattle.rows.specs.Tabled.{Tabled}
 use Rattle.rows.specs.declared.Starts.{Starts}
 use Rattle.flow.specs.Shown.{Linked}
 use Rattle.reading.specs.State.{rowsFrom}
 use Rattle.operands.specs.Shown.{IsRow, RowsShown}
-use Rattle.showing.specs.Worlds.{IsProcedure, Leads, AllLead, Parted, Wider, none, kept, Placed, Stored, nothing, there, Grown}
+use Rattle.showing.specs.Worlds.{IsProcedure, Leads, AllLead, Parted, Wider, none, kept, Placed, Stored, nothing, there, Laid, Grown}
+use Rattle.showing.specs.Listed.{Lists, Written}
 use Rattle.showing.proofs.Meanings.{AllMean}
 use Rattle.showing.proofs.Turning.{faulty-not, member-sound, linked-read}
-use Rattle.showing.proofs.Tabling.{shown-read, stated-read}
+use Rattle.showing.proofs.Tabling.{shown-read, stated-read, lists-read, written-read}
 use Rattle.showing.proofs.Distinct.{IsFine, head-distinct, few-called}
 use Rattle.showing.proofs.Placing.{EntryIn, entry-at, lead-at, AllLed, declare-led, all-wider}
 use Rattle.showing.proofs.Tables.{AllGrown, declare-grown}
@@ -201,3 +203,12 @@ rows-shown deck rows starts B h p few =
       parameters = λ m r ns v ps l e f. omega (arith, few, few-placed (bodyIn deck) B p m r ns v ps l e f);
       labels = λ l m k a q r x e f. labels-placed (bodyIn deck) B p l m k a q r x e f;
     }
+
+-- and each row has the names of its statement, its place and its texts
+pub rows-written : (deck rows : List ℕ) (starts : Starts) (used : ℕ) (B : World) → Laid deck rows starts used B → (m r : ℕ) → r < length (rowsOf m B)
+    → Lists (bodyIn deck m) (rowIn (partIn rows starts m) r .content) (rowOf (rowsOf m B) r .statement) × Written (rowIn (partIn rows starts m) r) (rowOf (rowsOf m B) r)
+rows-written deck rows starts used B h m r l =
+    let at : InTable (bodyIn deck m) (partIn rows starts m) (rowsOf m B) = in-table deck rows starts m (rowsOf m B) (h .stored m) in (
+      lists-read (bodyIn deck m) (partIn rows starts m) (length (rowsOf m B)) (rowsOf m B) (at .read) (at .tabled) r l,
+      written-read (bodyIn deck m) (partIn rows starts m) (length (rowsOf m B)) (rowsOf m B) (at .read) (at .tabled) r l,
+    )

@@ -1,4 +1,4 @@
--- WHAT A RUN READS AGAIN of a row: the names that its statement lists.
+-- WHAT A RUN READS AGAIN of a row: the names that its statement lists, its place and its texts.
 use Prim.Native.Nat.{ℕ, _<_, _≤_}
 use mathlib.Core.Bool.{true, false}
 use mathlib.Core.Path.{_≡_}
@@ -8,7 +8,9 @@ use Rattle.definition.specs.Tokens.{isSign, tokenAt}
 use Rattle.definition.specs.Expressions.{read}
 use Rattle.definition.specs.Program as P
 use Rattle.definition.specs.Statements as St
+use Rattle.rows.specs.declared.Row.{Row}
 use Rattle.callees.specs.Answer.{spelledAt}
+use Rattle.reading.specs.State.{stretchOf}
 
 -- the names that the statement lists, as they are read again behind the place `at`
 abbrev pub Lists : List ℕ → ℕ → P.Statement → Type 0
@@ -36,3 +38,9 @@ abbrev pub Named : List ℕ → ℕ → List (List ℕ) → Type 0
 Named s at [] = ⊥
 Named s at (n ∷ []) = Spells s at n × (isSign "," (tokenAt s (tokenAt s at .to) .token) ≡ false)
 Named s at (n ∷ m ∷ ns) = Spells s at n × (isSign "," (tokenAt s (tokenAt s at .to) .token) ≡ true) × Named s (tokenAt s (tokenAt s at .to) .to) (m ∷ ns)
+
+-- ---- place and texts of a row, in the table and in the definition
+pub record Written (r : Row) (d : P.Row) : Type 0 where
+  pub place : r .place ≡ d .place
+  pub lead : stretchOf (r .lead) ≡ d .lead
+  pub text : stretchOf (r .text) ≡ d .text
