@@ -5,6 +5,8 @@ pub mod Meanings
 pub mod Stating
 pub mod Sound
 pub mod Turning
+pub mod Listing
+pub mod Including
 pub mod Tabling
 pub mod Distinct
 pub mod Placing

@@ -1,5 +1,5 @@
--- WHAT THE NAMES OF A WORLD LEAD TO: a body is the row of a procedure in a member that was entered; a label in a procedure leads to a row
--- of the procedure's member. A member that is entered keeps it.
+-- WHAT THE NAMES OF A WORLD LEAD TO: a body is the row of a procedure in a member that was entered; a label leads to a row of its member,
+-- in a procedure to one of the procedure's. A member that is entered keeps it.
 -- Assumes nothing.
 use mathlib.Core.Path.{_≡_, refl, ap, subst}
 use mathlib.Core.Bool.{Bool, true, false}
@@ -89,8 +89,8 @@ abbrev pub AllLed : (ℕ → List P.Row) → N.Declaring → Type 0
 AllLed R (N.fine w) = AllLead R (w .identifiers) (w .denotations)
 AllLed R (N.second p) = Unit {0}
 
-label-scope : (R : ℕ → List P.Row) (m : ℕ) (k : P.Scope) (r : ℕ) → r < length (R m) → InOwner R (N.ownerOf m k) r
-label-scope R m P.global r h = tt
+label-scope : (R : ℕ → List P.Row) (m : ℕ) (k : P.Scope) (r : ℕ) → r < length (R m) → InOwner R (N.ownerOf m k) m r
+label-scope R m P.global r h = h
 label-scope R m (P.inside q) r h = h
 
 new-leads : (R : ℕ → List P.Row) (m : ℕ) (k : P.Scope) (x : P.Meaning) → MeansRow (R m) x → NewLeads R (N.ownerOf m k) (N.newOf m x)
@@ -160,9 +160,9 @@ body-wider rs qs r (none e) h = let z : length rs ≡ 0 = ap (λ (l : List P.Row
 body-wider rs qs r (kept e) h = subst (λ (l : List P.Row). (r < length l) × IsProcedure (rowOf l r .statement)) e h
 
 module _ (R S : ℕ → List P.Row) (g : (m : ℕ) → Wider (R m) (S m)) where
-  owner-wider : (k : Owner) (r : ℕ) → InOwner R k r → InOwner S k r
-  owner-wider W.everyone r h = tt
-  owner-wider (W.procedureAt m q) r h = low-wider (R m) (S m) r (g m) h
+  owner-wider : (k : Owner) (q r : ℕ) → InOwner R k q r → InOwner S k q r
+  owner-wider W.everyone q r h = low-wider (R q) (S q) r (g q) h
+  owner-wider (W.procedureAt m k) q r h = low-wider (R m) (S m) r (g m) h
 
   entry-wider : (b : W.Body) → BodyIn R b → BodyIn S b
   entry-wider W.noBody h = tt
@@ -171,7 +171,7 @@ module _ (R S : ℕ → List P.Row) (g : (m : ℕ) → Wider (R m) (S m)) where
   leads-wider : (k : Owner) (d : Denotation) → Leads R k d → Leads S k d
   leads-wider k (W.variableOf t) h = tt
   leads-wider k (W.entryOf x b) h = entry-wider b h
-  leads-wider k (W.labelAt q r x) h = owner-wider k r h
+  leads-wider k (W.labelAt q r x) h = owner-wider k q r h
   leads-wider k W.builtinName h = tt
 
   pub all-wider : (is : List Identifier) (ds : List Denotation) → AllLead R is ds → AllLead S is ds

@@ -3,7 +3,7 @@
 use mathlib.Core.Path.{_≡_, refl, sym, ap, subst, _∙_}
 use mathlib.Core.Bool.{Bool, true, false, cond}
 use mathlib.Core.List.{List, [], _∷_}
-use Prim.Native.Nat.{ℕ, suc, _-_, _≤_}
+use Prim.Native.Nat.{ℕ, suc, _-_, _<_, _≤_}
 use native.Mathlib.Omega.{arith}
 use borrow.Author.Tests.{eqb-true, eqb-false, eq-eqb}
 use lib.Dec.{eqb, ltb}
@@ -20,16 +20,18 @@ use Rattle.definition.specs.declared.Why.the-variants.{OverLimit, DeclaredTwice
 use Rattle.definition.specs.declared.ValueType.{ValueType}
 use Rattle.definition.proofs.Choices.{when-has}
 use Rattle.deck.specs.Answer.{bodyIn}
+use Rattle.rows.specs.Table.{rowIn}
 use Rattle.rows.specs.Parts.{partIn}
 use Rattle.rows.specs.Tabled.{Tabled}
 use Rattle.rows.specs.declared.Starts.{Starts}
 use Rattle.flow.specs.Shown.{Linked}
 use Rattle.reading.specs.State.{rowsFrom}
 use Rattle.operands.specs.Shown.{IsRow, RowsShown}
-use Rattle.showing.specs.Worlds.{IsProcedure, Leads, AllLead, Parted, Wider, none, kept, Placed, Stored, nothing, there, Grown}
+use Rattle.showing.specs.Worlds.{IsProcedure, Leads, AllLead, Parted, Wider, none, kept, Placed, Stored, nothing, there, Laid, Grown}
+use Rattle.showing.specs.Listed.{Lists, Written}
 use Rattle.showing.proofs.Meanings.{AllMean}
 use Rattle.showing.proofs.Turning.{faulty-not, member-sound, linked-read}
-use Rattle.showing.proofs.Tabling.{shown-read, stated-read}
+use Rattle.showing.proofs.Tabling.{shown-read, stated-read, lists-read, written-read}
 use Rattle.showing.proofs.Distinct.{IsFine, head-distinct, few-called}
 use Rattle.showing.proofs.Placing.{EntryIn, entry-at, lead-at, AllLed, declare-led, all-wider}
 use Rattle.showing.proofs.Tables.{AllGrown, declare-grown}
@@ -145,6 +147,10 @@ module _ (b : ℕ → List ℕ) (B : World) (h : Placed b B) where
   pub labels-placed : (l : List ℕ) (m k a q r : ℕ) (x : Bool) → W.addressOf l (W.procedureAt m k) B ≡ W.address a → getD (B .denotations) a W.builtinName ≡ W.labelAt q r x → IsRow m r B
   labels-placed l m k a q r x e f = subst (Leads (λ n. rowsOf n B) (W.procedureAt m k)) f (lead-at (λ n. rowsOf n B) l (W.procedureAt m k) 0 (B .identifiers) (B .denotations) a a (h .names) e (omega arith))
 
+  -- a label outside procedures
+  pub global-placed : (l : List ℕ) (a k r : ℕ) (q : Bool) → W.addressOf l W.everyone B ≡ W.address a → getD (B .denotations) a W.builtinName ≡ W.labelAt k r q → r < length (rowsOf k B)
+  global-placed l a k r q e f = subst (Leads (λ n. rowsOf n B) W.everyone) f (lead-at (λ n. rowsOf n B) l W.everyone 0 (B .identifiers) (B .denotations) a a (h .names) e (omega arith))
+
   pub few-placed : (m r : ℕ) (ns : List (List ℕ)) (v : ValueType) (ps : List Ev.Parameter) → IsRow m r B → rowOf (rowsOf m B) r .statement ≡ P.procedure ns v
       → Ev.parameters (W.procedureAt m r) ns B ≡ Val.gives ps → length ps ≤ length (B .identifiers)
   few-placed m r ns v ps l e f = few-called (W.procedureAt m r) ns B ps (h .apart m r ns v l e) f
@@ -197,3 +203,12 @@ rows-shown deck rows starts B h p few =
       parameters = λ m r ns v ps l e f. omega (arith, few, few-placed (bodyIn deck) B p m r ns v ps l e f);
       labels = λ l m k a q r x e f. labels-placed (bodyIn deck) B p l m k a q r x e f;
     }
+
+-- and each row has the names of its statement, its place and its texts
+pub rows-written : (deck rows : List ℕ) (starts : Starts) (used : ℕ) (B : World) → Laid deck rows starts used B → (m r : ℕ) → r < length (rowsOf m B)
+    → Lists (bodyIn deck m) (rowIn (partIn rows starts m) r .content) (rowOf (rowsOf m B) r .statement) × Written (rowIn (partIn rows starts m) r) (rowOf (rowsOf m B) r)
+rows-written deck rows starts used B h m r l =
+    let at : InTable (bodyIn deck m) (partIn rows starts m) (rowsOf m B) = in-table deck rows starts m (rowsOf m B) (h .stored m) in (
+      lists-read (bodyIn deck m) (partIn rows starts m) (length (rowsOf m B)) (rowsOf m B) (at .read) (at .tabled) r l,
+      written-read (bodyIn deck m) (partIn rows starts m) (length (rowsOf m B)) (rowsOf m B) (at .read) (at .tabled) r l,
+    )

@@ -1,3 +1,4 @@
 -- What is kept of a world and of the table of rows, from one member that is entered to the next.
 pub mod Worlds
+pub mod Listed
 pub mod Later

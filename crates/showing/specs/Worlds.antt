@@ -22,14 +22,14 @@ use Rattle.reading.specs.State.{rowsFrom}
 use Rattle.reading.specs.Members.{namesOf}
 use Rattle.operands.specs.Shown.{RowsShown}
 
--- ---- what a name leads to, where R are the rows of each member: a body is the row of a procedure; a label in a procedure leads to a
--- row of the procedure's member
+-- ---- what a name leads to, where R are the rows of each member: a body is the row of a procedure; a label of the member q leads to a
+-- row of q, in a procedure to one of the procedure's member
 abbrev pub IsProcedure : P.Statement → Type 0
 IsProcedure x = (ns : List (List ℕ)) × (v : ValueType) × (x ≡ P.procedure ns v)
 
-abbrev pub InOwner : (ℕ → List P.Row) → Owner → ℕ → Type 0
-InOwner R W.everyone r = Unit {0}
-InOwner R (W.procedureAt m k) r = r < length (R m)
+abbrev pub InOwner : (ℕ → List P.Row) → Owner → ℕ → ℕ → Type 0
+InOwner R W.everyone q r = r < length (R q)
+InOwner R (W.procedureAt m k) q r = r < length (R m)
 
 abbrev pub BodyIn : (ℕ → List P.Row) → W.Body → Type 0
 BodyIn R W.noBody = Unit {0}
@@ -38,7 +38,7 @@ BodyIn R (W.bodyAt m r) = (r < length (R m)) × IsProcedure (rowOf (R m) r .stat
 abbrev pub Leads : (ℕ → List P.Row) → Owner → Denotation → Type 0
 Leads R k (W.variableOf t) = Unit {0}
 Leads R k (W.entryOf x b) = BodyIn R b
-Leads R k (W.labelAt q r x) = InOwner R k r
+Leads R k (W.labelAt q r x) = InOwner R k q r
 Leads R k W.builtinName = Unit {0}
 
 abbrev pub AllLead : (ℕ → List P.Row) → List Identifier → List Denotation → Type 0
