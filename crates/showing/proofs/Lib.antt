@@ -13,3 +13,4 @@ pub mod Worlds
 pub mod Laying
 pub mod Enters
 pub mod Later
+pub mod Returning
