@@ -61,12 +61,12 @@ tabled-kept t u rs f h =
     }
 
 module _ (deck rows rows′ t : List ℕ) (used : ℕ) (h : Behind rows used rows′ t) where
-  part-kept : (starts starts′ : Starts) (m n i : ℕ) → startIn starts′ m ≡ startIn starts m → startIn starts m + n ≤ used → i < n → rowIn (partIn rows′ starts′ m) i ≡ rowIn (partIn rows starts m) i
+  pub part-kept : (starts starts′ : Starts) (m n i : ℕ) → startIn starts′ m ≡ startIn starts m → startIn starts m + n ≤ used → i < n → rowIn (partIn rows′ starts′ m) i ≡ rowIn (partIn rows starts m) i
   unfolding partIn
   part-kept starts starts′ m n i e l k =
       row-part rows′ (startIn starts′ m) i ∙ ap (λ (j : ℕ). rowIn rows′ (j + i)) e ∙ h .below (startIn starts m + i) (omega (arith, l, k)) ∙ sym (row-part rows (startIn starts m) i)
 
-  stored-kept : (starts starts′ : Starts) (m : ℕ) (rs : List P.Row) → startIn starts′ m ≡ startIn starts m → startIn starts m + length rs ≤ used → Stored deck rows starts m rs → Stored deck rows′ starts′ m rs
+  pub stored-kept : (starts starts′ : Starts) (m : ℕ) (rs : List P.Row) → startIn starts′ m ≡ startIn starts m → startIn starts m + length rs ≤ used → Stored deck rows starts m rs → Stored deck rows′ starts′ m rs
   stored-kept starts starts′ m rs e l (nothing z) = nothing z
   stored-kept starts starts′ m rs e l (there z y x) =
       let same : (i : ℕ) → i < length rs → rowIn (partIn rows′ starts′ m) i ≡ rowIn (partIn rows starts m) i = λ i k. part-kept starts starts′ m (length rs) i e l k in

@@ -14,3 +14,6 @@ pub mod Tables
 pub mod Worlds
 pub mod Laying
 pub mod Enters
+pub mod Stretches
+pub mod Later
+pub mod Returning
