@@ -68,9 +68,9 @@ module _ (o : Open) (t u : List ℕ) (n : ℕ) where
   link-else e f = rw e f
 
 -- ---- the rows: one more, to which a link leads
-module _ (s t u : List ℕ) (n : ℕ) (x : Row) (hu : u ≡ over t (16 * n) (numbersOf x)) (ls : Links x) (small : n < 1024) (w : 16384 ≤ length t) where
+module _ (s t u : List ℕ) (n : ℕ) (x : Row) (hu : u ≡ over t (16 * n) (numbersOf x)) (ls : Links x) (small : n < 1024) (w : 16 * suc n ≤ length t) where
   room : 16 * (n + 1) ≤ length t
-  room = omega arith
+  room = omega (arith, w)
 
   after-room : 16 * n ≤ length u
   after-room = omega (arith, row-size s t u n x hu ls room)
@@ -202,7 +202,7 @@ unfolding openOf
 parent-low s o par n e h q = parent-kept (o .kind) (o .row) n par e (h .row) q
 
 -- the rows with it
-added-rows : (s t u v : List ℕ) (n m : ℕ) (x : Row) (o : Open) (y : P.Row) → n < 1024 → 16384 ≤ length t → m ≡ suc n → u ≡ over t (16 * n) (numbersOf x) → Kept (x .parent) → x .next ≡ L.Nowhere → x .child ≡ L.Nowhere → x .other ≡ L.Nowhere
+added-rows : (s t u v : List ℕ) (n m : ℕ) (x : Row) (o : Open) (y : P.Row) → n < 1024 → 16 * suc n ≤ length t → m ≡ suc n → u ≡ over t (16 * n) (numbersOf x) → Kept (x .parent) → x .next ≡ L.Nowhere → x .child ≡ L.Nowhere → x .other ≡ L.Nowhere
     → v ≡ linkIn (o .kind) u o n → Low n (openOf s o) → rowOf s x ≡ y
     → rowsFrom s v 0 m ≡ linkedIn (whereOf (o .kind)) (openOf s o) n (rowsFrom s t 0 n) ++ y ∷ []
 unfolding openOf
@@ -255,11 +255,11 @@ link-alike Wh.InThen t r l at n i = alike-over t (linkNumber (L.To n) ∷ []) r 
 link-alike Wh.InElse t r l at n i = alike-over t (linkNumber (L.To n) ∷ []) r 9 i (omega arith) (omega arith)
 
 -- the row x is written as row n of t, and then a link to it
-marks-added : (s t u v : List ℕ) (n m : ℕ) (x : Row) (o : Open) (b : Opened) → n < 1024 → 16384 ≤ length t → m ≡ suc n → u ≡ over t (16 * n) (numbersOf x) → Links x → v ≡ linkIn (o .kind) u o n
+marks-added : (s t u v : List ℕ) (n m : ℕ) (x : Row) (o : Open) (b : Opened) → n < 1024 → 16 * suc n ≤ length t → m ≡ suc n → u ≡ over t (16 * n) (numbersOf x) → Links x → v ≡ linkIn (o .kind) u o n
     → x .depth ≡ D.depth (openedOf s b) → Typed s x → Marks s t n b v m
 marks-added s t u v n m x o b small w hm hu ls hv hd ht =
     let link : (i : ℕ) → Alike (rowIn v i) (rowIn u i) = λ i. subst (λ (z : List ℕ). Alike (rowIn z i) (rowIn u i)) (sym hv) (link-alike (o .kind) u (o .row) (o .last) (o .labels) n i) in
-    let new : rowIn u n ≡ x = row-there s t u n x hu ls (omega arith) in
+    let new : rowIn u n ≡ x = row-there s t u n x hu ls (omega (arith, w)) in
     let here : Alike (rowIn v n) x = subst (λ (z : Row). Alike (rowIn v n) z) new (link n) in
     record {
       kept = λ i h.
@@ -285,11 +285,11 @@ adds t u v x c p q e d o par ro a b m f z k hu hv ho hq he hd hk hp hr ha hb hm 
       let top : openedOf s (x .opened) ≡ openOf s o ∷ restOf (openedOf s (x .opened)) = opened-top s (x .opened) o ho (g .some) in
       let low : Low (x .rows) (openOf s o) = stand-top (x .rows) (openedOf s (x .opened)) (openOf s o) (restOf (openedOf s (x .opened))) (g .stand) top in
       added-state s t v ds x m f z o (statementAt s (c .statement) (c .content)) p top hf
-      (added-rows s t u v (x .rows) m (rowFrom c q e d par ro a b) o (D.newRow (statementAt s (c .statement) (c .content)) p (parentIn (whereOf (o .kind)) (o .row)) (roleIn (whereOf (o .kind)))) small (g .room) (hm .is (omega (arith, small))) hu (parent-low s o par (x .rows) hp low small) refl refl refl hv low
+      (added-rows s t u v (x .rows) m (rowFrom c q e d par ro a b) o (D.newRow (statementAt s (c .statement) (c .content)) p (parentIn (whereOf (o .kind)) (o .row)) (roleIn (whereOf (o .kind)))) (small .0) (g .room (suc (x .rows)) (small .0) (omega (arith, small .1))) (hm .is (omega (arith, small .0))) hu (parent-low s o par (x .rows) hp low (small .0)) refl refl refl hv low
       (new-row s c p q e d par ro a b (whereOf (o .kind)) (o .row) hq he lp lc hp hr ha hb))
       (hz .is (g .some) (omega (arith, g .deep)) s);
   stand = λ s g small. last-stand s (openedOf s (x .opened)) (openedOf s z) o (x .rows) (opened-top s (x .opened) o ho (g .some)) (hz .is (g .some) (omega (arith, g .deep)) s) (g .stand);
-  count = λ small. hm .is (omega (arith, small));
+  count = λ small. hm .is (omega (arith, small .0));
   deep = λ i j. hz .count i j;
   keeps = record { entered = refl; tally = refl; own = λ h. h };
   size = ap length hv ∙ link-size (o .kind) u (o .row) (o .last) (o .labels) (x .rows) ∙ ap length hu ∙ length-over t (16 * x .rows) (numbersOf (rowFrom c q e d par ro a b));
@@ -298,8 +298,8 @@ adds t u v x c p q e d o par ro a b m f z k hu hv ho hq he hd hk hp hr ha hb hm 
       let low : Low (x .rows) (openOf s o) = stand-top (x .rows) (openedOf s (x .opened)) (openOf s o) (restOf (openedOf s (x .opened))) (g .stand) top in
       let few : k < 65536 = omega (arith, hk .is s, depth-low (openedOf s (x .opened)), opened-size s (x .opened), g .deep) in
       let same : e ≡ c .content = he ∙ mod-eq-of-lt lc in
-      marks-added s t u v (x .rows) m (rowFrom c q e d par ro a b) o (x .opened) small (g .room) (hm .is (omega (arith, small))) hu
-      (record { parent = parent-low s o par (x .rows) hp low small; next = refl; child = refl; other = refl }) hv
+      marks-added s t u v (x .rows) m (rowFrom c q e d par ro a b) o (x .opened) (small .0) (g .room (suc (x .rows)) (small .0) (omega (arith, small .1))) (hm .is (omega (arith, small .0))) hu
+      (record { parent = parent-low s o par (x .rows) hp low (small .0); next = refl; child = refl; other = refl }) hv
       (hd ∙ mod-eq-of-lt few ∙ hk .is s) (subst (λ (i : ℕ). Tells s (c .statement) i (c .«value_type»)) (sym same) ty);
 }
 
@@ -333,7 +333,7 @@ module _ (t : List ℕ) (x : State) (y : Stretch) (o : Open) (ho : o ≡ topIn (
   pub leads-program : o .kind ≡ Wh.InProgram → Leads t x y t (record { entered = x .entered; rows = x .rows; first = x .first; lead = y; opened = x .opened; scope = x .scope; tally = x .tally })
   unfolding stateOf
   leads-program e = record {
-    is = λ s ds g. sym (lead-by s (openedOf s (x .opened)) o Wh.InProgram (y .from) (y .to) (stateOf s t ds x) (opened-top s (x .opened) o ho (g .some)) e);
+    is = λ s ds g few. sym (lead-by s (openedOf s (x .opened)) o Wh.InProgram (y .from) (y .to) (stateOf s t ds x) (opened-top s (x .opened) o ho (g .some)) e);
     opened = refl;
     rows = refl;
     keeps = record { entered = refl; tally = refl; own = λ h. h };
@@ -344,10 +344,10 @@ module _ (t : List ℕ) (x : State) (y : Stretch) (o : Open) (ho : o ≡ topIn (
   pub leads-group : (u : List ℕ) → o .kind ≡ Wh.InGroup → u ≡ over t (16 * o .row + 10) (stretchNumbers y) → Leads t x y u x
   unfolding stateOf
   leads-group u e hu = record {
-    is = λ s ds g.
+    is = λ s ds g few.
         let top : openedOf s (x .opened) ≡ openOf s o ∷ restOf (openedOf s (x .opened)) = opened-top s (x .opened) o ho (g .some) in
         let low : o .row < x .rows = low-group s o (x .rows) (stand-top (x .rows) (openedOf s (x .opened)) (openOf s o) (restOf (openedOf s (x .opened))) (g .stand) top) e in
-        ap (λ (z : List P.Row). D.withRows z (stateOf s t ds x)) (ap (λ (w : List ℕ). rowsFrom s w 0 (x .rows)) hu ∙ lead-set t (o .row) s (x .rows) low (omega (arith, g .own, g .room)) y)
+        ap (λ (z : List P.Row). D.withRows z (stateOf s t ds x)) (ap (λ (w : List ℕ). rowsFrom s w 0 (x .rows)) hu ∙ lead-set t (o .row) s (x .rows) low (g .room (x .rows) (g .own) few) y)
         ∙ sym (lead-by s (openedOf s (x .opened)) o Wh.InGroup (y .from) (y .to) (stateOf s t ds x) top e);
     opened = refl;
     rows = refl;
@@ -358,7 +358,7 @@ module _ (t : List ℕ) (x : State) (y : Stretch) (o : Open) (ho : o ≡ topIn (
 
   leads-none : (k : Where) → o .kind ≡ k → ((n a b : ℕ) (st : D.State) → leadAs (whereOf k) n a b st ≡ st) → Leads t x y t x
   leads-none k e f = record {
-    is = λ s ds g. sym (lead-by s (openedOf s (x .opened)) o k (y .from) (y .to) (stateOf s t ds x) (opened-top s (x .opened) o ho (g .some)) e ∙ f (o .row) (y .from) (y .to) (stateOf s t ds x));
+    is = λ s ds g few. sym (lead-by s (openedOf s (x .opened)) o k (y .from) (y .to) (stateOf s t ds x) (opened-top s (x .opened) o ho (g .some)) e ∙ f (o .row) (y .from) (y .to) (stateOf s t ds x));
     opened = refl;
     rows = refl;
     keeps = record { entered = refl; tally = refl; own = λ h. h };

@@ -280,7 +280,7 @@ module _ (d s t n : List ℕ) (x : State) (p at : ℕ) (l : Labels) (hl : Labels
               placed = record { room = i .placed .room; own = i .placed .own; stand = i .placed .stand; some = i .placed .some; deep = i .placed .deep };
             } in
             let q : Clausal d s t n₁ (withTally x (y .tally)) (D.labelMeaning (opensBy k) (x .rows)) (D.labels s at .labels) (D.byToken (tokenAt s (l .to) .token) s p (D.labels s at .labels) (tokenAt s (l .to)) (fromState s t x)) t′ n′ r =
-            m .so (D.labels s at .labels) (l .count) (record { sits = si; room = leb-false 1024 (x .rows) (low .1); place = omega (arith, lp, i .short); lexed = lex; labelled = refl })
+            m .so (D.labels s at .labels) (l .count) (record { sits = si; room = (leb-false 1024 (x .rows) (low .1), leb-false 2048 (x .entered + x .rows) (low .0)); place = omega (arith, lp, i .short); lexed = lex; labelled = refl })
             (hk ∙ ap (λ (v : D.Where). keywordAt s v (isInside (x .scope)) u (l .count)) (hw .is s) ∙ ap (λ (v : Bool). keywordAt s (D.kindOf (openedOf s (x .opened))) v u (l .count)) (sym (inside-is (x .scope))))
             (labels-counted s at l hl (no-longs (D.labels s at .long) (sym (hl .long) ∙ c))) in
             subst (λ (v : D.Turn). Takes d s t n x v t′ n′ r) (sym (clause-token s p (fromState s t x) at l hl u lex (test false f) (full-is s t x false (low .1)) c))

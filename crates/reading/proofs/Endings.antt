@@ -32,7 +32,7 @@ use Rattle.reading.specs.declared.Turned.{Turned}
 use Rattle.reading.specs.declared.Mode.{Mode}
 use Rattle.reading.specs.declared.Mode.the-variants as Md
 use Rattle.reading.specs.declared.Next.the-variants as Nx
-use Rattle.reading.specs.State.{stateOf, turnOf, modeOf, Around, Stand, Placed, Keeps, Marks, withOpened, withScope, turned, Adds, Ends, OpensIn, OpensAs, Again, Stood, Taken, TakesAs}
+use Rattle.reading.specs.State.{stateOf, turnOf, modeOf, Around, Stand, Placed, Spare, Keeps, Marks, withOpened, withScope, turned, Adds, Ends, OpensIn, OpensAs, Again, Stood, Taken, TakesAs}
 use Rattle.reading.proofs.Adding.{opened-top}
 use Rattle.reading.proofs.Rows.{rows-length, marks-none}
 
@@ -273,7 +273,7 @@ add-names y p es st = names-to (st .opened) y p es st
 
 module _ (s t : List ℕ) (x : State) (p labels : ℕ) (t′ : List ℕ) (r : Turned) where
   taken-is : (c : Clause) (a : State) (z : St.Clause) (ns : List Named) (ds es : List P.Declared) → Again s c z → Adds t x c p t′ a → OpensIn s a (z .opens) (x .rows) labels (c .to) r
-      → Placed s t x → x .rows < 1024 → x .opened .count < 20 → p < 65536 → D.spelled ns ≡ labelled s labels → Taken s t x p t′ r ns ds es (read z)
+      → Placed s t x → Spare x → x .opened .count < 20 → p < 65536 → D.spelled ns ≡ labelled s labels → Taken s t x p t′ r ns ds es (read z)
   unfolding D.taken stateOf
   taken-is c a z ns ds es g h o q small few lp sp =
       let ms : List P.Declared = St.means (scopeOf (x .scope)) (D.labelMeaning (z .opens) (x .rows)) ns ++ es in
@@ -307,13 +307,13 @@ module _ (s t : List ℕ) (x : State) (p labels : ℕ) (t′ : List ℕ) (r : Tu
       later : Own (x .tally .member) (a .scope) → Own (x .tally .member) (r .state .scope)
       later w = subst (λ (m : ℕ). Own m (r .state .scope)) (ap (λ (b : Tally). b .member) (h .keeps .tally)) (some .keeps .own (subst (λ (m : ℕ). Own m (a .scope)) (sym (ap (λ (b : Tally). b .member) (h .keeps .tally))) w))
 
-      marked : (R : Reading St.Clause) → Stood s (Rd.Is c) R → Placed s t x → x .rows < 1024 → Marks s t (x .rows) (x .opened) t′ (r .state .rows)
+      marked : (R : Reading St.Clause) → Stood s (Rd.Is c) R → Placed s t x → Spare x → Marks s t (x .rows) (x .opened) t′ (r .state .rows)
       marked (read z) g q small =
           subst (λ (m : ℕ). Marks s t (x .rows) (x .opened) t′ m) (sym (some .rows)) (h .marks s q small (g .content)
           (record { kind = g .kind ∙ ap kindOf (sym (g .statement)); type = g .type ∙ ap typeIn (sym (g .statement)) }))
       marked (refused w e) g q small = absurd g
 
-      by : (R : Reading St.Clause) (ns : List Named) (ds es : List P.Declared) → Stood s (Rd.Is c) R → Placed s t x → x .rows < 1024 → x .opened .count < 20 → p < 65536
+      by : (R : Reading St.Clause) (ns : List Named) (ds es : List P.Declared) → Stood s (Rd.Is c) R → Placed s t x → Spare x → x .opened .count < 20 → p < 65536
           → D.spelled ns ≡ labelled s labels → Taken s t x p t′ r ns ds es R
       by (read z) ns ds es g q small few lp sp = taken-is c a z ns ds es g h (o .so (z .opens) (g .opens)) q small few lp sp
       by (refused w e) ns ds es g q small few lp sp = absurd g
@@ -327,7 +327,7 @@ takes-refused s t x p labels r y w q hy hr = rw (hy, hr) (record {
   marks = λ R g h small. marks-none s t (x .rows) (x .opened) (x .rows) (omega arith);
 })
   where
-    by : (R : Reading St.Clause) (ns : List Named) (ds es : List P.Declared) → Stood s (Rd.Refused w q) R → Placed s t x → x .rows < 1024 → x .opened .count < 20 → p < 65536
+    by : (R : Reading St.Clause) (ns : List Named) (ds es : List P.Declared) → Stood s (Rd.Refused w q) R → Placed s t x → Spare x → x .opened .count < 20 → p < 65536
         → D.spelled ns ≡ labelled s labels → Taken s t x p t (turned x (Nx.Stop w q)) ns ds es R
     by (read z) ns ds es g a b c d e = absurd g
     by (refused v k) ns ds es g a b c d e = (rw (g .0, g .1), refl)

@@ -23,7 +23,11 @@ use Rattle.rows.proofs.Laws.{kept, Links, row-back, row-other}
 use Rattle.statements.specs.Clauses as Cl
 use Rattle.statements.specs.Again.{statementAt}
 use Rattle.openings.specs.declared.Opened.{Opened}
-use Rattle.reading.specs.State.{stretchOf, rowOf, rowsFrom, Alike, Typed, Marks}
+use Rattle.reading.specs.State.{stretchOf, rowOf, rowsFrom, RoomFor, Alike, Typed, Marks}
+
+-- a room of the same size holds as many
+pub room-as : (e f : ℕ) (t u : List ℕ) → f ≡ e → length u ≡ length t → RoomFor e t → RoomFor f u
+room-as e f t u he hu h n a b = omega (arith, h n a (omega (arith, he, b)), hu)
 
 -- ---- lists of rows by number
 module _ (s t u : List ℕ) where

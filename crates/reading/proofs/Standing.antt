@@ -19,8 +19,8 @@ use Rattle.reading.specs.declared.Mode.{Mode}
 use Rattle.reading.specs.declared.Mode.the-variants as Md
 use Rattle.reading.specs.declared.Next.{Next}
 use Rattle.reading.specs.declared.Next.the-variants as Nx
-use Rattle.reading.specs.State.{rowsFrom, stateOf, modeOf, nextOf, turnOf, Stand, Placed, stateIn, Sits, Goes, Takes, Follows}
-use Rattle.reading.proofs.Rows.{rows-length}
+use Rattle.reading.specs.State.{rowsFrom, stateOf, modeOf, nextOf, turnOf, Stand, RoomFor, Placed, stateIn, Sits, Goes, Takes, Follows}
+use Rattle.reading.proofs.Rows.{rows-length, room-as}
 use Rattle.reading.proofs.Adding.{stand-last}
 use Rattle.reading.proofs.Endings.{stand-some}
 use Rattle.reading.proofs.Turning.{opened-length}
@@ -189,7 +189,7 @@ unfolding D.depth
 start-well = record { few = omega arith; stand = (record { row = tt; last = tt }, tt); count = omega arith }
 
 -- ---- so the code's state is in its place for the next turn
-pub placed-well : (s t : List ℕ) (ds : List P.Declared) (x : State) (m : D.Mode) → Well (stateOf s t ds x) → WellFor m (stateOf s t ds x) → 16384 ≤ length t → Placed s t x
+pub placed-well : (s t : List ℕ) (ds : List P.Declared) (x : State) (m : D.Mode) → Well (stateOf s t ds x) → WellFor m (stateOf s t ds x) → RoomFor (x .entered) t → Placed s t x
 unfolding stateOf
 placed-well s t ds x m h k w =
     let n : length (rowsFrom s t 0 (x .rows)) ≡ x .rows = rows-length s t 0 (x .rows) in
@@ -228,7 +228,7 @@ module _ (d s t n : List ℕ) (x : State) (X : D.Turn) (t′ n′ : List ℕ) (r
           };
           few = k .few;
           short = h .short;
-          placed = placed-well s t′ ds (r .state) (modeOf m) (y .0) (y .1) (omega (arith, k .size, h .placed .room));
+          placed = placed-well s t′ ds (r .state) (modeOf m) (y .0) (y .1) (room-as (x .entered) (r .state .entered) t t′ (k .before) (k .size) (h .placed .room));
         };
         follows = follows s t′ ds (r .state) m (y .1);
       }

@@ -52,7 +52,7 @@ use Rattle.reading.specs.declared.Next.the-variants as Nx
 use Rattle.reading.specs.State.{rowsFrom, stateOf, turnOf, Stand, turned, stretchAt, Alike, Marks, Leads, Sits, Starts, behind, opens, Way, Counts, early, last, does, Takes, fromState, Clauses, LowEnd, Texts, Inners, Alternatives, Turns, Begins, sourceOf}
 use Rattle.reading.specs.Sentences.{EndsBody}
 use Rattle.reading.proofs.Places.{begins-real, sign-real}
-use Rattle.reading.proofs.Rows.{rows-length, text-set, alike-over, marks-none, marks-after}
+use Rattle.reading.proofs.Rows.{rows-length, room-as, text-set, alike-over, marks-none, marks-after}
 
 -- ---- where nothing is read, all stays
 module _ (d s t n : List ℕ) (x : State) (h : Sits d s t n x) where
@@ -213,7 +213,7 @@ module _ (d s t u n : List ℕ) (x y : State) (he : y .entered ≡ x .entered) (
         few = omega (arith, h .few, hr, he);
         short = h .short;
         placed = record {
-          room = omega (arith, h .placed .room, hu);
+          room = room-as (x .entered) (y .entered) t u he hu (h .placed .room);
           own = omega (arith, h .placed .own, hr);
           stand = subst (λ (w : Opened). Stand (y .rows) (openedOf s w)) (sym ho) (subst (λ (m : ℕ). Stand m (openedOf s (x .opened))) (sym hr) (h .placed .stand));
           some = subst (λ (w : Opened). 0 < w .count) (sym ho) (h .placed .some);
@@ -232,7 +232,7 @@ module _ (d s t n : List ℕ) (x : State) (m : Mode) (at : ℕ) (t′ n′ : Lis
         takes-from d s t u n x led (a .keeps .entered) (a .keeps .tally) (a .size) (a .rows) (a .opened) (a .marks) (D.turn s D.leadingText at (stateOf s t [] x)) t′ n′ r
         (b .so (sits-from d s t u n x led (a .keeps .entered) (a .keeps .tally) (a .size) (a .rows) (a .opened) (a .marks) (a .keeps .own) h)
         (textEnd (suc (length s)) s at) (λ p. D.leadIn (openedOf s (x .opened)) at p (stateOf s t [] x)) he (text-low s at z e y (h .short) l he hz hy)
-        (sym (a .is s [] (h .placed) ∙ ap (λ (i : ℕ). D.leadIn (openedOf s (x .opened)) i (y .to) (stateOf s t [] x)) from ∙ ap (λ (i : ℕ). D.leadIn (openedOf s (x .opened)) at i (stateOf s t [] x)) to))
+        (sym (a .is s [] (h .placed) (h .few) ∙ ap (λ (i : ℕ). D.leadIn (openedOf s (x .opened)) i (y .to) (stateOf s t [] x)) from ∙ ap (λ (i : ℕ). D.leadIn (openedOf s (x .opened)) at i (stateOf s t [] x)) to))
         (ap length (lead-opened (openedOf s (x .opened)) at 0 (stateOf s t [] x)) ∙ opened-length s (x .opened) ∙ sym (ap (λ (w : Opened). w .count) (a .opened))));
   })
 
@@ -244,7 +244,7 @@ module _ (d s t n : List ℕ) (x : State) (m : Mode) (at : ℕ) (t′ n′ : Lis
         let from : y .from ≡ at = text-from s at z e y (h .short) l he hz hy in
         let to : y .to ≡ endFor s e = text-to s at z e y (h .short) l he hz hy in
         let size : length u ≡ length t = ap length hu ∙ length-over t (16 * k + 12) (stretchNumbers y) in
-        let rows : rowsFrom s u 0 (x .rows) ≡ D.change k (D.setText (D.stretch (y .from) (y .to))) (rowsFrom s t 0 (x .rows)) = ap (λ (w : List ℕ). rowsFrom s w 0 (x .rows)) hu ∙ text-set t k s (x .rows) f (omega (arith, h .placed .own, h .placed .room)) y in
+        let rows : rowsFrom s u 0 (x .rows) ≡ D.change k (D.setText (D.stretch (y .from) (y .to))) (rowsFrom s t 0 (x .rows)) = ap (λ (w : List ℕ). rowsFrom s w 0 (x .rows)) hu ∙ text-set t k s (x .rows) f (h .placed .room (x .rows) (h .placed .own) (h .few)) y in
         let same : (i : ℕ) → Alike (rowIn u i) (rowIn t i) = λ i. subst (λ (w : List ℕ). Alike (rowIn w i) (rowIn t i)) (sym hu) (alike-over t (stretchNumbers y) k 12 i (omega arith) (omega arith)) in
         takes-from d s t u n x x refl refl size refl refl same (D.turn s (D.textBehind k) at (stateOf s t [] x)) t′ n′ r
         (b .so (sits-from d s t u n x x refl refl size refl refl same (λ w. w) h)

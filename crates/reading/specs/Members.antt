@@ -14,7 +14,7 @@ use Rattle.entering.specs.Book.{Book, tallyOf, bookOf}
 use Rattle.entering.specs.Entry.{Shows, Entry}
 use Rattle.statements.specs.Clauses.{Lies}
 use Rattle.reading.specs.declared.Source.{Source}
-use Rattle.reading.specs.State.{Reads}
+use Rattle.reading.specs.State.{RoomFor, Reads}
 
 -- the first k names of the room n
 abbrev pub namesOf : List ℕ → List ℕ → ℕ → Book
@@ -27,7 +27,7 @@ baseOf d m = lineAt d m .offset % 65536
 pub record Fresh (d s t n : List ℕ) (base entered names : ℕ) : Type 0 where
   pub lies : Lies d s base
   pub short : length s < 65536
-  pub rows : 16384 ≤ length t
+  pub rows : RoomFor entered t
   pub room : 4096 ≤ length n
   pub few : names ≤ 256
   pub sentences : entered ≤ 2048

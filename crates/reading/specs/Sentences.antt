@@ -22,7 +22,7 @@ use Rattle.reading.specs.declared.State.{State}
 use Rattle.reading.specs.declared.Next.{Next}
 use Rattle.reading.specs.declared.Next.the-variants as Nx
 use Rattle.reading.specs.declared.Turned.{Turned}
-use Rattle.reading.specs.State.{rowsFrom, turnOf, stateIn, Marks, Sits, Takes, fromState}
+use Rattle.reading.specs.State.{rowsFrom, turnOf, stateIn, Spare, Marks, Sits, Takes, fromState}
 
 -- ---- END
 -- another word could still be a label
@@ -76,7 +76,7 @@ pub record Clausal (d s t n : List ℕ) (x : State) (g : P.Meaning) (ns : List N
 -- what a clause at p needs, behind its labels ns, where the token l stands
 pub record Begun (d s t n : List ℕ) (x : State) (l : Lexeme) (from p labels : ℕ) (ns : List Named) : Type 0 where
   pub sits : Sits d s t n x
-  pub room : x .rows < 1024
+  pub room : Spare x
   pub place : p < 65536
   pub lexed : Lexed s from l
   pub labelled : D.spelled ns ≡ labelled s labels

@@ -127,12 +127,20 @@ abbrev pub Stand : ℕ → List D.Open → Type 0
 Stand n [] = ⊥
 Stand n (o ∷ os) = Low n o × Around (o .kind) (Stand n os)
 
+-- the room t holds the rows of a member behind those entered before it: at most 1,024 in a member, 2,048 in all
+abbrev pub RoomFor : ℕ → List ℕ → Type 0
+RoomFor entered t = (n : ℕ) → n ≤ 1024 → entered + n ≤ 2048 → 16 * n ≤ length t
+
 pub record Placed (s t : List ℕ) (x : State) : Type 0 where
-  pub room : 16384 ≤ length t
+  pub room : RoomFor (x .entered) t
   pub own : x .rows ≤ 1024
   pub stand : Stand (x .rows) (openedOf s (x .opened))
   pub some : 0 < x .opened .count
   pub deep : x .opened .count ≤ 19
+
+-- one more row is allowed
+abbrev pub Spare : State → Type 0
+Spare x = (x .rows < 1024) × (x .entered + x .rows < 2048)
 
 -- ---- a state that is changed
 abbrev pub withOpened : State → Opened → State
@@ -198,19 +206,19 @@ linkIn Wh.InElse t o n = linkAt t (o .row) 9 n
 
 -- THE NEW ROW: of the clause c at the place p
 pub record Adds (t : List ℕ) (x : State) (c : Clause) (p : ℕ) (t′ : List ℕ) (r : State) : Type 0 where
-  pub is : (s : List ℕ) (ds : List P.Declared) → Placed s t x → x .rows < 1024 → p < 65536 → c .content < 65536
+  pub is : (s : List ℕ) (ds : List P.Declared) → Placed s t x → Spare x → p < 65536 → c .content < 65536
       → stateOf s t′ ds r ≡ D.addRow (statementAt s (c .statement) (c .content)) p (stateOf s t ds x)
-  pub stand : (s : List ℕ) → Placed s t x → x .rows < 1024 → Stand (suc (x .rows)) (openedOf s (r .opened))
-  pub count : x .rows < 1024 → r .rows ≡ suc (x .rows)
+  pub stand : (s : List ℕ) → Placed s t x → Spare x → Stand (suc (x .rows)) (openedOf s (r .opened))
+  pub count : Spare x → r .rows ≡ suc (x .rows)
   pub deep : 0 < x .opened .count → x .opened .count ≤ 20 → r .opened .count ≡ x .opened .count
   pub keeps : Keeps x r
   pub size : length t′ ≡ length t
-  pub marks : (s : List ℕ) → Placed s t x → x .rows < 1024 → c .content < 65536 → Tells s (c .statement) (c .content) (c .«value_type»)
+  pub marks : (s : List ℕ) → Placed s t x → Spare x → c .content < 65536 → Tells s (c .statement) (c .content) (c .«value_type»)
       → Marks s t (x .rows) (x .opened) t′ (r .rows)
 
 -- the text that the program or a group begins with
 pub record Leads (t : List ℕ) (x : State) (y : Stretch) (t′ : List ℕ) (r : State) : Type 0 where
-  pub is : (s : List ℕ) (ds : List P.Declared) → Placed s t x
+  pub is : (s : List ℕ) (ds : List P.Declared) → Placed s t x → x .entered + x .rows ≤ 2048
       → stateOf s t′ ds r ≡ D.leadIn (openedOf s (x .opened)) (y .from) (y .to) (stateOf s t ds x)
   pub opened : r .opened ≡ x .opened
   pub rows : r .rows ≡ x .rows
@@ -255,12 +263,12 @@ Taken s t x p t′ r ns ds es (read c) = turnOf s t′ (ds ++ (St.means (scopeOf
 Taken s t x p t′ r ns ds es (refused w q) = (r ≡ turned x (Nx.Stop w q)) × (t′ ≡ t)
 
 pub record TakesAs (s t : List ℕ) (x : State) (y : Read) (p labels : ℕ) (t′ : List ℕ) (r : Turned) : Type 0 where
-  pub is : (R : Reading St.Clause) (ns : List Named) (ds es : List P.Declared) → Stood s y R → Placed s t x → x .rows < 1024 → x .opened .count < 20 → p < 65536
+  pub is : (R : Reading St.Clause) (ns : List Named) (ds es : List P.Declared) → Stood s y R → Placed s t x → Spare x → x .opened .count < 20 → p < 65536
       → D.spelled ns ≡ labelled s labels → Taken s t x p t′ r ns ds es R
-  pub rows : x .rows < 1024 → r .state .rows ≤ suc (x .rows)
+  pub rows : Spare x → r .state .rows ≤ suc (x .rows)
   pub keeps : Keeps x (r .state)
   pub size : length t′ ≡ length t
-  pub marks : (R : Reading St.Clause) → Stood s y R → Placed s t x → x .rows < 1024 → Marks s t (x .rows) (x .opened) t′ (r .state .rows)
+  pub marks : (R : Reading St.Clause) → Stood s y R → Placed s t x → Spare x → Marks s t (x .rows) (x .opened) t′ (r .state .rows)
 
 -- ---- what the definition's turn leaves: its state, and the sentence that it stopped at
 abbrev pub stateIn : D.Turn → D.State
@@ -375,7 +383,7 @@ pub record Turns (d s t n : List ℕ) (x : State) (m : Mode) (at : ℕ) (t′ n�
 -- of `start`: the member m begins at base in the deck, with so many sentences and names before it
 pub record Begins (m base before names : ℕ) (r : State) : Type 0 where
   pub is : (s t : List ℕ) → stateOf s t [] r ≡ D.start
-  pub placed : (s t : List ℕ) → 16384 ≤ length t → Placed s t r
+  pub placed : (s t : List ℕ) → RoomFor before t → Placed s t r
   pub entered : r .entered ≡ before
   pub rows : r .rows ≡ 0
   pub scope : r .scope ≡ Ow.Everyone
