@@ -12,3 +12,4 @@ pub mod Tables
 pub mod Worlds
 pub mod Laying
 pub mod Enters
+pub mod Bodies
