@@ -14,10 +14,7 @@ pub mod Tables
 pub mod Worlds
 pub mod Laying
 pub mod Enters
-<<<<<<< HEAD
 pub mod Stretches
 pub mod Later
 pub mod Returning
-=======
 pub mod Bodies
->>>>>>> 9da28e59ac56fc9bd6e13aa4ebf8ac1c75a8e977
