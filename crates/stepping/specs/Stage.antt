@@ -26,8 +26,8 @@ use Rattle.texts.specs.Shown.{Onstage}
 
 -- the working rooms are as long as docs/ROOMS.md says
 pub record Roomy (rows names c : List ℕ) : Type 0 where
-  pub rows : 32768 ≤ length rows
-  pub names : 4096 ≤ length names
+  pub table : 32768 ≤ length rows
+  pub book : 4096 ≤ length names
   pub cells : 256 ≤ length c
 
 -- THE STAGE: the rooms show the world B
