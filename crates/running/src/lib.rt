@@ -1,4 +1,12 @@
 // Members are read, entered and run, one inside the other by INCLUDE; what a statement of a member does is below, in `stepping`.
+ghost use mathlib.Core.Path.{_≡_};
+ghost use Prim.Native.Nat.{_-_};
+ghost use Rattle.definition.specs.Room.{over, zeros};
+ghost use Rattle.rows.specs.Parts.{startIn};
+ghost use Rattle.flow.specs.declared.Next.the-variants.{Begin};
+ghost use Rattle.running.specs.Ways.{leftAt, begunAt, endedAt};
+ghost use Rattle.running.specs.Readers.{ReadIs, RowsWith, WithSource, StartedAt, stoppedAt};
+ghost use Rattle.running.specs.Members.{hereAt, FoundIs, IncludeOneIs, IncludeAllIs, TurnIs, RowsAre, SourceIs, EnterIs, RunIs};
 use deck::body;
 use definition::Why;
 use entering::Fault;
@@ -53,7 +61,9 @@ struct Left {
     starts: Starts,
 }
 
-fn left_at(here: Here, ended: Ended) -> Left {
+fn left_at(here: Here, ended: Ended) -> Left
+    ensures { λ r. ⌜ r ≡ leftAt here ended ⌝ }
+{
     let starts = here.starts;
     Left { ended, starts }
 }
@@ -64,18 +74,24 @@ struct Begun {
     starts: Starts,
 }
 
-fn turned_at(here: Here, turned: Turned) -> Begun {
+fn turned_at(here: Here, turned: Turned) -> Begun
+    ensures { λ r. ⌜ r ≡ begunAt here turned ⌝ }
+{
     let starts = here.starts;
     Begun { turned, starts }
 }
 
-fn in_member(here: Here, k: u16) -> Here {
+fn in_member(here: Here, k: u16) -> Here
+    ensures { λ r. ⌜ r ≡ hereAt k (here .starts) ⌝ }
+{
     let starts = here.starts;
     Here { member: k, starts }
 }
 
 // The same member, where the rows of each start since.
-fn since(here: Here, starts: Starts) -> Here {
+fn since(here: Here, starts: Starts) -> Here
+    ensures { λ r. ⌜ r ≡ hereAt (here .member) starts ⌝ }
+{
     Here {
         member: here.member,
         starts,
@@ -83,7 +99,9 @@ fn since(here: Here, starts: Starts) -> Here {
 }
 
 // The member starts at row n of the table.
-fn entered(here: Here, n: u16) -> Here {
+fn entered(here: Here, n: u16) -> Here
+    ensures { λ r. ⌜ StartedAt here (here .starts) n r ⌝ }
+{
     let starts = here.starts;
     Here {
         member: here.member,
@@ -92,7 +110,9 @@ fn entered(here: Here, n: u16) -> Here {
 }
 
 // The row where the member that runs starts.
-fn start_here(here: Here) -> u16 {
+fn start_here(here: Here) -> u16
+    ensures { λ r. ⌜ r ≡ startIn (here .starts) (here .member) ⌝ }
+{
     let k = here.member as usize;
     let starts = here.starts;
     if k < 32 {
@@ -102,12 +122,16 @@ fn start_here(here: Here) -> u16 {
 }
 
 // Back in the member, when others were entered. Where it was one of them, its rows are still where they were, too.
-fn resumed(here: Here, starts: Starts) -> Here {
+fn resumed(here: Here, starts: Starts) -> Here
+    ensures { λ r. ⌜ StartedAt here starts (startIn (here .starts) (here .member)) r ⌝ }
+{
     entered(since(here, starts), start_here(here))
 }
 
 // What an INCLUDE gives: it is passed, or a GOTO came out of a member.
-fn on_ended(rows: &[u16], fs: Frames, n: u16, before: Here, x: Left) -> Begun {
+fn on_ended(rows: &[u16], fs: Frames, n: u16, before: Here, x: Left) -> Begun
+    ensures { λ r. ⌜ r ≡ endedAt (now (rows .entry)) fs n before x ⌝ }
+{
     let starts = x.starts;
     let here = since(before, starts);
     let e = x.ended;
@@ -121,14 +145,18 @@ fn on_ended(rows: &[u16], fs: Frames, n: u16, before: Here, x: Left) -> Begun {
 // ---- members are read
 
 // All rows, with those of a member; 01 allows 2,048.
-fn rows_with(n: u16, more: u16) -> u16 {
+fn rows_with(n: u16, more: u16) -> u16
+    ensures { λ r. ⌜ RowsWith n more r ⌝ }
+{
     if 65_535 - n < more {
         return 65_535;
     }
     n + more
 }
 
-fn with_source(g: Progress, x: Source) -> Progress {
+fn with_source(g: Progress, x: Source) -> Progress
+    ensures { λ r. ⌜ WithSource g x r ⌝ }
+{
     let meter = g.meter;
     let out = g.out;
     Progress {
@@ -140,13 +168,17 @@ fn with_source(g: Progress, x: Source) -> Progress {
 }
 
 // Member k is read behind the rows that there are.
-fn read_behind(deck: &[u8], rows: &mut [u16], names: &mut [u16], k: u16, g: Progress) -> Source {
+fn read_behind(deck: &[u8], rows: &mut [u16], names: &mut [u16], k: u16, g: Progress) -> Source
+    ensures { λ r. ⌜ ReadIs (now (deck .entry)) (now (rows .entry)) (now (names .entry)) k g (now (rows .exit)) (now (names .exit)) r ⌝ }
+{
     let from = part_place(rows, g.rows);
     read_member(deck, &mut rows[from..], names, k, g.rows, g.names)
 }
 
 // A name that is declared has no value.
-fn forget(cells: &mut [u32], from: u16, to: u16) {
+fn forget(cells: &mut [u32], from: u16, to: u16)
+    ensures { λ _. ⌜ now (cells .exit) ≡ over (now (cells .entry)) from (zeros (to - from)) ⌝ }
+{
     let mut a = from;
     while a < to {
         put_number32(cells, 0, a as usize, 0);
@@ -157,12 +189,16 @@ fn forget(cells: &mut [u32], from: u16, to: u16) {
 // ---- INCLUDE
 
 // The line of the member whose name is t, which the body of member `here` spells.
-fn member_named(deck: &[u8], here: u16, t: Lexeme) -> deck::Found {
+fn member_named(deck: &[u8], here: u16, t: Lexeme) -> deck::Found
+    ensures { λ r. ⌜ FoundIs (now (deck .entry)) here t r ⌝ }
+{
     let base = deck::offset(deck, here) as usize;
     deck::find(deck, plus(base, t.from), span(t.from, t.to))
 }
 
-fn stopped(g: Progress, why: Why, member: u16, place: usize) -> Ended {
+fn stopped(g: Progress, why: Why, member: u16, place: usize) -> Ended
+    ensures { λ r. ⌜ r ≡ stoppedAt g why member place ⌝ }
+{
     Ended::Bad(Stop { why, member, place }, g)
 }
 
@@ -183,7 +219,9 @@ fn include_one(
     here: Here,
     left: usize,
     g: Progress,
-) -> Left {
+) -> Left
+    ensures { λ r. ⌜ IncludeOneIs (now (deck .entry)) (now (rows .entry)) (now (names .entry)) (now (cells .entry)) (now (low .entry)) (now (high .entry)) (now (work .entry)) (now (text .entry)) (now (list .entry)) t place below here left g (now (rows .exit)) (now (names .exit)) (now (cells .exit)) (now (low .exit)) (now (high .exit)) (now (work .exit)) (now (text .exit)) (now (list .exit)) r ⌝ }
+{
     let found = member_named(deck, here.member, t);
     match found {
         deck::Found::Nothing => left_at(here, stopped(g, Why::UnknownMember, here.member, place)),
@@ -226,7 +264,9 @@ fn include_all(
     before: Here,
     left: usize,
     g0: Progress,
-) -> Left {
+) -> Left
+    ensures { λ r. ⌜ IncludeAllIs (now (deck .entry)) (now (rows .entry)) (now (names .entry)) (now (cells .entry)) (now (low .entry)) (now (high .entry)) (now (work .entry)) (now (text .entry)) (now (list .entry)) n below before left g0 (now (rows .exit)) (now (names .exit)) (now (cells .exit)) (now (low .exit)) (now (high .exit)) (now (work .exit)) (now (text .exit)) (now (list .exit)) r ⌝ }
+{
     let s = body(deck, before.member);
     let r = row_at(part_here(rows, before), n);
     let place = r.place as usize;
@@ -299,7 +339,9 @@ fn begin(
     here: Here,
     left: usize,
     g0: Progress,
-) -> Begun {
+) -> Begun
+    ensures { λ r. ⌜ TurnIs (now (deck .entry)) (now (s .entry)) (now (rows .entry)) (now (names .entry)) (now (cells .entry)) (now (low .entry)) (now (high .entry)) (now (work .entry)) (now (text .entry)) (now (list .entry)) fs (Begin n) below here left g0 (now (rows .exit)) (now (names .exit)) (now (cells .exit)) (now (low .exit)) (now (high .exit)) (now (work .exit)) (now (text .exit)) (now (list .exit)) r ⌝ }
+{
     let r = row_at(part_here(rows, here), n);
     let before = g0.meter;
     let paid = before.charged();
@@ -367,7 +409,9 @@ fn turn(
     here: Here,
     left: usize,
     g: Progress,
-) -> Begun {
+) -> Begun
+    ensures { λ r. ⌜ TurnIs (now (deck .entry)) (now (s .entry)) (now (rows .entry)) (now (names .entry)) (now (cells .entry)) (now (low .entry)) (now (high .entry)) (now (work .entry)) (now (text .entry)) (now (list .entry)) fs next below here left g (now (rows .exit)) (now (names .exit)) (now (cells .exit)) (now (low .exit)) (now (high .exit)) (now (work .exit)) (now (text .exit)) (now (list .exit)) r ⌝ }
+{
     match next {
         Next::Begin(n) => {
             begin(
@@ -429,7 +473,9 @@ fn run_rows(
     start: Here,
     left: usize,
     g0: Progress,
-) -> Left {
+) -> Left
+    ensures { λ r. ⌜ RowsAre (now (deck .entry)) (now (rows .entry)) (now (names .entry)) (now (cells .entry)) (now (low .entry)) (now (high .entry)) (now (work .entry)) (now (text .entry)) (now (list .entry)) first below start left g0 (now (rows .exit)) (now (names .exit)) (now (cells .exit)) (now (low .exit)) (now (high .exit)) (now (work .exit)) (now (text .exit)) (now (list .exit)) r ⌝ }
+{
     let s = body(deck, start.member);
     let mut next = first;
     let mut fs = flow::no_frames();
@@ -511,7 +557,9 @@ fn run_source(
     here: Here,
     left: usize,
     g: Progress,
-) -> Left {
+) -> Left
+    ensures { λ r. ⌜ SourceIs (now (deck .entry)) (now (rows .entry)) (now (names .entry)) (now (cells .entry)) (now (low .entry)) (now (high .entry)) (now (work .entry)) (now (text .entry)) (now (list .entry)) x below here left g (now (rows .exit)) (now (names .exit)) (now (cells .exit)) (now (low .exit)) (now (high .exit)) (now (work .exit)) (now (text .exit)) (now (list .exit)) r ⌝ }
+{
     let s = body(deck, here.member);
     let first = x.first;
     let l = lead_out(
@@ -567,7 +615,9 @@ fn enter_and_run(
     below: Below,
     left: usize,
     g: Progress,
-) -> Left {
+) -> Left
+    ensures { λ r. ⌜ EnterIs (now (deck .entry)) (now (rows .entry)) (now (names .entry)) (now (cells .entry)) (now (low .entry)) (now (high .entry)) (now (work .entry)) (now (text .entry)) (now (list .entry)) below here left g (now (rows .exit)) (now (names .exit)) (now (cells .exit)) (now (low .exit)) (now (high .exit)) (now (work .exit)) (now (text .exit)) (now (list .exit)) r ⌝ }
+{
     let x = read_behind(deck, rows, names, here.member, g);
     let fault = x.fault;
     match fault {
@@ -606,7 +656,9 @@ pub fn run(
     text: &mut [u8],
     list: &mut [u8],
     steps: u32,
-) -> Ran {
+) -> Ran
+    ensures { λ r. ⌜ RunIs (now (deck .entry)) (now (rows .entry)) (now (names .entry)) (now (cells .entry)) (now (low .entry)) (now (high .entry)) (now (work .entry)) (now (text .entry)) (now (list .entry)) steps (now (text .exit)) (now (list .exit)) r ⌝ }
+{
     let g = Progress {
         meter: Meter::new(steps),
         out: Out::new(text.len(), list.len()),
