@@ -3,7 +3,7 @@
 use mathlib.Core.Path.{_≡_, refl, sym, ap, subst, _∙_}
 use mathlib.Core.Bool.{Bool, true, false}
 use mathlib.Core.List.{List, [], _∷_, _++_}
-use Prim.Native.Nat.{ℕ, zero, suc, _+_, _*_, _-_, _<_, _≤_}
+use Prim.Native.Nat.{ℕ, zero, suc, _+_, _*_, _-_, _/_, _<_, _≤_}
 use native.Mathlib.Omega.{arith}
 use borrow.Author.Tests.{eq-eqb}
 use lib.ListN.{length, getD, take, drop, replicate, length-append, length-drop, drop-of-length-le}
@@ -20,14 +20,17 @@ use Rattle.definition.specs.Calls.{Place}
 use Rattle.definition.specs.Flow as F
 use Rattle.definition.specs.Run as Run
 use Rattle.definition.specs.Run.{bodyOf}
+use Rattle.definition.specs.Expansion as X
 use Rattle.definition.specs.declared.Why.{Why}
 use Rattle.definition.proofs.Rooms.{length-over}
 use Rattle.deck.specs.Answer.{bodyIn}
+use Rattle.names.specs.declared.Label.{Label}
 use Rattle.names.specs.Table.{identifiersFrom}
 use Rattle.meter.specs.declared.Meter.{Meter}
 use Rattle.output.specs.declared.Out.{Out}
 use Rattle.output.specs.Shows as Output
-use Rattle.rows.specs.Parts.{StartsAt, PartPlace}
+use Rattle.output.proofs.Laws.{begin-shows, begin-fine}
+use Rattle.rows.specs.Parts.{noStarts, StartsAt, PartPlace}
 use Rattle.rows.specs.declared.Starts.{Starts}
 use Rattle.entering.specs.declared.Fault.{Fault}
 use Rattle.entering.specs.declared.Fault.the-variants.{Sound, Faulty}
@@ -43,23 +46,26 @@ use Rattle.reading.specs.declared.Source.{Source}
 use Rattle.reading.specs.Members.{namesOf, baseOf, Fresh, Membered, Members, Whole}
 use Rattle.showing.specs.Worlds.{Placed, Laid, Behind, Grown, memberIn, Enters}
 use Rattle.showing.specs.Later.{Later, Grew}
-use Rattle.showing.proofs.Bodies.{Lined, lined}
-use Rattle.showing.proofs.Worlds.{Entered, entered-is, placed-same, size-placed}
-use Rattle.showing.proofs.Laying.{laid-same, behind-back}
+use Rattle.showing.proofs.Bodies.{Lined, lined, main-low}
+use Rattle.showing.proofs.Worlds.{Entered, entered-is, placed-new, placed-same, size-placed, rows-shown}
+use Rattle.showing.proofs.Laying.{laid-new, laid-same, behind-back}
 use Rattle.showing.proofs.Enters.{member-enters}
 use Rattle.showing.proofs.Later.{later-same, later-on, later-enter, later-size}
 use Rattle.showing.proofs.Returning.{grew-none, grew-on, grew-behind}
 use Rattle.leaving.specs.declared.Below.{Below}
-use Rattle.leaving.specs.Places.{belowOf, Stand}
+use Rattle.leaving.specs.Places.{belowOf, NoneBelow, Stand}
 use Rattle.texts.specs.declared.Progress.{Progress}
 use Rattle.texts.specs.declared.Here.{Here}
-use Rattle.texts.specs.Shown.{sceneOf, Written, Onstage}
+use Rattle.texts.specs.declared.Stop.{Stop}
+use Rattle.texts.specs.declared.Ran.the-variants as Rn
+use Rattle.texts.specs.Shown.{sceneOf, stopFor, Written, Onstage}
 use Rattle.stepping.specs.declared.Ended.{Ended}
 use Rattle.stepping.specs.declared.Ended.the-variants as En
 use Rattle.stepping.specs.Stage.{Roomy, Stage, InMember}
+use Rattle.stepping.specs.Steps.{EndNow}
 use Rattle.running.specs.declared.Left.{Left}
 use Rattle.running.specs.Included.{enteredRun, enterRun}
-use Rattle.running.specs.Members.{hereAt, Since, EndsAs, Deep, Running, SourceOf, SourceIs, EnterIs}
+use Rattle.running.specs.Members.{hereAt, Since, EndsAs, Deep, Running, SourceOf, SourceIs, EnterIs, RanTo, RunIs}
 use Rattle.running.specs.Readers.{ReadIs, RowsWith, WithSource, StartedAt, leftAt, stoppedAt}
 use Rattle.running.proofs.Values.{Held, declare-held, forgotten, values-forgotten, slots-forgotten}
 
@@ -361,3 +367,84 @@ module _ (deck rows names c l h w t ls : List ℕ) (below : Below) (here : Here)
           let since : Since rows B rows′ A = since-after deck rows names c l h w t ls (here .starts) g B S (here .member) sound line rows′ names′ x R (here′ .starts) (st .starts) f c′ z in
           subst (λ (y : Res Run.Stop F.End). EndsAs (belowOf below) deck rows B rows″ names″ c″ l″ h″ w″ t″ ls″ (here .member) y r) (sym is)
           (record { world = ends .world; since = since-on rows rows′ rows″ B A (ends .world) since (ends .since); now = ends .now })
+
+-- ---- THE RUN begins: no names, no rows, nothing is put out
+main-world : (c l h : List ℕ) (steps text lines : ℕ) → worldIn (W.newWorld steps text lines) c l h 0 ≡ W.newWorld steps text lines
+unfolding valuesFrom
+main-world c l h steps text lines = refl
+
+main-written : (t ls : List ℕ) (o : Out) (steps : ℕ) → t ≡ zeros (length t) → ls ≡ zeros (length ls) → Output.Begins (length t) (length ls) o → Written t ls o (X.mainWorld (length t) (length ls) steps)
+main-written t ls o steps e f b = record { out = begin-shows t ls o e f b; fine = begin-fine (length t) (length ls) o b; text = sym (b .room); lines = sym (b .free) }
+
+main-stage : (deck rows names c l h w t ls : List ℕ) (m : Meter) (o : Out) → t ≡ zeros (length t) → ls ≡ zeros (length ls) → Output.Begins (length t) (length ls) o → Roomy rows names c → 65536 ≤ length l → 65536 ≤ length h
+    → 65536 ≤ length w → Stage deck rows names c l h w t ls noStarts (record { meter = m; out = o; rows = 0; names = 0 }) (X.mainWorld (length t) (length ls) (m .limit))
+unfolding identifiersFrom Callees.denotationsFrom Outcomes.activitiesFrom
+main-stage deck rows names c l h w t ls m o e f b roomy low high work =
+    let B : World = X.mainWorld (length t) (length ls) (m .limit) in
+    let placed : Placed (bodyIn deck) B = placed-new (bodyIn deck) (m .limit) (X.capped (length t)) (length ls / 12) in
+    let laid : Laid deck rows noStarts 0 B = laid-new deck rows (m .limit) (X.capped (length t)) (length ls / 12) in
+    record {
+      onstage = record {
+        shows = record {
+          named = record { identifiers = refl; denotations = refl };
+          rowed = rows-shown deck rows noStarts B (laid .stored) placed (omega arith);
+          slots = record { few = omega arith; cells = omega arith; low = low; high = high; short = λ j q. let z : _≡_ {A = ℕ} 0 1 = cc in absurd (omega arith) };
+          work = work;
+          taken = omega arith;
+          limit = refl;
+          left = omega arith;
+        };
+        awake = record { identifiers = refl; activities = refl };
+        written = main-written t ls o (m .limit) e f b;
+      };
+      placed = placed;
+      laid = laid;
+      sentences = refl;
+      few = omega arith;
+      roomy = roomy;
+    }
+
+module _ (deck rows names c l h w t ls : List ℕ) (steps : ℕ) (m : Meter) (o : Out) (starts : Starts) (below : Below) (meter : (m .limit ≡ steps) × (m .used ≡ 0)) (out : Output.Begins (length t) (length ls) o) (first : starts ≡ noStarts)
+    (top : NoneBelow below) (rows′ names′ c′ l′ h′ w′ t′ ls′ : List ℕ) (x : Left)
+    (run : EnterIs deck rows names c l h w t ls below (hereAt 0 starts) 8 (record { meter = m; out = o; rows = 0; names = 0 }) rows′ names′ c′ l′ h′ w′ t′ ls′ x) where
+  -- how the main program ends
+  abbrev Main : Type 0
+  Main = EndsAs [] deck rows (X.mainWorld (length t) (length ls) steps) rows′ names′ c′ l′ h′ w′ t′ ls′ 0 (enterRun 8 deck 0 [] (X.mainWorld (length t) (length ls) steps)) x
+
+  main-ends : Deck.isSound deck ≡ true → Roomy rows names c → 65536 ≤ length l → 65536 ≤ length h → 65536 ≤ length w → t ≡ zeros (length t) → ls ≡ zeros (length ls) → Main
+  main-ends sound roomy low high work e f =
+      let B : World = X.mainWorld (length t) (length ls) steps in
+      let S : Stage deck rows names c l h w t ls starts (record { meter = m; out = o; rows = 0; names = 0 }) B =
+      subst (λ (z : Starts). Stage deck rows names c l h w t ls z (record { meter = m; out = o; rows = 0; names = 0 }) B) (sym first)
+      (subst (λ (n : ℕ). Stage deck rows names c l h w t ls noStarts (record { meter = m; out = o; rows = 0; names = 0 }) (X.mainWorld (length t) (length ls) n)) (meter .0) (main-stage deck rows names c l h w t ls m o e f out roomy low high work)) in
+      let same : worldIn B c l h (m .used) ≡ B = ap (λ (n : ℕ). worldIn B c l h n) (meter .1) ∙ main-world c l h steps (X.capped (length t)) (length ls / 12) in
+      subst (λ (v : World). EndsAs [] deck rows B rows′ names′ c′ l′ h′ w′ t′ ls′ 0 (enterRun 8 deck 0 [] v) x) same
+      (subst (λ (on : List Place). EndsAs on deck rows B rows′ names′ c′ l′ h′ w′ t′ ls′ 0 (enterRun 8 deck 0 on (worldIn B c l h (m .used))) x) (top .is)
+      (run .is B S sound (main-low deck sound) (subst (λ (on : List Place). Stand on B) (sym (top .is)) tt) (omega (arith, top .count))))
+
+  -- its answers
+  abbrev Ended′ : Main → Ended → Type 0
+  Ended′ k e = EndNow [] deck rows′ names′ c′ l′ h′ w′ t′ ls′ (hereAt 0 (x .starts)) (enterRun 8 deck 0 [] (X.mainWorld (length t) (length ls) steps)) (k .world) e
+
+  pub run-ran : (g : Progress) → x .ended ≡ En.Ran g → RunIs deck rows names c l h w t ls steps t′ ls′ (Rn.Good g)
+  run-ran g e = record { is = λ sound roomy low high work z y. by (main-ends sound roomy low high work z y) }
+    where
+      by : (k : Main) → RanTo t′ ls′ (enterRun 8 deck 0 [] (X.mainWorld (length t) (length ls) steps)) (Rn.Good g)
+      by k =
+          let d : Ended′ k (En.Ran g) = subst (Ended′ k) e (k .now) in
+          let v : Written t′ ls′ (g .out) (k .world) = d .stage .onstage .written in
+          (worldIn (k .world) c′ l′ h′ (g .meter .used), record { out = v .out; fine = v .fine; text = v .text; lines = v .lines }, ap X.result (d .is), refl)
+
+  pub run-went : (y : Label) (g : Progress) → x .ended ≡ En.Went y g → RunIs deck rows names c l h w t ls steps t′ ls′ (Rn.Good g)
+  run-went y g e = record { is = λ sound roomy low high work z a. by (main-ends sound roomy low high work z a) }
+    where
+      by : (k : Main) → RanTo t′ ls′ (enterRun 8 deck 0 [] (X.mainWorld (length t) (length ls) steps)) (Rn.Good g)
+      by k =
+          let d : Ended′ k (En.Went y g) = subst (Ended′ k) e (k .now) in
+          let v : Written t′ ls′ (g .out) (k .world) = d .stage .onstage .written in
+          (worldIn (k .world) c′ l′ h′ (g .meter .used), record { out = v .out; fine = v .fine; text = v .text; lines = v .lines }, ap X.result (d .is), refl)
+
+  pub run-bad : (y : Stop) (g : Progress) → x .ended ≡ En.Bad y g → RunIs deck rows names c l h w t ls steps t′ ls′ (Rn.Bad y g)
+  run-bad y g e = record {
+    is = λ sound roomy low high work z a. let k : Main = main-ends sound roomy low high work z a in let d : Ended′ k (En.Bad y g) = subst (Ended′ k) e (k .now) in (stopFor y, refl, ap X.result d);
+  }
