@@ -124,7 +124,7 @@ with-source g x n h = record { meter = refl; out = refl; names = refl; rows = h 
 progress-is : (g : Progress) (m : Meter) (o : Out) (r n : ℕ) → g .meter ≡ m → g .out ≡ o → g .rows ≡ r → g .names ≡ n → record { meter = m; out = o; rows = r; names = n } ≡ g
 progress-is g m o r n e f p q = rw (← e, ← f, ← p, ← q)
 
-here-is : (here : Here) (m : ℕ) → here .member ≡ m → here ≡ hereAt m (here .starts)
+pub here-is : (here : Here) (m : ℕ) → here .member ≡ m → here ≡ hereAt m (here .starts)
 here-is here m e = ap (λ (k : ℕ). hereAt k (here .starts)) e
 
 -- ---- the table of names is read by two crates

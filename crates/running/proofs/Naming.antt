@@ -59,7 +59,7 @@ use Rattle.running.specs.declared.Left.{Left}
 use Rattle.running.specs.Included.{enterRun, foundRun, endOn, includeOn}
 use Rattle.running.specs.Members.{hereAt, Since, EndsAs, Running, FoundIs, IncludeOneIs, IncludeAllIs, EnterIs}
 use Rattle.running.specs.Readers.{StartedAt, leftAt, stoppedAt}
-use Rattle.running.proofs.Entering.{since-none, since-on, stand-later}
+use Rattle.running.proofs.Entering.{since-none, since-on, stand-later, here-is}
 
 -- ---- a name in the body of a member is the same bytes in the deck
 body-there : (d : List ℕ) (k : ℕ) → 0 < length (bodyIn d k) → lineAt d k .offset + lineAt d k .size ≤ length d
@@ -164,3 +164,258 @@ module _ (deck rows names c l h w t ls : List ℕ) (x : Lexeme) (p : ℕ) (below
             (ends-in (belowOf below) deck rows B rows′ names′ c′ l′ h′ w′ t′ ls′ k (here .member) (enterRun (left - 1) deck k (belowOf below) v) r
             (enter .is B S sound (find-low deck (part (x .to - x .from) (x .from) (bodyIn deck (here .member))) k is) stand (omega (arith, deep, some))));
       }
+
+-- ---- BACK in the member m, which is looked at where it was
+stage-back : (deck rows names c l h w t ls : List ℕ) (starts : Starts) (g : Progress) (B : World) → Stage deck rows names c l h w t ls starts g B → (rows′ names′ c′ l′ h′ w′ t′ ls′ : List ℕ) (starts′ starts″ : Starts) (g′ : Progress) (B′ : World)
+    → Since rows B rows′ B′ → (m n : ℕ) → m < 32 → n < length (rowsOf m B) → StartsAt starts′ m (startIn starts m) starts″ → Stage deck rows′ names′ c′ l′ h′ w′ t′ ls′ starts′ g′ B′ → Stage deck rows′ names′ c′ l′ h′ w′ t′ ls′ starts″ g′ B′
+stage-back deck rows names c l h w t ls starts g B S rows′ names′ c′ l′ h′ w′ t′ ls′ starts′ starts″ g′ B′ since m n low there st Z =
+    let grew : Grew rows (g .rows) rows′ = subst (λ (k : ℕ). Grew rows k rows′) (S .sentences) (since .grew) in
+    let more : g .rows ≤ g′ .rows = omega (arith, since .more, S .sentences, Z .sentences) in
+    let laid : Laid deck rows′ starts″ (g′ .rows) B′ = back-laid deck rows rows′ starts starts′ starts″ (g .rows) (g′ .rows) m B B′ (S .laid) (Z .laid) grew more (later-rows B B′ m n (since .later) there) st low in
+    record {
+      onstage = record {
+        shows = record {
+          named = Z .onstage .shows .named;
+          rowed = rows-shown deck rows′ starts″ B′ (laid .stored) (Z .placed) (omega (arith, size-placed (bodyIn deck) B′ (Z .placed), Z .onstage .shows .slots .few));
+          slots = Z .onstage .shows .slots;
+          work = Z .onstage .shows .work;
+          taken = Z .onstage .shows .taken;
+          limit = Z .onstage .shows .limit;
+          left = Z .onstage .shows .left;
+        };
+        awake = Z .onstage .awake;
+        written = Z .onstage .written;
+      };
+      placed = Z .placed;
+      laid = laid;
+      sentences = Z .sentences;
+      few = Z .few;
+      roomy = Z .roomy;
+    }
+
+end-back : (on : List Place) (deck rows : List ℕ) (k m : ℕ) (starts starts′ : Starts) (R : Res Run.Stop F.End) (names c l h w t ls : List ℕ) (B : World)
+    → ((g : Progress) → Stage deck rows names c l h w t ls starts g B → Stage deck rows names c l h w t ls starts′ g B) → (e : Ended) → EndNow on deck rows names c l h w t ls (hereAt k starts) R B e
+    → EndNow on deck rows names c l h w t ls (hereAt m starts′) R B e
+end-back on deck rows k m starts starts′ R names c l h w t ls B f (En.Ran g) y = record { stage = f g (y .stage); is = y .is }
+end-back on deck rows k m starts starts′ R names c l h w t ls B f (En.Went z g) y = record { stage = f g (y .stage); is = y .is; reaches = y .reaches }
+end-back on deck rows k m starts starts′ R names c l h w t ls B f (En.Bad z g) y = y
+
+-- ---- THE LIST of an INCLUDE, which stands at row n of the member
+module _ (deck rows names c l h w t ls : List ℕ) (n : ℕ) (below : Below) (before : Here) (left : ℕ) (g₀ : Progress) where
+  abbrev standing : List Place
+  standing = placeAt (before .member) n ∷ belowOf below
+
+  abbrev namesLeft : List (List ℕ) → World → Res Run.Stop F.End
+  namesLeft ns v = includeOn left deck (rowIn (partHere rows before) n .place) (before .member) standing ns v
+
+  -- what is asked of the world at first, and of the names
+  pub record Asked (B : World) (ns : List (List ℕ)) : Type 0 where
+    pub stage : Stage deck rows names c l h w t ls (before .starts) g₀ B
+    pub running : Running deck (bodyIn deck (before .member)) rows before below left B
+    pub there : n < length (readMember (bodyOf deck (before .member)) .rows)
+    pub named : Named (bodyIn deck (before .member)) (rowIn (partHere rows before) n .content) ns
+
+  row-there : (B : World) (ns : List (List ℕ)) → Asked B ns → n < length (rowsOf (before .member) B)
+  row-there B ns a = subst (λ (rs : List P.Row). n < length rs) (sym (a .running .member .entered)) (a .there)
+
+  -- the names that are left, in a world that the rooms show now
+  pub record Now (B : World) (ns : List (List ℕ)) (rows₁ names₁ c₁ l₁ h₁ w₁ t₁ ls₁ : List ℕ) (starts : Starts) (at : ℕ) (g : Progress) (turns : ℕ) : Type 0 where
+    pub world : World
+    pub since : Since rows B rows₁ world
+    pub stage : Stage deck rows₁ names₁ c₁ l₁ h₁ w₁ t₁ ls₁ starts g world
+    pub start : startIn starts (before .member) ≡ startIn (before .starts) (before .member)
+    pub rest : List (List ℕ)
+    pub named : Named (bodyIn deck (before .member)) at rest
+    pub few : length rest ≤ turns
+    pub same : namesLeft rest (worldIn world c₁ l₁ h₁ (g .meter .used)) ≡ namesLeft ns (worldIn B c l h (g₀ .meter .used))
+
+  -- THE INVARIANT of the loop
+  pub record Going (rows₁ names₁ c₁ l₁ h₁ w₁ t₁ ls₁ : List ℕ) (here : Here) (at : ℕ) (g : Progress) (turns : ℕ) : Type 0 where
+    pub member : here .member ≡ before .member
+    pub is : (B : World) (ns : List (List ℕ)) → Asked B ns → Now B ns rows₁ names₁ c₁ l₁ h₁ w₁ t₁ ls₁ (here .starts) at g turns
+
+  module _ (s : List ℕ) (body : s ≡ bodyIn deck (before .member)) (part′ : List ℕ) (own : part′ ≡ partHere rows before) (r : Row) (row : r ≡ rowIn part′ n) where
+    row-is : r ≡ rowIn (partHere rows before) n
+    row-is = row ∙ ap (λ (x : List ℕ). rowIn x n) own
+
+    pub going-start : Going rows names c l h w t ls before (r .content) g₀ (length s)
+    going-start = record {
+      member = refl;
+      is = λ B ns a.
+          let there : Named (bodyIn deck (before .member)) (r .content) ns = subst (λ (x : Row). Named (bodyIn deck (before .member)) (x .content) ns) (sym row-is) (a .named) in
+          record {
+            world = B;
+            since = since-none rows B;
+            stage = a .stage;
+            start = refl;
+            rest = ns;
+            named = there;
+            few = omega (arith, named-few (bodyIn deck (before .member)) (r .content) ns there, ap (λ (x : List ℕ). length x) body);
+            same = refl;
+          };
+    }
+
+    -- a turn: the member of the name at a place is run
+    module _ (inner : Below) (one : WithBelow below (before .member) n inner) (rows₁ names₁ c₁ l₁ h₁ w₁ t₁ ls₁ : List ℕ) (here : Here) (at : ℕ) (g : Progress) (turns : ℕ) (going : Going rows₁ names₁ c₁ l₁ h₁ w₁ t₁ ls₁ here at g turns)
+        (tk : Lexeme) (lex : Lexed s at tk) (rows₂ names₂ c₂ l₂ h₂ w₂ t₂ ls₂ : List ℕ) (x : Left)
+        (ran : IncludeOneIs deck rows₁ names₁ c₁ l₁ h₁ w₁ t₁ ls₁ tk (r .place) inner here left g rows₂ names₂ c₂ l₂ h₂ w₂ t₂ ls₂ x) (here₂ : Here) (back : StartedAt here (x .starts) (startIn (here .starts) (here .member)) here₂) where
+      record Past (B : World) (ns : List (List ℕ)) : Type 0 where
+        world : World
+        since : Since rows B rows₂ world
+        start : startIn (here₂ .starts) (before .member) ≡ startIn (before .starts) (before .member)
+        first : List ℕ
+        rest : List (List ℕ)
+        named : Named (bodyIn deck (before .member)) at (first ∷ rest)
+        few : suc (length rest) ≤ turns
+        answer : Res Run.Stop F.End
+        now : EndNow standing deck rows₂ names₂ c₂ l₂ h₂ w₂ t₂ ls₂ (hereAt (before .member) (here₂ .starts)) answer world (x .ended)
+        same : bind answer (λ e v. endOn e v (λ u. namesLeft rest u)) ≡ namesLeft ns (worldIn B c l h (g₀ .meter .used))
+
+      ran-here : IncludeOneIs deck rows₁ names₁ c₁ l₁ h₁ w₁ t₁ ls₁ tk (rowIn (partHere rows before) n .place) inner (hereAt (before .member) (here .starts)) left g rows₂ names₂ c₂ l₂ h₂ w₂ t₂ ls₂ x
+      ran-here =
+          subst (λ (y : Here). IncludeOneIs deck rows₁ names₁ c₁ l₁ h₁ w₁ t₁ ls₁ tk (rowIn (partHere rows before) n .place) inner y left g rows₂ names₂ c₂ l₂ h₂ w₂ t₂ ls₂ x) (here-is here (before .member) (going .member))
+          (subst (λ (y : Row). IncludeOneIs deck rows₁ names₁ c₁ l₁ h₁ w₁ t₁ ls₁ tk (y .place) inner here left g rows₂ names₂ c₂ l₂ h₂ w₂ t₂ ls₂ x) row-is ran)
+
+      starts-here : StartsAt (x .starts) (before .member) (startIn (here .starts) (before .member)) (here₂ .starts)
+      starts-here = subst (λ (k : ℕ). StartsAt (x .starts) k (startIn (here .starts) k) (here₂ .starts)) (going .member) (back .starts)
+
+      -- the bytes of the token are the name
+      spelled : (y : List ℕ) → Spells (bodyIn deck (before .member)) at y → part (tk .to - tk .from) (tk .from) (bodyIn deck (before .member)) ≡ y
+      spelled y k =
+          let on : Lexed (bodyIn deck (before .member)) at tk = subst (λ (z : List ℕ). Lexed z at tk) body lex in
+          ap (λ (i : ℕ). part (i - tk .from) (tk .from) (bodyIn deck (before .member))) (on .to)
+          ∙ ap (λ (i : ℕ). part (tokenAt (bodyIn deck (before .member)) at .to - i) i (bodyIn deck (before .member))) (on .from) ∙ k .is
+
+      passed : (B : World) (ns : List (List ℕ)) → Asked B ns → Past B ns
+      unfolding includeOn
+      passed B ns a = by (z .rest) (z .named) (z .few) (z .same)
+        where
+          z : Now B ns rows₁ names₁ c₁ l₁ h₁ w₁ t₁ ls₁ (here .starts) at g turns
+          z = going .is B ns a
+
+          few-below : below .count < 16
+          few-below = omega (arith, a .running .deep)
+
+          there : n < length (rowsOf (before .member) (z .world))
+          there = later-size B (z .world) (before .member) n (z .since .later) (row-there B ns a)
+
+          stands : Stand standing (z .world)
+          stands = (there, stand-later (belowOf below) B (z .world) (z .since .later) (a .running .stand))
+
+          by : (qs : List (List ℕ)) → Named (bodyIn deck (before .member)) at qs → length qs ≤ turns → namesLeft qs (worldIn (z .world) c₁ l₁ h₁ (g .meter .used)) ≡ namesLeft ns (worldIn B c l h (g₀ .meter .used)) → Past B ns
+          by [] k few same = absurd k
+          by (y ∷ ys) k few same =
+              let sp : Spells (bodyIn deck (before .member)) at y = named-first (bodyIn deck (before .member)) at y ys k in
+              let on : Lexed (bodyIn deck (before .member)) at tk = subst (λ (v : List ℕ). Lexed v at tk) body lex in
+              let v : World = worldIn (z .world) c₁ l₁ h₁ (g .meter .used) in
+              let p : ℕ = rowIn (partHere rows before) n .place in
+              let told-by : belowOf inner ≡ standing = one .is few-below in
+              let ends₀ : EndsAs (belowOf inner) deck rows₁ (z .world) rows₂ names₂ c₂ l₂ h₂ w₂ t₂ ls₂ (before .member)
+              (foundRun (find (part (tk .to - tk .from) (tk .from) (bodyIn deck (before .member))) 0 (lines deck)) left deck p (before .member) (belowOf inner) v) x =
+              ran-here .is (z .world) (z .stage) (a .running .sound) (a .running .line) (omega (arith, on .to, sp .within)) (subst (λ (ps : List Place). Stand ps (z .world)) (sym told-by) stands)
+              (omega (arith, one .count few-below, a .running .deep)) (omega (arith, one .count few-below)) in
+              let ends : EndsAs standing deck rows₁ (z .world) rows₂ names₂ c₂ l₂ h₂ w₂ t₂ ls₂ (before .member) (foundRun (find y 0 (lines deck)) left deck p (before .member) standing v) x =
+              subst (λ (q : List ℕ). EndsAs standing deck rows₁ (z .world) rows₂ names₂ c₂ l₂ h₂ w₂ t₂ ls₂ (before .member) (foundRun (find q 0 (lines deck)) left deck p (before .member) standing v) x) (spelled y sp)
+              (subst (λ (ps : List Place). EndsAs ps deck rows₁ (z .world) rows₂ names₂ c₂ l₂ h₂ w₂ t₂ ls₂ (before .member)
+              (foundRun (find (part (tk .to - tk .from) (tk .from) (bodyIn deck (before .member))) 0 (lines deck)) left deck p (before .member) ps v) x) told-by ends₀) in
+              let low : before .member < 32 = a .running .member .low in
+              record {
+                world = ends .world;
+                since = since-on rows rows₁ rows₂ B (z .world) (ends .world) (z .since) (ends .since);
+                start = starts-here .here low ∙ z .start;
+                first = y;
+                rest = ys;
+                named = k;
+                few = few;
+                answer = foundRun (find y 0 (lines deck)) left deck p (before .member) standing v;
+                now = end-back standing deck rows₂ (before .member) (before .member) (x .starts) (here₂ .starts) (foundRun (find y 0 (lines deck)) left deck p (before .member) standing v) names₂ c₂ l₂ h₂ w₂ t₂ ls₂ (ends .world)
+                    (λ q S. stage-back deck rows₁ names₁ c₁ l₁ h₁ w₁ t₁ ls₁ (here .starts) g (z .world) (z .stage) rows₂ names₂ c₂ l₂ h₂ w₂ t₂ ls₂ (x .starts) (here₂ .starts) q (ends .world) (ends .since) (before .member) n low there starts-here S)
+                    (x .ended) (ends .now);
+                same = same;
+              }
+
+      -- a GOTO or a refusal ends the list
+      pub all-went : (q : Label) (g₂ : Progress) (y : Left) → x .ended ≡ En.Went q g₂ → y ≡ leftAt here₂ (x .ended) → IncludeAllIs deck rows names c l h w t ls n below before left g₀ rows₂ names₂ c₂ l₂ h₂ w₂ t₂ ls₂ y
+      all-went q g₂ y e f =
+          subst (λ (v : Left). IncludeAllIs deck rows names c l h w t ls n below before left g₀ rows₂ names₂ c₂ l₂ h₂ w₂ t₂ ls₂ v) (sym (f ∙ ap (λ (v : Ended). leftAt here₂ v) e))
+          (record { is = λ B S run ns there named. by B ns (passed B ns (record { stage = S; running = run; there = there; named = named })) })
+        where
+          by : (B : World) (ns : List (List ℕ)) (k : Past B ns)
+              → EndsAs standing deck rows B rows₂ names₂ c₂ l₂ h₂ w₂ t₂ ls₂ (before .member) (namesLeft ns (worldIn B c l h (g₀ .meter .used))) (leftAt here₂ (En.Went q g₂)) × (startIn (here₂ .starts) (before .member) ≡ startIn (before .starts) (before .member))
+          by B ns k =
+              let d : EndNow standing deck rows₂ names₂ c₂ l₂ h₂ w₂ t₂ ls₂ (hereAt (before .member) (here₂ .starts)) (k .answer) (k .world) (En.Went q g₂) =
+              subst (λ (v : Ended). EndNow standing deck rows₂ names₂ c₂ l₂ h₂ w₂ t₂ ls₂ (hereAt (before .member) (here₂ .starts)) (k .answer) (k .world) v) e (k .now) in
+              (record {
+                world = k .world;
+                since = k .since;
+                now = record { stage = d .stage; is = sym (k .same) ∙ ap (λ (v : Res Run.Stop F.End). bind v (λ a u. endOn a u (λ i. namesLeft (k .rest) i))) (d .is); reaches = d .reaches };
+              }, k .start)
+
+      pub all-bad : (q : Stop) (g₂ : Progress) (y : Left) → x .ended ≡ En.Bad q g₂ → y ≡ leftAt here₂ (x .ended) → IncludeAllIs deck rows names c l h w t ls n below before left g₀ rows₂ names₂ c₂ l₂ h₂ w₂ t₂ ls₂ y
+      all-bad q g₂ y e f =
+          subst (λ (v : Left). IncludeAllIs deck rows names c l h w t ls n below before left g₀ rows₂ names₂ c₂ l₂ h₂ w₂ t₂ ls₂ v) (sym (f ∙ ap (λ (v : Ended). leftAt here₂ v) e))
+          (record { is = λ B S run ns there named. by B ns (passed B ns (record { stage = S; running = run; there = there; named = named })) })
+        where
+          by : (B : World) (ns : List (List ℕ)) (k : Past B ns)
+              → EndsAs standing deck rows B rows₂ names₂ c₂ l₂ h₂ w₂ t₂ ls₂ (before .member) (namesLeft ns (worldIn B c l h (g₀ .meter .used))) (leftAt here₂ (En.Bad q g₂)) × (startIn (here₂ .starts) (before .member) ≡ startIn (before .starts) (before .member))
+          by B ns k =
+              let d : k .answer ≡ bad (stopFor q) (g₂ .meter .used) = subst (λ (v : Ended). EndNow standing deck rows₂ names₂ c₂ l₂ h₂ w₂ t₂ ls₂ (hereAt (before .member) (here₂ .starts)) (k .answer) (k .world) v) e (k .now) in
+              (record { world = k .world; since = k .since; now = sym (k .same) ∙ ap (λ (v : Res Run.Stop F.End). bind v (λ a u. endOn a u (λ i. namesLeft (k .rest) i))) d }, k .start)
+
+      -- the member has run: the next name, or the end
+      module _ (g₂ : Progress) (e : x .ended ≡ En.Ran g₂) (cm : Lexeme) (lex₂ : Lexed s (tk .to) cm) (b : Bool) (sign : b ≡ isSignIn s cm (44 ∷ [])) where
+        comma : (v : Bool) → b ≡ v → isSign "," (tokenAt (bodyIn deck (before .member)) (tokenAt (bodyIn deck (before .member)) at .to) .token) ≡ v
+        comma v q = subst (λ (z : List ℕ). isSign "," (tokenAt z (tokenAt z at .to) .token) ≡ v) body (subst (λ (i : ℕ). isSign "," (tokenAt s i .token) ≡ v) (lex .to) (told s (tk .to) cm lex₂ "," (44 ∷ []) b v refl sign q))
+
+        behind : cm .to ≡ tokenAt (bodyIn deck (before .member)) (tokenAt (bodyIn deck (before .member)) at .to) .to
+        behind = lex₂ .to ∙ ap (λ (i : ℕ). tokenAt s i .to) (lex .to) ∙ ap (λ (z : List ℕ). tokenAt z (tokenAt z at .to) .to) body
+
+        ran-by : (B : World) (ns : List (List ℕ)) (k : Past B ns) → EndNow standing deck rows₂ names₂ c₂ l₂ h₂ w₂ t₂ ls₂ (hereAt (before .member) (here₂ .starts)) (k .answer) (k .world) (En.Ran g₂)
+        ran-by B ns k = subst (λ (v : Ended). EndNow standing deck rows₂ names₂ c₂ l₂ h₂ w₂ t₂ ls₂ (hereAt (before .member) (here₂ .starts)) (k .answer) (k .world) v) e (k .now)
+
+        left-over : (B : World) (ns : List (List ℕ)) (k : Past B ns) → namesLeft (k .rest) (worldIn (k .world) c₂ l₂ h₂ (g₂ .meter .used)) ≡ namesLeft ns (worldIn B c l h (g₀ .meter .used))
+        left-over B ns k = sym (ap (λ (v : Res Run.Stop F.End). bind v (λ a u. endOn a u (λ i. namesLeft (k .rest) i))) (ran-by B ns k .is)) ∙ k .same
+
+        pub going-more : b ≡ true → Going rows₂ names₂ c₂ l₂ h₂ w₂ t₂ ls₂ here₂ (cm .to) g₂ (turns - 1)
+        going-more q = record {
+          member = back .member ∙ going .member;
+          is = λ B ns a.
+              let k : Past B ns = passed B ns a in
+              record {
+                world = k .world;
+                since = k .since;
+                stage = ran-by B ns k .stage;
+                start = k .start;
+                rest = k .rest;
+                named = subst (λ (i : ℕ). Named (bodyIn deck (before .member)) i (k .rest)) (sym behind) (named-more (bodyIn deck (before .member)) at (k .first) (k .rest) (k .named) (comma true q));
+                few = omega (arith, k .few);
+                same = left-over B ns k;
+              };
+        }
+
+        pub all-ran : (y : Left) → b ≡ false → y ≡ leftAt here₂ (En.Ran g₂) → IncludeAllIs deck rows names c l h w t ls n below before left g₀ rows₂ names₂ c₂ l₂ h₂ w₂ t₂ ls₂ y
+        unfolding includeOn
+        all-ran y q f =
+            subst (λ (v : Left). IncludeAllIs deck rows names c l h w t ls n below before left g₀ rows₂ names₂ c₂ l₂ h₂ w₂ t₂ ls₂ v) (sym f)
+            (record { is = λ B S run ns there named. by B ns (passed B ns (record { stage = S; running = run; there = there; named = named })) })
+          where
+            by : (B : World) (ns : List (List ℕ)) (k : Past B ns)
+                → EndsAs standing deck rows B rows₂ names₂ c₂ l₂ h₂ w₂ t₂ ls₂ (before .member) (namesLeft ns (worldIn B c l h (g₀ .meter .used))) (leftAt here₂ (En.Ran g₂)) × (startIn (here₂ .starts) (before .member) ≡ startIn (before .starts) (before .member))
+            by B ns k =
+                let none : k .rest ≡ [] = named-last (bodyIn deck (before .member)) at (k .first) (k .rest) (k .named) (comma false q) in
+                let end : namesLeft ns (worldIn B c l h (g₀ .meter .used)) ≡ good F.ran (worldIn (k .world) c₂ l₂ h₂ (g₂ .meter .used)) =
+                sym (left-over B ns k) ∙ ap (λ (qs : List (List ℕ)). namesLeft qs (worldIn (k .world) c₂ l₂ h₂ (g₂ .meter .used))) none in
+                (record { world = k .world; since = k .since; now = record { stage = ran-by B ns k .stage; is = end } }, k .start)
+
+  -- turns do not run out
+  pub all-turned : (rows₁ names₁ c₁ l₁ h₁ w₁ t₁ ls₁ : List ℕ) (here : Here) (at : ℕ) (g : Progress) (turns : ℕ) → Going rows₁ names₁ c₁ l₁ h₁ w₁ t₁ ls₁ here at g turns → turns ≤ 0 → (y : Left)
+      → IncludeAllIs deck rows names c l h w t ls n below before left g₀ rows₁ names₁ c₁ l₁ h₁ w₁ t₁ ls₁ y
+  all-turned rows₁ names₁ c₁ l₁ h₁ w₁ t₁ ls₁ here at g turns going none y = record {
+    is = λ B S run ns there named.
+        let z : Now B ns rows₁ names₁ c₁ l₁ h₁ w₁ t₁ ls₁ (here .starts) at g turns = going .is B ns (record { stage = S; running = run; there = there; named = named }) in
+        absurd (by (z .rest) (z .named) (z .few));
+  }
+    where
+      by : (qs : List (List ℕ)) → Named (bodyIn deck (before .member)) at qs → length qs ≤ turns → ⊥
+      by [] k few = k
+      by (q ∷ qs) k few = omega (arith, few, none)
