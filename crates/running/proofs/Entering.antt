@@ -30,7 +30,7 @@ use Rattle.meter.specs.declared.Meter.{Meter}
 use Rattle.output.specs.declared.Out.{Out}
 use Rattle.output.specs.Shows as Output
 use Rattle.output.proofs.Laws.{begin-shows, begin-fine}
-use Rattle.rows.specs.Parts.{noStarts, StartsAt, PartPlace}
+use Rattle.rows.specs.Parts.{noStarts, startIn, StartsAt, PartPlace}
 use Rattle.rows.specs.declared.Starts.{Starts}
 use Rattle.entering.specs.declared.Fault.{Fault}
 use Rattle.entering.specs.declared.Fault.the-variants.{Sound, Faulty}
@@ -126,6 +126,12 @@ progress-is g m o r n e f p q = rw (← e, ← f, ← p, ← q)
 
 pub here-is : (here : Here) (m : ℕ) → here .member ≡ m → here ≡ hereAt m (here .starts)
 here-is here m e = ap (λ (k : ℕ). hereAt k (here .starts)) e
+
+-- back in the member, where it was
+pub resumed-at : (here : Here) (x : Starts) (y : Here) (n : ℕ) (r : Here) → y ≡ hereAt (here .member) x → n ≡ startIn (here .starts) (here .member) → StartedAt y (y .starts) n r → StartedAt here x (startIn (here .starts) (here .member)) r
+resumed-at here x y n r e f h =
+    subst (λ (k : ℕ). StartedAt here x k r) f
+    (subst (λ (z : Here). StartedAt z (z .starts) n r → StartedAt here x n r) (sym e) (λ k. record { member = k .member; starts = k .starts }) h)
 
 -- ---- the table of names is read by two crates
 dens-same : (t : List ℕ) (a n : ℕ) → Book.denotationsFrom t a n ≡ Callees.denotationsFrom t a n

@@ -201,6 +201,9 @@ module _ (c : List ℕ) (from to : ℕ) where
   pub forget-done : (c₁ : List ℕ) (a : ℕ) → Forgetting c₁ a → to ≤ a → c₁ ≡ forgotten c from to
   forget-done c₁ a h l = let n : a - from ≡ to - from = omega (arith, h .turns, l) in h .is ∙ ap (λ (k : ℕ). over c from (zeros k)) n
 
+  pub forget-size : (c₁ : List ℕ) (a : ℕ) → Forgetting c₁ a → length c₁ ≡ length c
+  forget-size c₁ a h = ap (λ (x : List ℕ). length x) (h .is) ∙ length-over c from (zeros (a - from))
+
   -- what the cells are then
   pub forgotten-low : (i : ℕ) → i < from → getD (forgotten c from to) i 0 ≡ getD c i 0
   forgotten-low i l = getD-over-low c from i (zeros (to - from)) l
