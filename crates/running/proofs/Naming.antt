@@ -1,0 +1,421 @@
+-- INCLUDE: the member that a name means, and the members of a list one after the other.
+-- Assumes nothing.
+use mathlib.Core.Path.{_≡_, refl, sym, ap, subst, _∙_}
+use mathlib.Core.Bool.{Bool, true, false, cond, _&&_}
+use mathlib.Core.List.{List, [], _∷_}
+use Prim.Native.Nat.{ℕ, zero, suc, _+_, _-_, _<_, _≤_}
+use native.Mathlib.Omega.{arith}
+use borrow.Author.Tests.{leb-true, le-leb}
+use lib.Dec.{leb}
+use lib.ListN.{length, take, drop}
+use Rattle.definition.specs.Lists.{part}
+use Rattle.definition.specs.Limits.{deckBytes, deckLines, textBytes, includeLevels}
+use Rattle.definition.specs.Tokens.{isSign, tokenAt}
+use Rattle.definition.specs.Deck as Deck
+use Rattle.definition.specs.Deck.{lineAt, isSound, count, lines, find}
+use Rattle.definition.specs.Reading.{readMember}
+use Rattle.definition.specs.World.{World, Res, good, bad, bind, rowsOf}
+use Rattle.definition.specs.Program as P
+use Rattle.definition.specs.Calls.{Place}
+use Rattle.definition.specs.Flow as F
+use Rattle.definition.specs.Run as Run
+use Rattle.definition.specs.Run.{bodyOf}
+use Rattle.definition.specs.declared.Why.{Why}
+use Rattle.definition.specs.declared.Why.the-variants.{UnknownMember, TooDeep}
+use Rattle.definition.proofs.Keeping.{and-left}
+use Rattle.definition.proofs.Parts.{length-part, part-of-part}
+use Rattle.deck.specs.declared.Found.{Found}
+use Rattle.deck.specs.declared.Found.the-variants as Fo
+use Rattle.deck.specs.Answer.{bodyIn, foundFor}
+use Rattle.tokens.specs.declared.Lexeme.{Lexeme}
+use Rattle.tokens.specs.Answer.{Lexed, isSignIn}
+use Rattle.outcomes.specs.Texts.{plusOf}
+use Rattle.callees.specs.Shown.{worldIn}
+use Rattle.callees.proofs.Listing.{told}
+use Rattle.names.specs.declared.Label.{Label}
+use Rattle.rows.specs.Table.{rowIn}
+use Rattle.rows.specs.Parts.{startIn, StartsAt}
+use Rattle.rows.specs.declared.Row.{Row}
+use Rattle.rows.specs.declared.Starts.{Starts}
+use Rattle.showing.specs.Worlds.{Laid}
+use Rattle.showing.specs.Listed.{Spells, Named}
+use Rattle.showing.specs.Later.{Grew}
+use Rattle.showing.proofs.Bodies.{Lined, lined, find-low}
+use Rattle.showing.proofs.Including.{named-first, named-more, named-last, named-few}
+use Rattle.showing.proofs.Later.{later-rows, later-size}
+use Rattle.showing.proofs.Returning.{back-laid}
+use Rattle.showing.proofs.Worlds.{rows-shown, size-placed}
+use Rattle.leaving.specs.declared.Below.{Below}
+use Rattle.leaving.specs.Places.{belowOf, placeAt, WithBelow, Stand}
+use Rattle.texts.specs.declared.Progress.{Progress}
+use Rattle.texts.specs.declared.Here.{Here}
+use Rattle.texts.specs.declared.Stop.{Stop}
+use Rattle.texts.specs.Shown.{stopFor}
+use Rattle.stepping.specs.declared.Ended.{Ended}
+use Rattle.stepping.specs.declared.Ended.the-variants as En
+use Rattle.stepping.specs.Stage.{Stage, partHere, targetFor}
+use Rattle.stepping.specs.Steps.{EndNow}
+use Rattle.running.specs.declared.Left.{Left}
+use Rattle.running.specs.Included.{enterRun, foundRun, endOn, includeOn}
+use Rattle.running.specs.Members.{hereAt, Since, EndsAs, Running, FoundIs, IncludeOneIs, IncludeAllIs, EnterIs}
+use Rattle.running.specs.Readers.{StartedAt, leftAt, stoppedAt}
+use Rattle.running.proofs.Entering.{since-none, since-on, stand-later, here-is}
+
+-- ---- a name in the body of a member is the same bytes in the deck
+body-there : (d : List ℕ) (k : ℕ) → 0 < length (bodyIn d k) → lineAt d k .offset + lineAt d k .size ≤ length d
+unfolding bodyIn
+body-there d k l = by (leb (lineAt d k .offset + lineAt d k .size) (length d)) refl l
+  where
+    by : (b : Bool) → leb (lineAt d k .offset + lineAt d k .size) (length d) ≡ b → 0 < length (cond b (take (lineAt d k .size) (drop (lineAt d k .offset) d)) []) → lineAt d k .offset + lineAt d k .size ≤ length d
+    by true e h = leb-true (lineAt d k .offset + lineAt d k .size) (length d) e
+    by false e h = absurd (omega (arith, h))
+
+deck-small : (d : List ℕ) → isSound d ≡ true → length d ≤ 65536
+unfolding isSound
+deck-small d h =
+    let a : Bool = leb (length d) deckBytes in
+    let b : Bool = leb 1 (count d) in
+    let c : Bool = leb (count d) deckLines in
+    let e : Bool = leb (Deck.linePlace (count d)) (length d) in
+    let f : Bool = Deck.areNamed (lines d) in
+    let g : Bool = Deck.areDistinct (lines d) in
+    leb-true (length d) 65536 (and-left a b (and-left (a && b) c (and-left (a && b && c) e (and-left (a && b && c && e) f (and-left (a && b && c && e && f) g
+    (and-left (a && b && c && e && f && g) (Deck.follow (Deck.linePlace (count d)) (lines d) (length d)) h))))))
+
+name-there : (d : List ℕ) (m from to : ℕ) → isSound d ≡ true → m < count d → to ≤ length (bodyIn d m) → part (to - from) (plusOf (lineAt d m .offset) from) d ≡ part (to - from) from (bodyIn d m)
+unfolding plusOf bodyOf
+name-there d m from to sound line h = by (to - from) refl
+  where
+    by : (n : ℕ) → to - from ≡ n → part n (plusOf (lineAt d m .offset) from) d ≡ part n from (bodyIn d m)
+    by zero e = refl
+    by (suc n) e =
+        let b : Lined d m = lined d sound m line in
+        let there : lineAt d m .offset + lineAt d m .size ≤ length d = body-there d m (omega (arith, e, h)) in
+        let size : length (bodyIn d m) ≡ lineAt d m .size = ap (λ (s : List ℕ). length s) (b .same) ∙ length-part (lineAt d m .size) (lineAt d m .offset) d in
+        let small : length d ≤ 65536 = deck-small d sound in
+        rw (le-leb (lineAt d m .offset) 4294967295 (omega (arith, there, small)), le-leb from 4294967295 (omega (arith, e, h, b .short)))
+        (sym (part-of-part (suc n) from (lineAt d m .size) (lineAt d m .offset) d (omega (arith, e, h, size))) ∙ ap (λ (s : List ℕ). part (suc n) from s) (sym (b .same)))
+
+pub member-found : (d : List ℕ) (m : ℕ) (t : Lexeme) (base p n : ℕ) (r : Found) → base ≡ lineAt d m .offset → p ≡ plusOf base (t .from) → n ≡ t .to - t .from → r ≡ foundFor (find (part n p d) 0 (lines d)) → FoundIs d m t r
+member-found d m t base p n r e f q k = record {
+  is = λ sound line h. k ∙ ap (λ (x : List ℕ). foundFor (find x 0 (lines d)))
+      (ap (λ (i : ℕ). part i p d) q ∙ ap (λ (i : ℕ). part (t .to - t .from) i d) (f ∙ ap (λ (i : ℕ). plusOf i (t .from)) e) ∙ name-there d m (t .from) (t .to) sound line h);
+}
+
+-- ---- ONE NAME: 14, 15, then the member
+found-none : (x : Deck.Found) → foundFor x ≡ Fo.Nothing → x ≡ Deck.none
+found-none Deck.none e = refl
+found-none (Deck.line k) e = let z : _≡_ {A = ℕ} 0 1 = cc in absurd (omega arith)
+
+found-line : (x : Deck.Found) (k : ℕ) → foundFor x ≡ Fo.Line k → x ≡ Deck.line k
+found-line Deck.none k e = let z : _≡_ {A = ℕ} 0 1 = cc in absurd (omega arith)
+found-line (Deck.line j) k e = let z : j ≡ k = cc in ap Deck.line z
+
+run-deep : (left : ℕ) (d : List ℕ) (p m k : ℕ) (on : List Place) (v : World) → left < 1 → foundRun (Deck.line k) left d p m on v ≡ bad (Run.stop m p TooDeep) (v .used)
+run-deep zero d p m k on v l = refl
+run-deep (suc n) d p m k on v l = absurd (omega (arith, l))
+
+run-line : (left : ℕ) (d : List ℕ) (p m k : ℕ) (on : List Place) (v : World) → 1 ≤ left → foundRun (Deck.line k) left d p m on v ≡ enterRun (left - 1) d k on v
+run-line zero d p m k on v l = absurd (omega (arith, l))
+run-line (suc n) d p m k on v l = let e : n ≡ suc n - 1 = omega arith in ap (λ (i : ℕ). enterRun i d k on v) e
+
+-- the rooms do not tell which member ended
+ends-in : (on : List Place) (deck rows : List ℕ) (B : World) (rows′ names c l h w t ls : List ℕ) (k m : ℕ) (R : Res Run.Stop F.End) (r : Left) → EndsAs on deck rows B rows′ names c l h w t ls k R r → EndsAs on deck rows B rows′ names c l h w t ls m R r
+ends-in on deck rows B rows′ names c l h w t ls k m R r x = record { world = x .world; since = x .since; now = by (r .ended) (x .now) }
+  where
+    by : (e : Ended) → EndNow on deck rows′ names c l h w t ls (hereAt k (r .starts)) R (x .world) e → EndNow on deck rows′ names c l h w t ls (hereAt m (r .starts)) R (x .world) e
+    by (En.Ran g) y = record { stage = y .stage; is = y .is }
+    by (En.Went z g) y = record { stage = y .stage; is = y .is; reaches = y .reaches }
+    by (En.Bad z g) y = y
+
+module _ (deck rows names c l h w t ls : List ℕ) (x : Lexeme) (p : ℕ) (below : Below) (here : Here) (left : ℕ) (g : Progress) (f : Found) (named : FoundIs deck (here .member) x f) where
+  abbrev found : Deck.Found
+  found = find (part (x .to - x .from) (x .from) (bodyIn deck (here .member))) 0 (lines deck)
+
+  -- a refusal here
+  one-refused : (e : Why) → (isSound deck ≡ true → here .member < count deck → x .to ≤ length (bodyIn deck (here .member)) → (v : World) → foundRun found left deck p (here .member) (belowOf below) v ≡ bad (Run.stop (here .member) p e) (v .used))
+      → IncludeOneIs deck rows names c l h w t ls x p below here left g rows names c l h w t ls (leftAt here (stoppedAt g e (here .member) p))
+  one-refused e q = record { is = λ B S sound line within stand deep some. record { world = B; since = since-none rows B; now = q sound line within (worldIn B c l h (g .meter .used)) } }
+
+  pub include-unknown : (y : Ended) (r : Left) → f ≡ Fo.Nothing → y ≡ stoppedAt g UnknownMember (here .member) p → r ≡ leftAt here y → IncludeOneIs deck rows names c l h w t ls x p below here left g rows names c l h w t ls r
+  include-unknown y r e a b =
+      subst (λ (z : Left). IncludeOneIs deck rows names c l h w t ls x p below here left g rows names c l h w t ls z) (sym (b ∙ ap (λ (z : Ended). leftAt here z) a))
+      (one-refused UnknownMember λ sound line within v.
+      ap (λ (z : Deck.Found). foundRun z left deck p (here .member) (belowOf below) v) (found-none found (sym (named .is sound line within) ∙ e)))
+
+  pub include-deep : (k : ℕ) (y : Ended) (r : Left) → f ≡ Fo.Line k → left < 1 → y ≡ stoppedAt g TooDeep (here .member) p → r ≡ leftAt here y → IncludeOneIs deck rows names c l h w t ls x p below here left g rows names c l h w t ls r
+  include-deep k y r e few a b =
+      subst (λ (z : Left). IncludeOneIs deck rows names c l h w t ls x p below here left g rows names c l h w t ls z) (sym (b ∙ ap (λ (z : Ended). leftAt here z) a))
+      (one-refused TooDeep λ sound line within v.
+      ap (λ (z : Deck.Found). foundRun z left deck p (here .member) (belowOf below) v) (found-line found k (sym (named .is sound line within) ∙ e)) ∙ run-deep left deck p (here .member) k (belowOf below) v few)
+
+  pub include-enters : (k : ℕ) (here′ : Here) (rows′ names′ c′ l′ h′ w′ t′ ls′ : List ℕ) (r : Left) → f ≡ Fo.Line k → 1 ≤ left → here′ ≡ hereAt k (here .starts)
+      → EnterIs deck rows names c l h w t ls below here′ (left - 1) g rows′ names′ c′ l′ h′ w′ t′ ls′ r → IncludeOneIs deck rows names c l h w t ls x p below here left g rows′ names′ c′ l′ h′ w′ t′ ls′ r
+  include-enters k here′ rows′ names′ c′ l′ h′ w′ t′ ls′ r e some a run =
+      let enter : EnterIs deck rows names c l h w t ls below (hereAt k (here .starts)) (left - 1) g rows′ names′ c′ l′ h′ w′ t′ ls′ r =
+      subst (λ (z : Here). EnterIs deck rows names c l h w t ls below z (left - 1) g rows′ names′ c′ l′ h′ w′ t′ ls′ r) a run in
+      record {
+        is = λ B S sound line within stand deep one.
+            let is : found ≡ Deck.line k = found-line found k (sym (named .is sound line within) ∙ e) in
+            let v : World = worldIn B c l h (g .meter .used) in
+            let same : foundRun found left deck p (here .member) (belowOf below) v ≡ enterRun (left - 1) deck k (belowOf below) v =
+            ap (λ (z : Deck.Found). foundRun z left deck p (here .member) (belowOf below) v) is ∙ run-line left deck p (here .member) k (belowOf below) v some in
+            subst (λ (z : Res Run.Stop F.End). EndsAs (belowOf below) deck rows B rows′ names′ c′ l′ h′ w′ t′ ls′ (here .member) z r) (sym same)
+            (ends-in (belowOf below) deck rows B rows′ names′ c′ l′ h′ w′ t′ ls′ k (here .member) (enterRun (left - 1) deck k (belowOf below) v) r
+            (enter .is B S sound (find-low deck (part (x .to - x .from) (x .from) (bodyIn deck (here .member))) k is) stand (omega (arith, deep, some))));
+      }
+
+-- ---- BACK in the member m, which is looked at where it was
+stage-back : (deck rows names c l h w t ls : List ℕ) (starts : Starts) (g : Progress) (B : World) → Stage deck rows names c l h w t ls starts g B → (rows′ names′ c′ l′ h′ w′ t′ ls′ : List ℕ) (starts′ starts″ : Starts) (g′ : Progress) (B′ : World)
+    → Since rows B rows′ B′ → (m n : ℕ) → m < 32 → n < length (rowsOf m B) → StartsAt starts′ m (startIn starts m) starts″ → Stage deck rows′ names′ c′ l′ h′ w′ t′ ls′ starts′ g′ B′ → Stage deck rows′ names′ c′ l′ h′ w′ t′ ls′ starts″ g′ B′
+stage-back deck rows names c l h w t ls starts g B S rows′ names′ c′ l′ h′ w′ t′ ls′ starts′ starts″ g′ B′ since m n low there st Z =
+    let grew : Grew rows (g .rows) rows′ = subst (λ (k : ℕ). Grew rows k rows′) (S .sentences) (since .grew) in
+    let more : g .rows ≤ g′ .rows = omega (arith, since .more, S .sentences, Z .sentences) in
+    let laid : Laid deck rows′ starts″ (g′ .rows) B′ = back-laid deck rows rows′ starts starts′ starts″ (g .rows) (g′ .rows) m B B′ (S .laid) (Z .laid) grew more (later-rows B B′ m n (since .later) there) st low in
+    record {
+      onstage = record {
+        shows = record {
+          named = Z .onstage .shows .named;
+          rowed = rows-shown deck rows′ starts″ B′ (laid .stored) (Z .placed) (omega (arith, size-placed (bodyIn deck) B′ (Z .placed), Z .onstage .shows .slots .few));
+          slots = Z .onstage .shows .slots;
+          work = Z .onstage .shows .work;
+          taken = Z .onstage .shows .taken;
+          limit = Z .onstage .shows .limit;
+          left = Z .onstage .shows .left;
+        };
+        awake = Z .onstage .awake;
+        written = Z .onstage .written;
+      };
+      placed = Z .placed;
+      laid = laid;
+      sentences = Z .sentences;
+      few = Z .few;
+      roomy = Z .roomy;
+    }
+
+end-back : (on : List Place) (deck rows : List ℕ) (k m : ℕ) (starts starts′ : Starts) (R : Res Run.Stop F.End) (names c l h w t ls : List ℕ) (B : World)
+    → ((g : Progress) → Stage deck rows names c l h w t ls starts g B → Stage deck rows names c l h w t ls starts′ g B) → (e : Ended) → EndNow on deck rows names c l h w t ls (hereAt k starts) R B e
+    → EndNow on deck rows names c l h w t ls (hereAt m starts′) R B e
+end-back on deck rows k m starts starts′ R names c l h w t ls B f (En.Ran g) y = record { stage = f g (y .stage); is = y .is }
+end-back on deck rows k m starts starts′ R names c l h w t ls B f (En.Went z g) y = record { stage = f g (y .stage); is = y .is; reaches = y .reaches }
+end-back on deck rows k m starts starts′ R names c l h w t ls B f (En.Bad z g) y = y
+
+-- ---- THE LIST of an INCLUDE, which stands at row n of the member
+module _ (deck rows names c l h w t ls : List ℕ) (n : ℕ) (below : Below) (before : Here) (left : ℕ) (g₀ : Progress) where
+  abbrev standing : List Place
+  standing = placeAt (before .member) n ∷ belowOf below
+
+  abbrev namesLeft : List (List ℕ) → World → Res Run.Stop F.End
+  namesLeft ns v = includeOn left deck (rowIn (partHere rows before) n .place) (before .member) standing ns v
+
+  -- what is asked of the world at first, and of the names
+  pub record Asked (B : World) (ns : List (List ℕ)) : Type 0 where
+    pub stage : Stage deck rows names c l h w t ls (before .starts) g₀ B
+    pub running : Running deck (bodyIn deck (before .member)) rows before below left B
+    pub there : n < length (readMember (bodyOf deck (before .member)) .rows)
+    pub named : Named (bodyIn deck (before .member)) (rowIn (partHere rows before) n .content) ns
+
+  row-there : (B : World) (ns : List (List ℕ)) → Asked B ns → n < length (rowsOf (before .member) B)
+  row-there B ns a = subst (λ (rs : List P.Row). n < length rs) (sym (a .running .member .entered)) (a .there)
+
+  -- the names that are left, in a world that the rooms show now
+  pub record Now (B : World) (ns : List (List ℕ)) (rows₁ names₁ c₁ l₁ h₁ w₁ t₁ ls₁ : List ℕ) (starts : Starts) (at : ℕ) (g : Progress) (turns : ℕ) : Type 0 where
+    pub world : World
+    pub since : Since rows B rows₁ world
+    pub stage : Stage deck rows₁ names₁ c₁ l₁ h₁ w₁ t₁ ls₁ starts g world
+    pub start : startIn starts (before .member) ≡ startIn (before .starts) (before .member)
+    pub rest : List (List ℕ)
+    pub named : Named (bodyIn deck (before .member)) at rest
+    pub few : length rest ≤ turns
+    pub same : namesLeft rest (worldIn world c₁ l₁ h₁ (g .meter .used)) ≡ namesLeft ns (worldIn B c l h (g₀ .meter .used))
+
+  -- THE INVARIANT of the loop
+  pub record Going (rows₁ names₁ c₁ l₁ h₁ w₁ t₁ ls₁ : List ℕ) (here : Here) (at : ℕ) (g : Progress) (turns : ℕ) : Type 0 where
+    pub member : here .member ≡ before .member
+    pub is : (B : World) (ns : List (List ℕ)) → Asked B ns → Now B ns rows₁ names₁ c₁ l₁ h₁ w₁ t₁ ls₁ (here .starts) at g turns
+
+  module _ (s : List ℕ) (body : s ≡ bodyIn deck (before .member)) (part′ : List ℕ) (own : part′ ≡ partHere rows before) (r : Row) (row : r ≡ rowIn part′ n) where
+    row-is : r ≡ rowIn (partHere rows before) n
+    row-is = row ∙ ap (λ (x : List ℕ). rowIn x n) own
+
+    pub going-start : Going rows names c l h w t ls before (r .content) g₀ (length s)
+    going-start = record {
+      member = refl;
+      is = λ B ns a.
+          let there : Named (bodyIn deck (before .member)) (r .content) ns = subst (λ (x : Row). Named (bodyIn deck (before .member)) (x .content) ns) (sym row-is) (a .named) in
+          record {
+            world = B;
+            since = since-none rows B;
+            stage = a .stage;
+            start = refl;
+            rest = ns;
+            named = there;
+            few = omega (arith, named-few (bodyIn deck (before .member)) (r .content) ns there, ap (λ (x : List ℕ). length x) body);
+            same = refl;
+          };
+    }
+
+    -- a turn: the member of the name at a place is run
+    module _ (inner : Below) (one : WithBelow below (before .member) n inner) (rows₁ names₁ c₁ l₁ h₁ w₁ t₁ ls₁ : List ℕ) (here : Here) (at : ℕ) (g : Progress) (turns : ℕ) (going : Going rows₁ names₁ c₁ l₁ h₁ w₁ t₁ ls₁ here at g turns)
+        (tk : Lexeme) (lex : Lexed s at tk) (rows₂ names₂ c₂ l₂ h₂ w₂ t₂ ls₂ : List ℕ) (x : Left)
+        (ran : IncludeOneIs deck rows₁ names₁ c₁ l₁ h₁ w₁ t₁ ls₁ tk (r .place) inner here left g rows₂ names₂ c₂ l₂ h₂ w₂ t₂ ls₂ x) (here₂ : Here) (back : StartedAt here (x .starts) (startIn (here .starts) (here .member)) here₂) where
+      record Past (B : World) (ns : List (List ℕ)) : Type 0 where
+        world : World
+        since : Since rows B rows₂ world
+        start : startIn (here₂ .starts) (before .member) ≡ startIn (before .starts) (before .member)
+        first : List ℕ
+        rest : List (List ℕ)
+        named : Named (bodyIn deck (before .member)) at (first ∷ rest)
+        few : suc (length rest) ≤ turns
+        answer : Res Run.Stop F.End
+        now : EndNow standing deck rows₂ names₂ c₂ l₂ h₂ w₂ t₂ ls₂ (hereAt (before .member) (here₂ .starts)) answer world (x .ended)
+        same : bind answer (λ e v. endOn e v (λ u. namesLeft rest u)) ≡ namesLeft ns (worldIn B c l h (g₀ .meter .used))
+
+      ran-here : IncludeOneIs deck rows₁ names₁ c₁ l₁ h₁ w₁ t₁ ls₁ tk (rowIn (partHere rows before) n .place) inner (hereAt (before .member) (here .starts)) left g rows₂ names₂ c₂ l₂ h₂ w₂ t₂ ls₂ x
+      ran-here =
+          subst (λ (y : Here). IncludeOneIs deck rows₁ names₁ c₁ l₁ h₁ w₁ t₁ ls₁ tk (rowIn (partHere rows before) n .place) inner y left g rows₂ names₂ c₂ l₂ h₂ w₂ t₂ ls₂ x) (here-is here (before .member) (going .member))
+          (subst (λ (y : Row). IncludeOneIs deck rows₁ names₁ c₁ l₁ h₁ w₁ t₁ ls₁ tk (y .place) inner here left g rows₂ names₂ c₂ l₂ h₂ w₂ t₂ ls₂ x) row-is ran)
+
+      starts-here : StartsAt (x .starts) (before .member) (startIn (here .starts) (before .member)) (here₂ .starts)
+      starts-here = subst (λ (k : ℕ). StartsAt (x .starts) k (startIn (here .starts) k) (here₂ .starts)) (going .member) (back .starts)
+
+      -- the bytes of the token are the name
+      spelled : (y : List ℕ) → Spells (bodyIn deck (before .member)) at y → part (tk .to - tk .from) (tk .from) (bodyIn deck (before .member)) ≡ y
+      spelled y k =
+          let on : Lexed (bodyIn deck (before .member)) at tk = subst (λ (z : List ℕ). Lexed z at tk) body lex in
+          ap (λ (i : ℕ). part (i - tk .from) (tk .from) (bodyIn deck (before .member))) (on .to)
+          ∙ ap (λ (i : ℕ). part (tokenAt (bodyIn deck (before .member)) at .to - i) i (bodyIn deck (before .member))) (on .from) ∙ k .is
+
+      passed : (B : World) (ns : List (List ℕ)) → Asked B ns → Past B ns
+      unfolding includeOn
+      passed B ns a = by (z .rest) (z .named) (z .few) (z .same)
+        where
+          z : Now B ns rows₁ names₁ c₁ l₁ h₁ w₁ t₁ ls₁ (here .starts) at g turns
+          z = going .is B ns a
+
+          few-below : below .count < 16
+          few-below = omega (arith, a .running .deep)
+
+          there : n < length (rowsOf (before .member) (z .world))
+          there = later-size B (z .world) (before .member) n (z .since .later) (row-there B ns a)
+
+          stands : Stand standing (z .world)
+          stands = (there, stand-later (belowOf below) B (z .world) (z .since .later) (a .running .stand))
+
+          by : (qs : List (List ℕ)) → Named (bodyIn deck (before .member)) at qs → length qs ≤ turns → namesLeft qs (worldIn (z .world) c₁ l₁ h₁ (g .meter .used)) ≡ namesLeft ns (worldIn B c l h (g₀ .meter .used)) → Past B ns
+          by [] k few same = absurd k
+          by (y ∷ ys) k few same =
+              let sp : Spells (bodyIn deck (before .member)) at y = named-first (bodyIn deck (before .member)) at y ys k in
+              let on : Lexed (bodyIn deck (before .member)) at tk = subst (λ (v : List ℕ). Lexed v at tk) body lex in
+              let v : World = worldIn (z .world) c₁ l₁ h₁ (g .meter .used) in
+              let p : ℕ = rowIn (partHere rows before) n .place in
+              let told-by : belowOf inner ≡ standing = one .is few-below in
+              let ends₀ : EndsAs (belowOf inner) deck rows₁ (z .world) rows₂ names₂ c₂ l₂ h₂ w₂ t₂ ls₂ (before .member)
+              (foundRun (find (part (tk .to - tk .from) (tk .from) (bodyIn deck (before .member))) 0 (lines deck)) left deck p (before .member) (belowOf inner) v) x =
+              ran-here .is (z .world) (z .stage) (a .running .sound) (a .running .line) (omega (arith, on .to, sp .within)) (subst (λ (ps : List Place). Stand ps (z .world)) (sym told-by) stands)
+              (omega (arith, one .count few-below, a .running .deep)) (omega (arith, one .count few-below)) in
+              let ends : EndsAs standing deck rows₁ (z .world) rows₂ names₂ c₂ l₂ h₂ w₂ t₂ ls₂ (before .member) (foundRun (find y 0 (lines deck)) left deck p (before .member) standing v) x =
+              subst (λ (q : List ℕ). EndsAs standing deck rows₁ (z .world) rows₂ names₂ c₂ l₂ h₂ w₂ t₂ ls₂ (before .member) (foundRun (find q 0 (lines deck)) left deck p (before .member) standing v) x) (spelled y sp)
+              (subst (λ (ps : List Place). EndsAs ps deck rows₁ (z .world) rows₂ names₂ c₂ l₂ h₂ w₂ t₂ ls₂ (before .member)
+              (foundRun (find (part (tk .to - tk .from) (tk .from) (bodyIn deck (before .member))) 0 (lines deck)) left deck p (before .member) ps v) x) told-by ends₀) in
+              let low : before .member < 32 = a .running .member .low in
+              record {
+                world = ends .world;
+                since = since-on rows rows₁ rows₂ B (z .world) (ends .world) (z .since) (ends .since);
+                start = starts-here .here low ∙ z .start;
+                first = y;
+                rest = ys;
+                named = k;
+                few = few;
+                answer = foundRun (find y 0 (lines deck)) left deck p (before .member) standing v;
+                now = end-back standing deck rows₂ (before .member) (before .member) (x .starts) (here₂ .starts) (foundRun (find y 0 (lines deck)) left deck p (before .member) standing v) names₂ c₂ l₂ h₂ w₂ t₂ ls₂ (ends .world)
+                    (λ q S. stage-back deck rows₁ names₁ c₁ l₁ h₁ w₁ t₁ ls₁ (here .starts) g (z .world) (z .stage) rows₂ names₂ c₂ l₂ h₂ w₂ t₂ ls₂ (x .starts) (here₂ .starts) q (ends .world) (ends .since) (before .member) n low there starts-here S)
+                    (x .ended) (ends .now);
+                same = same;
+              }
+
+      -- a GOTO or a refusal ends the list
+      pub all-went : (q : Label) (g₂ : Progress) (y : Left) → x .ended ≡ En.Went q g₂ → y ≡ leftAt here₂ (x .ended) → IncludeAllIs deck rows names c l h w t ls n below before left g₀ rows₂ names₂ c₂ l₂ h₂ w₂ t₂ ls₂ y
+      all-went q g₂ y e f =
+          subst (λ (v : Left). IncludeAllIs deck rows names c l h w t ls n below before left g₀ rows₂ names₂ c₂ l₂ h₂ w₂ t₂ ls₂ v) (sym (f ∙ ap (λ (v : Ended). leftAt here₂ v) e))
+          (record { is = λ B S run ns there named. by B ns (passed B ns (record { stage = S; running = run; there = there; named = named })) })
+        where
+          by : (B : World) (ns : List (List ℕ)) (k : Past B ns)
+              → EndsAs standing deck rows B rows₂ names₂ c₂ l₂ h₂ w₂ t₂ ls₂ (before .member) (namesLeft ns (worldIn B c l h (g₀ .meter .used))) (leftAt here₂ (En.Went q g₂)) × (startIn (here₂ .starts) (before .member) ≡ startIn (before .starts) (before .member))
+          by B ns k =
+              let d : EndNow standing deck rows₂ names₂ c₂ l₂ h₂ w₂ t₂ ls₂ (hereAt (before .member) (here₂ .starts)) (k .answer) (k .world) (En.Went q g₂) =
+              subst (λ (v : Ended). EndNow standing deck rows₂ names₂ c₂ l₂ h₂ w₂ t₂ ls₂ (hereAt (before .member) (here₂ .starts)) (k .answer) (k .world) v) e (k .now) in
+              (record {
+                world = k .world;
+                since = k .since;
+                now = record { stage = d .stage; is = sym (k .same) ∙ ap (λ (v : Res Run.Stop F.End). bind v (λ a u. endOn a u (λ i. namesLeft (k .rest) i))) (d .is); reaches = d .reaches };
+              }, k .start)
+
+      pub all-bad : (q : Stop) (g₂ : Progress) (y : Left) → x .ended ≡ En.Bad q g₂ → y ≡ leftAt here₂ (x .ended) → IncludeAllIs deck rows names c l h w t ls n below before left g₀ rows₂ names₂ c₂ l₂ h₂ w₂ t₂ ls₂ y
+      all-bad q g₂ y e f =
+          subst (λ (v : Left). IncludeAllIs deck rows names c l h w t ls n below before left g₀ rows₂ names₂ c₂ l₂ h₂ w₂ t₂ ls₂ v) (sym (f ∙ ap (λ (v : Ended). leftAt here₂ v) e))
+          (record { is = λ B S run ns there named. by B ns (passed B ns (record { stage = S; running = run; there = there; named = named })) })
+        where
+          by : (B : World) (ns : List (List ℕ)) (k : Past B ns)
+              → EndsAs standing deck rows B rows₂ names₂ c₂ l₂ h₂ w₂ t₂ ls₂ (before .member) (namesLeft ns (worldIn B c l h (g₀ .meter .used))) (leftAt here₂ (En.Bad q g₂)) × (startIn (here₂ .starts) (before .member) ≡ startIn (before .starts) (before .member))
+          by B ns k =
+              let d : k .answer ≡ bad (stopFor q) (g₂ .meter .used) = subst (λ (v : Ended). EndNow standing deck rows₂ names₂ c₂ l₂ h₂ w₂ t₂ ls₂ (hereAt (before .member) (here₂ .starts)) (k .answer) (k .world) v) e (k .now) in
+              (record { world = k .world; since = k .since; now = sym (k .same) ∙ ap (λ (v : Res Run.Stop F.End). bind v (λ a u. endOn a u (λ i. namesLeft (k .rest) i))) d }, k .start)
+
+      -- the member has run: the next name, or the end
+      module _ (g₂ : Progress) (e : x .ended ≡ En.Ran g₂) (cm : Lexeme) (lex₂ : Lexed s (tk .to) cm) (b : Bool) (sign : b ≡ isSignIn s cm (44 ∷ [])) where
+        comma : (v : Bool) → b ≡ v → isSign "," (tokenAt (bodyIn deck (before .member)) (tokenAt (bodyIn deck (before .member)) at .to) .token) ≡ v
+        comma v q = subst (λ (z : List ℕ). isSign "," (tokenAt z (tokenAt z at .to) .token) ≡ v) body (subst (λ (i : ℕ). isSign "," (tokenAt s i .token) ≡ v) (lex .to) (told s (tk .to) cm lex₂ "," (44 ∷ []) b v refl sign q))
+
+        behind : cm .to ≡ tokenAt (bodyIn deck (before .member)) (tokenAt (bodyIn deck (before .member)) at .to) .to
+        behind = lex₂ .to ∙ ap (λ (i : ℕ). tokenAt s i .to) (lex .to) ∙ ap (λ (z : List ℕ). tokenAt z (tokenAt z at .to) .to) body
+
+        ran-by : (B : World) (ns : List (List ℕ)) (k : Past B ns) → EndNow standing deck rows₂ names₂ c₂ l₂ h₂ w₂ t₂ ls₂ (hereAt (before .member) (here₂ .starts)) (k .answer) (k .world) (En.Ran g₂)
+        ran-by B ns k = subst (λ (v : Ended). EndNow standing deck rows₂ names₂ c₂ l₂ h₂ w₂ t₂ ls₂ (hereAt (before .member) (here₂ .starts)) (k .answer) (k .world) v) e (k .now)
+
+        left-over : (B : World) (ns : List (List ℕ)) (k : Past B ns) → namesLeft (k .rest) (worldIn (k .world) c₂ l₂ h₂ (g₂ .meter .used)) ≡ namesLeft ns (worldIn B c l h (g₀ .meter .used))
+        left-over B ns k = sym (ap (λ (v : Res Run.Stop F.End). bind v (λ a u. endOn a u (λ i. namesLeft (k .rest) i))) (ran-by B ns k .is)) ∙ k .same
+
+        pub going-more : b ≡ true → Going rows₂ names₂ c₂ l₂ h₂ w₂ t₂ ls₂ here₂ (cm .to) g₂ (turns - 1)
+        going-more q = record {
+          member = back .member ∙ going .member;
+          is = λ B ns a.
+              let k : Past B ns = passed B ns a in
+              record {
+                world = k .world;
+                since = k .since;
+                stage = ran-by B ns k .stage;
+                start = k .start;
+                rest = k .rest;
+                named = subst (λ (i : ℕ). Named (bodyIn deck (before .member)) i (k .rest)) (sym behind) (named-more (bodyIn deck (before .member)) at (k .first) (k .rest) (k .named) (comma true q));
+                few = omega (arith, k .few);
+                same = left-over B ns k;
+              };
+        }
+
+        pub all-ran : (y : Left) → b ≡ false → y ≡ leftAt here₂ (En.Ran g₂) → IncludeAllIs deck rows names c l h w t ls n below before left g₀ rows₂ names₂ c₂ l₂ h₂ w₂ t₂ ls₂ y
+        unfolding includeOn
+        all-ran y q f =
+            subst (λ (v : Left). IncludeAllIs deck rows names c l h w t ls n below before left g₀ rows₂ names₂ c₂ l₂ h₂ w₂ t₂ ls₂ v) (sym f)
+            (record { is = λ B S run ns there named. by B ns (passed B ns (record { stage = S; running = run; there = there; named = named })) })
+          where
+            by : (B : World) (ns : List (List ℕ)) (k : Past B ns)
+                → EndsAs standing deck rows B rows₂ names₂ c₂ l₂ h₂ w₂ t₂ ls₂ (before .member) (namesLeft ns (worldIn B c l h (g₀ .meter .used))) (leftAt here₂ (En.Ran g₂)) × (startIn (here₂ .starts) (before .member) ≡ startIn (before .starts) (before .member))
+            by B ns k =
+                let none : k .rest ≡ [] = named-last (bodyIn deck (before .member)) at (k .first) (k .rest) (k .named) (comma false q) in
+                let end : namesLeft ns (worldIn B c l h (g₀ .meter .used)) ≡ good F.ran (worldIn (k .world) c₂ l₂ h₂ (g₂ .meter .used)) =
+                sym (left-over B ns k) ∙ ap (λ (qs : List (List ℕ)). namesLeft qs (worldIn (k .world) c₂ l₂ h₂ (g₂ .meter .used))) none in
+                (record { world = k .world; since = k .since; now = record { stage = ran-by B ns k .stage; is = end } }, k .start)
+
+  -- turns do not run out
+  pub all-turned : (rows₁ names₁ c₁ l₁ h₁ w₁ t₁ ls₁ : List ℕ) (here : Here) (at : ℕ) (g : Progress) (turns : ℕ) → Going rows₁ names₁ c₁ l₁ h₁ w₁ t₁ ls₁ here at g turns → turns ≤ 0 → (y : Left)
+      → IncludeAllIs deck rows names c l h w t ls n below before left g₀ rows₁ names₁ c₁ l₁ h₁ w₁ t₁ ls₁ y
+  all-turned rows₁ names₁ c₁ l₁ h₁ w₁ t₁ ls₁ here at g turns going none y = record {
+    is = λ B S run ns there named.
+        let z : Now B ns rows₁ names₁ c₁ l₁ h₁ w₁ t₁ ls₁ (here .starts) at g turns = going .is B ns (record { stage = S; running = run; there = there; named = named }) in
+        absurd (by (z .rest) (z .named) (z .few));
+  }
+    where
+      by : (qs : List (List ℕ)) → Named (bodyIn deck (before .member)) at qs → length qs ≤ turns → ⊥
+      by [] k few = k
+      by (q ∷ qs) k few = omega (arith, few, none)
