@@ -1,3 +1,4 @@
 -- Laws that belong to no one function.
 pub mod Including
 pub mod Thrift
+pub mod Turning

@@ -1,3 +1,4 @@
 -- What the contracts of `running` cite.
 pub mod Included
 pub mod Members
+pub mod Ways
