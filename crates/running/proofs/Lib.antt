@@ -1,3 +1,7 @@
+-- Laws that belong to no one function.
+pub mod Including
+pub mod Thrift
+pub mod Turning
 pub mod Values
 pub mod Entering
 pub mod Naming

@@ -1,4 +1,5 @@
 -- What the contracts of `running` cite.
 pub mod Included
 pub mod Members
+pub mod Ways
 pub mod Readers

@@ -1,6 +1,6 @@
 -- THE CONTRACTS of members that run: what an answer stands for, with the table of rows and the world as they have grown.
 use Prim.Native.Nat.{ℕ, zero, suc, _+_, _-_, _<_, _≤_}
-use mathlib.Core.Bool.{Bool, true, cond}
+use mathlib.Core.Bool.{Bool, true, false, cond}
 use mathlib.Core.Path.{_≡_}
 use mathlib.Core.List.{List, [], _∷_}
 use lib.Dec.{leb}
@@ -46,6 +46,7 @@ use Rattle.stepping.specs.declared.Ended.{Ended}
 use Rattle.stepping.specs.declared.Turned.{Turned}
 use Rattle.stepping.specs.Stage.{Roomy, Stage, InMember, partHere, machineOf}
 use Rattle.stepping.specs.Steps.{StepNow, EndNow}
+use Rattle.stepping.specs.Ways.{isOver}
 use Rattle.running.specs.declared.Left.{Left}
 use Rattle.running.specs.declared.Begun.{Begun}
 use Rattle.running.specs.Included.{levelOf, enterRun, foundRun, includeOn}
@@ -98,7 +99,7 @@ pub record IncludeAllIs (deck rows names c l h w t ls : List ℕ) (n : ℕ) (bel
       (includeOn left deck (rowIn (partHere rows here) n .place) (here .member) (record { member = here .member; row = n } ∷ belowOf below) ns (worldIn B c l h (g .meter .used))) r
       × (startIn (r .starts) (here .member) ≡ startIn (here .starts) (here .member))
 
--- ---- TURNS of member m
+-- ---- TURNS of member m; a turn is taken where something begins next
 pub record TurnsAs (M : F.Machine Run.Stop) (on : List Place) (deck rows : List ℕ) (B : World) (rows′ names c l h w t ls : List ℕ) (here : Here) (R : Res Run.Stop F.Turn) (r : Begun) : Type 0 where
   pub world : World
   pub since : Since rows B rows′ world
@@ -107,7 +108,7 @@ pub record TurnsAs (M : F.Machine Run.Stop) (on : List Place) (deck rows : List 
 
 pub record TurnIs (deck s rows names c l h w t ls : List ℕ) (fs : Frames) (x : Next) (below : Below) (here : Here) (left : ℕ) (g : Progress) (rows′ names′ c′ l′ h′ w′ t′ ls′ : List ℕ) (r : Begun) : Type 0 where
   pub is : (B : World) → Stage deck rows names c l h w t ls (here .starts) g B → Running deck s rows here below left B → (G : List F.Frame)
-      → AtNext (machineOf (levelOf left deck) deck (here .member) (belowOf below)) (partHere rows here) (B .denotations) fs G x
+      → AtNext (machineOf (levelOf left deck) deck (here .member) (belowOf below)) (partHere rows here) (B .denotations) fs G x → isOver x ≡ false
       → TurnsAs (machineOf (levelOf left deck) deck (here .member) (belowOf below)) (belowOf below) deck rows B rows′ names′ c′ l′ h′ w′ t′ ls′ here
       (F.turn (machineOf (levelOf left deck) deck (here .member) (belowOf below)) (nextFrom x) G (worldIn B c l h (g .meter .used))) r
 

@@ -77,10 +77,11 @@ StepNow M on deck rows names c l h w t ls here fs R B (St.On x g) = Walks M deck
 StepNow M on deck rows names c l h w t ls here fs R B (St.Went x g) = Departs on deck rows names c l h w t ls here x g R B
 StepNow M on deck rows names c l h w t ls here fs R B (St.Bad x g) = R ≡ bad (stopFor x) (g .meter .used)
 
--- in a world later than B
+-- in a world later than B; no member was entered
 pub record StepIs (M : F.Machine Run.Stop) (on : List Place) (deck rows names c l h w t ls : List ℕ) (here : Here) (fs : Frames) (R : Res Run.Stop F.Turn) (B : World) (x : Step) : Type 0 where
   pub world : World
   pub later : Later B world
+  pub sentences : world .sentences ≡ B .sentences
   pub now : StepNow M on deck rows names c l h w t ls here fs R world x
 
 -- ---- into the group n: its frame is there if it is iterated, and the frames stand where its first row is
@@ -158,6 +159,7 @@ SettledNow M on deck rows names c l h w t ls here fs R B (Se.End e) = (Q : Res R
 pub record SettlesAs (M : F.Machine Run.Stop) (on : List Place) (deck rows names c l h w t ls : List ℕ) (here : Here) (fs : Frames) (R : Res Run.Stop F.Turn) (B : World) (x : Settled) : Type 0 where
   pub world : World
   pub later : Later B world
+  pub sentences : world .sentences ≡ B .sentences
   pub now : SettledNow M on deck rows names c l h w t ls here fs R world x
 
 pub record SettleIs (deck s rows names c l h w t ls : List ℕ) (fs : Frames) (x : Step) (here : Here) (c′ l′ h′ w′ t′ ls′ : List ℕ) (r : Settled) : Type 0 where
