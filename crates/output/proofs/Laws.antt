@@ -18,14 +18,34 @@ use Rattle.output.specs.declared.Newest.{Newest}
 use Rattle.output.specs.declared.Out.{Out}
 use Rattle.output.specs.declared.Put.{Put}
 use Rattle.output.specs.declared.Put.the-variants.{Done, Full}
-use Rattle.output.specs.Shows.{top, lineIn, growsFrom, Fine, TellsFine, Shows, taken, fits, More, Answers, Puts, Ends, Begins}
-use Rattle.output.specs.Line.{At, Wrote}
+use Rattle.output.specs.Shows.{top, lineIn, growsFrom, Fine, Shows, taken, fits, More, Answers, Puts, PutsFine, EndsFine, Begins}
+use Rattle.output.specs.Line.{greatest, sumTo, lineAt, PutsLine, At, Wrote, Writes}
+
+-- ---- numbers that stop at the most
+sum-in : (most a b : ℕ) → a + b ≤ most → a + b ≡ sumTo most a b
+unfolding sumTo
+sum-in most a b h = rw (le-leb (a + b) most h)
+
+pub sum-is : (most a b : ℕ) → a < suc most → b ≤ most - a → a + b ≡ sumTo most a b
+sum-is most a b h g = sum-in most a b (omega (arith, h, g))
+
+pub sum-most : (most a b : ℕ) → most - a < b → most ≡ sumTo most a b
+unfolding sumTo
+sum-most most a b h = rw (lt-leb (a + b) most (omega (arith, h)))
+
+pub at-in : (k : ℕ) → k ≤ greatest / 12 → 12 * k ≡ lineAt k
+unfolding lineAt
+at-in k h = rw (le-leb k (greatest / 12) h)
+
+pub at-most : (k : ℕ) → greatest / 12 < k → greatest ≡ lineAt k
+unfolding lineAt
+at-most k h = rw (lt-leb k (greatest / 12) h)
 
 -- ---- twelve bytes, written in six parts
-pub line-put : (r r₁ r₂ r₃ r₄ r₅ r₆ : List ℕ) (at k m p n : ℕ)
+six-parts : (r r₁ r₂ r₃ r₄ r₅ r₆ : List ℕ) (at k m p n : ℕ)
     → r₁ ≡ over r (at + 0) (k ∷ []) → r₂ ≡ over r₁ (at + 1) (m ∷ []) → r₃ ≡ over r₂ (at + 2) (0 ∷ []) → r₄ ≡ over r₃ (at + 3) (0 ∷ [])
     → r₅ ≡ over r₄ (at + 4) (bytes 4 p) → r₆ ≡ over r₅ (at + 8) (bytes 4 n) → r₆ ≡ over r at (lineBytes (line k m p n))
-line-put r r₁ r₂ r₃ r₄ r₅ r₆ at k m p n a b c d e f =
+six-parts r r₁ r₂ r₃ r₄ r₅ r₆ at k m p n a b c d e f =
     f ∙ rw (
       e,
       d,
@@ -39,6 +59,37 @@ line-put r r₁ r₂ r₃ r₄ r₅ r₆ at k m p n a b c d e f =
       over-next-at r at (at + 4) (k ∷ m ∷ 0 ∷ 0 ∷ []) (bytes 4 p) refl,
     )
     (over-next-at r at (at + 8) (k ∷ m ∷ 0 ∷ 0 ∷ bytes 4 p) (bytes 4 n) refl)
+
+pub line-put : (r r₁ r₂ r₃ r₄ r₅ r₆ : List ℕ) (at : ℕ) (x : Newest) (i j : ℕ) → i ≡ sumTo greatest at 4 → j ≡ sumTo greatest at 8
+    → r₁ ≡ over r (at + 0) (x .kind ∷ []) → r₂ ≡ over r₁ (at + 1) (x .member ∷ []) → r₃ ≡ over r₂ (at + 2) (0 ∷ []) → r₄ ≡ over r₃ (at + 3) (0 ∷ [])
+    → r₅ ≡ over r₄ i (bytes 4 (x .offset)) → r₆ ≡ over r₅ j (bytes 4 (x .size)) → PutsLine r at x r₆
+line-put r r₁ r₂ r₃ r₄ r₅ r₆ at x i j u v a b c d e f = record {
+  is = λ h.
+      let at4 : i ≡ at + 4 = u ∙ sym (sum-in greatest at 4 (omega (arith, h))) in
+      let at8 : j ≡ at + 8 = v ∙ sym (sum-in greatest at 8 (omega (arith, h))) in
+      six-parts r r₁ r₂ r₃ r₄ r₅ r₆ at (x .kind) (x .member) (x .offset) (x .size) a b c d (rw at4 at e) (rw at8 at f);
+}
+
+-- ---- a line and the cursor behind it
+pub line-written : (l l′ : List ℕ) (o : Out) (k : ℕ) (x : Newest) (n at lines text room new free : ℕ) → length l ≤ greatest → at ≡ lineAt k → PutsLine l at x l′
+    → lines ≡ sumTo greatest k 1 → text ≡ sumTo greatest (o .text) n → room ≡ o .room - n → new ≡ lines - o .lines → free ≡ o .free - new
+    → Writes l o k x n (record { text = text; room = room; lines = lines; free = free; newest = x }) l′
+line-written l l′ o k x n at lines text room new free long e w f g h i j = record {
+  is = λ a.
+      let place : at ≡ 12 * k = e ∙ sym (at-in k (omega (arith, long, a .place))) in
+      let more : lines ≡ k + 1 = f ∙ sym (sum-in greatest k 1 (omega (arith, long, a .place))) in
+      let end : text ≡ o .text + n = g ∙ sym (sum-in greatest (o .text) n (omega (arith, a .room, a .most))) in
+      record {
+        list = w .is (omega (arith, place, long, a .place)) ∙ ap (λ (z : ℕ). over l z (lineBytes (lineIn x))) place;
+        out = rw (j, i, h, end, more) refl;
+      };
+}
+
+next-at : (o : Out) (l : List ℕ) (T n : ℕ) → Fine o T (length l) → 1 ≤ o .free → n ≤ o .room → At l o (o .lines) n
+next-at o l T n f h g = record { place = omega (arith, h, f .list); lines = omega arith; free = omega (arith, h); room = g; most = f .most }
+
+newest-at : (o : Out) (l : List ℕ) (T n k : ℕ) → Fine o T (length l) → k ≡ o .lines - 1 → 1 ≤ o .lines → n ≤ o .room → At l o k n
+newest-at o l T n k f c h g = record { place = omega (arith, c, h, f .list); lines = omega (arith, c); free = omega (arith, c, h); room = g; most = f .most }
 
 length-list : (ls : List Line) → length (listBytes ls) ≡ 12 * length ls
 unfolding listBytes
@@ -167,61 +218,76 @@ module _ (e : Event) (es : List Event) (o : Out) (t l t′ l′ : List ℕ) (k :
 
 -- ---- the ways out
 module _ (o : Out) (m p : ℕ) (t l : List ℕ) where
-  pub blank-no-line : o .free < 1 → Puts (blank m p) o t l Full t l
-  blank-no-line h = record { is = λ es s. rw (lt-leb 1 (o .free) h) refl }
+  pub blank-no-line : o .free < 1 → PutsFine (blank m p) o t l Full t l
+  blank-no-line h = record { is = λ _. record { is = λ es s. rw (lt-leb 1 (o .free) h) refl } }
 
-  pub blank-no-room : 1 ≤ o .free → o .room < 1 → Puts (blank m p) o t l Full t l
-  blank-no-room h g = record { is = λ es s. rw (le-leb 1 (o .free) h, lt-leb 1 (o .room) g) refl }
+  pub blank-no-room : 1 ≤ o .free → o .room < 1 → PutsFine (blank m p) o t l Full t l
+  blank-no-room h g = record { is = λ _. record { is = λ es s. rw (le-leb 1 (o .free) h, lt-leb 1 (o .room) g) refl } }
+
+  pub blank-done : (t′ l′ : List ℕ) (r : Out) (x : Newest) → x ≡ record { kind = 1; member = m; offset = p; size = 1 } → 1 ≤ o .free → 1 ≤ o .room
+      → t′ ≡ over t (o .text + 0) (32 ∷ []) → Writes l o (o .lines) x 1 r l′ → PutsFine (blank m p) o t l (Done r) t′ l′
+  unfolding linesOf
+  blank-done t′ l′ r x y h g text w = record {
+    is = λ f. record {
+      is = λ es s.
+          rw (le-leb 1 (o .free) h, le-leb 1 (o .room) g)
+          (r, refl, more-new (blank m p) es o t l t′ l′ (o .lines) x 1 r f s (w .is (next-at o l (length t) 1 f h g)) (rw add-zero at text) refl g (rw y (omega arith)) (rw y refl) refl h refl);
+    };
+  }
 
   module _ (b : List ℕ) (n : ℕ) (size : length b ≡ n) (g : Bool) (is : g ≡ growsFrom (lineIn (o .newest)) m p) where
     joined : (es : List Event) → Shows es o t l → joins es m p ≡ g
     joined es s = joins-line es m p ∙ rw (← s .newest) (sym is)
 
-    pub longer-no-room : g ≡ true → o .room < n → Puts (copied m p b) o t l Full t l
-    longer-no-room y h = record { is = λ es s. rw (joined es s, y, size, le-leb 0 (o .free) (omega arith), lt-leb n (o .room) h) refl }
+    pub longer-no-room : g ≡ true → o .room < n → PutsFine (copied m p b) o t l Full t l
+    longer-no-room y h = record { is = λ _. record { is = λ es s. rw (joined es s, y, size, le-leb 0 (o .free) (omega arith), lt-leb n (o .room) h) refl } }
 
-    pub copied-no-line : g ≡ false → o .free < 1 → Puts (copied m p b) o t l Full t l
-    copied-no-line y h = record { is = λ es s. rw (joined es s, y, lt-leb 1 (o .free) h) refl }
+    pub copied-no-line : g ≡ false → o .free < 1 → PutsFine (copied m p b) o t l Full t l
+    copied-no-line y h = record { is = λ _. record { is = λ es s. rw (joined es s, y, lt-leb 1 (o .free) h) refl } }
 
-    pub copied-no-room : g ≡ false → 1 ≤ o .free → o .room < n → Puts (copied m p b) o t l Full t l
-    copied-no-room y h i = record { is = λ es s. rw (joined es s, y, size, le-leb 1 (o .free) h, lt-leb n (o .room) i) refl }
+    pub copied-no-room : g ≡ false → 1 ≤ o .free → o .room < n → PutsFine (copied m p b) o t l Full t l
+    copied-no-room y h i = record { is = λ _. record { is = λ es s. rw (joined es s, y, size, le-leb 1 (o .free) h, lt-leb n (o .room) i) refl } }
 
-    module _ (f : Fine o (length t) (length l)) (t′ l′ : List ℕ) (r : Out) (room : n ≤ o .room) (text : t′ ≡ over t (o .text) b) where
-      pub longer-done : (k : ℕ) (x : Newest) → x ≡ record { kind = 2; member = m; offset = o .newest .offset; size = o .newest .size + n } → k ≡ o .lines - 1 → 1 ≤ o .lines
+    module _ (t′ l′ : List ℕ) (r : Out) (room : n ≤ o .room) (text : t′ ≡ over t (o .text) b) where
+      longer-fine : Fine o (length t) (length l) → (k : ℕ) (x : Newest) → x ≡ record { kind = 2; member = m; offset = o .newest .offset; size = o .newest .size + n } → k ≡ o .lines - 1 → 1 ≤ o .lines
           → g ≡ true → Wrote l o k x n r l′ → Puts (copied m p b) o t l (Done r) t′ l′
       unfolding linesOf
-      longer-done k x y c some q w = record {
+      longer-fine f k x y c some q w = record {
         is = λ es s.
             let j : joins es m p ≡ true = joined es s ∙ q in
             rw (j, size, le-leb 0 (o .free) (omega arith), le-leb n (o .room) room)
             (r, refl, more-longer (copied m p b) es o t l t′ l′ k x n r f s w text size room (rw y (omega (arith, f .line))) (linesOf es) refl m p (sym is ∙ q) (rw (j, size) refl) y (omega arith) (rw j refl));
       }
 
-      pub copied-done : (x : Newest) → x ≡ record { kind = 2; member = m; offset = p; size = n } → g ≡ false → 1 ≤ o .free
-          → Wrote l o (o .lines) x n r l′ → Puts (copied m p b) o t l (Done r) t′ l′
-      unfolding linesOf
-      copied-done x y q h w = record {
-        is = λ es s.
-            let j : joins es m p ≡ false = joined es s ∙ q in
-            rw (j, size, le-leb 1 (o .free) h, le-leb n (o .room) room)
-            (r, refl, more-new (copied m p b) es o t l t′ l′ (o .lines) x n r f s w text size room (rw y (omega arith)) (rw (j, size, y) refl) refl h (rw j refl));
+      pub longer-done : (k z : ℕ) (x : Newest) → x ≡ record { kind = 2; member = m; offset = o .newest .offset; size = z } → z ≡ sumTo 4294967295 (o .newest .size) n → k ≡ o .lines - 1
+          → g ≡ true → Writes l o k x n r l′ → PutsFine (copied m p b) o t l (Done r) t′ l′
+      longer-done k z x y i c q w = record {
+        is = λ f.
+            let some : 1 ≤ o .lines = lines-some o m p (length t) (length l) g f is q in
+            let sizes : z ≡ o .newest .size + n = i ∙ sym (sum-in 4294967295 (o .newest .size) n (omega (arith, room, f .line, f .most))) in
+            longer-fine f k x (rw sizes at y) c some q (w .is (newest-at o l (length t) n k f c some room));
       }
 
-  pub blank-done : (f : Fine o (length t) (length l)) (t′ l′ : List ℕ) (r : Out) (x : Newest) → x ≡ record { kind = 1; member = m; offset = p; size = 1 } → 1 ≤ o .free → 1 ≤ o .room
-      → t′ ≡ over t (o .text + 0) (32 ∷ []) → Wrote l o (o .lines) x 1 r l′ → Puts (blank m p) o t l (Done r) t′ l′
-  unfolding linesOf
-  blank-done f t′ l′ r x y h g text w = record {
-    is = λ es s.
-        rw (le-leb 1 (o .free) h, le-leb 1 (o .room) g)
-        (r, refl, more-new (blank m p) es o t l t′ l′ (o .lines) x 1 r f s w (rw add-zero at text) refl g (rw y (omega arith)) (rw y refl) refl h refl);
-  }
+      pub copied-done : (x : Newest) → x ≡ record { kind = 2; member = m; offset = p; size = n } → g ≡ false → 1 ≤ o .free
+          → Writes l o (o .lines) x n r l′ → PutsFine (copied m p b) o t l (Done r) t′ l′
+      unfolding linesOf
+      copied-done x y q h w = record {
+        is = λ f. record {
+          is = λ es s.
+              let j : joins es m p ≡ false = joined es s ∙ q in
+              rw (j, size, le-leb 1 (o .free) h, le-leb n (o .room) room)
+              (r, refl, more-new (copied m p b) es o t l t′ l′ (o .lines) x n r f s (w .is (next-at o l (length t) n f h room)) text size room (rw y (omega arith)) (rw (j, size, y) refl) refl h (rw j refl));
+        };
+      }
 
-pub replaced-done : (o : Out) (m p n T : ℕ) (l l′ : List ℕ) (r : Out) (x : Newest) → x ≡ record { kind = 3; member = m; offset = p; size = n } → Fine o T (length l) → 1 ≤ o .free → n ≤ o .room
-    → Wrote l o (o .lines) x n r l′ → Ends m p n o T l r l′
+pub replaced-done : (o : Out) (m p n T : ℕ) (l l′ : List ℕ) (r : Out) (x : Newest) → x ≡ record { kind = 3; member = m; offset = p; size = n }
+    → Writes l o (o .lines) x n r l′ → EndsFine m p n o T l r l′
 unfolding linesOf
-replaced-done o m p n T l l′ r x y f h g w = record {
-  is = λ es b t t′ c size s text.
-      more-new (replaced m p b) es o t l t′ l′ (o .lines) x n r (rw c f) s w text size g (rw y (omega arith)) (rw (size, y) refl) refl h refl;
+replaced-done o m p n T l l′ r x y w = record {
+  is = λ f h. record {
+    is = λ es b t t′ c size s text.
+        more-new (replaced m p b) es o t l t′ l′ (o .lines) x n r (rw c f) s (w .is (next-at o l T n f (h .0) (h .1))) text size (h .1) (rw y (omega arith)) (rw (size, y) refl) refl (h .0) refl;
+  };
 }
 
 -- ---- the start: rooms of zeros show no events
@@ -251,14 +317,3 @@ begin-fine T L o b =
       line = omega (arith, z);
       some = λ e. absurd (omega (arith, k, e));
     }
-
--- ---- the test of a cursor against the rooms
-never : {A : Type 0} → false ≡ true → A
-never e = absurd (false≢true e)
-
-pub fine-not : (o : Out) (t l : ℕ) → (Fine o t l → ⊥) → TellsFine o t l false
-fine-not o t l f = record { yes = λ e. never e; no = λ _ g. f g }
-
-pub fine-all : (o : Out) (t l : ℕ) → o .text ≤ t → o .room ≤ t - o .text → o .text + o .room ≤ 4294967295 → o .lines ≤ l / 12 → o .free ≤ l / 12 - o .lines
-    → o .newest .size ≤ o .text → (o .newest .kind ≡ 2 → 1 ≤ o .lines) → TellsFine o t l true
-fine-all o t l a b c d e f g = record { yes = λ _. record { text = omega arith; most = c; list = omega arith; line = f; some = g }; no = λ v. never (sym v) }

@@ -1,13 +1,31 @@
--- Writing one line: what is asked, and what is ensured.
-use Prim.Native.Nat.{ℕ, _+_, _*_, _-_, _≤_}
+-- Writing one line: numbers that stop at the most, and what is ensured of a line and a cursor that lie in the rooms.
+use Prim.Native.Nat.{ℕ, _+_, _*_, _-_, _/_, _≤_}
 use mathlib.Core.Path.{_≡_}
+use mathlib.Core.Bool.{cond}
 use mathlib.Core.List.{List}
+use lib.Dec.{leb}
 use lib.ListN.{length}
 use Rattle.definition.specs.Room.{over}
 use Rattle.definition.specs.Events.{lineBytes}
 use Rattle.output.specs.declared.Newest.{Newest}
 use Rattle.output.specs.declared.Out.{Out}
 use Rattle.output.specs.Shows.{lineIn}
+
+-- the greatest number of 64 bits
+abbrev pub greatest : ℕ
+greatest = 18446744073709551615
+
+-- a sum that stops at the most
+unfoldable pub sumTo : ℕ → ℕ → ℕ → ℕ
+sumTo most a b = cond (leb (a + b) most) (a + b) most
+
+-- the place of line k, or the greatest number
+unfoldable pub lineAt : ℕ → ℕ
+lineAt k = cond (leb k (greatest / 12)) (12 * k) greatest
+
+-- the twelve bytes of a line, where numbers reach behind them
+pub record PutsLine (l : List ℕ) (at : ℕ) (x : Newest) (l′ : List ℕ) : Type 0 where
+  pub is : at + 12 ≤ greatest → l′ ≡ over l at (lineBytes (lineIn x))
 
 -- line k is the newest or the next, and there is room for it and for n bytes
 pub record At (l : List ℕ) (o : Out) (k n : ℕ) : Type 0 where
@@ -20,3 +38,7 @@ pub record At (l : List ℕ) (o : Out) (k n : ℕ) : Type 0 where
 pub record Wrote (l : List ℕ) (o : Out) (k : ℕ) (x : Newest) (n : ℕ) (r : Out) (l′ : List ℕ) : Type 0 where
   pub list : l′ ≡ over l (12 * k) (lineBytes (lineIn x))
   pub out : r ≡ record { text = o .text + n; room = o .room - n; lines = k + 1; free = o .free - (k + 1 - o .lines); newest = x }
+
+-- THE ENSURES, for such a line
+pub record Writes (l : List ℕ) (o : Out) (k : ℕ) (x : Newest) (n : ℕ) (r : Out) (l′ : List ℕ) : Type 0 where
+  pub is : At l o k n → Wrote l o k x n r l′

@@ -33,11 +33,6 @@ pub record Fine (o : Out) (t l : ℕ) : Type 0 where
   pub line : o .newest .size ≤ o .text
   pub some : o .newest .kind ≡ 2 → 1 ≤ o .lines
 
--- an answer that tells whether they do
-pub record TellsFine (o : Out) (t l : ℕ) (r : Bool) : Type 0 where
-  pub yes : r ≡ true → Fine o t l
-  pub no : r ≡ false → Fine o t l → ⊥
-
 pub record Shows (es : List Event) (o : Out) (t l : List ℕ) : Type 0 where
   pub text : t ≡ over (zeros (length t)) 0 (textOf es)
   pub at : o .text ≡ length (textOf es)
@@ -66,13 +61,21 @@ abbrev pub Answers : Bool → Event → List Event → Out → Put → List ℕ 
 Answers true e es o r t l = (x : Out) × (r ≡ Done x) × More e es o x t l
 Answers false e es o r t l = r ≡ Full
 
--- THE ENSURES: whatever events the entry shows, the exit shows one more, or the answer is that a room is full
+-- whatever events the entry shows, the exit shows one more, or the answer is that a room is full
 pub record Puts (e : Event) (o : Out) (t l : List ℕ) (r : Put) (t′ l′ : List ℕ) : Type 0 where
   pub is : (es : List Event) → Shows es o t l → Answers (fits e es o) e es o r t′ l′
+
+-- THE ENSURES, for a cursor that fits the rooms
+pub record PutsFine (e : Event) (o : Out) (t l : List ℕ) (r : Put) (t′ l′ : List ℕ) : Type 0 where
+  pub is : Fine o (length t) (length l) → Puts e o t l r t′ l′
 
 -- the outcome of a replacement stands in a text room of T bytes already; its line is put behind the others
 pub record Ends (m p n : ℕ) (o : Out) (T : ℕ) (l : List ℕ) (r : Out) (l′ : List ℕ) : Type 0 where
   pub is : (es : List Event) (bytes t t′ : List ℕ) → length t ≡ T → length bytes ≡ n → Shows es o t l → t′ ≡ over t (o .text) bytes → More (replaced m p bytes) es o r t′ l′
+
+-- THE ENSURES, for a cursor that fits the rooms, where a line and the n bytes may still be taken
+pub record EndsFine (m p n : ℕ) (o : Out) (T : ℕ) (l : List ℕ) (r : Out) (l′ : List ℕ) : Type 0 where
+  pub is : Fine o T (length l) → (1 ≤ o .free) × (n ≤ o .room) → Ends m p n o T l r l′
 
 -- nothing is put out yet
 pub record Begins (T L : ℕ) (r : Out) : Type 0 where

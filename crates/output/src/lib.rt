@@ -1,16 +1,14 @@
 // The text room and the list room: what is put out goes into both, if both have room.
 ghost use mathlib.Core.Path.{_≡_};
-ghost use mathlib.Core.List.{_∷_, []};
-ghost use Prim.Native.Nat.{_+_, _*_, _≤_};
+ghost use Prim.Native.Nat.{_-_};
 ghost use lib.ListN.{length};
 ghost use lib.Dec.{leb};
 ghost use mathlib.Core.Bool.{cond};
 ghost use Rattle.definition.specs.Limits.{textBytes};
 ghost use Rattle.definition.specs.Lists.{part};
-ghost use Rattle.definition.specs.Room.{over};
-ghost use Rattle.definition.specs.Events.{blank, copied, lineBytes};
-ghost use Rattle.output.specs.Shows.{lineIn, growsFrom, Fine, TellsFine, Puts, Ends, Begins};
-ghost use Rattle.output.specs.Line.{At, Wrote};
+ghost use Rattle.definition.specs.Events.{blank, copied};
+ghost use Rattle.output.specs.Shows.{lineIn, growsFrom, PutsFine, EndsFine, Begins};
+ghost use Rattle.output.specs.Line.{greatest, sumTo, lineAt, PutsLine, Writes};
 use rooms::copy;
 use rooms::put_byte;
 use rooms::put_u32;
@@ -68,49 +66,51 @@ impl Out {
     }
 }
 
-// Whether the numbers fit rooms of so many bytes of text and of lines.
-pub fn is_fine(o: Out, text: usize, list: usize) -> bool
-    ensures { λ r. ⌜ TellsFine o text list r ⌝ }
+// A difference that stops at 0.
+fn less(a: usize, b: usize) -> usize
+    ensures { λ r. ⌜ r ≡ a - b ⌝ }
 {
-    if text < o.text {
-        return false;
+    if a < b { 0 } else { a - b }
+}
+
+// A sum that stops at the most.
+fn sum(a: usize, b: usize) -> usize
+    ensures { λ r. ⌜ r ≡ sumTo greatest a b ⌝ }
+{
+    if b <= usize::MAX - a {
+        a + b
+    } else {
+        usize::MAX
     }
-    if text - o.text < o.room {
-        return false;
+}
+
+fn sum32(a: u32, b: u32) -> u32
+    ensures { λ r. ⌜ r ≡ sumTo 4294967295 a b ⌝ }
+{
+    if b <= u32::MAX - a { a + b } else { u32::MAX }
+}
+
+// The place of line k in the list, or the most.
+fn line_at(k: usize) -> usize
+    ensures { λ r. ⌜ r ≡ lineAt k ⌝ }
+{
+    if k <= usize::MAX / Out::LINE {
+        Out::LINE * k
+    } else {
+        usize::MAX
     }
-    if Out::MOST < o.text + o.room {
-        return false;
-    }
-    let lines = list / Out::LINE;
-    if lines < o.lines {
-        return false;
-    }
-    if lines - o.lines < o.free {
-        return false;
-    }
-    if o.text < o.newest.size as usize {
-        return false;
-    }
-    if o.newest.kind != 2 {
-        return true;
-    }
-    if o.lines < 1 {
-        return false;
-    }
-    true
 }
 
 // Writes the twelve bytes of a line from a place on.
 fn put_line(list: &mut [u8], at: usize, x: Newest)
-    requires { ⌜ at + 12 ≤ length (now list) ⌝ }
-    ensures { λ _. ⌜ now (list .exit) ≡ over (now (list .entry)) at (lineBytes (lineIn x)) ⌝ }
+    ensures { λ _. ⌜ PutsLine (now (list .entry)) at x (now (list .exit)) ⌝ }
 {
     put_byte(list, at, 0, x.kind);
     put_byte(list, at, 1, x.member);
     put_byte(list, at, 2, 0);
     put_byte(list, at, 3, 0);
-    put_u32(list, at + 4, x.offset);
-    put_u32(list, at + 8, x.size);
+    put_u32(list, sum(at, 4), x.offset);
+    put_u32(list, sum(at, 8), x.size);
 }
 
 // Whether a token copied from a place goes on with the newest line.
@@ -131,23 +131,22 @@ fn grows_from(x: Newest, member: u8, place: u32) -> bool
 
 // The line x as line k of the list, behind n bytes more of text.
 fn with_line(list: &mut [u8], o: Out, k: usize, x: Newest, n: usize) -> Out
-    requires { ⌜ At (now list) o k n ⌝ }
-    ensures { λ r. ⌜ Wrote (now (list .entry)) o k x n r (now (list .exit)) ⌝ }
+    ensures { λ r. ⌜ Writes (now (list .entry)) o k x n r (now (list .exit)) ⌝ }
 {
-    put_line(list, Out::LINE * k, x);
+    put_line(list, line_at(k), x);
+    let lines = sum(k, 1);
     Out {
-        text: o.text + n,
-        room: o.room - n,
-        lines: k + 1,
-        free: o.free - (k + 1 - o.lines),
+        text: sum(o.text, n),
+        room: less(o.room, n),
+        lines,
+        free: less(o.free, less(lines, o.lines)),
         newest: x,
     }
 }
 
 // A blank, at the start of a text.
 pub fn put_blank(text: &mut [u8], list: &mut [u8], o: Out, member: u8, place: u32) -> Put
-    requires { ⌜ Fine o (length (now text)) (length (now list)) ⌝ }
-    ensures { λ r. ⌜ Puts (blank member place) o (now (text .entry)) (now (list .entry)) r (now (text .exit)) (now (list .exit)) ⌝ }
+    ensures { λ r. ⌜ PutsFine (blank member place) o (now (text .entry)) (now (list .entry)) r (now (text .exit)) (now (list .exit)) ⌝ }
 {
     if o.free < 1 {
         return Put::Full;
@@ -176,8 +175,7 @@ pub fn put_copied(
     member: u8,
     place: u32,
 ) -> Put
-    requires { ⌜ Fine o (length (now text)) (length (now list)) ⌝ }
-    ensures { λ r. ⌜ Puts (copied member place (part n from (now (src .entry)))) o (now (text .entry)) (now (list .entry)) r (now (text .exit)) (now (list .exit)) ⌝ }
+    ensures { λ r. ⌜ PutsFine (copied member place (part n from (now (src .entry)))) o (now (text .entry)) (now (list .entry)) r (now (text .exit)) (now (list .exit)) ⌝ }
 {
     let size = n as usize;
     if grows_from(o.newest, member, place) {
@@ -189,9 +187,9 @@ pub fn put_copied(
             kind: 2,
             member,
             offset: o.newest.offset,
-            size: o.newest.size + n,
+            size: sum32(o.newest.size, n),
         };
-        return Put::Done(with_line(list, o, o.lines - 1, x, size));
+        return Put::Done(with_line(list, o, less(o.lines, 1), x, size));
     }
     if o.free < 1 {
         return Put::Full;
@@ -211,9 +209,7 @@ pub fn put_copied(
 
 // The line of a replacement, whose outcome of n bytes stands in the text room already.
 pub fn put_replaced(text: &[u8], list: &mut [u8], o: Out, member: u8, place: u32, n: u32) -> Out
-    requires { ⌜ Fine o (length (now text)) (length (now list)) ⌝ }
-    requires { ⌜ (1 ≤ o .free) × (n ≤ o .room) ⌝ }
-    ensures { λ r. ⌜ Ends member place n o (length (now (text .entry))) (now (list .entry)) r (now (list .exit)) ⌝ }
+    ensures { λ r. ⌜ EndsFine member place n o (length (now (text .entry))) (now (list .entry)) r (now (list .exit)) ⌝ }
 {
     let x = Newest {
         kind: 3,

@@ -37,6 +37,9 @@ member-low m h = omega arith
 pub place-low : (p : ℕ) → p < 65536 → p % 65536 ≡ p
 place-low p h = omega arith
 
+pub size-low : (n : ℕ) → n ≤ 4294967295 → n % 4294967296 ≡ n
+size-low n h = omega arith
+
 -- ---- a text that lies in a body
 pub body-text : (s w : List ℕ) (x : Src) → x .«in_work» ≡ false → textOf s w x ≡ part (x .to - x .from) (x .from) s
 unfolding textOf stretchOf roomOf

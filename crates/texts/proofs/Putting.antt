@@ -21,7 +21,7 @@ use Rattle.rows.specs.declared.Starts.{Starts}
 use Rattle.output.specs.declared.Out.{Out}
 use Rattle.output.specs.declared.Put.{Put}
 use Rattle.output.specs.declared.Put.the-variants.{Done, Full}
-use Rattle.output.specs.Shows.{Fine, TellsFine, taken, fits, More, Answers, Puts, Ends}
+use Rattle.output.specs.Shows.{Fine, taken, fits, More, Answers, PutsFine, EndsFine}
 use Rattle.callees.specs.Shown.{worldIn}
 use Rattle.texts.specs.declared.Progress.{Progress}
 use Rattle.texts.specs.declared.Stop.{Stop}
@@ -30,7 +30,7 @@ use Rattle.texts.specs.declared.Ran.{Ran}
 use Rattle.texts.specs.declared.Ran.the-variants as Rn
 use Rattle.texts.specs.Shown.{withOut, badAt, putFor, passFor, Written, Onstage, RanAs}
 use Rattle.texts.specs.Contracts.{PutMore, PutAs, PutIs, LineIs}
-use Rattle.texts.proofs.Common.{member-low, place-low, stage-event, goes-event}
+use Rattle.texts.proofs.Common.{member-low, place-low, size-low, stage-event, goes-event}
 
 -- ---- answers by cases
 pub put-done : (g k : Progress) (q : Put) (o : Out) (m p : ℕ) → q ≡ Done o → k ≡ withOut g o → Rn.Good k ≡ putFor g q m p
@@ -64,50 +64,35 @@ put-by e g m p B t ls q r a b i true x = record {
 put-by e g m p B t ls q r a b i false x = i ∙ ap (λ (v : Put). putFor g v m p) x
 
 -- ---- the ways out
-pub put-unfine : (e : Event) (t ls t′ ls′ : List ℕ) (g : Progress) (m p : ℕ) (f : Bool) (r : Ran) → TellsFine (g .out) (length t) (length ls) f → f ≡ false → PutIs e t ls g m p t′ ls′ r
-put-unfine e t ls t′ ls′ g m p f r i j = record { is = λ B k _ _ _. absurd (i .no j (k .fine)) }
-
 module _ (t ls t′ ls′ : List ℕ) (g : Progress) (m p m8 p32 : ℕ) (q : Put) (r : Ran) (i : m8 ≡ m % 256) (j : p32 ≡ p % 65536) (e : r ≡ putFor g q m p) where
-  pub blank-put : Puts (blank m8 p32) (g .out) t ls q t′ ls′ → PutIs (blank m p) t ls g m p t′ ls′ r
+  pub blank-put : PutsFine (blank m8 p32) (g .out) t ls q t′ ls′ → PutIs (blank m p) t ls g m p t′ ls′ r
   blank-put k = record {
     is = λ B w lm lp _.
         let a : m8 ≡ m = i ∙ member-low m lm in
         let b : p32 ≡ p = j ∙ place-low p lp in
-        put-by (blank m p) g m p B t′ ls′ q r (w .text) (w .lines) e (fits (blank m p) (B .events) (g .out)) (rw (a, b) at (k .is (B .events) (w .out)));
+        put-by (blank m p) g m p B t′ ls′ q r (w .text) (w .lines) e (fits (blank m p) (B .events) (g .out)) (rw (a, b) at (k .is (w .fine) .is (B .events) (w .out)));
   }
 
-  pub token-put : (s : List ℕ) (to d n : ℕ) → d ≡ to - p → n ≡ d % 65536 → Puts (copied m8 p32 (part n p s)) (g .out) t ls q t′ ls′ → PutIs (copied m p (part (to - p) p s)) t ls g m p t′ ls′ r
+  pub token-put : (s : List ℕ) (to d n : ℕ) → d ≡ to - p → n ≡ d % 65536 → PutsFine (copied m8 p32 (part n p s)) (g .out) t ls q t′ ls′ → PutIs (copied m p (part (to - p) p s)) t ls g m p t′ ls′ r
   token-put s to d n u v k = record {
     is = λ B w lm lp ln.
         let a : m8 ≡ m = i ∙ member-low m lm in
         let b : p32 ≡ p = j ∙ place-low p lp in
         let f : n ≡ to - p = v ∙ ap (λ (z : ℕ). z % 65536) u ∙ place-low (to - p) (omega (arith, ln, length-part (to - p) p s)) in
-        put-by (copied m p (part (to - p) p s)) g m p B t′ ls′ q r (w .text) (w .lines) e (fits (copied m p (part (to - p) p s)) (B .events) (g .out)) (rw (a, b, f) at (k .is (B .events) (w .out)));
+        put-by (copied m p (part (to - p) p s)) g m p B t′ ls′ q r (w .text) (w .lines) e (fits (copied m p (part (to - p) p s)) (B .events) (g .out)) (rw (a, b, f) at (k .is (w .fine) .is (B .events) (w .out)));
   }
 
 -- ---- the line of a replacement
-pub line-unfine : (t ls ls′ : List ℕ) (g : Progress) (m p n : ℕ) (f : Bool) (r : Ran) → TellsFine (g .out) (length t) (length ls) f → f ≡ false → LineIs t ls g m p n ls′ r
-line-unfine t ls ls′ g m p n f r i j = record {
-  is = λ B t₀ bytes w e _ _ _ _ _. absurd (i .no j (subst (λ (k : ℕ). Fine (g .out) k (length ls)) (sym (ap length e ∙ length-over t₀ (g .out .text) bytes)) (w .fine)));
-}
-
-pub line-none : (t ls ls′ : List ℕ) (g : Progress) (m p n : ℕ) (r : Ran) → g .out .free < 1 → LineIs t ls g m p n ls′ r
-line-none t ls ls′ g m p n r h = record { is = λ B t₀ bytes w e _ _ f _ _. absurd (omega (arith, h, f)) }
-
-pub line-no-room : (t ls ls′ : List ℕ) (g : Progress) (m p n : ℕ) (r : Ran) → g .out .room < n → LineIs t ls g m p n ls′ r
-line-no-room t ls ls′ g m p n r h = record { is = λ B t₀ bytes w e _ f _ _ _. absurd (omega (arith, h, f)) }
-
-pub line-over : (t ls ls′ : List ℕ) (g : Progress) (m p n : ℕ) (r : Ran) → 4294967295 < n → LineIs t ls g m p n ls′ r
-line-over t ls ls′ g m p n r h = record { is = λ B t₀ bytes w e _ f _ _ _. absurd (omega (arith, h, f, w .fine .most)) }
-
-pub line-put : (t ls ls′ : List ℕ) (g : Progress) (m p n m8 p32 T n32 : ℕ) (o : Out) (g′ : Progress) → m8 ≡ m % 256 → p32 ≡ p % 65536 → T ≡ length t → n32 ≡ n → g′ ≡ withOut g o → Ends m8 p32 n32 (g .out) T ls o ls′
-    → LineIs t ls g m p n ls′ (Rn.Good g′)
-line-put t ls ls′ g m p n m8 p32 T n32 o g′ i j T-is n-is e k = record {
-  is = λ B t₀ bytes w f size _ _ lm lp.
+pub line-put : (t ls ls′ : List ℕ) (g : Progress) (m p n m8 p32 n32 : ℕ) (o : Out) (g′ : Progress) → m8 ≡ m % 256 → p32 ≡ p % 65536 → n32 ≡ n % 4294967296 → g′ ≡ withOut g o
+    → EndsFine m8 p32 n32 (g .out) (length t) ls o ls′ → LineIs t ls g m p n ls′ (Rn.Good g′)
+line-put t ls ls′ g m p n m8 p32 n32 o g′ i j v e k = record {
+  is = λ B t₀ bytes w f size room free lm lp.
       let a : m8 ≡ m = i ∙ member-low m lm in
       let b : p32 ≡ p = j ∙ place-low p lp in
-      let long : length t₀ ≡ T = sym (length-over t₀ (g .out .text) bytes) ∙ sym (ap length f) ∙ sym T-is in
-      let more : More (replaced m p bytes) (B .events) (g .out) o t ls′ = rw (a, b) at (k .is (B .events) bytes t₀ t long (size ∙ sym n-is) (w .out) f) in
+      let c : n32 ≡ n = v ∙ size-low n (omega (arith, room, w .fine .most)) in
+      let long : length t₀ ≡ length t = sym (ap length f ∙ length-over t₀ (g .out .text) bytes) in
+      let fine : Fine (g .out) (length t) (length ls) = subst (λ (z : ℕ). Fine (g .out) z (length ls)) long (w .fine) in
+      let more : More (replaced m p bytes) (B .events) (g .out) o t ls′ = rw (a, b) at (k .is fine (free, omega (arith, c, room)) .is (B .events) bytes t₀ t long (size ∙ sym c) (w .out) f) in
       record { out = o; is = ap Rn.Good e; written = λ z. written-more (replaced m p bytes) B (g .out) o t ls′ (w .text) (w .lines) more z };
 }
 

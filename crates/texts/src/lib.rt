@@ -23,7 +23,6 @@ use outcomes::plus;
 use outcomes::span;
 use output::Out;
 use output::Put;
-use output::is_fine;
 use output::put_blank;
 use output::put_copied;
 use output::put_replaced;
@@ -115,6 +114,12 @@ fn place32(p: usize) -> u32
     (p % 65_536) as u32
 }
 
+fn size32(n: usize) -> u32
+    ensures { λ r. ⌜ r ≡ n % 4294967296 ⌝ }
+{
+    (n % 4_294_967_296) as u32
+}
+
 fn put_result(g: Progress, p: Put, member: u16, place: usize) -> Ran
     ensures { λ r. ⌜ r ≡ putFor g p member place ⌝ }
 {
@@ -129,11 +134,8 @@ fn blank_out(text: &mut [u8], list: &mut [u8], g: Progress, member: u16, place: 
     ensures { λ r. ⌜ PutIs (blank member place) (now (text .entry)) (now (list .entry)) g member place (now (text .exit)) (now (list .exit)) r ⌝ }
 {
     let o = g.out;
-    if is_fine(o, text.len(), list.len()) {
-        let p = put_blank(text, list, o, member8(member), place32(place));
-        return put_result(g, p, member, place);
-    }
-    bad(g, Why::RoomFull, member, place)
+    let p = put_blank(text, list, o, member8(member), place32(place));
+    put_result(g, p, member, place)
 }
 
 // A token copied from its place.
@@ -149,12 +151,9 @@ fn token_out(
     ensures { λ r. ⌜ PutIs (copied member from (part (to - from) from (now (s .entry)))) (now (text .entry)) (now (list .entry)) g member from (now (text .exit)) (now (list .exit)) r ⌝ }
 {
     let o = g.out;
-    if is_fine(o, text.len(), list.len()) {
-        let n = place32(span(from, to));
-        let p = put_copied(s, from, n, text, list, o, member8(member), place32(from));
-        return put_result(g, p, member, from);
-    }
-    bad(g, Why::RoomFull, member, from)
+    let n = place32(span(from, to));
+    let p = put_copied(s, from, n, text, list, o, member8(member), place32(from));
+    put_result(g, p, member, from)
 }
 
 // The line of a replacement whose outcome of n bytes stands in the text room.
@@ -169,20 +168,8 @@ fn replaced_out(
     ensures { λ r. ⌜ LineIs (now (text .entry)) (now (list .entry)) g member place n (now (list .exit)) r ⌝ }
 {
     let o = g.out;
-    if is_fine(o, text.len(), list.len()) {
-        if o.free < 1 {
-            return bad(g, Why::RoomFull, member, place);
-        }
-        if o.room < n {
-            return bad(g, Why::RoomFull, member, place);
-        }
-        if Out::MOST < n {
-            return bad(g, Why::RoomFull, member, place);
-        }
-        let after = put_replaced(text, list, o, member8(member), place32(place), n as u32);
-        return Ran::Good(with_out(g, after));
-    }
-    bad(g, Why::RoomFull, member, place)
+    let after = put_replaced(text, list, o, member8(member), place32(place), size32(n));
+    Ran::Good(with_out(g, after))
 }
 
 // A token of program text that was put out: the place behind it.

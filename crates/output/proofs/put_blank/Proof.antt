@@ -6,15 +6,14 @@ use Rattle.output.proofs.put_blank.Reads as reads
 use Rattle.output.proofs.put_blank.Lts as lts
 use Rattle.output.proofs.with_line.Reads as with-line-reads
 use Rattle.rooms.proofs.put_byte.Reads as put-byte-reads
-use denote.Ref.{now}
 use mathlib.Core.Path.{refl}
 use Rattle.output.proofs.Laws.{blank-no-line, blank-no-room, blank-done}
 
 returns : tie.Need-returns
-returns c = blank-no-line (c .before .before .before .before .args .o) (c .before .before .before .before .args .member) (c .before .before .before .before .args .place) (now (c .before .before .before .before .args .text)) (now (c .before .before .before .before .args .list)) (c .if1 .taken)
+returns c = blank-no-line _ _ _ _ _ (c .if1 .taken)
 
 returns-2 : tie.Need-returns-2
-returns-2 c = blank-no-room (c .before .before .before .before .before .before .args .o) (c .before .before .before .before .before .before .args .member) (c .before .before .before .before .before .before .args .place) (now (c .before .before .before .before .before .before .args .text)) (now (c .before .before .before .before .before .before .args .list)) (c .before .before .if1 .left) (c .if2 .taken)
+returns-2 c = blank-no-room _ _ _ _ _ (c .before .before .if1 .left) (c .if2 .taken)
 
 put-byte-requires : tie.Need-put-byte-requires
 put-byte-requires c κs = search needs
@@ -29,7 +28,7 @@ same-length-2 : tie.Need-same-length-2
 same-length-2 c = search needs
 
 returns-3 : tie.Need-returns-3
-returns-3 c = blank-done (c .before .before .before .before .before .before .before .before .before .before .before .before .before .before .args .o) (c .before .before .before .before .before .before .before .before .before .before .before .before .before .before .args .member) (c .before .before .before .before .before .before .before .before .before .before .before .before .before .before .args .place) (now (c .before .before .before .before .before .before .before .before .before .before .before .before .before .before .args .text)) (now (c .before .before .before .before .before .before .before .before .before .before .before .before .before .before .args .list)) (c .before .before .before .before .before .before .before .before .before .before .before .before .before .before .pre) (c .before .before .before .before .before .before .put-byte .last .0) (c .before .before .with-line .last .0) (c .before .before .with-line .result) _ refl (c .before .before .before .before .before .before .before .before .before .before .if1 .left) (c .before .before .before .before .before .before .before .before .if2 .left) (c .before .before .before .before .before .before .put-byte .ensures) (c .before .before .with-line .ensures)
+returns-3 c = blank-done _ _ _ _ _ _ _ _ _ refl (c .before .before .before .before .before .before .before .before .before .before .if1 .left) (c .before .before .before .before .before .before .before .before .if2 .left) (c .before .before .before .before .before .before .put-byte .ensures) (c .before .before .with-line .ensures)
 
 pub put-blank-spec : {M : Type 1} → statement M
 put-blank-spec =

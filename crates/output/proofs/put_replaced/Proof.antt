@@ -5,7 +5,6 @@ use Rattle.output.proofs.put_replaced.Tie as tie
 use Rattle.output.proofs.put_replaced.Reads as reads
 use Rattle.output.proofs.put_replaced.Lts as lts
 use Rattle.output.proofs.with_line.Reads as with-line-reads
-use denote.Ref.{now}
 use mathlib.Core.Path.{refl}
 use Rattle.output.proofs.Laws.{replaced-done}
 
@@ -16,7 +15,7 @@ same-length : tie.Need-same-length
 same-length c = search needs
 
 returns : tie.Need-returns
-returns c = replaced-done (c .before .before .before .before .before .before .args .o) (c .before .before .before .before .before .before .args .member) (c .before .before .before .before .before .before .args .place) (c .before .before .before .before .before .before .args .n) _ (now (c .before .before .before .before .before .before .args .list)) (c .before .before .with-line .last .0) (c .before .before .with-line .result) _ refl (c .before .before .before .before .before .before .pre .0) (c .before .before .before .before .before .before .pre .1 .0) (c .before .before .before .before .before .before .pre .1 .1) (c .before .before .with-line .ensures)
+returns c = replaced-done _ _ _ _ _ _ _ _ _ refl (c .before .before .with-line .ensures)
 
 pub put-replaced-spec : {M : Type 1} → statement M
 put-replaced-spec = tie.close (tie.spec with-line-requires same-length returns)

@@ -4,16 +4,11 @@ use Rattle.texts.proofs.blank_out.Statement.{statement}
 use Rattle.texts.proofs.blank_out.Tie as tie
 use Rattle.texts.proofs.blank_out.Reads as reads
 use Rattle.texts.proofs.blank_out.Lts as lts
-use Rattle.output.proofs.is_fine.Reads as is-fine-reads
 use Rattle.output.proofs.put_blank.Reads as put-blank-reads
-use Rattle.texts.proofs.bad.Reads as bad-reads
 use Rattle.texts.proofs.member8.Reads as member8-reads
 use Rattle.texts.proofs.place32.Reads as place32-reads
 use Rattle.texts.proofs.put_result.Reads as put-result-reads
-use Rattle.texts.proofs.Putting.{blank-put, put-unfine}
-
-is-fine-requires : tie.Need-is-fine-requires
-is-fine-requires c κs = search needs
+use Rattle.texts.proofs.Putting.{blank-put}
 
 member8-requires : tie.Need-member8-requires
 member8-requires c κs = search needs
@@ -22,7 +17,7 @@ place32-requires : tie.Need-place32-requires
 place32-requires c κs = search needs
 
 put-blank-requires : tie.Need-put-blank-requires
-put-blank-requires c κs = (c .before .before .before .before .before .is-fine .ensures .yes) (c .before .before .before .before .if1 .taken)
+put-blank-requires c κs = search needs
 
 put-result-requires : tie.Need-put-result-requires
 put-result-requires c κs = search needs
@@ -36,23 +31,14 @@ same-length-2 c = search needs
 returns : tie.Need-returns
 returns c = blank-put _ _ _ _ _ _ _ _ _ _ _ (c .before .before .before .before .before .before .before .member8 .ensures) (c .before .before .before .before .before .before .place32 .ensures) (c .put-result .ensures) (c .before .before .before .before .before .put-blank .ensures)
 
-bad-requires : tie.Need-bad-requires
-bad-requires c κs = search needs
-
-returns-2 : tie.Need-returns-2
-returns-2 c = put-unfine _ _ _ _ _ _ _ _ _ _ (c .before .before .is-fine .ensures) (c .before .if1 .left)
-
 pub blank-out-spec : {M : Type 1} → statement M
 blank-out-spec =
     tie.close
     (tie.spec
-    is-fine-requires
     member8-requires
     place32-requires
     put-blank-requires
     put-result-requires
     same-length
     same-length-2
-    returns
-    bad-requires
-    returns-2)
+    returns)

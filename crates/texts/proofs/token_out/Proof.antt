@@ -5,16 +5,11 @@ use Rattle.texts.proofs.token_out.Tie as tie
 use Rattle.texts.proofs.token_out.Reads as reads
 use Rattle.texts.proofs.token_out.Lts as lts
 use Rattle.outcomes.proofs.span.Reads as span-reads
-use Rattle.output.proofs.is_fine.Reads as is-fine-reads
 use Rattle.output.proofs.put_copied.Reads as put-copied-reads
-use Rattle.texts.proofs.bad.Reads as bad-reads
 use Rattle.texts.proofs.member8.Reads as member8-reads
 use Rattle.texts.proofs.place32.Reads as place32-reads
 use Rattle.texts.proofs.put_result.Reads as put-result-reads
-use Rattle.texts.proofs.Putting.{token-put, put-unfine}
-
-is-fine-requires : tie.Need-is-fine-requires
-is-fine-requires c κs = search needs
+use Rattle.texts.proofs.Putting.{token-put}
 
 span-requires : tie.Need-span-requires
 span-requires c κs = search needs
@@ -29,7 +24,7 @@ place32-requires-2 : tie.Need-place32-requires-2
 place32-requires-2 c κs = search needs
 
 put-copied-requires : tie.Need-put-copied-requires
-put-copied-requires c κs = (c .before .before .before .before .before .before .before .is-fine .ensures .yes) (c .before .before .before .before .before .before .if1 .taken)
+put-copied-requires c κs = search needs
 
 put-result-requires : tie.Need-put-result-requires
 put-result-requires c κs = search needs
@@ -43,17 +38,10 @@ same-length-2 c = search needs
 returns : tie.Need-returns
 returns c = token-put _ _ _ _ _ _ _ _ _ _ _ (c .before .before .before .before .before .before .before .member8 .ensures) (c .before .before .before .before .before .before .place322 .ensures) (c .put-result .ensures) _ _ _ _ (c .before .before .before .before .before .before .before .before .before .before .before .span .ensures) (c .before .before .before .before .before .before .before .before .before .before .place32 .ensures) (c .before .before .before .before .before .put-copied .ensures)
 
-bad-requires : tie.Need-bad-requires
-bad-requires c κs = search needs
-
-returns-2 : tie.Need-returns-2
-returns-2 c = put-unfine _ _ _ _ _ _ _ _ _ _ (c .before .before .is-fine .ensures) (c .before .if1 .left)
-
 pub token-out-spec : {M : Type 1} → statement M
 token-out-spec =
     tie.close
     (tie.spec
-    is-fine-requires
     span-requires
     place32-requires
     member8-requires
@@ -62,6 +50,4 @@ token-out-spec =
     put-result-requires
     same-length
     same-length-2
-    returns
-    bad-requires
-    returns-2)
+    returns)

@@ -1,0 +1,22 @@
+-- By the test against what is left.
+use borrow.Author.Needs.{needs}
+use Rattle.output.proofs.sum32.Statement.{statement}
+use Rattle.output.proofs.sum32.Tie as tie
+use Rattle.output.proofs.sum32.Reads as reads
+use Rattle.output.proofs.sum32.Lts as lts
+use Rattle.output.proofs.Laws.{sum-is, sum-most}
+
+sub-if1 : tie.Need-sub-if1
+sub-if1 c = search needs
+
+add-result : tie.Need-add-result
+add-result c = search needs
+
+returns : tie.Need-returns
+returns c = sum-is _ _ _ ((c .before .fits .a .fits)) (c .if1 .taken)
+
+returns-2 : tie.Need-returns-2
+returns-2 c = search sum-most
+
+pub sum32-spec : {M : Type 1} → statement M
+sum32-spec = tie.close (tie.spec sub-if1 add-result returns returns-2)
