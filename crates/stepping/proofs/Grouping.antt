@@ -4,27 +4,25 @@ use mathlib.Core.Path.{_≡_, refl, sym, ap, subst, _∙_}
 use mathlib.Core.Bool.{Bool, true, false}
 use mathlib.Core.List.{List, _∷_}
 use Prim.Native.Nat.{ℕ, _<_}
-use lib.ListN.{length, getD}
+use lib.ListN.{length}
 use Rattle.definition.specs.Choice.{when}
 use Rattle.definition.specs.Program as P
-use Rattle.definition.specs.World.{World, Res, good, bad, bind, placed, variableOf, builtinName, rowOf}
+use Rattle.definition.specs.World.{World, Res, good, bad, bind, rowOf}
 use Rattle.definition.specs.Flow as F
 use Rattle.definition.specs.Calls.{Place}
 use Rattle.definition.specs.Run as Run
 use Rattle.definition.specs.Run.{bodyOf, memberMachine}
 use Rattle.definition.specs.declared.Why.{Why}
-use Rattle.definition.specs.declared.ValueType.the-variants.{FixedType}
 use Rattle.meter.specs.declared.Meter.{Meter}
 use Rattle.rows.specs.declared.Row.{Row}
 use Rattle.rows.specs.Table.{rowIn}
 use Rattle.flow.specs.declared.Frame.{Frame}
 use Rattle.flow.specs.declared.Frames.{Frames}
-use Rattle.flow.specs.declared.Next.the-variants.{Begin}
 use Rattle.flow.specs.declared.Walk.{Walk}
-use Rattle.flow.specs.declared.Walk.the-variants.{To as Arrives, Up}
+use Rattle.flow.specs.declared.Walk.the-variants.{Up}
 use Rattle.flow.specs.Walks as C
 use Rattle.flow.specs.Walks.{frameIn, framesWith, firstWalk}
-use Rattle.flow.specs.Shown.{Shown, Linked, linkOf, walked, FrameShown, FrameOf, having, AtRow, AtTest, AtWalk, steppedOn}
+use Rattle.flow.specs.Shown.{Shown, Linked, linkOf, walked, having, AtRow, AtTest, AtWalk, steppedOn}
 use Rattle.flow.proofs.Flows.{end-is}
 use Rattle.flow.proofs.Framing.{once-of, stepped-own, has-entered}
 use Rattle.flow.proofs.Arriving.{walk-up, entered-walk-stands, tested-walk-stands}
@@ -43,10 +41,9 @@ use Rattle.texts.specs.declared.Ran.the-variants as Rn
 use Rattle.texts.specs.Shown.{withMeter, stretchFor, stopFor, After, RanAs}
 use Rattle.texts.specs.Contracts.{leadText, LeadIs}
 use Rattle.texts.proofs.Looping.{lead-is}
-use Rattle.stepping.specs.declared.Step.{Step}
 use Rattle.stepping.specs.declared.Step.the-variants as St
 use Rattle.stepping.specs.declared.Turned.{Turned}
-use Rattle.stepping.specs.Stage.{Stage, InMember, partHere, machineOf, goes}
+use Rattle.stepping.specs.Stage.{Stage, InMember, partHere, machineOf}
 use Rattle.stepping.specs.Ways.{turnedBy, refusedAt}
 use Rattle.stepping.specs.Steps.{StepIs, Entering, IntoIs, StartNow, startedOn, StartedIs, AgainIs}
 use Rattle.stepping.proofs.Staging.{later-none, walk-later, stage-after, later-after, stage-values-on, machine-shown, machine-linked, machine-written, lead-lies, its-body}

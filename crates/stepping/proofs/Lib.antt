@@ -3,3 +3,4 @@ pub mod Staging
 pub mod Walking
 pub mod Grouping
 pub mod Settling
+pub mod Leading

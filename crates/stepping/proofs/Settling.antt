@@ -1,7 +1,6 @@
 -- WHAT COMES OF A TURN: a walk is followed to what begins next; a GOTO out of the member, or a refusal, ends its rows.
 -- Assumes nothing.
 use mathlib.Core.Path.{_≡_, refl, sym, ap, subst, _∙_}
-use mathlib.Core.Bool.{Bool, true, false}
 use mathlib.Core.List.{List}
 use Prim.Native.Nat.{ℕ}
 use lib.ListN.{length}
@@ -25,7 +24,7 @@ use Rattle.stepping.specs.declared.Step.{Step}
 use Rattle.stepping.specs.declared.Step.the-variants as St
 use Rattle.stepping.specs.declared.Ended.the-variants as En
 use Rattle.stepping.specs.declared.Settled.the-variants as Se
-use Rattle.stepping.specs.Stage.{Stage, InMember, partHere, machineOf, goes, targetFor}
+use Rattle.stepping.specs.Stage.{InMember, partHere, machineOf, goes, targetFor}
 use Rattle.stepping.specs.Steps.{OnwardAs, FollowIs, Walks, Departs, StepNow, SettlesAs, SettleIs}
 use Rattle.stepping.proofs.Staging.{later-none, next-later, stage-after, later-after}
 

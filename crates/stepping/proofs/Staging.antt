@@ -2,14 +2,14 @@
 -- machine are those of the table, with their places and texts.
 -- Assumes nothing.
 use mathlib.Core.Path.{_≡_, refl, sym, ap, subst, _∙_}
-use mathlib.Core.List.{List, []}
+use mathlib.Core.List.{List}
 use Prim.Native.Nat.{ℕ, _<_, _≤_}
 use native.Mathlib.Omega.{arith}
 use lib.ListN.{length, getD}
 use Rattle.definition.specs.Program as P
 use Rattle.definition.specs.Reading.{readMember}
 use Rattle.definition.specs.World as W
-use Rattle.definition.specs.World.{World, Res, Denotation, builtinName, variableOf, rowOf, rowsIn, rowsOf}
+use Rattle.definition.specs.World.{World, Res, builtinName, variableOf, rowOf, rowsIn, rowsOf}
 use Rattle.definition.specs.Flow as F
 use Rattle.definition.specs.Calls.{Place}
 use Rattle.definition.specs.Run as Run
@@ -37,7 +37,7 @@ use Rattle.texts.specs.declared.Progress.{Progress}
 use Rattle.texts.specs.declared.Here.{Here}
 use Rattle.texts.specs.Shown.{withMeter, stretchFor, Onstage, Goes, After, Lies}
 use Rattle.texts.proofs.Common.{stage-values}
-use Rattle.stepping.specs.Stage.{Roomy, Stage, InMember, partHere, machineOf}
+use Rattle.stepping.specs.Stage.{Stage, InMember, partHere, machineOf}
 
 -- ---- a world that comes later
 pub later-none : (B : World) → Later B B

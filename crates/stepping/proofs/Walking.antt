@@ -12,18 +12,17 @@ use Rattle.definition.specs.World.{World, Res, good, bad, bind}
 use Rattle.definition.specs.Flow as F
 use Rattle.definition.specs.Calls.{Place}
 use Rattle.definition.specs.Run as Run
-use Rattle.definition.specs.Run.{bodyOf, memberMachine}
+use Rattle.definition.specs.Run.{bodyOf}
 use Rattle.rows.specs.declared.Role.{Role}
 use Rattle.rows.specs.declared.Role.the-variants.{Listed, ThenPart, ElsePart}
 use Rattle.rows.specs.declared.Row.{Row}
 use Rattle.rows.specs.Table.{rowIn}
 use Rattle.flow.specs.declared.Frames.{Frames}
 use Rattle.flow.specs.declared.Next.{Next}
-use Rattle.flow.specs.declared.Next.the-variants.{Over}
 use Rattle.flow.specs.declared.Walk.{Walk}
 use Rattle.flow.specs.declared.Walk.the-variants.{To as Arrives, Up}
 use Rattle.flow.specs.Walks.{behindWalk}
-use Rattle.flow.specs.Shown.{Shown, Linked, nextFrom, outBehind, AtRow, AtNext, AtWalk}
+use Rattle.flow.specs.Shown.{Shown, Linked, outBehind, AtRow, AtNext, AtWalk}
 use Rattle.flow.proofs.Flows.{behind-walks, behind-up}
 use Rattle.flow.proofs.Arriving.{behind-walk-stands}
 use Rattle.callees.specs.Shown.{worldIn}
@@ -40,7 +39,7 @@ use Rattle.stepping.specs.declared.Onward.{Onward}
 use Rattle.stepping.specs.declared.Onward.the-variants as On
 use Rattle.stepping.specs.Stage.{Stage, InMember, partHere, machineOf, goes}
 use Rattle.stepping.specs.Ways.{isListed}
-use Rattle.stepping.specs.Steps.{TextBehindIs, OnwardAs, FollowIs}
+use Rattle.stepping.specs.Steps.{TextBehindIs, FollowIs}
 use Rattle.stepping.proofs.Staging.{stage-after, member-goes, machine-shown, machine-linked, machine-few, machine-written, text-lies, its-body}
 
 -- ---- the text behind a row
