@@ -124,7 +124,8 @@ fn follow(
 {
     let mut w = first;
     let mut g = g0;
-    let mut turns: usize = 2_048;
+    // a turn for each row of a member, since what is around a row is before it, and one that finds the end
+    let mut turns: usize = 2_049;
     while 0 < turns {
         turns -= 1;
         match w {
