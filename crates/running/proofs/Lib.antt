@@ -2,3 +2,4 @@
 pub mod Including
 pub mod Thrift
 pub mod Turning
+pub mod Looping
