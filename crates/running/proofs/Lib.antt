@@ -2,6 +2,7 @@
 pub mod Including
 pub mod Thrift
 pub mod Turning
+pub mod Looping
 pub mod Values
 pub mod Entering
 pub mod Naming
