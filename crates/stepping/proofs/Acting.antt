@@ -164,7 +164,7 @@ module _ (deck s part rows names c l h w t ls : List ℕ) (fs : Frames) (n : ℕ
 
   -- the world is B itself
   same-world : (c′ l′ h′ w′ t′ ls′ : List ℕ) (fs′ : Frames) (R : Res Run.Stop F.Turn) (x : Step) → StepNow machine (belowOf below) deck rows names c′ l′ h′ w′ t′ ls′ here fs′ R B x → StepIs machine (belowOf below) deck rows names c′ l′ h′ w′ t′ ls′ here fs′ R B x
-  same-world c′ l′ h′ w′ t′ ls′ fs′ R x y = record { world = B; later = later-same B B refl refl refl; now = y }
+  same-world c′ l′ h′ w′ t′ ls′ fs′ R x y = record { world = B; later = later-same B B refl refl refl; sentences = refl; now = y }
 
   -- a refusal has the place of the row
   pub fault-is : {A : Type 0} (e : Why) (u : ℕ) → F.inRow machine {A = A} n (bad e u) ≡ bad (record { why = e; member = here .member; place = rowIn part n .place }) u

@@ -101,7 +101,7 @@ module _ (deck s part rows names c l h w t ls : List ℕ) (fs : Frames) (n : ℕ
     bad-on : (z : Stop) (k : Progress) → x ≡ Rn.Bad z k → StepIs M on deck rows names c′ l′ h′ w′ t′ ls′ here fs whole B (St.Bad z k)
     bad-on z k e =
         let q : lead ≡ bad (stopFor z) (k .meter .used) = subst (λ (v : Ran). RanAs deck rows names (here .starts) g B c′ l′ h′ w′ t′ ls′ v lead) e ran in
-        record { world = B; later = later-none B; now = turn-is ∙ ap (λ (v : Res Run.Stop (Unit {0})). F.onward M G (bind v (λ _ u. F.firstIn M (F.at M n .child) n G u))) q }
+        record { world = B; later = later-none B; sentences = refl; now = turn-is ∙ ap (λ (v : Res Run.Stop (Unit {0})). F.onward M G (bind v (λ _ u. F.firstIn M (F.at M n .child) n G u))) q }
 
     good-on : (k : Progress) → x ≡ Rn.Good k → length c′ ≡ length c → StepIs M on deck rows names c′ l′ h′ w′ t′ ls′ here fs whole B (St.On (firstWalk part fs n) k)
     good-on k e ec =
@@ -110,6 +110,7 @@ module _ (deck s part rows names c l h w t ls : List ℕ) (fs : Frames) (n : ℕ
         record {
           world = q .world;
           later = later;
+          sentences = q .goes .sentences;
           now = record {
             stage = stage-after deck rows names c l h w t ls (here .starts) g B st c′ l′ h′ w′ t′ ls′ k tt lead q ec;
             frames = G;
@@ -135,12 +136,13 @@ module _ (deck rows names c l h w t ls : List ℕ) (here : Here) (g : Progress) 
   behind-step st part f a e = record {
     world = B;
     later = later-none B;
+    sentences = refl;
     now = record { stage = st; frames = G; is = e; at = subst (λ (v : List ℕ). AtWalk its v (B .denotations) fs G (Up n)) f (walk-up its part (B .denotations) fs G n a) };
   }
 
   fault-step : (e : Why) (p : ℕ) → F.at its n .place ≡ p → R ≡ bad (its .fault (F.at its n) e) (g .meter .used) → StepIs its on deck rows names c l h w t ls here fs R B (St.Bad (record { why = e; member = here .member; place = p }) g)
   unfolding memberMachine
-  fault-step e p q z = record { world = B; later = later-none B; now = z ∙ ap (λ (k : ℕ). bad (Run.stop (here .member) k e) (g .meter .used)) q }
+  fault-step e p q z = record { world = B; later = later-none B; sentences = refl; now = z ∙ ap (λ (k : ℕ). bad (Run.stop (here .member) k e) (g .meter .used)) q }
 
 -- ---- the iterated group n, which starts
 module _ (M : F.Machine Run.Stop) (G : List F.Frame) (n : ℕ) (d : F.Frame) (v : World) where

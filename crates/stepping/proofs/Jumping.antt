@@ -158,6 +158,7 @@ module _ (deck s part rows names c l h w t ls : List ℕ) (fs : Frames) (n : ℕ
       record {
         world = B;
         later = later-same B B refl refl refl;
+        sentences = refl;
         now = record {
           stage = k .stage;
           frames = G;
@@ -170,11 +171,13 @@ module _ (deck s part rows names c l h w t ls : List ℕ) (fs : Frames) (n : ℕ
   jump-step (J.Away x) q = record {
     world = B;
     later = later-same B B refl refl refl;
+    sentences = refl;
     now = record { stage = k .stage; is = refl; reaches = record { at = q .at; stands = q .stands; may = q .may; there = q .there } };
   }
   jump-step (J.Bad e) q = record {
     world = B;
     later = later-same B B refl refl refl;
+    sentences = refl;
     now = ap (λ (p : ℕ). bad (Run.stop (here .member) p e) (g .meter .used)) (place-is deck s part rows names c l h w t ls fs n below here g inner B G k);
   }
 

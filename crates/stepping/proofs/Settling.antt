@@ -52,6 +52,7 @@ module _ (deck s rows names c l h w t ls : List ℕ) (fs : Frames) (x : Step) (h
           record {
             world = a .world;
             later = later;
+            sentences = a .goes .sentences;
             now = record {
               stage = stage-after deck rows names c l h w t ls (here .starts) g B (walks .stage) c′ l′ h′ w′ t′ ls′ k (nextFrom z) led a ec;
               frames = walks .frames;
@@ -63,7 +64,7 @@ module _ (deck s rows names c l h w t ls : List ℕ) (fs : Frames) (x : Step) (h
       bad-on : (z : Stop) (k : Progress) → o ≡ On.Bad z k → SettlesAs M on deck rows names c′ l′ h′ w′ t′ ls′ here fs R B (Se.End (En.Bad z k))
       bad-on z k e =
           let q : led ≡ bad (stopFor z) (k .meter .used) = subst (λ (v : Onward). OnwardAs M deck rows names here fs (walks .frames) g B c′ l′ h′ w′ t′ ls′ v led) e followed in
-          record { world = B; later = later-none B; now = (bad (stopFor z) (k .meter .used), walks .is ∙ ap (F.onward M (walks .frames)) q, refl) }
+          record { world = B; later = later-none B; sentences = refl; now = (bad (stopFor z) (k .meter .used), walks .is ∙ ap (F.onward M (walks .frames)) q, refl) }
 
     pub settle-next : (z : Next) (k : Progress) → o ≡ On.Good z k → length c′ ≡ length c → SettleIs deck s rows names c l h w t ls fs x here c′ l′ h′ w′ t′ ls′ (Se.On z k)
     settle-next z k e ec = record { is = λ B i inner on R sn. good-on B i inner on R sn z k e ec }
@@ -76,12 +77,12 @@ module _ (deck s rows names c l h w t ls : List ℕ) (fs : Frames) (x : Step) (h
   settle-went y g ex = record {
     is = λ B i inner on R sn.
         let z : Departs on deck rows names c l h w t ls here y g R B = subst (StepNow (machineOf inner deck (here .member) on) on deck rows names c l h w t ls here fs R B) ex sn in
-        record { world = B; later = later-none B; now = (good (F.went (targetFor y)) (worldIn B c l h (g .meter .used)), z .is, record { stage = z .stage; is = refl; reaches = z .reaches }) };
+        record { world = B; later = later-none B; sentences = refl; now = (good (F.went (targetFor y)) (worldIn B c l h (g .meter .used)), z .is, record { stage = z .stage; is = refl; reaches = z .reaches }) };
   }
 
   pub settle-bad : (y : Stop) (g : Progress) → x ≡ St.Bad y g → SettleIs deck s rows names c l h w t ls fs x here c l h w t ls (Se.End (En.Bad y g))
   settle-bad y g ex = record {
     is = λ B i inner on R sn.
         let z : R ≡ bad (stopFor y) (g .meter .used) = subst (StepNow (machineOf inner deck (here .member) on) on deck rows names c l h w t ls here fs R B) ex sn in
-        record { world = B; later = later-none B; now = (bad (stopFor y) (g .meter .used), z, refl) };
+        record { world = B; later = later-none B; sentences = refl; now = (bad (stopFor y) (g .meter .used), z, refl) };
   }

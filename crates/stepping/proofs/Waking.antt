@@ -100,6 +100,7 @@ module _ (deck s part rows names c l h w t ls : List ℕ) (fs : Frames) (n : ℕ
   wake-step u kp R true d r er = rw (er, does-now u R true d) (record {
     world = awake u (g .names) B;
     later = later-same B (awake u (g .names) B) refl refl refl;
+    sentences = refl;
     now = record {
       stage = stage-woken deck rows names c l h w t ls (here .starts) g B (k .stage) u kp;
       frames = G;
@@ -110,6 +111,7 @@ module _ (deck s part rows names c l h w t ls : List ℕ) (fs : Frames) (n : ℕ
   wake-step u kp R false d r er = rw (er, does-now u R false d) (record {
     world = B;
     later = later-same B B refl refl refl;
+    sentences = refl;
     now = ap (λ (p : ℕ). bad (Run.stop (here .member) p WrongName) (g .meter .used)) (place-is deck s part rows names c l h w t ls fs n below here g inner B G k);
   })
 
