@@ -1,71 +1,71 @@
 -- One law for each way out of a function of the expander.
 -- Assumes nothing.
-use mathlib.Core.Path.{_≡_, refl, sym, ap, _∙_}
-use mathlib.Core.Bool.{Bool, true, false, false≢true, cond}
+use mathlib.Core.Path.{_≡_, refl, sym, ap, subst, _∙_}
+use mathlib.Core.Bool.{Bool, true, false, false≢true, cond, _&&_}
 use mathlib.Core.List.{List, [], _∷_, _++_}
-use Prim.Native.Nat.{ℕ, _*_, _-_, _%_, _<_, _≤_}
-use native.Mathlib.Nat.{sub-zero}
+use Prim.Native.Nat.{ℕ, _+_, _%_, _<_, _≤_}
 use native.Mathlib.Omega.{arith}
-use borrow.Author.Tests.{leb-true, le-leb, lt-leb}
-use lib.Dec.{leb}
-use lib.ListN.{length, getD, take, drop}
+use borrow.Author.Tests.{leb-true, eqb-true, eqb-false}
+use lib.Dec.{leb, eqb}
+use lib.ListN.{length, getD, take, length-replicate}
 use Rattle.definition.specs.declared.Why.{Why}
 use Rattle.definition.specs.declared.Why.the-variants as W
 use Rattle.definition.specs.Refusal.{numberOf}
+use Rattle.definition.specs.Limits.{includeLevels}
 use Rattle.definition.specs.Room.{over, zeros}
 use Rattle.definition.specs.Deck as D
-use Rattle.definition.proofs.Choices.{cond-has}
+use Rattle.definition.specs.Reading.{readMember}
+use Rattle.definition.specs.World.{World, Res}
+use Rattle.definition.specs.Names as N
+use Rattle.definition.specs.Flow as F
+use Rattle.definition.specs.Run as Run
+use Rattle.definition.specs.Run.{bodyOf, runMember}
+use Rattle.definition.specs.Expansion as X
+use Rattle.definition.specs.Expansion.{expansion, textRoomAfter, listRoomAfter}
+use Rattle.definition.proofs.Refused.{refused-text, refused-list}
 use Rattle.definition.proofs.Rooms.{over-next-at}
 use Rattle.deck.specs.declared.Contents.{Contents}
 use Rattle.deck.specs.declared.Contents.the-variants.{Malformed, Sound}
 use Rattle.deck.specs.declared.Deck.{Deck}
 use Rattle.deck.specs.Answer as C
-use Rattle.rooms.proofs.Laws.{drop-cleared}
 use Rattle.texts.specs.declared.Progress.{Progress}
 use Rattle.texts.specs.declared.Stop.{Stop}
 use Rattle.texts.specs.declared.Ran.{Ran}
 use Rattle.texts.specs.declared.Ran.the-variants.{Good, Bad}
+use Rattle.texts.specs.Shown.{Written}
+use Rattle.stepping.specs.Stage.{Roomy}
+use Rattle.running.specs.Included.{enteredRun, enterRun}
+use Rattle.running.specs.Members.{RanTo, RunIs}
 use Rattle.expander.specs.declared.Expansion.{Expansion}
-use Rattle.expander.specs.Answer.{bare, stopNumber, refusalAt, refusedFor, finishedFor, answerFor}
-use Rattle.expander.specs.Promise.{areRoomy, Numbers, Working, isRoomy, Cleared, Nothing, Expanded, sixOf}
+use Rattle.expander.specs.Answer.{bare, refusalAt, refusedFor, finishedFor, answerFor}
+use Rattle.expander.specs.Promise.{Working, isRoomy, Zero, Cleared, answerOf, Expanded, sixOf, Told, Answered, Decided, Emptied}
+use Rattle.stops.proofs.Stops.{offset-near}
 
 -- ---- the numbers of refusals
 pub of-case : (n : ℕ) (w v : Why) → w ≡ v → n ≡ numberOf v → n ≡ numberOf w
 of-case n w v e f = f ∙ sym (ap numberOf e)
 
-pub stop-same : (w : Why) (n : ℕ) → n ≡ numberOf w → 3 ≤ n → n ≡ stopNumber w
-stop-same w n e h = rw (← e, le-leb 3 n h)
-
-pub stop-low : (w : Why) (n : ℕ) → n ≡ numberOf w → n < 3 → 3 ≡ stopNumber w
-stop-low w n e h = rw (← e, lt-leb 3 n h)
-
-most-number : (w : Why) → numberOf w ≤ 19
-most-number W.MalformedDeck = omega arith
-most-number W.ShortRoom = omega arith
-most-number W.Syntax = omega arith
-most-number W.OverLimit = omega arith
-most-number W.DeclaredTwice = omega arith
-most-number W.WrongName = omega arith
-most-number W.NoValue = omega arith
-most-number W.NoConversion = omega arith
-most-number W.OutOfRange = omega arith
-most-number W.ZeroDivisor = omega arith
-most-number W.WrongArguments = omega arith
-most-number W.WronglyRun = omega arith
-most-number W.WrongGoto = omega arith
-most-number W.UnknownMember = omega arith
-most-number W.TooDeep = omega arith
-most-number W.TooLong = omega arith
-most-number W.RoomFull = omega arith
-most-number W.NoStep = omega arith
-most-number W.SubstrOutside = omega arith
-
--- what stops a run has a number from 3 to 19
-at-least : (w : Why) → 3 ≤ stopNumber w
-at-least w = cond-has (λ n. 3 ≤ n) (leb 3 (numberOf w)) (numberOf w) 3 (leb-true 3 (numberOf w)) (λ _. omega arith)
-
-at-most : (w : Why) → stopNumber w ≤ 19
-at-most w = cond-has (λ n. n ≤ 19) (leb 3 (numberOf w)) (numberOf w) 3 (λ _. most-number w) (λ _. omega arith)
+-- a refusal has a number
+some-number : (w : Why) → numberOf w ≡ 0 → ⊥
+some-number W.MalformedDeck e = omega arith
+some-number W.ShortRoom e = omega arith
+some-number W.Syntax e = omega arith
+some-number W.OverLimit e = omega arith
+some-number W.DeclaredTwice e = omega arith
+some-number W.WrongName e = omega arith
+some-number W.NoValue e = omega arith
+some-number W.NoConversion e = omega arith
+some-number W.OutOfRange e = omega arith
+some-number W.ZeroDivisor e = omega arith
+some-number W.WrongArguments e = omega arith
+some-number W.WronglyRun e = omega arith
+some-number W.WrongGoto e = omega arith
+some-number W.UnknownMember e = omega arith
+some-number W.TooDeep e = omega arith
+some-number W.TooLong e = omega arith
+some-number W.RoomFull e = omega arith
+some-number W.NoStep e = omega arith
+some-number W.SubstrOutside e = omega arith
 
 -- ---- the six numbers
 pub finished-is : (g : Progress) (t l : ℕ) → t ≡ g .out .text % 4294967296 → l ≡ g .out .lines % 4294967296
@@ -73,7 +73,7 @@ pub finished-is : (g : Progress) (t l : ℕ) → t ≡ g .out .text % 4294967296
 finished-is g t l e f = rw (e, f)
 
 pub refused-is : (x : Stop) (g : Progress) (n p : ℕ) (r : Expansion)
-    → n ≡ stopNumber (x .why) → p ≡ x .place % 4294967296 → r ≡ refusalAt n (x .member) p (g .meter .used) → r ≡ refusedFor x g
+    → n ≡ numberOf (x .why) → p ≡ x .place % 4294967296 → r ≡ refusalAt n (x .member) p (g .meter .used) → r ≡ refusedFor x g
 refused-is x g n p r e f h = h ∙ rw (e, f)
 
 pub answer-of : (x : Expansion) (r v : Ran) → r ≡ v → x ≡ answerFor v → x ≡ answerFor r
@@ -96,51 +96,94 @@ pub sound-is : (d : List ℕ) (c : Contents) (k : Deck) → c ≡ C.answerFor (D
 unfolding D.contents
 sound-is d c k e f = told-sound (D.isSound d) (D.lines d) k (sym f ∙ e)
 
+-- ---- THE RUN: what the definition calls the run of the main program is its member 0, entered and run
+main-entered : (e : N.Entering) (d : List ℕ) (w : World) → w .used ≡ 0 → X.runMain e d ≡ X.result (enteredRun e 0 w (λ v. runMember includeLevels d 0 [] v))
+main-entered (N.unreadable e p) d w h = ap (λ (u : ℕ). X.refusal e 0 p u) (sym h)
+main-entered (N.entered v) d w h = refl
+
+main-is : (d : List ℕ) (w : World) → w .used ≡ 0 → X.runMain (N.enter 0 (readMember (bodyOf d 0)) w) d ≡ X.result (enterRun includeLevels d 0 [] w)
+unfolding enterRun
+main-is d w h = main-entered (N.enter 0 (readMember (bodyOf d 0)) w) d w h
+
+-- the three kinds of expansions
+module _ (d : List ℕ) (t l steps : ℕ) (roomy : Bool) where
+  run-is : D.isSound d ≡ true → roomy ≡ true → expansion roomy d t l steps ≡ X.result (enterRun includeLevels d 0 [] (X.mainWorld t l steps))
+  unfolding expansion
+  run-is s r = rw (s, r) (main-is d (X.mainWorld t l steps) refl)
+
+  pub malformed-is : D.isSound d ≡ false → expansion roomy d t l steps ≡ X.refusal W.MalformedDeck 0 0 0
+  unfolding expansion
+  malformed-is s = rw s
+
+  pub short-is : D.isSound d ≡ true → roomy ≡ false → expansion roomy d t l steps ≡ X.refusal W.ShortRoom 0 0 0
+  unfolding expansion
+  short-is s r = rw (s, r)
+
+-- ---- what a run answers
+small-is : (n m k : ℕ) → n ≡ m → m + k ≤ 4294967295 → n % 4294967296 ≡ m
+small-is n m k e h = omega arith
+
+ran-good : (t l : List ℕ) (g : Progress) (B : World) (x : X.Expansion) → Written t l (g .out) B → x ≡ X.finished B → g .meter .used ≡ B .used → Answered x (finishedFor g) t l
+unfolding textRoomAfter listRoomAfter
+ran-good t l g B x w e u =
+    let text : g .out .text % 4294967296 ≡ length (X.finished B .text) = small-is _ _ (g .out .room) (w .out .at) (omega (arith, w .fine .most, w .out .at)) in
+    let lines : g .out .lines % 4294967296 ≡ length (X.finished B .lines) % 4294967296 = ap (λ (n : ℕ). n % 4294967296) (w .out .count) in
+    rw e (record { numbers = rw (text, lines, u); text = λ _. w .out .text; list = λ _. w .out .list })
+
+ran-bad : (t l : List ℕ) (y : Stop) (g : Progress) (x : X.Expansion) → x .offset < 65536 → x ≡ X.refusal (y .why) (y .member) (y .place) (g .meter .used) → Answered x (refusedFor y g) t l
+ran-bad t l y g x near e =
+    let place : y .place % 4294967296 ≡ y .place = omega (arith, near, ap (λ (z : X.Expansion). z .offset) e) in
+    rw e (record { numbers = rw place; text = λ n. absurd (some-number (y .why) n); list = λ n. absurd (some-number (y .why) n) })
+
+ran-to : (t l : List ℕ) (R : Res Run.Stop F.End) (r : Ran) (x : X.Expansion) → x .offset < 65536 → RanTo t l R r → x ≡ X.result R → Answered x (answerFor r) t l
+ran-to t l R (Good g) x near (B, w, e, u) h = ran-good t l g B x w (h ∙ e) u
+ran-to t l R (Bad y g) x near (s, k, e) h = ran-bad t l y g x near (h ∙ e ∙ ap (λ (z : Run.Stop). X.refusal (z .why) (z .member) (z .place) (g .meter .used)) k)
+
+-- ---- the working rooms
+pub record Long (w : Working) : Type 0 where
+  pub roomy : Roomy (w .rows) (w .names) (w .cells)
+  pub low : 65536 ≤ length (w .low)
+  pub high : 65536 ≤ length (w .high)
+  pub work : 65536 ≤ length (w .work)
+
+pub all-true : (a b c d e f : Bool) → (a && b && c && d && e && f) ≡ true → (a ≡ true) × (b ≡ true) × (c ≡ true) × (d ≡ true) × (e ≡ true) × (f ≡ true)
+all-true true true true true true true h = (refl, refl, refl, refl, refl, refl)
+all-true true true true true true false h = absurd (false≢true h)
+all-true true true true true false f h = absurd (false≢true h)
+all-true true true true false e f h = absurd (false≢true h)
+all-true true true false d e f h = absurd (false≢true h)
+all-true true false c d e f h = absurd (false≢true h)
+all-true false b c d e f h = absurd (false≢true h)
+
+long-rooms : (w : Working) → isRoomy w ≡ true → Long w
+long-rooms w h =
+    let k = all-true (leb 32768 (length (w .rows))) (leb 4096 (length (w .names))) (leb 256 (length (w .cells))) (leb 65536 (length (w .low))) (leb 65536 (length (w .high))) (leb 65536 (length (w .work))) h in
+    record {
+      roomy = record { table = leb-true _ _ (k .0); book = leb-true _ _ (k .1); cells = leb-true _ _ (k .2) };
+      low = leb-true _ _ (k .3);
+      high = leb-true _ _ (k .4);
+      work = leb-true _ _ (k .5);
+    }
+
 -- ---- the three ways to an answer
-module _ (sound roomy : Bool) (x : Expansion) where
-  pub of-malformed : sound ≡ false → x ≡ bare 1 → Numbers sound roomy x
-  of-malformed s e =
-      rw (s, e)
-      record {
-        malformed = λ _. refl;
-        one = λ _. refl;
-        short = λ t _. absurd (false≢true t);
-        two = λ n. absurd (omega arith);
-        most = omega arith;
-        nothing = λ _. (refl, refl);
-      }
+module _ (d t l : List ℕ) (w : Working) (steps : ℕ) (x : Expansion) (t′ l′ : List ℕ) where
+  pub of-malformed : D.isSound d ≡ false → x ≡ bare 1 → Decided d t l w steps x t′ l′
+  of-malformed s e = record { is = λ _ _. rw (malformed-is d (length t) (length l) steps (isRoomy w) s) (record { numbers = e; text = λ n. absurd (some-number W.MalformedDeck n); list = λ n. absurd (some-number W.MalformedDeck n) }) }
 
-  pub of-short : sound ≡ true → roomy ≡ false → x ≡ bare 2 → Numbers sound roomy x
-  of-short s r e =
-      rw (s, r, e)
-      record {
-        malformed = λ t. absurd (false≢true (sym t));
-        one = λ n. absurd (omega arith);
-        short = λ _ _. refl;
-        two = λ _. (refl, refl);
-        most = omega arith;
-        nothing = λ _. (refl, refl);
-      }
+  pub of-short : D.isSound d ≡ true → isRoomy w ≡ false → x ≡ bare 2 → Decided d t l w steps x t′ l′
+  of-short s r e = record { is = λ _ _. rw (short-is d (length t) (length l) steps (isRoomy w) s r) (record { numbers = e; text = λ n. absurd (some-number W.ShortRoom n); list = λ n. absurd (some-number W.ShortRoom n) }) }
 
-  -- a run's number is neither 1 nor 2
-  of-number : sound ≡ true → roomy ≡ true → (x .number ≡ 1 → ⊥) → (x .number ≡ 2 → ⊥) → x .number ≤ 19
-      → ((x .number ≡ 0 → ⊥) → (x .text ≡ 0) × (x .lines ≡ 0)) → Numbers sound roomy x
-  of-number s r one two most nothing =
-      record {
-        malformed = λ t. absurd (false≢true (sym t ∙ s));
-        one = λ n. absurd (one n);
-        short = λ _ t. absurd (false≢true (sym t ∙ r));
-        two = λ n. absurd (two n);
-        most = most;
-        nothing = nothing;
-      }
+  pub of-run : (r : Ran) → D.isSound d ≡ true → isRoomy w ≡ true → RunIs d (w .rows) (w .names) (w .cells) (w .low) (w .high) (w .work) t l steps t′ l′ r → x ≡ answerFor r → Decided d t l w steps x t′ l′
+  of-run r s k run e =
+      let long : Long w = long-rooms w k in
+      record { is = λ zt zl. rw e (ran-to t′ l′ _ r (answerOf d t l w steps) (offset-near d (length t) (length l) steps (isRoomy w)) (run .is s (long .roomy) (long .low) (long .high) (long .work) zt zl) (run-is d (length t) (length l) steps (isRoomy w) s k)) }
 
-pub of-run : (sound roomy : Bool) (x : Expansion) (r : Ran) → sound ≡ true → roomy ≡ true → x ≡ answerFor r → Numbers sound roomy x
-of-run sound roomy x (Good g) s r e =
-    rw e (of-number sound roomy (finishedFor g) s r (λ n. omega arith) (λ n. omega arith) (omega arith) (λ n. absurd (n refl)))
-of-run sound roomy x (Bad y g) s r e =
-    let a : 3 ≤ stopNumber (y .why) = at-least (y .why) in
-    rw e (of-number sound roomy (refusedFor y g) s r (λ n. omega arith) (λ n. omega arith) (at-most (y .why)) (λ _. (refl, refl)))
+-- ---- after a refusal
+pub not-emptied : (n : ℕ) (t l : List ℕ) → n ≡ 0 → Emptied n t l t l
+not-emptied n t l e = record { finished = λ _. (refl, refl); refused = λ h. absurd (h e) }
+
+pub emptied : (n : ℕ) (t l t′ l′ : List ℕ) → (n ≡ 0 → ⊥) → Zero t t′ → Zero l l′ → Emptied n t l t′ l′
+emptied n t l t′ l′ h a b = record { finished = λ e. absurd (h e); refused = λ _. (a, b) }
 
 -- ---- the rooms at exit
 pub record Alike (b e : Working) : Type 0 where
@@ -150,9 +193,6 @@ pub record Alike (b e : Working) : Type 0 where
   pub low : length (e .low) ≡ length (b .low)
   pub high : length (e .high) ≡ length (b .high)
   pub work : length (e .work) ≡ length (b .work)
-
-alike-roomy : (b e : Working) → Alike b e → isRoomy e ≡ isRoomy b
-alike-roomy b e a = rw (a .rows, a .names, a .cells, a .low, a .high, a .work)
 
 alike-cleared : (b m e : Working) → Alike b m → Cleared m e → Cleared b e
 alike-cleared b m e a z =
@@ -165,33 +205,48 @@ alike-cleared b m e a z =
       work = z .work ∙ ap zeros (a .work);
     }
 
-zero-past : (b m e : List ℕ) (n : ℕ) → length m ≡ length b → e ≡ over m n (zeros (length m - n)) → drop n e ≡ zeros (length b - n)
-zero-past b m e n k h = ap (drop n) h ∙ drop-cleared m n ∙ rw k
+-- a room of n zeros is zero
+zero-again : (n : ℕ) (t : List ℕ) → t ≡ zeros n → Zero t t
+zero-again n t e = e ∙ ap zeros (sym (length-replicate {A = ℕ} n 0) ∙ ap length (sym e))
 
-zero-whole : (b e : List ℕ) (n : ℕ) → n ≡ 0 → drop n e ≡ zeros (length b - n) → e ≡ zeros (length b)
-zero-whole b e n k h = rw (k, sub-zero) at h
+-- a room after the answer x: as it is decided, or zero again
+module _ (roomy : Bool) (d : List ℕ) (t l steps : ℕ) where
+  text-after : (t₂ t₃ : List ℕ) (b : Bool) → eqb (expansion roomy d t l steps .number) 0 ≡ b → length t₂ ≡ t → (expansion roomy d t l steps .number ≡ 0 → t₂ ≡ textRoomAfter (length t₂) (expansion roomy d t l steps)) → (expansion roomy d t l steps .number ≡ 0 → t₃ ≡ t₂) → ((expansion roomy d t l steps .number ≡ 0 → ⊥) → Zero t₂ t₃) → t₃ ≡ textRoomAfter t (expansion roomy d t l steps)
+  text-after t₂ t₃ true e n f g h =
+      let z : expansion roomy d t l steps .number ≡ 0 = eqb-true _ 0 e in
+      g z ∙ f z ∙ ap (λ (k : ℕ). textRoomAfter k (expansion roomy d t l steps)) n
+  text-after t₂ t₃ false e n f g h =
+      let z : expansion roomy d t l steps .number ≡ 0 → ⊥ = eqb-false _ 0 e in
+      h z ∙ ap zeros n ∙ sym (refused-text roomy d t l steps z t)
 
--- b, m, e: at entry, after the answer is decided, at exit
-pub expanded : (d t t₁ t₂ l l₁ l₂ : List ℕ) (b k m e : Working) (x : Expansion) (end : ℕ)
-    → Alike b k → Alike b m → length t₁ ≡ length t → length l₁ ≡ length l
-    → Numbers (D.isSound d) (isRoomy k) x → Cleared m e
-    → t₂ ≡ over t₁ (x .text) (zeros (length t₁ - x .text)) → end ≡ 12 * x .lines → l₂ ≡ over l₁ end (zeros (length l₁ - end))
-    → Expanded d t l b x t₂ l₂ e
-expanded d t t₁ t₂ l l₁ l₂ b k m e x end ak am lt ll ns cl p q r =
-    let text : drop (x .text) t₂ ≡ zeros (length t - x .text) = zero-past t t₁ t₂ (x .text) lt p in
-    let list : drop (12 * x .lines) l₂ ≡ zeros (length l - 12 * x .lines) = rw q at (zero-past l l₁ l₂ end ll r) in
+  list-after : (l₂ l₃ : List ℕ) (b : Bool) → eqb (expansion roomy d t l steps .number) 0 ≡ b → length l₂ ≡ l → (expansion roomy d t l steps .number ≡ 0 → l₂ ≡ listRoomAfter (length l₂) (expansion roomy d t l steps)) → (expansion roomy d t l steps .number ≡ 0 → l₃ ≡ l₂) → ((expansion roomy d t l steps .number ≡ 0 → ⊥) → Zero l₂ l₃) → l₃ ≡ listRoomAfter l (expansion roomy d t l steps)
+  list-after l₂ l₃ true e n f g h =
+      let z : expansion roomy d t l steps .number ≡ 0 = eqb-true _ 0 e in
+      g z ∙ f z ∙ ap (λ (k : ℕ). listRoomAfter k (expansion roomy d t l steps)) n
+  list-after l₂ l₃ false e n f g h =
+      let z : expansion roomy d t l steps .number ≡ 0 → ⊥ = eqb-false _ 0 e in
+      h z ∙ ap zeros n ∙ sym (refused-list roomy d t l steps z l)
+
+-- t, l at entry; t₁, l₁ zero; t₂, l₂ after the answer is decided; t₃, l₃ at exit. b, m, e are the working rooms at entry, then, at exit
+pub expanded : (d t t₁ t₂ t₃ l l₁ l₂ l₃ : List ℕ) (b m e : Working) (steps : ℕ) (x : Expansion)
+    → Zero t t₁ → Zero l l₁ → Decided d t₁ l₁ b steps x t₂ l₂ → length t₂ ≡ length t₁ → length l₂ ≡ length l₁ → Alike b m → Cleared m e → Emptied (x .number) t₂ l₂ t₃ l₃
+    → Expanded d t l b steps x t₃ l₃ e
+expanded d t t₁ t₂ t₃ l l₁ l₂ l₃ b m e steps x zt zl dec kt kl a c em =
+    let nt : length t₁ ≡ length t = ap length zt ∙ length-replicate {A = ℕ} (length t) 0 in
+    let nl : length l₁ ≡ length l = ap length zl ∙ length-replicate {A = ℕ} (length l) 0 in
+    let y : X.Expansion = answerOf d t l b steps in
+    let an : Answered y x t₂ l₂ = subst (λ (n : ℕ). Answered (expansion (isRoomy b) d n (length l) steps) x t₂ l₂) nt (subst (λ (n : ℕ). Answered (expansion (isRoomy b) d (length t₁) n steps) x t₂ l₂) nl (dec .is (zero-again (length t) t₁ zt) (zero-again (length l) l₁ zl))) in
+    let num : x .number ≡ y .number = ap (λ (r : Expansion). r .number) (an .numbers) in
     record {
-      numbers = rw (alike-roomy b k ak) at ns;
-      refused = λ n. record {
-        size = ns .nothing n .0;
-        lines = ns .nothing n .1;
-        text = zero-whole t t₂ (x .text) (ns .nothing n .0) text;
-        list = zero-whole l l₂ (12 * x .lines) (ap (λ i. 12 * i) (ns .nothing n .1)) list;
-      };
-      text = text;
-      list = list;
-      working = alike-cleared b m e am cl;
+      numbers = an .numbers;
+      text = text-after (isRoomy b) d (length t) (length l) steps t₂ t₃ (eqb (y .number) 0) refl (kt ∙ nt) (an .text) (λ z. em .finished (num ∙ z) .0) (λ z. em .refused (λ k. z (sym num ∙ k)) .0);
+      list = list-after (isRoomy b) d (length t) (length l) steps l₂ l₃ (eqb (y .number) 0) refl (kl ∙ nl) (an .list) (λ z. em .finished (num ∙ z) .1) (λ z. em .refused (λ k. z (sym num ∙ k)) .1);
+      working = alike-cleared b m e a c;
     }
+
+-- ---- for a caller with a room for the numbers
+pub told : (d t l : List ℕ) (w : Working) (steps : ℕ) (x : Expansion) (n t′ l′ : List ℕ) (w′ : Working) (n′ : List ℕ) → Expanded d t l w steps x t′ l′ w′ → n′ ≡ over n 0 (sixOf x) → Told d t l w steps n t′ l′ w′ n′
+told d t l w steps x n t′ l′ w′ n′ e h = record { numbers = h ∙ ap (λ (r : Expansion). over n 0 (sixOf r)) (e .numbers); text = e .text; list = e .list; working = e .working }
 
 -- ---- the numbers over the start of a room, one after the other
 next : (r : List ℕ) (x : Expansion) (k : ℕ) (r₁ r₂ : List ℕ) → r₁ ≡ over r 0 (take k (sixOf x))

@@ -1,30 +1,23 @@
--- THE PROMISE of an expansion: its number for a malformed deck and for short working rooms, and what every room holds at exit.
-use Prim.Native.Nat.{ℕ, _*_, _-_, _≤_}
+-- THE PROMISE of an expansion: the definition's answer, in the six numbers and in the rooms at exit.
+use Prim.Native.Nat.{ℕ}
 use mathlib.Core.Path.{_≡_}
-use mathlib.Core.Bool.{Bool, true, false, _&&_}
+use mathlib.Core.Bool.{Bool, _&&_}
 use mathlib.Core.List.{List, [], _∷_}
 use lib.Dec.{leb}
-use lib.ListN.{length, drop}
+use lib.ListN.{length}
 use Rattle.definition.specs.Room.{over, zeros}
-use Rattle.definition.specs.Deck.{isSound}
+use Rattle.definition.specs.Expansion as X
+use Rattle.definition.specs.Expansion.{expansion, textRoomAfter, listRoomAfter}
 use Rattle.expander.specs.declared.Expansion.{Expansion}
-use Rattle.expander.specs.Answer.{bare}
+use Rattle.expander.specs.Answer.{numbersOf}
 
+-- ---- the working rooms
 -- whether rooms of so many numbers are as long as docs/ROOMS.md says
 abbrev pub areRoomy : ℕ → ℕ → ℕ → ℕ → ℕ → ℕ → Bool
 areRoomy rows names cells low high work =
     leb 32768 rows && leb 4096 names && leb 256 cells && leb 65536 low && leb 65536 high && leb 65536 work
 
--- the numbers of a deck that is sound or not, with working rooms that are long enough or not
-pub record Numbers (sound roomy : Bool) (r : Expansion) : Type 0 where
-  pub malformed : sound ≡ false → r ≡ bare 1
-  pub one : r .number ≡ 1 → sound ≡ false
-  pub short : sound ≡ true → roomy ≡ false → r ≡ bare 2
-  pub two : r .number ≡ 2 → (sound ≡ true) × (roomy ≡ false)
-  pub most : r .number ≤ 19
-  pub nothing : (r .number ≡ 0 → ⊥) → (r .text ≡ 0) × (r .lines ≡ 0)
-
--- what lies in the working rooms
+-- what lies in them
 pub record Working : Type 0 where
   pub rows : List ℕ
   pub names : List ℕ
@@ -51,10 +44,6 @@ isRoomy w =
 abbrev pub Zero : List ℕ → List ℕ → Type 0
 Zero b e = e ≡ zeros (length b)
 
--- a room that held b is zero from a place on
-abbrev pub ZeroFrom : ℕ → List ℕ → List ℕ → Type 0
-ZeroFrom n b e = drop n e ≡ zeros (length b - n)
-
 -- "Working rooms .. end all zero."
 pub record Cleared (b e : Working) : Type 0 where
   pub rows : Zero (b .rows) (e .rows)
@@ -64,27 +53,38 @@ pub record Cleared (b e : Working) : Type 0 where
   pub high : Zero (b .high) (e .high)
   pub work : Zero (b .work) (e .work)
 
--- "A refusal reports text length and lines 0, rooms all zero", for the text room t and the list room l
-pub record Nothing (t l : List ℕ) (r : Expansion) (t′ l′ : List ℕ) : Type 0 where
-  pub size : r .text ≡ 0
-  pub lines : r .lines ≡ 0
-  pub text : Zero t t′
-  pub list : Zero l l′
+-- ---- THE DEFINITION'S EXPANSION of the deck d, with the text room t, the list room l, the working rooms w and so many steps
+abbrev pub answerOf : (d t l : List ℕ) → Working → ℕ → X.Expansion
+answerOf d t l w steps = expansion (isRoomy w) d (length t) (length l) steps
 
--- THE ENSURES, for the deck d: the answer r, and the rooms at exit
-pub record Expanded (d t l : List ℕ) (w : Working) (r : Expansion) (t′ l′ : List ℕ) (w′ : Working) : Type 0 where
-  pub numbers : Numbers (isSound d) (isRoomy w) r
-  pub refused : (r .number ≡ 0 → ⊥) → Nothing t l r t′ l′
-  pub text : ZeroFrom (r .text) t t′
-  pub list : ZeroFrom (12 * r .lines) l l′
+-- THE ENSURES: the numbers r, and the rooms at exit
+pub record Expanded (d t l : List ℕ) (w : Working) (steps : ℕ) (r : Expansion) (t′ l′ : List ℕ) (w′ : Working) : Type 0 where
+  pub numbers : r ≡ numbersOf (answerOf d t l w steps)
+  pub text : t′ ≡ textRoomAfter (length t) (answerOf d t l w steps)
+  pub list : l′ ≡ listRoomAfter (length l) (answerOf d t l w steps)
   pub working : Cleared w w′
 
 -- the six numbers in 01's order
 abbrev pub sixOf : Expansion → List ℕ
 sixOf r = r .number ∷ r .member ∷ r .offset ∷ r .steps ∷ r .text ∷ r .lines ∷ []
 
--- THE ENSURES for a caller that lends a room for the numbers: they stand over its start, as many as fit
-pub record Told (d t l : List ℕ) (w : Working) (n t′ l′ : List ℕ) (w′ : Working) (n′ : List ℕ) : Type 0 where
-  pub answer : Expansion
-  pub expanded : Expanded d t l w answer t′ l′ w′
-  pub numbers : n′ ≡ over n 0 (sixOf answer)
+-- THE ENSURES for a caller that lends a room n for the numbers: they stand over its start, as many as fit
+pub record Told (d t l : List ℕ) (w : Working) (steps : ℕ) (n t′ l′ : List ℕ) (w′ : Working) (n′ : List ℕ) : Type 0 where
+  pub numbers : n′ ≡ over n 0 (sixOf (numbersOf (answerOf d t l w steps)))
+  pub text : t′ ≡ textRoomAfter (length t) (answerOf d t l w steps)
+  pub list : l′ ≡ listRoomAfter (length l) (answerOf d t l w steps)
+  pub working : Cleared w w′
+
+-- ---- on the way: the answer is decided, where the text room and the list room are zero, and a refusal says nothing of them yet
+pub record Answered (x : X.Expansion) (r : Expansion) (t′ l′ : List ℕ) : Type 0 where
+  pub numbers : r ≡ numbersOf x
+  pub text : x .number ≡ 0 → t′ ≡ textRoomAfter (length t′) x
+  pub list : x .number ≡ 0 → l′ ≡ listRoomAfter (length l′) x
+
+pub record Decided (d t l : List ℕ) (w : Working) (steps : ℕ) (r : Expansion) (t′ l′ : List ℕ) : Type 0 where
+  pub is : Zero t t → Zero l l → Answered (answerOf d t l w steps) r t′ l′
+
+-- after a refusal, which has a number, both rooms are made zero again
+pub record Emptied (n : ℕ) (t l t′ l′ : List ℕ) : Type 0 where
+  pub finished : n ≡ 0 → (t′ ≡ t) × (l′ ≡ l)
+  pub refused : (n ≡ 0 → ⊥) → Zero t t′ × Zero l l′

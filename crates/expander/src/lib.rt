@@ -1,17 +1,15 @@
-// THE EXPANDER: any bytes, any rooms. It refuses or runs, and leaves every working room zero.
+// THE EXPANDER: any bytes, any rooms. Its numbers, its text and its list are the definition's, and every working room ends zero.
 ghost use mathlib.Core.Path.{_≡_};
-ghost use Prim.Native.Nat.{_*_, _%_};
+ghost use Prim.Native.Nat.{_%_};
 ghost use Rattle.definition.specs.Refusal.{numberOf};
 ghost use Rattle.definition.specs.Deck.{isSound};
 ghost use Rattle.definition.specs.Room.{over};
-ghost use Rattle.expander.specs.Answer.{stopNumber, refusalAt, refusedFor, finishedFor, answerFor};
-ghost use Rattle.expander.specs.Promise.{areRoomy, isRoomy, Numbers, working, Cleared, Expanded, sixOf, Told};
+ghost use Rattle.expander.specs.Answer.{refusalAt, refusedFor, finishedFor, answerFor};
+ghost use Rattle.expander.specs.Promise.{areRoomy, working, Cleared, Decided, Emptied, Expanded, sixOf, Told};
 use deck::Contents;
 use deck::Deck;
 use definition::Why;
-use output::Out;
 use rooms::put_number32;
-use rooms::zero_from;
 use rooms::zero_u8;
 use rooms::zero_u16;
 use rooms::zero_u32;
@@ -70,14 +68,6 @@ pub fn number_of(w: Why) -> u32
     }
 }
 
-// 01's number for what stops a run: 3 to 19. A run does not stop for 1 or 2, which are answered before it; they would be 3.
-fn stop_number(w: Why) -> u32
-    ensures { λ r. ⌜ r ≡ stopNumber w ⌝ }
-{
-    let n = number_of(w);
-    if 3 <= n { n } else { 3 }
-}
-
 // A refusal: text length and lines are 0.
 fn refusal(number: u32, member: u32, offset: u32, steps: u32) -> Expansion
     ensures { λ r. ⌜ r ≡ refusalAt number member offset steps ⌝ }
@@ -103,7 +93,7 @@ fn refused(x: Stop, g: Progress) -> Expansion
 {
     let why = x.why;
     refusal(
-        stop_number(why),
+        number_of(why),
         x.member as u32,
         small(x.place),
         g.meter.used,
@@ -164,13 +154,6 @@ fn are_roomy(rows: usize, names: usize, cells: usize, low: usize, high: usize, w
     WORK <= work
 }
 
-// Where the list of so many lines ends.
-fn list_end(lines: u32) -> usize
-    ensures { λ r. ⌜ r ≡ 12 * lines ⌝ }
-{
-    Out::LINE * (lines as usize)
-}
-
 // The working rooms end zero.
 fn clear(
     rows: &mut [u16],
@@ -190,7 +173,7 @@ fn clear(
     zero_u8(work);
 }
 
-// The answer for a deck, before the rooms are made zero where they must be.
+// The answer for a deck, where the text room and the list room are zero; after a refusal there may be something in them.
 fn decide(
     deck: &[u8],
     text: &mut [u8],
@@ -203,7 +186,7 @@ fn decide(
     work: &mut [u8],
     steps: u32,
 ) -> Expansion
-    ensures { λ r. ⌜ Numbers (isSound (now (deck .entry))) (isRoomy (working (now (rows .entry)) (now (names .entry)) (now (cells .entry)) (now (low .entry)) (now (high .entry)) (now (work .entry)))) r ⌝ }
+    ensures { λ r. ⌜ Decided (now (deck .entry)) (now (text .entry)) (now (list .entry)) (working (now (rows .entry)) (now (names .entry)) (now (cells .entry)) (now (low .entry)) (now (high .entry)) (now (work .entry))) steps r (now (text .exit)) (now (list .exit)) ⌝ }
 {
     if is_sound(deck) {
         if are_roomy(
@@ -221,7 +204,18 @@ fn decide(
     refusal(1, 0, 0, 0)
 }
 
-// THE EXPANSION of a deck.
+// After a refusal, whose number is not 0, the text room and the list room are zero.
+fn empty_refused(text: &mut [u8], list: &mut [u8], number: u32)
+    ensures { λ _. ⌜ Emptied number (now (text .entry)) (now (list .entry)) (now (text .exit)) (now (list .exit)) ⌝ }
+{
+    if number == 0 {
+        return;
+    }
+    zero_u8(text);
+    zero_u8(list);
+}
+
+// THE EXPANSION of a deck: the answer of the definition, for any bytes and any rooms.
 pub fn expand(
     deck: &[u8],
     text: &mut [u8],
@@ -234,14 +228,13 @@ pub fn expand(
     work: &mut [u8],
     steps: u32,
 ) -> Expansion
-    ensures { λ r. ⌜ Expanded (now (deck .entry)) (now (text .entry)) (now (list .entry)) (working (now (rows .entry)) (now (names .entry)) (now (cells .entry)) (now (low .entry)) (now (high .entry)) (now (work .entry))) r (now (text .exit)) (now (list .exit)) (working (now (rows .exit)) (now (names .exit)) (now (cells .exit)) (now (low .exit)) (now (high .exit)) (now (work .exit))) ⌝ }
+    ensures { λ r. ⌜ Expanded (now (deck .entry)) (now (text .entry)) (now (list .entry)) (working (now (rows .entry)) (now (names .entry)) (now (cells .entry)) (now (low .entry)) (now (high .entry)) (now (work .entry))) steps r (now (text .exit)) (now (list .exit)) (working (now (rows .exit)) (now (names .exit)) (now (cells .exit)) (now (low .exit)) (now (high .exit)) (now (work .exit))) ⌝ }
 {
-    // no variable has a value yet
-    zero_u32(cells);
+    zero_u8(text);
+    zero_u8(list);
     let x = decide(deck, text, list, rows, names, cells, low, high, work, steps);
     clear(rows, names, cells, low, high, work);
-    zero_from(text, x.text as usize);
-    zero_from(list, list_end(x.lines));
+    empty_refused(text, list, x.number);
     x
 }
 
@@ -272,7 +265,7 @@ pub extern "C" fn muharegoden_expand(
     steps: u32,
     numbers: &mut [u32],
 )
-    ensures { λ _. ⌜ Told (now (deck .entry)) (now (text .entry)) (now (list .entry)) (working (now (rows .entry)) (now (names .entry)) (now (cells .entry)) (now (low .entry)) (now (high .entry)) (now (work .entry))) (now (numbers .entry)) (now (text .exit)) (now (list .exit)) (working (now (rows .exit)) (now (names .exit)) (now (cells .exit)) (now (low .exit)) (now (high .exit)) (now (work .exit))) (now (numbers .exit)) ⌝ }
+    ensures { λ _. ⌜ Told (now (deck .entry)) (now (text .entry)) (now (list .entry)) (working (now (rows .entry)) (now (names .entry)) (now (cells .entry)) (now (low .entry)) (now (high .entry)) (now (work .entry))) steps (now (numbers .entry)) (now (text .exit)) (now (list .exit)) (working (now (rows .exit)) (now (names .exit)) (now (cells .exit)) (now (low .exit)) (now (high .exit)) (now (work .exit))) (now (numbers .exit)) ⌝ }
 {
     let x = expand(deck, text, list, rows, names, cells, low, high, work, steps);
     put_numbers(numbers, x);

@@ -49,19 +49,19 @@ same-length-8 : tie.Need-same-length-8
 same-length-8 c = search needs
 
 returns : tie.Need-returns
-returns c = of-run _ _ _ (c .before .before .before .before .before .before .before .before .before .before .before .before .before .before .before .before .before .run .result) (sym (c .before .before .before .before .before .before .before .before .before .before .before .before .before .before .before .before .before .before .before .before .before .before .before .before .before .before .before .before .before .is-sound .ensures) ∙ (c .before .before .before .before .before .before .before .before .before .before .before .before .before .before .before .before .before .before .before .before .before .before .before .before .before .before .before .before .if1 .taken)) (sym (c .before .before .before .before .before .before .before .before .before .before .before .before .before .before .before .before .before .before .before .before .before .before .before .before .before .before .before .are-roomy .ensures) ∙ (c .before .before .before .before .before .before .before .before .before .before .before .before .before .before .before .before .before .before .before .before .before .before .before .before .before .before .if2 .taken)) (c .answer .ensures)
+returns c = of-run _ _ _ _ _ _ _ _ (c .before .before .before .before .before .before .before .before .before .before .before .before .before .before .before .before .before .run .result) (sym (c .before .before .before .before .before .before .before .before .before .before .before .before .before .before .before .before .before .before .before .before .before .before .before .before .before .before .before .before .before .is-sound .ensures) ∙ (c .before .before .before .before .before .before .before .before .before .before .before .before .before .before .before .before .before .before .before .before .before .before .before .before .before .before .before .before .if1 .taken)) (sym (c .before .before .before .before .before .before .before .before .before .before .before .before .before .before .before .before .before .before .before .before .before .before .before .before .before .before .before .are-roomy .ensures) ∙ (c .before .before .before .before .before .before .before .before .before .before .before .before .before .before .before .before .before .before .before .before .before .before .before .before .before .before .if2 .taken)) (c .before .before .before .before .before .before .before .before .before .before .before .before .before .before .before .before .before .run .ensures) (c .answer .ensures)
 
 refusal-requires : tie.Need-refusal-requires
 refusal-requires c κs = search needs
 
 returns-2 : tie.Need-returns-2
-returns-2 c = of-short _ _ _ (sym (c .before .before .before .before .is-sound .ensures) ∙ (c .before .before .before .if1 .taken)) (sym (c .before .before .are-roomy .ensures) ∙ (c .before .if2 .left)) (c .refusal .ensures)
+returns-2 c = of-short _ _ _ _ _ _ _ _ (sym (c .before .before .before .before .is-sound .ensures) ∙ (c .before .before .before .if1 .taken)) (sym (c .before .before .are-roomy .ensures) ∙ (c .before .if2 .left)) (c .refusal .ensures)
 
 refusal-requires-2 : tie.Need-refusal-requires-2
 refusal-requires-2 c κs = search needs
 
 returns-3 : tie.Need-returns-3
-returns-3 c = of-malformed _ _ _ (sym (c .before .before .is-sound .ensures) ∙ (c .before .if1 .left)) (c .refusal2 .ensures)
+returns-3 c = of-malformed _ _ _ _ _ _ _ _ (sym (c .before .before .is-sound .ensures) ∙ (c .before .if1 .left)) (c .refusal2 .ensures)
 
 pub decide-spec : {M : Type 1} → statement M
 decide-spec =

@@ -4,13 +4,13 @@ use Rattle.expander.proofs.refused.Statement.{statement}
 use Rattle.expander.proofs.refused.Tie as tie
 use Rattle.expander.proofs.refused.Reads as reads
 use Rattle.expander.proofs.refused.Lts as lts
+use Rattle.expander.proofs.number_of.Reads as number-of-reads
 use Rattle.expander.proofs.refusal.Reads as refusal-reads
 use Rattle.expander.proofs.small.Reads as small-reads
-use Rattle.expander.proofs.stop_number.Reads as stop-number-reads
 use Rattle.expander.proofs.Laws.{refused-is}
 
-stop-number-requires : tie.Need-stop-number-requires
-stop-number-requires c κs = search needs
+number-of-requires : tie.Need-number-of-requires
+number-of-requires c κs = search needs
 
 cast-refusal : tie.Need-cast-refusal
 cast-refusal c = search needs
@@ -26,4 +26,4 @@ returns c = search refused-is
 
 pub refused-spec : {M : Type 1} → statement M
 refused-spec =
-    tie.close (tie.spec stop-number-requires cast-refusal small-requires refusal-requires returns)
+    tie.close (tie.spec number-of-requires cast-refusal small-requires refusal-requires returns)

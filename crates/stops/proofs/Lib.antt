@@ -1,0 +1,4 @@
+pub mod Reasons
+pub mod Answering
+pub mod Stops
+pub mod Near

@@ -1,0 +1,257 @@
+-- Every line of an expansion names a place below 65,536, and its size is below 2^32: four bytes say each.
+-- Assumes nothing.
+use Prim.Native.Nat.{ℕ, zero, suc, _+_, _-_, _/_, _≤_, _<_}
+use native.Mathlib.Omega.{arith}
+use mathlib.Core.Bool.{Bool, true, _&&_}
+use mathlib.Core.List.{List, [], _∷_}
+use mathlib.Core.Path.{_≡_, refl, ap}
+use lib.Dec.{leb, eqb}
+use lib.ListN.{length}
+use borrow.Author.Tests.{leb-true, leb-false, le-leb}
+use Rattle.definition.specs.declared.Why.{Why}
+use Rattle.definition.specs.declared.Why.the-variants as Y
+use Rattle.definition.specs.Choice.{when}
+use Rattle.definition.specs.Limits.{runningProcedures, replacementLevels, includeLevels, textBytes, originLineBytes}
+use Rattle.definition.specs.Lists.{part}
+use Rattle.definition.specs.Expressions.{Tree}
+use Rattle.definition.specs.Program.{Statement, null, declare, procedure, assign, conditional, group, iterated, goto, include, activate, deactivate, return, Stretch, Row, Activation, Source}
+use Rattle.definition.specs.Tokens.{pieceAt}
+use Rattle.definition.specs.Deck as Deck
+use Rattle.definition.specs.Deck.{isSound}
+use Rattle.definition.specs.Reading.{readMember}
+use Rattle.definition.specs.Events.{Event, blank, copied, replaced, bytesIn, Line, line, joins, longer, linesOf}
+use Rattle.definition.specs.World as W
+use Rattle.definition.specs.World.{Denotation, variableOf, entryOf, labelAt, builtinName, Address, address, unknown, Activity, inactive, rescanned, Pass, World, Res, rowOf, addressOf, denotation, rowsOf}
+use Rattle.definition.specs.Names.{Entering, enter}
+use Rattle.definition.specs.Flow.{Deed, End, ran, returned, went, Machine, mayGo}
+use Rattle.definition.specs.Calls.{Place, callOut}
+use Rattle.definition.specs.Scan.{toText, Active, notActive, active, activeIn}
+use Rattle.definition.specs.Run as Run
+use Rattle.definition.specs.Run.{Stop, bodyOf, putOut, copyHere, replaceHere, tokenHere, textOn, textOut, activated, activateAt, activateAll, activations, jumpAway, jumpLabel, jumpBy, jumpFrom, Inner, Level, noLevel, level, cameOut, includeEntered, includeAt, includeAll, actAs, memberMachine, runSource, runMember}
+use Rattle.definition.specs.Expansion.{Expansion, refusal, result, runMain, capped, expansion}
+use Rattle.definition.proofs.Choices.{when-has, cond-has}
+use Rattle.definition.proofs.Parts.{length-part}
+use Rattle.definition.proofs.Keeping.{Any, OfDeed, OfEnd, Awake, AllAwake, awake-in, Laws, valueless, Leaves, leaves, stops, passes, halt, bind-leaves, bind-any, placed-leaves, when-leaves, charge-leaves, evaluate-leaves, lead-leaves, runOn-leaves, calls-leaves, replacer-leaves, SoundEntering, entered-sound, unreadable-any, enter-leaves}
+use Rattle.definition.proofs.Views.{sizes}
+use Rattle.definition.proofs.Fits.{text-fits, views-agree}
+use Rattle.printing.proofs.Answers.{Small}
+use Rattle.showing.proofs.Stretches.{Ordered, text-ordered, lead-ordered, member-ordered}
+use Rattle.showing.proofs.Bodies.{find-low, main-low}
+use Rattle.stops.proofs.Stops.{body-short}
+
+-- ---- the place of an event
+abbrev Near : Event → Type 0
+Near (blank m p) = p < 65536
+Near (copied m p l) = p < 65536
+Near (replaced m p l) = p < 65536
+
+abbrev AllNear : List Event → Type 0
+AllNear [] = Unit {0}
+AllNear (e ∷ es) = Near e × AllNear es
+
+record Fine (w : World) : Type 0 where
+  places : AllNear (w .events)
+
+near : Laws Fine Any Any
+near = valueless (λ w h. tt) (λ w h _. record { places = h .places }) λ v w h k. record { places = rw (k .events) (h .places) }
+
+abbrev Keeps : {E A : Type 0} → Res E A → Type 0
+Keeps r = Leaves near Any r
+
+-- ---- program text
+put-out : (e : Event) (g : Pass) (n : ℕ) (w : World) → Near e → Fine w → Keeps (putOut e g n w)
+unfolding putOut
+put-out e g n w i h = when-leaves near (leb n (w .linesLeft) && leb (length (bytesIn e)) (w .textLeft)) _ _ (passes near (record { places = (i, h .places) })) (halt near h)
+
+replace-here : (m place : ℕ) → place < 65536 → (t : List ℕ) (q a : ℕ) (x : Activity) → Awake x → (to : List ℕ → ℕ → Pass) (w : World) → Fine w → Keeps (replaceHere m place t q a x to w)
+unfolding replaceHere
+replace-here m place i t q a x y to w h =
+    when-leaves near (leb 1 (w .linesLeft)) _ _
+    (bind-leaves near (replacer-leaves near callOut (calls-leaves near runningProcedures []) replacementLevels t q a x (toText (w .textLeft)) 0 w y h) λ r v _ k. passes near (record { places = (i, k .places) }))
+    (halt near h)
+
+token-here : (x : Active) → AllAwake x → (m place : ℕ) → place < 65536 → (t : List ℕ) (p q : ℕ) (g : List ℕ → ℕ → Pass) (w : World) → Fine w → Keeps (tokenHere x m place t p q g w)
+unfolding copyHere
+token-here notActive y m place i t p q g w h = bind-any near (put-out (copied m place (part (q - p) p t)) _ _ w i h) λ _ v k. passes near k
+token-here (active a x) y m place i t p q g w h = replace-here m place i t q a x y g w h
+
+text-on : (m from : ℕ) (t : List ℕ) → from + length t < 65536 → (f p : ℕ) (w : World) → Fine w → Keeps (textOn m from t f p w)
+unfolding textOn
+text-on m from t i zero p w h = passes near h
+text-on m from t i (suc f) p w h =
+    when-has (Leaves near Any) (leb (length t) p) _ _ (λ _. passes near h) λ e.
+    bind-any near (placed-leaves near _ (bind-any near (charge-leaves near h) λ _ v k. token-here (activeIn (pieceAt t p .piece) v) (awake-in (pieceAt t p .piece) v) m (from + p) (omega (arith, leb-false (length t) p e)) t p (pieceAt t p .to) _ v k)) λ q x k.
+    text-on m from t i f q x k
+
+text-out : (m : ℕ) (s : List ℕ) (x : Stretch) (w : World) → length s < 65536 → Ordered s x → Fine w → Keeps (textOut m s x w)
+unfolding textOut
+text-out m s x w i o h =
+    let n : ℕ = x .to - x .from in
+    bind-any near (placed-leaves near _ (put-out (blank m (x .from)) (W.began m x) 1 w (omega (arith, o .order, o .within)) h)) λ _ v k.
+    text-on m (x .from) (part n (x .from) s) (omega (arith, length-part n (x .from) s, o .order, o .within)) (suc n) 0 v k
+
+-- ---- what puts nothing out
+activated-keeps : (d : Denotation) (x : Activity) (a : ℕ) (w : World) → Fine w → Keeps (activated d x a w)
+activated-keeps (variableOf t) x a w h = passes near (record { places = h .places })
+activated-keeps (entryOf e b) x a w h = passes near (record { places = h .places })
+activated-keeps (labelAt m r q) x a w h = halt near h
+activated-keeps builtinName x a w h = halt near h
+
+activate-at : (y : Address) (x : Activity) (w : World) → Fine w → Keeps (activateAt y x w)
+activate-at (address a) x w h = activated-keeps (denotation a w) x a w h
+activate-at unknown x w h = halt near h
+
+activate-all : (x : Activity) (ns : List (List ℕ)) (w : World) → Fine w → Keeps (activateAll x ns w)
+unfolding activateAll
+activate-all x [] w h = passes near h
+activate-all x (n ∷ ns) w h = bind-any near (activate-at (addressOf n W.everyone w) x w h) λ _ v k. activate-all x ns v k
+
+activations-keep : (xs : List Activation) (w : World) → Fine w → Keeps (activations xs w)
+unfolding activations
+activations-keep [] w h = passes near h
+activations-keep (x ∷ xs) w h = bind-any near (activate-at (addressOf (x .spelling) W.everyone w) _ w h) λ _ v k. activations-keep xs v k
+
+jump-away : (ps : List Place) (m r : ℕ) (isEnd : Bool) (w : World) → Fine w → Keeps (jumpAway ps m r isEnd w)
+unfolding jumpAway
+jump-away [] m r isEnd w h = halt near h
+jump-away (p ∷ ps) m r isEnd w h = when-leaves near (eqb (p .member) m) _ _ (when-leaves near (mayGo (rowsOf m w) (p .row) r isEnd) _ _ (passes near h) (halt near h)) (jump-away ps m r isEnd w h)
+
+jump-by : (d : Denotation) (here : ℕ) (rs : List Row) (ps : List Place) (n : ℕ) (w : World) → Fine w → Keeps (jumpBy d here rs ps n w)
+unfolding jumpLabel
+jump-by (variableOf t) here rs ps n w h = halt near h
+jump-by (entryOf e b) here rs ps n w h = halt near h
+jump-by (labelAt m r isEnd) here rs ps n w h = when-leaves near (eqb m here) _ _ (when-leaves near (mayGo rs n r isEnd) _ _ (passes near h) (halt near h)) (jump-away ps m r isEnd w h)
+jump-by builtinName here rs ps n w h = halt near h
+
+jump-from : (x : Address) (here : ℕ) (rs : List Row) (ps : List Place) (n : ℕ) (w : World) → Fine w → Keeps (jumpFrom x here rs ps n w)
+jump-from (address a) here rs ps n w h = jump-by (denotation a w) here rs ps n w h
+jump-from unknown here rs ps n w h = halt near h
+
+-- ---- members of a sound deck
+module _ (d : List ℕ) (sound : isSound d ≡ true) where
+  abbrev Inners : Inner → Type 0
+  Inners inner = (k : ℕ) → k < Deck.count d → (ps : List Place) (w : World) → Fine w → Leaves near (OfEnd Any) (inner k ps w)
+
+  abbrev Levels : Level → Type 0
+  Levels noLevel = Unit {0}
+  Levels (level inner) = Inners inner
+
+  abbrev Does : Res Stop Deed → Type 0
+  Does r = Leaves near (OfDeed Any) r
+
+  module _ (next : World → Res Stop Deed) (nexts : (w : World) → Fine w → Does (next w)) where
+    came-out : (m : ℕ) (x : End) (w : World) → Fine w → Does (cameOut m x w next)
+    came-out m ran w h = nexts w h
+    came-out m (returned v) w h = nexts w h
+    came-out m (went t) w h = leaves tt h
+
+    include-entered : {e : Entering} → SoundEntering near e → (inner : Inner) → Inners inner → (k m n : ℕ) → k < Deck.count d → (ps : List Place) (w : World) → Fine w → Does (includeEntered e inner k m n ps w next)
+    include-entered unreadable-any inner is k m n i ps w h = halt near h
+    include-entered (entered-sound {w = v} g) inner is k m n i ps w h = bind-leaves near (is k i _ v g) λ x y _ j. came-out m x y j
+
+    include-at : (f : Deck.Found) → ((k : ℕ) → f ≡ Deck.line k → k < Deck.count d) → (l : Level) → Levels l → (p m n : ℕ) (ps : List Place) (w : World) → Fine w → Does (includeAt f l d p m n ps w next)
+    include-at Deck.none i l is p m n ps w h = halt near h
+    include-at (Deck.line k) i noLevel is p m n ps w h = halt near h
+    include-at (Deck.line k) i (level inner) is p m n ps w h = include-entered (enter-leaves near k (readMember (bodyOf d k)) h) inner is k m n (i k refl) ps w h
+
+  module _ (l : Level) (is : Levels l) where
+    include-all : (p m n : ℕ) (ps : List Place) (xs : List (List ℕ)) (w : World) → Fine w → Does (includeAll l d p m n ps xs w)
+    unfolding includeAll
+    include-all p m n ps [] w h = leaves tt h
+    include-all p m n ps (x ∷ xs) w h = include-at _ (include-all p m n ps xs) (Deck.find x 0 (Deck.lines d)) (find-low d x) l is p m n ps w h
+
+    deed-keeps : (m p : ℕ) {r : Res Why (Unit {0})} → Keeps r → Does (W.placed (Run.stop m p) (Run.deed r))
+    deed-keeps m p h = placed-leaves near _ (bind-leaves near h λ _ v _ k. leaves tt k)
+
+    act-as : (s : Statement) (p m n : ℕ) (ps : List Place) (w : World) → Fine w → Does (actAs s l d p m n ps w)
+    act-as null p m n ps w h = leaves tt h
+    act-as (declare ns) p m n ps w h = deed-keeps m p (activate-all rescanned ns w h)
+    act-as (procedure ns t) p m n ps w h = leaves tt h
+    act-as (assign t x) p m n ps w h = leaves tt h
+    act-as (conditional x) p m n ps w h = leaves tt h
+    act-as group p m n ps w h = leaves tt h
+    act-as (iterated t x bs) p m n ps w h = leaves tt h
+    act-as (goto t) p m n ps w h = leaves tt h
+    act-as (include ns) p m n ps w h = include-all p m n ps ns w h
+    act-as (activate xs) p m n ps w h = deed-keeps m p (activations-keep xs w h)
+    act-as (deactivate ns) p m n ps w h = deed-keeps m p (activate-all inactive ns w h)
+    act-as (return x) p m n ps w h = leaves tt h
+
+    source-keeps : (m : ℕ) → m < Deck.count d → (ps : List Place) (w : World) → Fine w → Leaves near (OfEnd Any) (runSource l d m ps (readMember (bodyOf d m)) w)
+    unfolding runSource memberMachine
+    source-keeps m i ps w h =
+        let b : List ℕ = bodyOf d m in
+        let s : Source = readMember b in
+        let M : Machine Stop = memberMachine l d m ps s in
+        let values : (x : Tree) (v : World) → Fine v → Leaves near Any (M .value x v) = λ x v k. evaluate-leaves near callOut (calls-leaves near runningProcedures []) W.everyone x 0 v k in
+        let outs : (x : Stretch) (v : World) → Ordered b x → Fine v → Leaves near Any (M .out x v) = λ x v o k. text-out m b x v (body-short d sound m i) o k in
+        let acts : (n : ℕ) (v : World) → Fine v → Leaves near (OfDeed Any) (M .act n v) = λ n v k. act-as (rowOf (s .rows) n .statement) _ m n ps v k in
+        let jumps : (n : ℕ) (t : List ℕ) (v : World) → Fine v → Leaves near Any (M .jump n t v) = λ n t v k. placed-leaves near _ (jump-from (addressOf t W.everyone v) m (s .rows) ps n v k) in
+        bind-any near (lead-leaves near M (Ordered b) (text-ordered b) (lead-ordered b) values outs acts jumps (s .lead) (member-ordered b) h)
+        λ _ v k. runOn-leaves near M (Ordered b) (text-ordered b) (lead-ordered b) values outs acts jumps _ _ [] v k
+
+  member-keeps : (n : ℕ) → Inners (runMember n d)
+  unfolding runMember
+  member-keeps zero m i ps w h = source-keeps noLevel tt m i ps w h
+  member-keeps (suc n) m i ps w h = source-keeps (level (runMember n d)) (member-keeps n) m i ps w h
+
+-- ---- THE LINES of an expansion
+abbrev NearLines : List Line → Type 0
+NearLines [] = Unit {0}
+NearLines (l ∷ ls) = (l .offset < 65536) × NearLines ls
+
+longer-near : (n : ℕ) (ls : List Line) → NearLines ls → NearLines (longer n ls)
+longer-near n [] h = h
+longer-near n (l ∷ ls) h = h
+
+lines-near : (es : List Event) → AllNear es → NearLines (linesOf es)
+unfolding linesOf
+lines-near [] h = tt
+lines-near (blank m p ∷ es) h = (h .0, lines-near es (h .1))
+lines-near (copied m p l ∷ es) h = cond-has NearLines (joins es m p) _ _ (λ _. longer-near (length l) (linesOf es) (lines-near es (h .1))) λ _. (h .0, lines-near es (h .1))
+lines-near (replaced m p l ∷ es) h = (h .0, lines-near es (h .1))
+
+abbrev NearIn : Expansion → Type 0
+NearIn x = NearLines (x .lines)
+
+result-near : {r : Res Stop End} → Leaves near (OfEnd Any) r → NearIn (result r)
+result-near (leaves {a = ran} {w} e h) = lines-near (w .events) (h .places)
+result-near (leaves {a = returned v} {w} e h) = lines-near (w .events) (h .places)
+result-near (leaves {a = went t} {w} e h) = lines-near (w .events) (h .places)
+result-near (stops h) = tt
+
+main-near : (d : List ℕ) → isSound d ≡ true → {e : Entering} → SoundEntering near e → NearIn (runMain e d)
+main-near d s unreadable-any = tt
+main-near d s (entered-sound {w} h) = result-near (member-keeps d s includeLevels 0 (main-low d s) [] w h)
+
+pub offsets-near : (roomy : Bool) (d : List ℕ) (textRoom listRoom steps : ℕ) → NearIn (expansion roomy d textRoom listRoom steps)
+unfolding expansion
+offsets-near roomy d textRoom listRoom steps =
+    when-has NearIn (isSound d) _ _
+    (λ s. when-has NearIn roomy _ _ (λ _. main-near d s (enter-leaves near 0 (readMember (bodyOf d 0)) (record { places = tt }))) λ _. tt)
+    λ _. tt
+
+-- ---- the text is at most 4,294,967,295 long: in a room that counts for less it is the same
+capped-most : (n : ℕ) → capped n ≤ 4294967295
+capped-most n = cond-has (λ k. k ≤ 4294967295) (leb n textBytes) n textBytes (leb-true n textBytes) λ _. omega arith
+
+capped-again : (n : ℕ) → capped (capped n) ≡ capped n
+capped-again n = rw (le-leb (capped n) textBytes (capped-most n))
+
+module _ (roomy : Bool) (d : List ℕ) (textRoom listRoom steps : ℕ) where
+  same-capped : expansion roomy d (capped textRoom) listRoom steps ≡ expansion roomy d textRoom listRoom steps
+  unfolding expansion
+  same-capped = ap (λ (n : ℕ). when (isSound d) (λ _. when roomy (λ _. runMain (enter 0 (readMember (bodyOf d 0)) (W.newWorld steps n (listRoom / originLineBytes))) d) (λ _. refusal Y.ShortRoom 0 0 0)) (λ _. refusal Y.MalformedDeck 0 0 0)) (capped-again textRoom)
+
+  pub text-most : length (expansion roomy d textRoom listRoom steps .text) ≤ 4294967295
+  text-most =
+      let e : length (expansion roomy d (capped textRoom) listRoom steps .text) ≡ length (expansion roomy d textRoom listRoom steps .text) = ap (λ (x : Expansion). length (x .text)) same-capped in
+      omega (arith, e, text-fits roomy d (capped textRoom) listRoom steps, capped-most textRoom)
+
+  -- THE LINES ARE SMALL
+  pub lines-small : Small (expansion roomy d textRoom listRoom steps .lines)
+  lines-small = small (expansion roomy d textRoom listRoom steps .lines) (offsets-near roomy d textRoom listRoom steps) (omega (arith, views-agree roomy d textRoom listRoom steps, text-most))
+    where
+      small : (ls : List Line) → NearLines ls → sizes ls ≤ 4294967295 → Small ls
+      small [] h k = tt
+      small (l ∷ ls) h k = (omega (arith, h .0), omega arith, small ls (h .1) (omega arith))
