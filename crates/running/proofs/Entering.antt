@@ -1,15 +1,14 @@
 -- A MEMBER IS READ, ENTERED AND RUN: the rooms show the world with it, and the values that there were.
 -- Assumes nothing.
 use mathlib.Core.Path.{_≡_, refl, sym, ap, subst, _∙_}
-use mathlib.Core.Bool.{Bool, true, false}
+use mathlib.Core.Bool.{true}
 use mathlib.Core.List.{List, [], _∷_, _++_}
 use Prim.Native.Nat.{ℕ, zero, suc, _+_, _*_, _-_, _/_, _<_, _≤_}
 use native.Mathlib.Omega.{arith}
 use borrow.Author.Tests.{eq-eqb}
-use lib.ListN.{length, getD, take, drop, replicate, length-append, length-drop, drop-of-length-le}
+use lib.ListN.{length, take, drop, length-append, length-drop, drop-of-length-le}
 use lib.Seq.{take-all, length-take-le}
 use Rattle.definition.specs.Room.{over, zeros}
-use Rattle.definition.specs.Limits.{includeLevels}
 use Rattle.definition.specs.Deck as Deck
 use Rattle.definition.specs.Program as P
 use Rattle.definition.specs.Reading as D
@@ -43,8 +42,8 @@ use Rattle.callees.proofs.Naming.{denotations-length}
 use Rattle.outcomes.specs.Texts as Outcomes
 use Rattle.outcomes.specs.Texts.{Awake}
 use Rattle.reading.specs.declared.Source.{Source}
-use Rattle.reading.specs.Members.{namesOf, baseOf, Fresh, Membered, Members, Whole}
-use Rattle.showing.specs.Worlds.{Placed, Laid, Behind, Grown, memberIn, Enters}
+use Rattle.reading.specs.Members.{namesOf, Membered, Members, Whole}
+use Rattle.showing.specs.Worlds.{Placed, Laid, memberIn, Enters}
 use Rattle.showing.specs.Later.{Later, Grew}
 use Rattle.showing.proofs.Bodies.{Lined, lined, main-low}
 use Rattle.showing.proofs.Worlds.{Entered, entered-is, placed-new, placed-same, size-placed, rows-shown}
@@ -58,10 +57,10 @@ use Rattle.texts.specs.declared.Progress.{Progress}
 use Rattle.texts.specs.declared.Here.{Here}
 use Rattle.texts.specs.declared.Stop.{Stop}
 use Rattle.texts.specs.declared.Ran.the-variants as Rn
-use Rattle.texts.specs.Shown.{sceneOf, stopFor, Written, Onstage}
+use Rattle.texts.specs.Shown.{stopFor, Written, Onstage}
 use Rattle.stepping.specs.declared.Ended.{Ended}
 use Rattle.stepping.specs.declared.Ended.the-variants as En
-use Rattle.stepping.specs.Stage.{Roomy, Stage, InMember}
+use Rattle.stepping.specs.Stage.{Roomy, Stage}
 use Rattle.stepping.specs.Steps.{EndNow}
 use Rattle.running.specs.declared.Left.{Left}
 use Rattle.running.specs.Included.{enteredRun, enterRun}

@@ -9,7 +9,7 @@ use borrow.Author.Tests.{leb-true, le-leb}
 use lib.Dec.{leb}
 use lib.ListN.{length, take, drop}
 use Rattle.definition.specs.Lists.{part}
-use Rattle.definition.specs.Limits.{deckBytes, deckLines, textBytes, includeLevels}
+use Rattle.definition.specs.Limits.{deckBytes, deckLines, includeLevels}
 use Rattle.definition.specs.Tokens.{isSign, tokenAt}
 use Rattle.definition.specs.Deck as Deck
 use Rattle.definition.specs.Deck.{lineAt, isSound, count, lines, find}
@@ -53,7 +53,7 @@ use Rattle.texts.specs.declared.Stop.{Stop}
 use Rattle.texts.specs.Shown.{stopFor}
 use Rattle.stepping.specs.declared.Ended.{Ended}
 use Rattle.stepping.specs.declared.Ended.the-variants as En
-use Rattle.stepping.specs.Stage.{Stage, partHere, targetFor}
+use Rattle.stepping.specs.Stage.{Stage, partHere}
 use Rattle.stepping.specs.Steps.{EndNow}
 use Rattle.running.specs.declared.Left.{Left}
 use Rattle.running.specs.Included.{enterRun, foundRun, endOn, includeOn}
@@ -200,23 +200,22 @@ end-back on deck rows k m starts starts′ R names c l h w t ls B f (En.Ran g) y
 end-back on deck rows k m starts starts′ R names c l h w t ls B f (En.Went z g) y = record { stage = f g (y .stage); is = y .is; reaches = y .reaches }
 end-back on deck rows k m starts starts′ R names c l h w t ls B f (En.Bad z g) y = y
 
--- ---- THE LIST of an INCLUDE, which stands at row n of the member
-module _ (deck rows names c l h w t ls : List ℕ) (n : ℕ) (below : Below) (before : Here) (left : ℕ) (g₀ : Progress) where
-  abbrev standing : List Place
-  standing = placeAt (before .member) n ∷ belowOf below
-
+-- ---- THE LIST of an INCLUDE, which stands at row n of the member, at a place; its names begin behind `from`. `inner` has the INCLUDE itself
+module _ (deck rows names c l h w t ls : List ℕ) (n left place from : ℕ) (inner : Below) (before : Here) (g₀ : Progress) where
   abbrev namesLeft : List (List ℕ) → World → Res Run.Stop F.End
-  namesLeft ns v = includeOn left deck (rowIn (partHere rows before) n .place) (before .member) standing ns v
+  namesLeft ns v = includeOn left deck place (before .member) (belowOf inner) ns v
 
   -- what is asked of the world at first, and of the names
   pub record Asked (B : World) (ns : List (List ℕ)) : Type 0 where
     pub stage : Stage deck rows names c l h w t ls (before .starts) g₀ B
-    pub running : Running deck (bodyIn deck (before .member)) rows before below left B
-    pub there : n < length (readMember (bodyOf deck (before .member)) .rows)
-    pub named : Named (bodyIn deck (before .member)) (rowIn (partHere rows before) n .content) ns
-
-  row-there : (B : World) (ns : List (List ℕ)) → Asked B ns → n < length (rowsOf (before .member) B)
-  row-there B ns a = subst (λ (rs : List P.Row). n < length rs) (sym (a .running .member .entered)) (a .there)
+    pub sound : isSound deck ≡ true
+    pub line : before .member < count deck
+    pub low : before .member < 32
+    pub there : n < length (rowsOf (before .member) B)
+    pub stand : Stand (belowOf inner) B
+    pub deep : inner .count + left ≤ suc includeLevels
+    pub some : 1 ≤ inner .count
+    pub named : Named (bodyIn deck (before .member)) from ns
 
   -- the names that are left, in a world that the rooms show now
   pub record Now (B : World) (ns : List (List ℕ)) (rows₁ names₁ c₁ l₁ h₁ w₁ t₁ ls₁ : List ℕ) (starts : Starts) (at : ℕ) (g : Progress) (turns : ℕ) : Type 0 where
@@ -234,31 +233,31 @@ module _ (deck rows names c l h w t ls : List ℕ) (n : ℕ) (below : Below) (be
     pub member : here .member ≡ before .member
     pub is : (B : World) (ns : List (List ℕ)) → Asked B ns → Now B ns rows₁ names₁ c₁ l₁ h₁ w₁ t₁ ls₁ (here .starts) at g turns
 
-  module _ (s : List ℕ) (body : s ≡ bodyIn deck (before .member)) (part′ : List ℕ) (own : part′ ≡ partHere rows before) (r : Row) (row : r ≡ rowIn part′ n) where
-    row-is : r ≡ rowIn (partHere rows before) n
-    row-is = row ∙ ap (λ (x : List ℕ). rowIn x n) own
+  -- an answer of all of them, and where the member is looked at
+  abbrev Answered : List ℕ → List ℕ → List ℕ → List ℕ → List ℕ → List ℕ → List ℕ → List ℕ → Left → World → List (List ℕ) → Type 0
+  Answered rows₂ names₂ c₂ l₂ h₂ w₂ t₂ ls₂ y B ns =
+      EndsAs (belowOf inner) deck rows B rows₂ names₂ c₂ l₂ h₂ w₂ t₂ ls₂ (before .member) (namesLeft ns (worldIn B c l h (g₀ .meter .used))) y × (startIn (y .starts) (before .member) ≡ startIn (before .starts) (before .member))
 
-    pub going-start : Going rows names c l h w t ls before (r .content) g₀ (length s)
+  module _ (s : List ℕ) (body : s ≡ bodyIn deck (before .member)) where
+    pub going-start : Going rows names c l h w t ls before from g₀ (length s)
     going-start = record {
       member = refl;
-      is = λ B ns a.
-          let there : Named (bodyIn deck (before .member)) (r .content) ns = subst (λ (x : Row). Named (bodyIn deck (before .member)) (x .content) ns) (sym row-is) (a .named) in
-          record {
-            world = B;
-            since = since-none rows B;
-            stage = a .stage;
-            start = refl;
-            rest = ns;
-            named = there;
-            few = omega (arith, named-few (bodyIn deck (before .member)) (r .content) ns there, ap (λ (x : List ℕ). length x) body);
-            same = refl;
-          };
+      is = λ B ns a. record {
+        world = B;
+        since = since-none rows B;
+        stage = a .stage;
+        start = refl;
+        rest = ns;
+        named = a .named;
+        few = omega (arith, named-few (bodyIn deck (before .member)) from ns (a .named), ap (λ (x : List ℕ). length x) body);
+        same = refl;
+      };
     }
 
     -- a turn: the member of the name at a place is run
-    module _ (inner : Below) (one : WithBelow below (before .member) n inner) (rows₁ names₁ c₁ l₁ h₁ w₁ t₁ ls₁ : List ℕ) (here : Here) (at : ℕ) (g : Progress) (turns : ℕ) (going : Going rows₁ names₁ c₁ l₁ h₁ w₁ t₁ ls₁ here at g turns)
-        (tk : Lexeme) (lex : Lexed s at tk) (rows₂ names₂ c₂ l₂ h₂ w₂ t₂ ls₂ : List ℕ) (x : Left)
-        (ran : IncludeOneIs deck rows₁ names₁ c₁ l₁ h₁ w₁ t₁ ls₁ tk (r .place) inner here left g rows₂ names₂ c₂ l₂ h₂ w₂ t₂ ls₂ x) (here₂ : Here) (back : StartedAt here (x .starts) (startIn (here .starts) (here .member)) here₂) where
+    module _ (rows₁ names₁ c₁ l₁ h₁ w₁ t₁ ls₁ : List ℕ) (here : Here) (at : ℕ) (g : Progress) (turns : ℕ) (going : Going rows₁ names₁ c₁ l₁ h₁ w₁ t₁ ls₁ here at g turns) (tk : Lexeme) (lex : Lexed s at tk)
+        (rows₂ names₂ c₂ l₂ h₂ w₂ t₂ ls₂ : List ℕ) (x : Left) (ran : IncludeOneIs deck rows₁ names₁ c₁ l₁ h₁ w₁ t₁ ls₁ tk place inner here left g rows₂ names₂ c₂ l₂ h₂ w₂ t₂ ls₂ x) (here₂ : Here)
+        (back : StartedAt here (x .starts) (startIn (here .starts) (here .member)) here₂) where
       record Past (B : World) (ns : List (List ℕ)) : Type 0 where
         world : World
         since : Since rows B rows₂ world
@@ -268,23 +267,23 @@ module _ (deck rows names c l h w t ls : List ℕ) (n : ℕ) (below : Below) (be
         named : Named (bodyIn deck (before .member)) at (first ∷ rest)
         few : suc (length rest) ≤ turns
         answer : Res Run.Stop F.End
-        now : EndNow standing deck rows₂ names₂ c₂ l₂ h₂ w₂ t₂ ls₂ (hereAt (before .member) (here₂ .starts)) answer world (x .ended)
+        now : EndNow (belowOf inner) deck rows₂ names₂ c₂ l₂ h₂ w₂ t₂ ls₂ (hereAt (before .member) (here₂ .starts)) answer world (x .ended)
         same : bind answer (λ e v. endOn e v (λ u. namesLeft rest u)) ≡ namesLeft ns (worldIn B c l h (g₀ .meter .used))
 
-      ran-here : IncludeOneIs deck rows₁ names₁ c₁ l₁ h₁ w₁ t₁ ls₁ tk (rowIn (partHere rows before) n .place) inner (hereAt (before .member) (here .starts)) left g rows₂ names₂ c₂ l₂ h₂ w₂ t₂ ls₂ x
-      ran-here =
-          subst (λ (y : Here). IncludeOneIs deck rows₁ names₁ c₁ l₁ h₁ w₁ t₁ ls₁ tk (rowIn (partHere rows before) n .place) inner y left g rows₂ names₂ c₂ l₂ h₂ w₂ t₂ ls₂ x) (here-is here (before .member) (going .member))
-          (subst (λ (y : Row). IncludeOneIs deck rows₁ names₁ c₁ l₁ h₁ w₁ t₁ ls₁ tk (y .place) inner here left g rows₂ names₂ c₂ l₂ h₂ w₂ t₂ ls₂ x) row-is ran)
+      ran-here : IncludeOneIs deck rows₁ names₁ c₁ l₁ h₁ w₁ t₁ ls₁ tk place inner (hereAt (before .member) (here .starts)) left g rows₂ names₂ c₂ l₂ h₂ w₂ t₂ ls₂ x
+      ran-here = subst (λ (y : Here). IncludeOneIs deck rows₁ names₁ c₁ l₁ h₁ w₁ t₁ ls₁ tk place inner y left g rows₂ names₂ c₂ l₂ h₂ w₂ t₂ ls₂ x) (here-is here (before .member) (going .member)) ran
 
       starts-here : StartsAt (x .starts) (before .member) (startIn (here .starts) (before .member)) (here₂ .starts)
       starts-here = subst (λ (k : ℕ). StartsAt (x .starts) k (startIn (here .starts) k) (here₂ .starts)) (going .member) (back .starts)
 
+      lexed : Lexed (bodyIn deck (before .member)) at tk
+      lexed = subst (λ (z : List ℕ). Lexed z at tk) body lex
+
       -- the bytes of the token are the name
       spelled : (y : List ℕ) → Spells (bodyIn deck (before .member)) at y → part (tk .to - tk .from) (tk .from) (bodyIn deck (before .member)) ≡ y
       spelled y k =
-          let on : Lexed (bodyIn deck (before .member)) at tk = subst (λ (z : List ℕ). Lexed z at tk) body lex in
-          ap (λ (i : ℕ). part (i - tk .from) (tk .from) (bodyIn deck (before .member))) (on .to)
-          ∙ ap (λ (i : ℕ). part (tokenAt (bodyIn deck (before .member)) at .to - i) i (bodyIn deck (before .member))) (on .from) ∙ k .is
+          ap (λ (i : ℕ). part (i - tk .from) (tk .from) (bodyIn deck (before .member))) (lexed .to)
+          ∙ ap (λ (i : ℕ). part (tokenAt (bodyIn deck (before .member)) at .to - i) i (bodyIn deck (before .member))) (lexed .from) ∙ k .is
 
       passed : (B : World) (ns : List (List ℕ)) → Asked B ns → Past B ns
       unfolding includeOn
@@ -293,74 +292,53 @@ module _ (deck rows names c l h w t ls : List ℕ) (n : ℕ) (below : Below) (be
           z : Now B ns rows₁ names₁ c₁ l₁ h₁ w₁ t₁ ls₁ (here .starts) at g turns
           z = going .is B ns a
 
-          few-below : below .count < 16
-          few-below = omega (arith, a .running .deep)
-
           there : n < length (rowsOf (before .member) (z .world))
-          there = later-size B (z .world) (before .member) n (z .since .later) (row-there B ns a)
-
-          stands : Stand standing (z .world)
-          stands = (there, stand-later (belowOf below) B (z .world) (z .since .later) (a .running .stand))
+          there = later-size B (z .world) (before .member) n (z .since .later) (a .there)
 
           by : (qs : List (List ℕ)) → Named (bodyIn deck (before .member)) at qs → length qs ≤ turns → namesLeft qs (worldIn (z .world) c₁ l₁ h₁ (g .meter .used)) ≡ namesLeft ns (worldIn B c l h (g₀ .meter .used)) → Past B ns
           by [] k few same = absurd k
           by (y ∷ ys) k few same =
               let sp : Spells (bodyIn deck (before .member)) at y = named-first (bodyIn deck (before .member)) at y ys k in
-              let on : Lexed (bodyIn deck (before .member)) at tk = subst (λ (v : List ℕ). Lexed v at tk) body lex in
               let v : World = worldIn (z .world) c₁ l₁ h₁ (g .meter .used) in
-              let p : ℕ = rowIn (partHere rows before) n .place in
-              let told-by : belowOf inner ≡ standing = one .is few-below in
-              let ends₀ : EndsAs (belowOf inner) deck rows₁ (z .world) rows₂ names₂ c₂ l₂ h₂ w₂ t₂ ls₂ (before .member)
-              (foundRun (find (part (tk .to - tk .from) (tk .from) (bodyIn deck (before .member))) 0 (lines deck)) left deck p (before .member) (belowOf inner) v) x =
-              ran-here .is (z .world) (z .stage) (a .running .sound) (a .running .line) (omega (arith, on .to, sp .within)) (subst (λ (ps : List Place). Stand ps (z .world)) (sym told-by) stands)
-              (omega (arith, one .count few-below, a .running .deep)) (omega (arith, one .count few-below)) in
-              let ends : EndsAs standing deck rows₁ (z .world) rows₂ names₂ c₂ l₂ h₂ w₂ t₂ ls₂ (before .member) (foundRun (find y 0 (lines deck)) left deck p (before .member) standing v) x =
-              subst (λ (q : List ℕ). EndsAs standing deck rows₁ (z .world) rows₂ names₂ c₂ l₂ h₂ w₂ t₂ ls₂ (before .member) (foundRun (find q 0 (lines deck)) left deck p (before .member) standing v) x) (spelled y sp)
-              (subst (λ (ps : List Place). EndsAs ps deck rows₁ (z .world) rows₂ names₂ c₂ l₂ h₂ w₂ t₂ ls₂ (before .member)
-              (foundRun (find (part (tk .to - tk .from) (tk .from) (bodyIn deck (before .member))) 0 (lines deck)) left deck p (before .member) ps v) x) told-by ends₀) in
-              let low : before .member < 32 = a .running .member .low in
+              let R : Res Run.Stop F.End = foundRun (find y 0 (lines deck)) left deck place (before .member) (belowOf inner) v in
+              let ends : EndsAs (belowOf inner) deck rows₁ (z .world) rows₂ names₂ c₂ l₂ h₂ w₂ t₂ ls₂ (before .member) R x =
+              subst (λ (q : List ℕ). EndsAs (belowOf inner) deck rows₁ (z .world) rows₂ names₂ c₂ l₂ h₂ w₂ t₂ ls₂ (before .member) (foundRun (find q 0 (lines deck)) left deck place (before .member) (belowOf inner) v) x) (spelled y sp)
+              (ran-here .is (z .world) (z .stage) (a .sound) (a .line) (omega (arith, lexed .to, sp .within)) (stand-later (belowOf inner) B (z .world) (z .since .later) (a .stand)) (a .deep) (a .some)) in
               record {
                 world = ends .world;
                 since = since-on rows rows₁ rows₂ B (z .world) (ends .world) (z .since) (ends .since);
-                start = starts-here .here low ∙ z .start;
+                start = starts-here .here (a .low) ∙ z .start;
                 first = y;
                 rest = ys;
                 named = k;
                 few = few;
-                answer = foundRun (find y 0 (lines deck)) left deck p (before .member) standing v;
-                now = end-back standing deck rows₂ (before .member) (before .member) (x .starts) (here₂ .starts) (foundRun (find y 0 (lines deck)) left deck p (before .member) standing v) names₂ c₂ l₂ h₂ w₂ t₂ ls₂ (ends .world)
-                    (λ q S. stage-back deck rows₁ names₁ c₁ l₁ h₁ w₁ t₁ ls₁ (here .starts) g (z .world) (z .stage) rows₂ names₂ c₂ l₂ h₂ w₂ t₂ ls₂ (x .starts) (here₂ .starts) q (ends .world) (ends .since) (before .member) n low there starts-here S)
+                answer = R;
+                now = end-back (belowOf inner) deck rows₂ (before .member) (before .member) (x .starts) (here₂ .starts) R names₂ c₂ l₂ h₂ w₂ t₂ ls₂ (ends .world)
+                    (λ q S. stage-back deck rows₁ names₁ c₁ l₁ h₁ w₁ t₁ ls₁ (here .starts) g (z .world) (z .stage) rows₂ names₂ c₂ l₂ h₂ w₂ t₂ ls₂ (x .starts) (here₂ .starts) q (ends .world) (ends .since) (before .member) n (a .low) there starts-here S)
                     (x .ended) (ends .now);
                 same = same;
               }
 
       -- a GOTO or a refusal ends the list
-      pub all-went : (q : Label) (g₂ : Progress) (y : Left) → x .ended ≡ En.Went q g₂ → y ≡ leftAt here₂ (x .ended) → IncludeAllIs deck rows names c l h w t ls n below before left g₀ rows₂ names₂ c₂ l₂ h₂ w₂ t₂ ls₂ y
-      all-went q g₂ y e f =
-          subst (λ (v : Left). IncludeAllIs deck rows names c l h w t ls n below before left g₀ rows₂ names₂ c₂ l₂ h₂ w₂ t₂ ls₂ v) (sym (f ∙ ap (λ (v : Ended). leftAt here₂ v) e))
-          (record { is = λ B S run ns there named. by B ns (passed B ns (record { stage = S; running = run; there = there; named = named })) })
-        where
-          by : (B : World) (ns : List (List ℕ)) (k : Past B ns)
-              → EndsAs standing deck rows B rows₂ names₂ c₂ l₂ h₂ w₂ t₂ ls₂ (before .member) (namesLeft ns (worldIn B c l h (g₀ .meter .used))) (leftAt here₂ (En.Went q g₂)) × (startIn (here₂ .starts) (before .member) ≡ startIn (before .starts) (before .member))
-          by B ns k =
-              let d : EndNow standing deck rows₂ names₂ c₂ l₂ h₂ w₂ t₂ ls₂ (hereAt (before .member) (here₂ .starts)) (k .answer) (k .world) (En.Went q g₂) =
-              subst (λ (v : Ended). EndNow standing deck rows₂ names₂ c₂ l₂ h₂ w₂ t₂ ls₂ (hereAt (before .member) (here₂ .starts)) (k .answer) (k .world) v) e (k .now) in
-              (record {
-                world = k .world;
-                since = k .since;
-                now = record { stage = d .stage; is = sym (k .same) ∙ ap (λ (v : Res Run.Stop F.End). bind v (λ a u. endOn a u (λ i. namesLeft (k .rest) i))) (d .is); reaches = d .reaches };
-              }, k .start)
+      went : (q : Label) (g₂ : Progress) → x .ended ≡ En.Went q g₂ → (B : World) (ns : List (List ℕ)) → Asked B ns → Answered rows₂ names₂ c₂ l₂ h₂ w₂ t₂ ls₂ (leftAt here₂ (En.Went q g₂)) B ns
+      went q g₂ e B ns a =
+          let k : Past B ns = passed B ns a in
+          let d : EndNow (belowOf inner) deck rows₂ names₂ c₂ l₂ h₂ w₂ t₂ ls₂ (hereAt (before .member) (here₂ .starts)) (k .answer) (k .world) (En.Went q g₂) =
+          subst (λ (v : Ended). EndNow (belowOf inner) deck rows₂ names₂ c₂ l₂ h₂ w₂ t₂ ls₂ (hereAt (before .member) (here₂ .starts)) (k .answer) (k .world) v) e (k .now) in (
+            record {
+              world = k .world;
+              since = k .since;
+              now = record { stage = d .stage; is = sym (k .same) ∙ ap (λ (v : Res Run.Stop F.End). bind v (λ b u. endOn b u (λ i. namesLeft (k .rest) i))) (d .is); reaches = d .reaches };
+            },
+            k .start,
+          )
 
-      pub all-bad : (q : Stop) (g₂ : Progress) (y : Left) → x .ended ≡ En.Bad q g₂ → y ≡ leftAt here₂ (x .ended) → IncludeAllIs deck rows names c l h w t ls n below before left g₀ rows₂ names₂ c₂ l₂ h₂ w₂ t₂ ls₂ y
-      all-bad q g₂ y e f =
-          subst (λ (v : Left). IncludeAllIs deck rows names c l h w t ls n below before left g₀ rows₂ names₂ c₂ l₂ h₂ w₂ t₂ ls₂ v) (sym (f ∙ ap (λ (v : Ended). leftAt here₂ v) e))
-          (record { is = λ B S run ns there named. by B ns (passed B ns (record { stage = S; running = run; there = there; named = named })) })
-        where
-          by : (B : World) (ns : List (List ℕ)) (k : Past B ns)
-              → EndsAs standing deck rows B rows₂ names₂ c₂ l₂ h₂ w₂ t₂ ls₂ (before .member) (namesLeft ns (worldIn B c l h (g₀ .meter .used))) (leftAt here₂ (En.Bad q g₂)) × (startIn (here₂ .starts) (before .member) ≡ startIn (before .starts) (before .member))
-          by B ns k =
-              let d : k .answer ≡ bad (stopFor q) (g₂ .meter .used) = subst (λ (v : Ended). EndNow standing deck rows₂ names₂ c₂ l₂ h₂ w₂ t₂ ls₂ (hereAt (before .member) (here₂ .starts)) (k .answer) (k .world) v) e (k .now) in
-              (record { world = k .world; since = k .since; now = sym (k .same) ∙ ap (λ (v : Res Run.Stop F.End). bind v (λ a u. endOn a u (λ i. namesLeft (k .rest) i))) d }, k .start)
+      stops : (q : Stop) (g₂ : Progress) → x .ended ≡ En.Bad q g₂ → (B : World) (ns : List (List ℕ)) → Asked B ns → Answered rows₂ names₂ c₂ l₂ h₂ w₂ t₂ ls₂ (leftAt here₂ (En.Bad q g₂)) B ns
+      stops q g₂ e B ns a =
+          let k : Past B ns = passed B ns a in
+          let d : k .answer ≡ bad (stopFor q) (g₂ .meter .used) =
+          subst (λ (v : Ended). EndNow (belowOf inner) deck rows₂ names₂ c₂ l₂ h₂ w₂ t₂ ls₂ (hereAt (before .member) (here₂ .starts)) (k .answer) (k .world) v) e (k .now) in
+          (record { world = k .world; since = k .since; now = sym (k .same) ∙ ap (λ (v : Res Run.Stop F.End). bind v (λ b u. endOn b u (λ i. namesLeft (k .rest) i))) d }, k .start)
 
       -- the member has run: the next name, or the end
       module _ (g₂ : Progress) (e : x .ended ≡ En.Ran g₂) (cm : Lexeme) (lex₂ : Lexed s (tk .to) cm) (b : Bool) (sign : b ≡ isSignIn s cm (44 ∷ [])) where
@@ -370,8 +348,8 @@ module _ (deck rows names c l h w t ls : List ℕ) (n : ℕ) (below : Below) (be
         behind : cm .to ≡ tokenAt (bodyIn deck (before .member)) (tokenAt (bodyIn deck (before .member)) at .to) .to
         behind = lex₂ .to ∙ ap (λ (i : ℕ). tokenAt s i .to) (lex .to) ∙ ap (λ (z : List ℕ). tokenAt z (tokenAt z at .to) .to) body
 
-        ran-by : (B : World) (ns : List (List ℕ)) (k : Past B ns) → EndNow standing deck rows₂ names₂ c₂ l₂ h₂ w₂ t₂ ls₂ (hereAt (before .member) (here₂ .starts)) (k .answer) (k .world) (En.Ran g₂)
-        ran-by B ns k = subst (λ (v : Ended). EndNow standing deck rows₂ names₂ c₂ l₂ h₂ w₂ t₂ ls₂ (hereAt (before .member) (here₂ .starts)) (k .answer) (k .world) v) e (k .now)
+        ran-by : (B : World) (ns : List (List ℕ)) (k : Past B ns) → EndNow (belowOf inner) deck rows₂ names₂ c₂ l₂ h₂ w₂ t₂ ls₂ (hereAt (before .member) (here₂ .starts)) (k .answer) (k .world) (En.Ran g₂)
+        ran-by B ns k = subst (λ (v : Ended). EndNow (belowOf inner) deck rows₂ names₂ c₂ l₂ h₂ w₂ t₂ ls₂ (hereAt (before .member) (here₂ .starts)) (k .answer) (k .world) v) e (k .now)
 
         left-over : (B : World) (ns : List (List ℕ)) (k : Past B ns) → namesLeft (k .rest) (worldIn (k .world) c₂ l₂ h₂ (g₂ .meter .used)) ≡ namesLeft ns (worldIn B c l h (g₀ .meter .used))
         left-over B ns k = sym (ap (λ (v : Res Run.Stop F.End). bind v (λ a u. endOn a u (λ i. namesLeft (k .rest) i))) (ran-by B ns k .is)) ∙ k .same
@@ -393,29 +371,86 @@ module _ (deck rows names c l h w t ls : List ℕ) (n : ℕ) (below : Below) (be
               };
         }
 
-        pub all-ran : (y : Left) → b ≡ false → y ≡ leftAt here₂ (En.Ran g₂) → IncludeAllIs deck rows names c l h w t ls n below before left g₀ rows₂ names₂ c₂ l₂ h₂ w₂ t₂ ls₂ y
+        ends : b ≡ false → (B : World) (ns : List (List ℕ)) → Asked B ns → Answered rows₂ names₂ c₂ l₂ h₂ w₂ t₂ ls₂ (leftAt here₂ (En.Ran g₂)) B ns
         unfolding includeOn
-        all-ran y q f =
-            subst (λ (v : Left). IncludeAllIs deck rows names c l h w t ls n below before left g₀ rows₂ names₂ c₂ l₂ h₂ w₂ t₂ ls₂ v) (sym f)
-            (record { is = λ B S run ns there named. by B ns (passed B ns (record { stage = S; running = run; there = there; named = named })) })
-          where
-            by : (B : World) (ns : List (List ℕ)) (k : Past B ns)
-                → EndsAs standing deck rows B rows₂ names₂ c₂ l₂ h₂ w₂ t₂ ls₂ (before .member) (namesLeft ns (worldIn B c l h (g₀ .meter .used))) (leftAt here₂ (En.Ran g₂)) × (startIn (here₂ .starts) (before .member) ≡ startIn (before .starts) (before .member))
-            by B ns k =
-                let none : k .rest ≡ [] = named-last (bodyIn deck (before .member)) at (k .first) (k .rest) (k .named) (comma false q) in
-                let end : namesLeft ns (worldIn B c l h (g₀ .meter .used)) ≡ good F.ran (worldIn (k .world) c₂ l₂ h₂ (g₂ .meter .used)) =
-                sym (left-over B ns k) ∙ ap (λ (qs : List (List ℕ)). namesLeft qs (worldIn (k .world) c₂ l₂ h₂ (g₂ .meter .used))) none in
-                (record { world = k .world; since = k .since; now = record { stage = ran-by B ns k .stage; is = end } }, k .start)
+        ends q B ns a =
+            let k : Past B ns = passed B ns a in
+            let none : k .rest ≡ [] = named-last (bodyIn deck (before .member)) at (k .first) (k .rest) (k .named) (comma false q) in
+            let end : namesLeft ns (worldIn B c l h (g₀ .meter .used)) ≡ good F.ran (worldIn (k .world) c₂ l₂ h₂ (g₂ .meter .used)) =
+            sym (left-over B ns k) ∙ ap (λ (qs : List (List ℕ)). namesLeft qs (worldIn (k .world) c₂ l₂ h₂ (g₂ .meter .used))) none in
+            (record { world = k .world; since = k .since; now = record { stage = ran-by B ns k .stage; is = end } }, k .start)
 
   -- turns do not run out
-  pub all-turned : (rows₁ names₁ c₁ l₁ h₁ w₁ t₁ ls₁ : List ℕ) (here : Here) (at : ℕ) (g : Progress) (turns : ℕ) → Going rows₁ names₁ c₁ l₁ h₁ w₁ t₁ ls₁ here at g turns → turns ≤ 0 → (y : Left)
-      → IncludeAllIs deck rows names c l h w t ls n below before left g₀ rows₁ names₁ c₁ l₁ h₁ w₁ t₁ ls₁ y
-  all-turned rows₁ names₁ c₁ l₁ h₁ w₁ t₁ ls₁ here at g turns going none y = record {
-    is = λ B S run ns there named.
-        let z : Now B ns rows₁ names₁ c₁ l₁ h₁ w₁ t₁ ls₁ (here .starts) at g turns = going .is B ns (record { stage = S; running = run; there = there; named = named }) in
-        absurd (by (z .rest) (z .named) (z .few));
-  }
+  turned : (rows₁ names₁ c₁ l₁ h₁ w₁ t₁ ls₁ : List ℕ) (here : Here) (at : ℕ) (g : Progress) (turns : ℕ) → Going rows₁ names₁ c₁ l₁ h₁ w₁ t₁ ls₁ here at g turns → turns ≤ 0 → (B : World) (ns : List (List ℕ)) → Asked B ns → ⊥
+  turned rows₁ names₁ c₁ l₁ h₁ w₁ t₁ ls₁ here at g turns going none B ns a =
+      let z : Now B ns rows₁ names₁ c₁ l₁ h₁ w₁ t₁ ls₁ (here .starts) at g turns = going .is B ns a in
+      by (z .rest) (z .named) (z .few)
     where
       by : (qs : List (List ℕ)) → Named (bodyIn deck (before .member)) at qs → length qs ≤ turns → ⊥
       by [] k few = k
       by (q ∷ qs) k few = omega (arith, few, none)
+
+-- ---- THE ANSWERS of `include_all`: the row is that of the INCLUDE, and the members below have it
+module _ (deck rows names c l h w t ls : List ℕ) (n left : ℕ) (inner : Below) (before : Here) (g₀ : Progress) (below : Below) (one : WithBelow below (before .member) n inner) (part′ : List ℕ) (own : part′ ≡ partHere rows before) (r : Row)
+    (row : r ≡ rowIn part′ n) where
+  row-is : r ≡ rowIn (partHere rows before) n
+  row-is = row ∙ ap (λ (x : List ℕ). rowIn x n) own
+
+  asked : (B : World) → Stage deck rows names c l h w t ls (before .starts) g₀ B → Running deck (bodyIn deck (before .member)) rows before below left B → (ns : List (List ℕ)) → n < length (readMember (bodyOf deck (before .member)) .rows)
+      → Named (bodyIn deck (before .member)) (rowIn (partHere rows before) n .content) ns → Asked deck rows names c l h w t ls n left (r .place) (r .content) inner before g₀ B ns
+  asked B S run ns there named =
+      let few : below .count < 16 = omega (arith, run .deep) in
+      let in′ : n < length (rowsOf (before .member) B) = subst (λ (rs : List P.Row). n < length rs) (sym (run .member .entered)) there in
+      record {
+        stage = S;
+        sound = run .sound;
+        line = run .line;
+        low = run .member .low;
+        there = in′;
+        stand = subst (λ (ps : List Place). Stand ps B) (sym (one .is few)) (in′, run .stand);
+        deep = omega (arith, one .count few, run .deep);
+        some = omega (arith, one .count few);
+        named = subst (λ (x : Row). Named (bodyIn deck (before .member)) (x .content) ns) (sym row-is) named;
+      }
+
+  all-is : (rows₂ names₂ c₂ l₂ h₂ w₂ t₂ ls₂ : List ℕ) (y z : Left) → y ≡ z
+      → ((B : World) (ns : List (List ℕ)) → Asked deck rows names c l h w t ls n left (r .place) (r .content) inner before g₀ B ns → Answered deck rows names c l h w t ls n left (r .place) (r .content) inner before g₀ rows₂ names₂ c₂ l₂ h₂ w₂ t₂ ls₂ z B ns)
+      → IncludeAllIs deck rows names c l h w t ls n below before left g₀ rows₂ names₂ c₂ l₂ h₂ w₂ t₂ ls₂ y
+  all-is rows₂ names₂ c₂ l₂ h₂ w₂ t₂ ls₂ y z e f = subst (λ (v : Left). IncludeAllIs deck rows names c l h w t ls n below before left g₀ rows₂ names₂ c₂ l₂ h₂ w₂ t₂ ls₂ v) (sym e) (record { is = by })
+    where
+      by : (B : World) → Stage deck rows names c l h w t ls (before .starts) g₀ B → Running deck (bodyIn deck (before .member)) rows before below left B → (ns : List (List ℕ)) → n < length (readMember (bodyOf deck (before .member)) .rows)
+          → Named (bodyIn deck (before .member)) (rowIn (partHere rows before) n .content) ns
+          → EndsAs (placeAt (before .member) n ∷ belowOf below) deck rows B rows₂ names₂ c₂ l₂ h₂ w₂ t₂ ls₂ (before .member)
+          (includeOn left deck (rowIn (partHere rows before) n .place) (before .member) (placeAt (before .member) n ∷ belowOf below) ns (worldIn B c l h (g₀ .meter .used))) z
+          × (startIn (z .starts) (before .member) ≡ startIn (before .starts) (before .member))
+      by B S run ns there named =
+          let a : Answered deck rows names c l h w t ls n left (r .place) (r .content) inner before g₀ rows₂ names₂ c₂ l₂ h₂ w₂ t₂ ls₂ z B ns = f B ns (asked B S run ns there named) in
+          let on : belowOf inner ≡ placeAt (before .member) n ∷ belowOf below = one .is (omega (arith, run .deep)) in (
+            subst (λ (ps : List Place). EndsAs ps deck rows B rows₂ names₂ c₂ l₂ h₂ w₂ t₂ ls₂ (before .member) (includeOn left deck (rowIn (partHere rows before) n .place) (before .member) ps ns (worldIn B c l h (g₀ .meter .used))) z) on
+                (subst (λ (x : Row). EndsAs (belowOf inner) deck rows B rows₂ names₂ c₂ l₂ h₂ w₂ t₂ ls₂ (before .member) (includeOn left deck (x .place) (before .member) (belowOf inner) ns (worldIn B c l h (g₀ .meter .used))) z) row-is (a .0)),
+            a .1,
+          )
+
+  module _ (s : List ℕ) (body : s ≡ bodyIn deck (before .member)) (rows₁ names₁ c₁ l₁ h₁ w₁ t₁ ls₁ : List ℕ) (here : Here) (at : ℕ) (g : Progress) (turns : ℕ)
+      (going : Going deck rows names c l h w t ls n left (r .place) (r .content) inner before g₀ rows₁ names₁ c₁ l₁ h₁ w₁ t₁ ls₁ here at g turns) (tk : Lexeme) (lex : Lexed s at tk) (rows₂ names₂ c₂ l₂ h₂ w₂ t₂ ls₂ : List ℕ) (x : Left)
+      (ran : IncludeOneIs deck rows₁ names₁ c₁ l₁ h₁ w₁ t₁ ls₁ tk (r .place) inner here left g rows₂ names₂ c₂ l₂ h₂ w₂ t₂ ls₂ x) (here₂ : Here) (back : StartedAt here (x .starts) (startIn (here .starts) (here .member)) here₂) where
+    pub all-went : (q : Label) (g₂ : Progress) (y : Left) → x .ended ≡ En.Went q g₂ → y ≡ leftAt here₂ (x .ended) → IncludeAllIs deck rows names c l h w t ls n below before left g₀ rows₂ names₂ c₂ l₂ h₂ w₂ t₂ ls₂ y
+    all-went q g₂ y e f =
+        all-is rows₂ names₂ c₂ l₂ h₂ w₂ t₂ ls₂ y (leftAt here₂ (En.Went q g₂)) (f ∙ ap (λ (z : Ended). leftAt here₂ z) e)
+        (went deck rows names c l h w t ls n left (r .place) (r .content) inner before g₀ s body rows₁ names₁ c₁ l₁ h₁ w₁ t₁ ls₁ here at g turns going tk lex rows₂ names₂ c₂ l₂ h₂ w₂ t₂ ls₂ x ran here₂ back q g₂ e)
+
+    pub all-stopped : (q : Stop) (g₂ : Progress) (y : Left) → x .ended ≡ En.Bad q g₂ → y ≡ leftAt here₂ (x .ended) → IncludeAllIs deck rows names c l h w t ls n below before left g₀ rows₂ names₂ c₂ l₂ h₂ w₂ t₂ ls₂ y
+    all-stopped q g₂ y e f =
+        all-is rows₂ names₂ c₂ l₂ h₂ w₂ t₂ ls₂ y (leftAt here₂ (En.Bad q g₂)) (f ∙ ap (λ (z : Ended). leftAt here₂ z) e)
+        (stops deck rows names c l h w t ls n left (r .place) (r .content) inner before g₀ s body rows₁ names₁ c₁ l₁ h₁ w₁ t₁ ls₁ here at g turns going tk lex rows₂ names₂ c₂ l₂ h₂ w₂ t₂ ls₂ x ran here₂ back q g₂ e)
+
+    pub all-ran : (g₂ : Progress) → x .ended ≡ En.Ran g₂ → (cm : Lexeme) → Lexed s (tk .to) cm → (b : Bool) → b ≡ isSignIn s cm (44 ∷ []) → b ≡ false → (y : Left) → y ≡ leftAt here₂ (En.Ran g₂)
+        → IncludeAllIs deck rows names c l h w t ls n below before left g₀ rows₂ names₂ c₂ l₂ h₂ w₂ t₂ ls₂ y
+    all-ran g₂ e cm lex₂ b sign q y f =
+        all-is rows₂ names₂ c₂ l₂ h₂ w₂ t₂ ls₂ y (leftAt here₂ (En.Ran g₂)) f
+        (ends deck rows names c l h w t ls n left (r .place) (r .content) inner before g₀ s body rows₁ names₁ c₁ l₁ h₁ w₁ t₁ ls₁ here at g turns going tk lex rows₂ names₂ c₂ l₂ h₂ w₂ t₂ ls₂ x ran here₂ back g₂ e cm lex₂ b sign q)
+
+  pub all-turned : (rows₁ names₁ c₁ l₁ h₁ w₁ t₁ ls₁ : List ℕ) (here : Here) (at : ℕ) (g : Progress) (turns : ℕ) → Going deck rows names c l h w t ls n left (r .place) (r .content) inner before g₀ rows₁ names₁ c₁ l₁ h₁ w₁ t₁ ls₁ here at g turns
+      → turns ≤ 0 → (y : Left) → IncludeAllIs deck rows names c l h w t ls n below before left g₀ rows₁ names₁ c₁ l₁ h₁ w₁ t₁ ls₁ y
+  all-turned rows₁ names₁ c₁ l₁ h₁ w₁ t₁ ls₁ here at g turns going none y =
+      all-is rows₁ names₁ c₁ l₁ h₁ w₁ t₁ ls₁ y y refl λ B ns a. absurd (turned deck rows names c l h w t ls n left (r .place) (r .content) inner before g₀ rows₁ names₁ c₁ l₁ h₁ w₁ t₁ ls₁ here at g turns going none B ns a)

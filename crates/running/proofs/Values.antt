@@ -3,7 +3,7 @@
 use mathlib.Core.Path.{_≡_, refl, sym, ap, subst, _∙_}
 use mathlib.Core.Bool.{Bool, true, false}
 use mathlib.Core.List.{List, [], _∷_, _++_}
-use Prim.Native.Nat.{ℕ, zero, suc, _+_, _-_, _<_, _≤_}
+use Prim.Native.Nat.{ℕ, suc, _+_, _-_, _<_, _≤_}
 use native.Mathlib.Nat.{add-zero}
 use native.Mathlib.Omega.{arith}
 use borrow.Author.Tests.{eqb-true, eqb-false, ltb-true, ltb-false}
@@ -19,7 +19,7 @@ use Rattle.definition.specs.Names as N
 use Rattle.definition.specs.declared.ValueType.{ValueType}
 use Rattle.definition.specs.declared.ValueType.the-variants.{FixedType, CharacterType}
 use Rattle.definition.proofs.Choices.{when-has}
-use Rattle.definition.proofs.Rooms.{length-over, over-nil, over-next-at, getD-over-at, getD-over-low, getD-over-high}
+use Rattle.definition.proofs.Rooms.{length-over, over-nil, over-next-at, getD-over-at, getD-over-low}
 use Rattle.fixed.specs.Signed.{fromStored}
 use Rattle.store.specs.Cells.{cellIn, fixedCell, characterCell, slot, half}
 use Rattle.callees.specs.Shown.{cellAs, valuesFrom, Slots}
