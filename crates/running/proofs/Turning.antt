@@ -100,17 +100,16 @@ running-later deck s rows rows′ here starts below left B B′ n ru h l = recor
   deep = ru .deep;
 }
 
--- ---- on_ended
-module _ (rows : List ℕ) (fs : Frames) (n : ℕ) (here : Here) (x : Left) (r : Begun) where
-  pub ended-ran : (g : Progress) → x .ended ≡ En.Ran g → r ≡ begunAt (hereAt (here .member) (x .starts)) (turnedBy fs (St.On (Up n) g)) → r ≡ endedAt rows fs n here x
-  ended-ran g e q = rw (q, e)
+-- ---- on_ended: back in the member, where each starts since
+module _ (rows : List ℕ) (fs : Frames) (n : ℕ) (here : Here) (x : Left) (back : Here) (eb : back ≡ hereAt (here .member) (x .starts)) where
+  pub ended-ran : (g : Progress) → x .ended ≡ En.Ran g → (t : Turned) → t ≡ turnedBy fs (St.On (Up n) g) → (r : Begun) → r ≡ begunAt back t → r ≡ endedAt rows fs n here x
+  ended-ran g e t f r q = rw (q, f, eb, e)
 
-  pub ended-went : (l : Label) (g : Progress) → x .ended ≡ En.Went l g → (t : Turned) → t ≡ wentTo (partHere rows (hereAt (here .member) (x .starts))) fs (here .member) l g
-      → r ≡ begunAt (hereAt (here .member) (x .starts)) t → r ≡ endedAt rows fs n here x
-  ended-went l g e t f q = rw (q, f, e)
+  pub ended-went : (l : Label) (g : Progress) → x .ended ≡ En.Went l g → (t : Turned) → t ≡ wentTo (partHere rows back) fs (back .member) l g → (r : Begun) → r ≡ begunAt back t → r ≡ endedAt rows fs n here x
+  ended-went l g e t f r q = rw (q, f, eb, e)
 
-  pub ended-bad : (y : Stop) (g : Progress) → x .ended ≡ En.Bad y g → r ≡ begunAt (hereAt (here .member) (x .starts)) (turnedBy fs (St.Bad y g)) → r ≡ endedAt rows fs n here x
-  ended-bad y g e q = rw (q, e)
+  pub ended-bad : (y : Stop) (g : Progress) → x .ended ≡ En.Bad y g → (t : Turned) → t ≡ turnedBy fs (St.Bad y g) → (r : Begun) → r ≡ begunAt back t → r ≡ endedAt rows fs n here x
+  ended-bad y g e t f r q = rw (q, f, eb, e)
 
 -- ---- the rows of the member that runs are its part of the table
 module _ (deck s rows names c l h w t ls : List ℕ) (here : Here) (g : Progress) (B : World) (st : Stage deck rows names c l h w t ls (here .starts) g B) (im : InMember deck s rows here B) (inner : Run.Level) (on : List Place) where

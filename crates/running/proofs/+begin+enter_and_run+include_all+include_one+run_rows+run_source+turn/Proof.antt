@@ -32,23 +32,25 @@ use Rattle.leaving.proofs.with_below.Reads as with-below-reads
 use Rattle.meter.proofs.Meter.charged.Reads as charged-reads
 use Rattle.rows.proofs.row_at.Reads as row-at-reads
 use Rattle.running.proofs.entered.Reads as entered-reads
+use Rattle.running.proofs.forget.Reads as forget-reads
 use Rattle.running.proofs.in_member.Reads as in-member-reads
-use Rattle.running.proofs.into_again.Reads as into-again-reads
-use Rattle.running.proofs.is_include.Reads as is-include-reads
-use Rattle.running.proofs.is_over.Reads as is-over-reads
 use Rattle.running.proofs.left_at.Reads as left-at-reads
 use Rattle.running.proofs.member_named.Reads as member-named-reads
 use Rattle.running.proofs.on_ended.Reads as on-ended-reads
-use Rattle.running.proofs.part_here.Reads as part-here-reads
 use Rattle.running.proofs.read_behind.Reads as read-behind-reads
-use Rattle.running.proofs.refused.Reads as refused-reads
-use Rattle.running.proofs.settle.Reads as settle-reads
+use Rattle.running.proofs.resumed.Reads as resumed-reads
 use Rattle.running.proofs.since.Reads as since-reads
-use Rattle.running.proofs.statement.Reads as statement-reads
 use Rattle.running.proofs.stopped.Reads as stopped-reads
 use Rattle.running.proofs.turned_at.Reads as turned-at-reads
 use Rattle.running.proofs.with_source.Reads as with-source-reads
-use Rattle.running.proofs.with_step.Reads as with-step-reads
+use Rattle.stepping.proofs.into_again.Reads as into-again-reads
+use Rattle.stepping.proofs.is_include.Reads as is-include-reads
+use Rattle.stepping.proofs.is_over.Reads as is-over-reads
+use Rattle.stepping.proofs.part_here.Reads as part-here-reads
+use Rattle.stepping.proofs.refused.Reads as refused-reads
+use Rattle.stepping.proofs.settle.Reads as settle-reads
+use Rattle.stepping.proofs.statement.Reads as statement-reads
+use Rattle.stepping.proofs.with_step.Reads as with-step-reads
 use Rattle.texts.proofs.lead_out.Reads as lead-out-reads
 use Rattle.texts.proofs.with_meter.Reads as with-meter-reads
 use Rattle.tokens.proofs.is_sign.Reads as is-sign-reads
@@ -59,10 +61,15 @@ use Rattle.running.proofs.+begin+enter_and_run+include_all+include_one+
 use Rattle.running.proofs.+begin+enter_and_run+include_all+include_one+run_rows+run_source+turn.Tie.{
   close,
 }
-use Prim.Native.Nat.{_+_, _*_, _≤_}
-use mathlib.Core.Path.{_≡_, _∙_}
+use Prim.Native.Nat.{_+_, _*_}
+use mathlib.Core.Path.{_≡_, _∙_, refl}
 use lib.ListN.{length}
 use native.Mathlib.Omega.{arith}
+use borrow.Author.Tests.{not-true, not-false}
+use Rattle.running.proofs.Turning.{begin-due, begin-include, begin-statement, turn-begin, turn-again, turn-over}
+use Rattle.running.proofs.Looping.{Runs, runs-start, runs-out, runs-over, runs-more, runs-end, source-runs, source-bad}
+use Rattle.running.proofs.Entering.{enter-runs, enter-refused}
+use Rattle.running.proofs.Naming.{include-unknown, include-deep, include-enters, Going, going-start, going-more, all-went, all-stopped, all-ran, all-turned}
 
 abbrev μ-begin : Measures 10 begin-kinds.ps ℕ
 μ-begin κs a = 8 * a .1 .1 .1 .1 .1 .1 .1 .1 .1 .1 .1 .1 .1 .1 .0 + 3
@@ -354,7 +361,7 @@ begin-returns : (t : ℕ) → begin-lts.Need-returns (
   statement-reads.Asked,
   statement-reads.Learnt,
 ) (begin-at t) begin.Post
-begin-returns t c = search needs
+begin-returns t c = begin-due _ _ _ _ _ _ _ _ _ _ _ _ _ _ _ _ _ (c .before .before .before .before .before .before .before .before .before .before .part-here .ensures) _ (c .before .before .before .before .before .before .before .before .before .row-at .ensures) _ (c .before .before .before .before .before .before .before .charged .ensures) _ (c .before .before .before .before .before .with-meter .ensures) (not-true _ (c .before .before .before .if1 .taken)) _ (c .before .refused .ensures) _ (c .turned-at .ensures)
 
 begin-is-include-requires : (t : ℕ) → begin-lts.Need-is-include-requires (
   part-here-reads.Asked,
@@ -642,7 +649,7 @@ begin-returns-2 : (t : ℕ) → begin-lts.Need-returns-2 (
   statement-reads.Asked,
   statement-reads.Learnt,
 ) (begin-at t) begin.Post
-begin-returns-2 t c = search needs
+begin-returns-2 t c = begin-include _ _ _ _ _ _ _ _ _ _ _ _ _ _ _ _ _ (c .before .before .before .before .before .before .before .before .before .before .before .before .before .before .before .before .before .before .before .before .before .before .before .before .before .before .before .before .before .before .before .before .before .before .before .before .part-here .ensures) _ (c .before .before .before .before .before .before .before .before .before .before .before .before .before .before .before .before .before .before .before .before .before .before .before .before .before .before .before .before .before .before .before .before .before .before .before .row-at .ensures) _ (c .before .before .before .before .before .before .before .before .before .before .before .before .before .before .before .before .before .before .before .before .before .before .before .before .before .before .before .before .before .before .before .before .before .charged .ensures) _ (c .before .before .before .before .before .before .before .before .before .before .before .before .before .before .before .before .before .before .before .before .before .before .before .before .before .before .before .before .before .before .before .with-meter .ensures) (not-false _ (c .before .before .before .before .before .before .before .before .before .before .before .before .before .before .before .before .before .before .before .before .before .before .before .before .before .before .before .before .before .if1 .left)) _ (c .before .before .before .before .before .before .before .before .before .before .before .before .before .before .before .before .before .before .before .before .before .before .before .before .before .before .before .before .is-include .ensures) (c .before .before .before .before .before .before .before .before .before .before .before .before .before .before .before .before .before .before .before .before .before .before .before .before .before .before .before .if2 .taken) _ _ _ _ _ _ _ _ _ (c .before .before .before .before .before .before .before .before .before .before .before .before .before .before .before .before .before .before .include-all .ensures) _ (c .on-ended .ensures)
 
 begin-part-here-requires-2 : (t : ℕ) → begin-lts.Need-part-here-requires-2 (
   part-here-reads.Asked,
@@ -930,11 +937,13 @@ begin-returns-3 : (t : ℕ) → begin-lts.Need-returns-3 (
   statement-reads.Asked,
   statement-reads.Learnt,
 ) (begin-at t) begin.Post
-begin-returns-3 t c = search needs
+begin-returns-3 t c = begin-statement _ _ _ _ _ _ _ _ _ _ _ _ _ _ _ _ _ (c .before .before .before .before .before .before .before .before .before .before .before .before .before .before .before .before .before .before .before .before .before .before .before .before .before .before .before .before .before .before .before .before .before .before .part-here .ensures) _ (c .before .before .before .before .before .before .before .before .before .before .before .before .before .before .before .before .before .before .before .before .before .before .before .before .before .before .before .before .before .before .before .before .before .row-at .ensures) _ (c .before .before .before .before .before .before .before .before .before .before .before .before .before .before .before .before .before .before .before .before .before .before .before .before .before .before .before .before .before .before .before .charged .ensures) _ (c .before .before .before .before .before .before .before .before .before .before .before .before .before .before .before .before .before .before .before .before .before .before .before .before .before .before .before .before .before .with-meter .ensures) (not-false _ (c .before .before .before .before .before .before .before .before .before .before .before .before .before .before .before .before .before .before .before .before .before .before .before .before .before .before .before .if1 .left)) _ (c .before .before .before .before .before .before .before .before .before .before .before .before .before .before .before .before .before .before .before .before .before .before .before .before .before .before .is-include .ensures) (c .before .before .before .before .before .before .before .before .before .before .before .before .before .before .before .before .before .before .before .before .before .before .before .before .before .if2 .left) _ (c .before .before .before .before .before .before .before .before .before .before .before .before .before .before .before .before .before .before .before .before .before .before .before .part-here2 .ensures) _ _ _ _ _ _ _ _ (c .before .before .before .before .before .before .before .before .before .before .before .before .before .before .before .statement .ensures) _ (c .turned-at2 .ensures)
 
 enter-and-run-read-behind-requires : (t : ℕ) → enter-and-run-lts.Need-read-behind-requires (
   read-behind-reads.Asked,
   read-behind-reads.Learnt,
+  forget-reads.Asked,
+  forget-reads.Learnt,
   entered-reads.Asked,
   entered-reads.Learnt,
   with-source-reads.Asked,
@@ -951,6 +960,8 @@ enter-and-run-read-behind-requires t c κs = search needs
 enter-and-run-enum-told : (t : ℕ) → enter-and-run-lts.Need-enum-told (
   read-behind-reads.Asked,
   read-behind-reads.Learnt,
+  forget-reads.Asked,
+  forget-reads.Learnt,
   entered-reads.Asked,
   entered-reads.Learnt,
   with-source-reads.Asked,
@@ -964,9 +975,29 @@ enter-and-run-enum-told : (t : ℕ) → enter-and-run-lts.Need-enum-told (
 ) (enter-and-run-at t) enter-and-run.Post
 enter-and-run-enum-told t c = search needs
 
+enter-and-run-forget-requires : (t : ℕ) → enter-and-run-lts.Need-forget-requires (
+  read-behind-reads.Asked,
+  read-behind-reads.Learnt,
+  forget-reads.Asked,
+  forget-reads.Learnt,
+  entered-reads.Asked,
+  entered-reads.Learnt,
+  with-source-reads.Asked,
+  with-source-reads.Learnt,
+  run-source-below t,
+  run-source.Post,
+  stopped-reads.Asked,
+  stopped-reads.Learnt,
+  left-at-reads.Asked,
+  left-at-reads.Learnt,
+) (enter-and-run-at t) enter-and-run.Post
+enter-and-run-forget-requires t c κs = search needs
+
 enter-and-run-entered-requires : (t : ℕ) → enter-and-run-lts.Need-entered-requires (
   read-behind-reads.Asked,
   read-behind-reads.Learnt,
+  forget-reads.Asked,
+  forget-reads.Learnt,
   entered-reads.Asked,
   entered-reads.Learnt,
   with-source-reads.Asked,
@@ -983,6 +1014,8 @@ enter-and-run-entered-requires t c κs = search needs
 enter-and-run-with-source-requires : (t : ℕ) → enter-and-run-lts.Need-with-source-requires (
   read-behind-reads.Asked,
   read-behind-reads.Learnt,
+  forget-reads.Asked,
+  forget-reads.Learnt,
   entered-reads.Asked,
   entered-reads.Learnt,
   with-source-reads.Asked,
@@ -999,6 +1032,8 @@ enter-and-run-with-source-requires t c κs = search needs
 enter-and-run-run-source-requires : (t : ℕ) → enter-and-run-lts.Need-run-source-requires (
   read-behind-reads.Asked,
   read-behind-reads.Learnt,
+  forget-reads.Asked,
+  forget-reads.Learnt,
   entered-reads.Asked,
   entered-reads.Learnt,
   with-source-reads.Asked,
@@ -1010,11 +1045,13 @@ enter-and-run-run-source-requires : (t : ℕ) → enter-and-run-lts.Need-run-sou
   left-at-reads.Asked,
   left-at-reads.Learnt,
 ) (enter-and-run-at t) enter-and-run.Post
-enter-and-run-run-source-requires t c κs = omega (arith, (c .before .before .before .before .before .before .before .before .before .before .before .before .before .before .before .before .before .before .before .before .before .before .before .before .before .before .before .before .pre))
+enter-and-run-run-source-requires t c κs = omega (arith, (c .before .before .before .before .before .before .before .before .before .before .before .before .before .before .before .before .before .before .before .before .before .before .before .before .before .before .before .before .before .before .before .before .pre))
 
 enter-and-run-enum-known-fault : (t : ℕ) → enter-and-run-lts.Need-enum-known-fault (
   read-behind-reads.Asked,
   read-behind-reads.Learnt,
+  forget-reads.Asked,
+  forget-reads.Learnt,
   entered-reads.Asked,
   entered-reads.Learnt,
   with-source-reads.Asked,
@@ -1031,6 +1068,8 @@ enter-and-run-enum-known-fault t c = search needs
 enter-and-run-stopped-requires : (t : ℕ) → enter-and-run-lts.Need-stopped-requires (
   read-behind-reads.Asked,
   read-behind-reads.Learnt,
+  forget-reads.Asked,
+  forget-reads.Learnt,
   entered-reads.Asked,
   entered-reads.Learnt,
   with-source-reads.Asked,
@@ -1047,6 +1086,8 @@ enter-and-run-stopped-requires t c κs = search needs
 enter-and-run-left-at-requires : (t : ℕ) → enter-and-run-lts.Need-left-at-requires (
   read-behind-reads.Asked,
   read-behind-reads.Learnt,
+  forget-reads.Asked,
+  forget-reads.Learnt,
   entered-reads.Asked,
   entered-reads.Learnt,
   with-source-reads.Asked,
@@ -1063,6 +1104,8 @@ enter-and-run-left-at-requires t c κs = search needs
 enter-and-run-same-length : (t : ℕ) → enter-and-run-lts.Need-same-length (
   read-behind-reads.Asked,
   read-behind-reads.Learnt,
+  forget-reads.Asked,
+  forget-reads.Learnt,
   entered-reads.Asked,
   entered-reads.Learnt,
   with-source-reads.Asked,
@@ -1074,11 +1117,13 @@ enter-and-run-same-length : (t : ℕ) → enter-and-run-lts.Need-same-length (
   left-at-reads.Asked,
   left-at-reads.Learnt,
 ) (enter-and-run-at t) enter-and-run.Post
-enter-and-run-same-length t c = (c .before .before .before .before .before .before .before .before .before .before .before .before .before .before .before .before .run-source .kept .1 .0) ∙ (c .before .before .before .before .before .before .before .before .before .before .before .before .before .before .before .before .before .before .before .before .before .before .before .before .before .before .before .before .before .before .before .before .before .read-behind .kept .1 .0)
+enter-and-run-same-length t c = (c .before .before .before .before .before .before .before .before .before .before .before .before .before .before .before .before .run-source .kept .1 .0) ∙ (c .before .before .before .before .before .before .before .before .before .before .before .before .before .before .before .before .before .before .before .before .before .before .before .before .before .before .before .before .before .before .before .before .before .before .before .before .before .read-behind .kept .1 .0)
 
 enter-and-run-same-length-2 : (t : ℕ) → enter-and-run-lts.Need-same-length-2 (
   read-behind-reads.Asked,
   read-behind-reads.Learnt,
+  forget-reads.Asked,
+  forget-reads.Learnt,
   entered-reads.Asked,
   entered-reads.Learnt,
   with-source-reads.Asked,
@@ -1090,11 +1135,13 @@ enter-and-run-same-length-2 : (t : ℕ) → enter-and-run-lts.Need-same-length-2
   left-at-reads.Asked,
   left-at-reads.Learnt,
 ) (enter-and-run-at t) enter-and-run.Post
-enter-and-run-same-length-2 t c = (c .before .before .before .before .before .before .before .before .before .before .before .before .before .before .before .before .run-source .kept .1 .1 .0) ∙ (c .before .before .before .before .before .before .before .before .before .before .before .before .before .before .before .before .before .before .before .before .before .before .before .before .before .before .before .before .before .before .before .before .before .read-behind .kept .1 .1 .0)
+enter-and-run-same-length-2 t c = (c .before .before .before .before .before .before .before .before .before .before .before .before .before .before .before .before .run-source .kept .1 .1 .0) ∙ (c .before .before .before .before .before .before .before .before .before .before .before .before .before .before .before .before .before .before .before .before .before .before .before .before .before .before .before .before .before .before .before .before .before .before .before .before .before .read-behind .kept .1 .1 .0)
 
 enter-and-run-same-length-3 : (t : ℕ) → enter-and-run-lts.Need-same-length-3 (
   read-behind-reads.Asked,
   read-behind-reads.Learnt,
+  forget-reads.Asked,
+  forget-reads.Learnt,
   entered-reads.Asked,
   entered-reads.Learnt,
   with-source-reads.Asked,
@@ -1106,11 +1153,13 @@ enter-and-run-same-length-3 : (t : ℕ) → enter-and-run-lts.Need-same-length-3
   left-at-reads.Asked,
   left-at-reads.Learnt,
 ) (enter-and-run-at t) enter-and-run.Post
-enter-and-run-same-length-3 t c = search needs
+enter-and-run-same-length-3 t c = (c .before .before .before .before .before .before .before .before .before .before .before .before .before .before .before .before .run-source .kept .1 .1 .1 .0) ∙ (c .before .before .before .before .before .before .before .before .before .before .before .before .before .before .before .before .before .before .before .before .before .before .before .before .before .before .before .before .before .forget .kept .0)
 
 enter-and-run-same-length-4 : (t : ℕ) → enter-and-run-lts.Need-same-length-4 (
   read-behind-reads.Asked,
   read-behind-reads.Learnt,
+  forget-reads.Asked,
+  forget-reads.Learnt,
   entered-reads.Asked,
   entered-reads.Learnt,
   with-source-reads.Asked,
@@ -1127,6 +1176,8 @@ enter-and-run-same-length-4 t c = search needs
 enter-and-run-same-length-5 : (t : ℕ) → enter-and-run-lts.Need-same-length-5 (
   read-behind-reads.Asked,
   read-behind-reads.Learnt,
+  forget-reads.Asked,
+  forget-reads.Learnt,
   entered-reads.Asked,
   entered-reads.Learnt,
   with-source-reads.Asked,
@@ -1143,6 +1194,8 @@ enter-and-run-same-length-5 t c = search needs
 enter-and-run-same-length-6 : (t : ℕ) → enter-and-run-lts.Need-same-length-6 (
   read-behind-reads.Asked,
   read-behind-reads.Learnt,
+  forget-reads.Asked,
+  forget-reads.Learnt,
   entered-reads.Asked,
   entered-reads.Learnt,
   with-source-reads.Asked,
@@ -1159,6 +1212,8 @@ enter-and-run-same-length-6 t c = search needs
 enter-and-run-same-length-7 : (t : ℕ) → enter-and-run-lts.Need-same-length-7 (
   read-behind-reads.Asked,
   read-behind-reads.Learnt,
+  forget-reads.Asked,
+  forget-reads.Learnt,
   entered-reads.Asked,
   entered-reads.Learnt,
   with-source-reads.Asked,
@@ -1175,6 +1230,8 @@ enter-and-run-same-length-7 t c = search needs
 enter-and-run-same-length-8 : (t : ℕ) → enter-and-run-lts.Need-same-length-8 (
   read-behind-reads.Asked,
   read-behind-reads.Learnt,
+  forget-reads.Asked,
+  forget-reads.Learnt,
   entered-reads.Asked,
   entered-reads.Learnt,
   with-source-reads.Asked,
@@ -1191,6 +1248,8 @@ enter-and-run-same-length-8 t c = search needs
 enter-and-run-returns : (t : ℕ) → enter-and-run-lts.Need-returns (
   read-behind-reads.Asked,
   read-behind-reads.Learnt,
+  forget-reads.Asked,
+  forget-reads.Learnt,
   entered-reads.Asked,
   entered-reads.Learnt,
   with-source-reads.Asked,
@@ -1202,11 +1261,13 @@ enter-and-run-returns : (t : ℕ) → enter-and-run-lts.Need-returns (
   left-at-reads.Asked,
   left-at-reads.Learnt,
 ) (enter-and-run-at t) enter-and-run.Post
-enter-and-run-returns t c = search needs
+enter-and-run-returns t c = enter-runs _ _ _ _ _ _ _ _ _ _ _ _ _ _ _ _ (c .before .before .before .before .before .before .before .before .before .before .before .before .before .before .before .before .before .before .before .before .before .before .before .before .before .before .before .before .before .before .before .before .before .before .before .before .before .read-behind .ensures) _ _ _ _ _ _ _ _ _ _ _ _ (c .before .before .before .before .before .before .before .before .before .before .before .before .before .before .before .before .before .before .before .before .before .before .before .before .before .before .before .before .before .before .before .enum-told .given .1) (c .before .before .before .before .before .before .before .before .before .before .before .before .before .before .before .before .before .before .before .before .before .before .before .before .before .before .before .before .before .forget .ensures) (c .before .before .before .before .before .before .before .before .before .before .before .before .before .before .before .before .before .before .entered .ensures) (c .before .before .before .before .before .before .before .before .before .before .before .before .before .before .before .before .before .with-source .ensures) (c .before .before .before .before .before .before .before .before .before .before .before .before .before .before .before .before .run-source .ensures)
 
 enter-and-run-same-length-9 : (t : ℕ) → enter-and-run-lts.Need-same-length-9 (
   read-behind-reads.Asked,
   read-behind-reads.Learnt,
+  forget-reads.Asked,
+  forget-reads.Learnt,
   entered-reads.Asked,
   entered-reads.Learnt,
   with-source-reads.Asked,
@@ -1223,6 +1284,8 @@ enter-and-run-same-length-9 t c = search needs
 enter-and-run-same-length-10 : (t : ℕ) → enter-and-run-lts.Need-same-length-10 (
   read-behind-reads.Asked,
   read-behind-reads.Learnt,
+  forget-reads.Asked,
+  forget-reads.Learnt,
   entered-reads.Asked,
   entered-reads.Learnt,
   with-source-reads.Asked,
@@ -1239,6 +1302,8 @@ enter-and-run-same-length-10 t c = search needs
 enter-and-run-returns-2 : (t : ℕ) → enter-and-run-lts.Need-returns-2 (
   read-behind-reads.Asked,
   read-behind-reads.Learnt,
+  forget-reads.Asked,
+  forget-reads.Learnt,
   entered-reads.Asked,
   entered-reads.Learnt,
   with-source-reads.Asked,
@@ -1250,10 +1315,10 @@ enter-and-run-returns-2 : (t : ℕ) → enter-and-run-lts.Need-returns-2 (
   left-at-reads.Asked,
   left-at-reads.Learnt,
 ) (enter-and-run-at t) enter-and-run.Post
-enter-and-run-returns-2 t c = search needs
+enter-and-run-returns-2 t c = enter-refused _ _ _ _ _ _ _ _ _ _ _ _ _ _ _ _ (c .before .before .before .before .before .before .before .before .before .read-behind .ensures) _ _ _ _ (c .before .before .before .fault .given .1) (c .before .stopped .ensures) (c .left-at .ensures)
 
 abbrev include-all-Inv-loop : include-all-lts.InvT-loop
-include-all-Inv-loop deck rows₀ names₀ cells₀ low₀ high₀ work₀ text₀ list₀ n left s place inner here₀ at₀ g₀ turns₀ t29 rows names cells low high work text list here at g turns = (turns ≤ turns₀) × (length rows ≡ length rows₀) × (length names ≡ length names₀) × (length cells ≡ length cells₀) × (length low ≡ length low₀) × (length high ≡ length high₀) × (length work ≡ length work₀) × (length text ≡ length text₀) × (length list ≡ length list₀)
+include-all-Inv-loop deck rows₀ names₀ cells₀ low₀ high₀ work₀ text₀ list₀ n left s place inner here₀ at₀ g₀ turns₀ t29 rows names cells low high work text list here at g turns = Going deck rows₀ names₀ cells₀ low₀ high₀ work₀ text₀ list₀ n left place at₀ inner here₀ g₀ rows names cells low high work text list here at g turns × (length rows ≡ length rows₀) × (length names ≡ length names₀) × (length cells ≡ length cells₀) × (length low ≡ length low₀) × (length high ≡ length high₀) × (length work ≡ length work₀) × (length text ≡ length text₀) × (length list ≡ length list₀)
 
 abbrev include-all-μ-loop : include-all-lts.MeasureT-loop
 include-all-μ-loop deck rows₀ names₀ cells₀ low₀ high₀ work₀ text₀ list₀ n left s place inner here₀ at₀ g₀ turns₀ t29 rows names cells low high work text list here at g turns = turns
@@ -1271,12 +1336,12 @@ include-all-body-requires : (t : ℕ) → include-all-lts.Need-body-requires (
   token-at-reads.Learnt,
   include-one-below t,
   include-one.Post,
-  since-reads.Asked,
-  since-reads.Learnt,
-  is-sign-reads.Asked,
-  is-sign-reads.Learnt,
+  resumed-reads.Asked,
+  resumed-reads.Learnt,
   left-at-reads.Asked,
   left-at-reads.Learnt,
+  is-sign-reads.Asked,
+  is-sign-reads.Learnt,
 ) (include-all-at t) include-all.Post include-all-Inv-loop include-all-μ-loop
 include-all-body-requires t c κs = search needs
 
@@ -1293,12 +1358,12 @@ include-all-part-here-requires : (t : ℕ) → include-all-lts.Need-part-here-re
   token-at-reads.Learnt,
   include-one-below t,
   include-one.Post,
-  since-reads.Asked,
-  since-reads.Learnt,
-  is-sign-reads.Asked,
-  is-sign-reads.Learnt,
+  resumed-reads.Asked,
+  resumed-reads.Learnt,
   left-at-reads.Asked,
   left-at-reads.Learnt,
+  is-sign-reads.Asked,
+  is-sign-reads.Learnt,
 ) (include-all-at t) include-all.Post include-all-Inv-loop include-all-μ-loop
 include-all-part-here-requires t c κs = search needs
 
@@ -1315,12 +1380,12 @@ include-all-row-at-requires : (t : ℕ) → include-all-lts.Need-row-at-requires
   token-at-reads.Learnt,
   include-one-below t,
   include-one.Post,
-  since-reads.Asked,
-  since-reads.Learnt,
-  is-sign-reads.Asked,
-  is-sign-reads.Learnt,
+  resumed-reads.Asked,
+  resumed-reads.Learnt,
   left-at-reads.Asked,
   left-at-reads.Learnt,
+  is-sign-reads.Asked,
+  is-sign-reads.Learnt,
 ) (include-all-at t) include-all.Post include-all-Inv-loop include-all-μ-loop
 include-all-row-at-requires t c κs = search needs
 
@@ -1337,12 +1402,12 @@ include-all-cast-place : (t : ℕ) → include-all-lts.Need-cast-place (
   token-at-reads.Learnt,
   include-one-below t,
   include-one.Post,
-  since-reads.Asked,
-  since-reads.Learnt,
-  is-sign-reads.Asked,
-  is-sign-reads.Learnt,
+  resumed-reads.Asked,
+  resumed-reads.Learnt,
   left-at-reads.Asked,
   left-at-reads.Learnt,
+  is-sign-reads.Asked,
+  is-sign-reads.Learnt,
 ) (include-all-at t) include-all.Post include-all-Inv-loop include-all-μ-loop
 include-all-cast-place t c = search needs
 
@@ -1359,12 +1424,12 @@ include-all-with-below-requires : (t : ℕ) → include-all-lts.Need-with-below-
   token-at-reads.Learnt,
   include-one-below t,
   include-one.Post,
-  since-reads.Asked,
-  since-reads.Learnt,
-  is-sign-reads.Asked,
-  is-sign-reads.Learnt,
+  resumed-reads.Asked,
+  resumed-reads.Learnt,
   left-at-reads.Asked,
   left-at-reads.Learnt,
+  is-sign-reads.Asked,
+  is-sign-reads.Learnt,
 ) (include-all-at t) include-all.Post include-all-Inv-loop include-all-μ-loop
 include-all-with-below-requires t c κs = search needs
 
@@ -1381,12 +1446,12 @@ include-all-cast-at : (t : ℕ) → include-all-lts.Need-cast-at (
   token-at-reads.Learnt,
   include-one-below t,
   include-one.Post,
-  since-reads.Asked,
-  since-reads.Learnt,
-  is-sign-reads.Asked,
-  is-sign-reads.Learnt,
+  resumed-reads.Asked,
+  resumed-reads.Learnt,
   left-at-reads.Asked,
   left-at-reads.Learnt,
+  is-sign-reads.Asked,
+  is-sign-reads.Learnt,
 ) (include-all-at t) include-all.Post include-all-Inv-loop include-all-μ-loop
 include-all-cast-at t c = search needs
 
@@ -1403,14 +1468,14 @@ include-all-loop-holds : (t : ℕ) → include-all-lts.Need-loop-holds (
   token-at-reads.Learnt,
   include-one-below t,
   include-one.Post,
-  since-reads.Asked,
-  since-reads.Learnt,
-  is-sign-reads.Asked,
-  is-sign-reads.Learnt,
+  resumed-reads.Asked,
+  resumed-reads.Learnt,
   left-at-reads.Asked,
   left-at-reads.Learnt,
+  is-sign-reads.Asked,
+  is-sign-reads.Learnt,
 ) (include-all-at t) include-all.Post include-all-Inv-loop include-all-μ-loop
-include-all-loop-holds t c = search needs
+include-all-loop-holds t c = (going-start _ _ _ _ _ _ _ _ _ _ _ _ _ _ _ _ _ (c .before .before .before .before .before .before .body .ensures), refl, refl, refl, refl, refl, refl, refl, refl)
 
 include-all-sub-turns : (t : ℕ) → include-all-lts.Need-sub-turns (
   body-reads.Asked,
@@ -1425,14 +1490,14 @@ include-all-sub-turns : (t : ℕ) → include-all-lts.Need-sub-turns (
   token-at-reads.Learnt,
   include-one-below t,
   include-one.Post,
-  since-reads.Asked,
-  since-reads.Learnt,
-  is-sign-reads.Asked,
-  is-sign-reads.Learnt,
+  resumed-reads.Asked,
+  resumed-reads.Learnt,
   left-at-reads.Asked,
   left-at-reads.Learnt,
+  is-sign-reads.Asked,
+  is-sign-reads.Learnt,
 ) (include-all-at t) include-all.Post include-all-Inv-loop include-all-μ-loop
-include-all-sub-turns t c = search needs
+include-all-sub-turns t c = omega (arith, (c .loop-test .taken))
 
 include-all-token-at-requires : (t : ℕ) → include-all-lts.Need-token-at-requires (
   body-reads.Asked,
@@ -1447,12 +1512,12 @@ include-all-token-at-requires : (t : ℕ) → include-all-lts.Need-token-at-requ
   token-at-reads.Learnt,
   include-one-below t,
   include-one.Post,
-  since-reads.Asked,
-  since-reads.Learnt,
-  is-sign-reads.Asked,
-  is-sign-reads.Learnt,
+  resumed-reads.Asked,
+  resumed-reads.Learnt,
   left-at-reads.Asked,
   left-at-reads.Learnt,
+  is-sign-reads.Asked,
+  is-sign-reads.Learnt,
 ) (include-all-at t) include-all.Post include-all-Inv-loop include-all-μ-loop
 include-all-token-at-requires t c κs = search needs
 
@@ -1469,16 +1534,16 @@ include-all-include-one-requires : (t : ℕ) → include-all-lts.Need-include-on
   token-at-reads.Learnt,
   include-one-below t,
   include-one.Post,
-  since-reads.Asked,
-  since-reads.Learnt,
-  is-sign-reads.Asked,
-  is-sign-reads.Learnt,
+  resumed-reads.Asked,
+  resumed-reads.Learnt,
   left-at-reads.Asked,
   left-at-reads.Learnt,
+  is-sign-reads.Asked,
+  is-sign-reads.Learnt,
 ) (include-all-at t) include-all.Post include-all-Inv-loop include-all-μ-loop
 include-all-include-one-requires t c κs = omega (arith, (c .before .before .before .before .before .before .before .before .before .before .before .before .before .before .before .before .before .before .before .before .before .before .before .before .before .before .before .pre))
 
-include-all-since-requires : (t : ℕ) → include-all-lts.Need-since-requires (
+include-all-resumed-requires : (t : ℕ) → include-all-lts.Need-resumed-requires (
   body-reads.Asked,
   body-reads.Learnt,
   part-here-reads.Asked,
@@ -1491,14 +1556,14 @@ include-all-since-requires : (t : ℕ) → include-all-lts.Need-since-requires (
   token-at-reads.Learnt,
   include-one-below t,
   include-one.Post,
-  since-reads.Asked,
-  since-reads.Learnt,
-  is-sign-reads.Asked,
-  is-sign-reads.Learnt,
+  resumed-reads.Asked,
+  resumed-reads.Learnt,
   left-at-reads.Asked,
   left-at-reads.Learnt,
+  is-sign-reads.Asked,
+  is-sign-reads.Learnt,
 ) (include-all-at t) include-all.Post include-all-Inv-loop include-all-μ-loop
-include-all-since-requires t c κs = search needs
+include-all-resumed-requires t c κs = search needs
 
 include-all-enum-known-e : (t : ℕ) → include-all-lts.Need-enum-known-e (
   body-reads.Asked,
@@ -1513,12 +1578,12 @@ include-all-enum-known-e : (t : ℕ) → include-all-lts.Need-enum-known-e (
   token-at-reads.Learnt,
   include-one-below t,
   include-one.Post,
-  since-reads.Asked,
-  since-reads.Learnt,
-  is-sign-reads.Asked,
-  is-sign-reads.Learnt,
+  resumed-reads.Asked,
+  resumed-reads.Learnt,
   left-at-reads.Asked,
   left-at-reads.Learnt,
+  is-sign-reads.Asked,
+  is-sign-reads.Learnt,
 ) (include-all-at t) include-all.Post include-all-Inv-loop include-all-μ-loop
 include-all-enum-known-e t c = search needs
 
@@ -1535,14 +1600,36 @@ include-all-enum-told : (t : ℕ) → include-all-lts.Need-enum-told (
   token-at-reads.Learnt,
   include-one-below t,
   include-one.Post,
-  since-reads.Asked,
-  since-reads.Learnt,
-  is-sign-reads.Asked,
-  is-sign-reads.Learnt,
+  resumed-reads.Asked,
+  resumed-reads.Learnt,
   left-at-reads.Asked,
   left-at-reads.Learnt,
+  is-sign-reads.Asked,
+  is-sign-reads.Learnt,
 ) (include-all-at t) include-all.Post include-all-Inv-loop include-all-μ-loop
 include-all-enum-told t c = search needs
+
+include-all-left-at-requires : (t : ℕ) → include-all-lts.Need-left-at-requires (
+  body-reads.Asked,
+  body-reads.Learnt,
+  part-here-reads.Asked,
+  part-here-reads.Learnt,
+  row-at-reads.Asked,
+  row-at-reads.Learnt,
+  with-below-reads.Asked,
+  with-below-reads.Learnt,
+  token-at-reads.Asked,
+  token-at-reads.Learnt,
+  include-one-below t,
+  include-one.Post,
+  resumed-reads.Asked,
+  resumed-reads.Learnt,
+  left-at-reads.Asked,
+  left-at-reads.Learnt,
+  is-sign-reads.Asked,
+  is-sign-reads.Learnt,
+) (include-all-at t) include-all.Post include-all-Inv-loop include-all-μ-loop
+include-all-left-at-requires t c κs = search needs
 
 include-all-same-length : (t : ℕ) → include-all-lts.Need-same-length (
   body-reads.Asked,
@@ -1557,14 +1644,14 @@ include-all-same-length : (t : ℕ) → include-all-lts.Need-same-length (
   token-at-reads.Learnt,
   include-one-below t,
   include-one.Post,
-  since-reads.Asked,
-  since-reads.Learnt,
-  is-sign-reads.Asked,
-  is-sign-reads.Learnt,
+  resumed-reads.Asked,
+  resumed-reads.Learnt,
   left-at-reads.Asked,
   left-at-reads.Learnt,
+  is-sign-reads.Asked,
+  is-sign-reads.Learnt,
 ) (include-all-at t) include-all.Post include-all-Inv-loop include-all-μ-loop
-include-all-same-length t c = (c .before .before .before .before .before .before .before .before .before .before .before .before .before .before .before .before .before .before .before .before .include-one .kept .1 .0) ∙ (c .before .before .before .before .before .before .before .before .before .before .before .before .before .before .before .before .before .before .before .before .before .before .before .before .before .before .before .before .before .before .before .loop .inv .1)
+include-all-same-length t c = (c .before .before .before .before .before .before .before .before .before .before .before .before .before .before .before .before .before .before .before .before .before .include-one .kept .1 .0) ∙ (c .before .before .before .before .before .before .before .before .before .before .before .before .before .before .before .before .before .before .before .before .before .before .before .before .before .before .before .before .before .before .before .before .loop .inv .1)
 
 include-all-same-length-2 : (t : ℕ) → include-all-lts.Need-same-length-2 (
   body-reads.Asked,
@@ -1579,14 +1666,14 @@ include-all-same-length-2 : (t : ℕ) → include-all-lts.Need-same-length-2 (
   token-at-reads.Learnt,
   include-one-below t,
   include-one.Post,
-  since-reads.Asked,
-  since-reads.Learnt,
-  is-sign-reads.Asked,
-  is-sign-reads.Learnt,
+  resumed-reads.Asked,
+  resumed-reads.Learnt,
   left-at-reads.Asked,
   left-at-reads.Learnt,
+  is-sign-reads.Asked,
+  is-sign-reads.Learnt,
 ) (include-all-at t) include-all.Post include-all-Inv-loop include-all-μ-loop
-include-all-same-length-2 t c = (c .before .before .before .before .before .before .before .before .before .before .before .before .before .before .before .before .before .before .before .before .include-one .kept .1 .1 .0) ∙ (c .before .before .before .before .before .before .before .before .before .before .before .before .before .before .before .before .before .before .before .before .before .before .before .before .before .before .before .before .before .before .before .loop .inv .2)
+include-all-same-length-2 t c = (c .before .before .before .before .before .before .before .before .before .before .before .before .before .before .before .before .before .before .before .before .before .include-one .kept .1 .1 .0) ∙ (c .before .before .before .before .before .before .before .before .before .before .before .before .before .before .before .before .before .before .before .before .before .before .before .before .before .before .before .before .before .before .before .before .loop .inv .2)
 
 include-all-same-length-3 : (t : ℕ) → include-all-lts.Need-same-length-3 (
   body-reads.Asked,
@@ -1601,14 +1688,14 @@ include-all-same-length-3 : (t : ℕ) → include-all-lts.Need-same-length-3 (
   token-at-reads.Learnt,
   include-one-below t,
   include-one.Post,
-  since-reads.Asked,
-  since-reads.Learnt,
-  is-sign-reads.Asked,
-  is-sign-reads.Learnt,
+  resumed-reads.Asked,
+  resumed-reads.Learnt,
   left-at-reads.Asked,
   left-at-reads.Learnt,
+  is-sign-reads.Asked,
+  is-sign-reads.Learnt,
 ) (include-all-at t) include-all.Post include-all-Inv-loop include-all-μ-loop
-include-all-same-length-3 t c = (c .before .before .before .before .before .before .before .before .before .before .before .before .before .before .before .before .before .before .before .before .include-one .kept .1 .1 .1 .0) ∙ (c .before .before .before .before .before .before .before .before .before .before .before .before .before .before .before .before .before .before .before .before .before .before .before .before .before .before .before .before .before .before .before .loop .inv .3)
+include-all-same-length-3 t c = (c .before .before .before .before .before .before .before .before .before .before .before .before .before .before .before .before .before .before .before .before .before .include-one .kept .1 .1 .1 .0) ∙ (c .before .before .before .before .before .before .before .before .before .before .before .before .before .before .before .before .before .before .before .before .before .before .before .before .before .before .before .before .before .before .before .before .loop .inv .3)
 
 include-all-same-length-4 : (t : ℕ) → include-all-lts.Need-same-length-4 (
   body-reads.Asked,
@@ -1623,14 +1710,14 @@ include-all-same-length-4 : (t : ℕ) → include-all-lts.Need-same-length-4 (
   token-at-reads.Learnt,
   include-one-below t,
   include-one.Post,
-  since-reads.Asked,
-  since-reads.Learnt,
-  is-sign-reads.Asked,
-  is-sign-reads.Learnt,
+  resumed-reads.Asked,
+  resumed-reads.Learnt,
   left-at-reads.Asked,
   left-at-reads.Learnt,
+  is-sign-reads.Asked,
+  is-sign-reads.Learnt,
 ) (include-all-at t) include-all.Post include-all-Inv-loop include-all-μ-loop
-include-all-same-length-4 t c = (c .before .before .before .before .before .before .before .before .before .before .before .before .before .before .before .before .before .before .before .before .include-one .kept .1 .1 .1 .1 .0) ∙ (c .before .before .before .before .before .before .before .before .before .before .before .before .before .before .before .before .before .before .before .before .before .before .before .before .before .before .before .before .before .before .before .loop .inv .4)
+include-all-same-length-4 t c = (c .before .before .before .before .before .before .before .before .before .before .before .before .before .before .before .before .before .before .before .before .before .include-one .kept .1 .1 .1 .1 .0) ∙ (c .before .before .before .before .before .before .before .before .before .before .before .before .before .before .before .before .before .before .before .before .before .before .before .before .before .before .before .before .before .before .before .before .loop .inv .4)
 
 include-all-same-length-5 : (t : ℕ) → include-all-lts.Need-same-length-5 (
   body-reads.Asked,
@@ -1645,14 +1732,14 @@ include-all-same-length-5 : (t : ℕ) → include-all-lts.Need-same-length-5 (
   token-at-reads.Learnt,
   include-one-below t,
   include-one.Post,
-  since-reads.Asked,
-  since-reads.Learnt,
-  is-sign-reads.Asked,
-  is-sign-reads.Learnt,
+  resumed-reads.Asked,
+  resumed-reads.Learnt,
   left-at-reads.Asked,
   left-at-reads.Learnt,
+  is-sign-reads.Asked,
+  is-sign-reads.Learnt,
 ) (include-all-at t) include-all.Post include-all-Inv-loop include-all-μ-loop
-include-all-same-length-5 t c = (c .before .before .before .before .before .before .before .before .before .before .before .before .before .before .before .before .before .before .before .before .include-one .kept .1 .1 .1 .1 .1 .0) ∙ (c .before .before .before .before .before .before .before .before .before .before .before .before .before .before .before .before .before .before .before .before .before .before .before .before .before .before .before .before .before .before .before .loop .inv .5)
+include-all-same-length-5 t c = (c .before .before .before .before .before .before .before .before .before .before .before .before .before .before .before .before .before .before .before .before .before .include-one .kept .1 .1 .1 .1 .1 .0) ∙ (c .before .before .before .before .before .before .before .before .before .before .before .before .before .before .before .before .before .before .before .before .before .before .before .before .before .before .before .before .before .before .before .before .loop .inv .5)
 
 include-all-same-length-6 : (t : ℕ) → include-all-lts.Need-same-length-6 (
   body-reads.Asked,
@@ -1667,14 +1754,14 @@ include-all-same-length-6 : (t : ℕ) → include-all-lts.Need-same-length-6 (
   token-at-reads.Learnt,
   include-one-below t,
   include-one.Post,
-  since-reads.Asked,
-  since-reads.Learnt,
-  is-sign-reads.Asked,
-  is-sign-reads.Learnt,
+  resumed-reads.Asked,
+  resumed-reads.Learnt,
   left-at-reads.Asked,
   left-at-reads.Learnt,
+  is-sign-reads.Asked,
+  is-sign-reads.Learnt,
 ) (include-all-at t) include-all.Post include-all-Inv-loop include-all-μ-loop
-include-all-same-length-6 t c = (c .before .before .before .before .before .before .before .before .before .before .before .before .before .before .before .before .before .before .before .before .include-one .kept .1 .1 .1 .1 .1 .1 .0) ∙ (c .before .before .before .before .before .before .before .before .before .before .before .before .before .before .before .before .before .before .before .before .before .before .before .before .before .before .before .before .before .before .before .loop .inv .6)
+include-all-same-length-6 t c = (c .before .before .before .before .before .before .before .before .before .before .before .before .before .before .before .before .before .before .before .before .before .include-one .kept .1 .1 .1 .1 .1 .1 .0) ∙ (c .before .before .before .before .before .before .before .before .before .before .before .before .before .before .before .before .before .before .before .before .before .before .before .before .before .before .before .before .before .before .before .before .loop .inv .6)
 
 include-all-same-length-7 : (t : ℕ) → include-all-lts.Need-same-length-7 (
   body-reads.Asked,
@@ -1689,14 +1776,14 @@ include-all-same-length-7 : (t : ℕ) → include-all-lts.Need-same-length-7 (
   token-at-reads.Learnt,
   include-one-below t,
   include-one.Post,
-  since-reads.Asked,
-  since-reads.Learnt,
-  is-sign-reads.Asked,
-  is-sign-reads.Learnt,
+  resumed-reads.Asked,
+  resumed-reads.Learnt,
   left-at-reads.Asked,
   left-at-reads.Learnt,
+  is-sign-reads.Asked,
+  is-sign-reads.Learnt,
 ) (include-all-at t) include-all.Post include-all-Inv-loop include-all-μ-loop
-include-all-same-length-7 t c = (c .before .before .before .before .before .before .before .before .before .before .before .before .before .before .before .before .before .before .before .before .include-one .kept .1 .1 .1 .1 .1 .1 .1 .0) ∙ (c .before .before .before .before .before .before .before .before .before .before .before .before .before .before .before .before .before .before .before .before .before .before .before .before .before .before .before .before .before .before .before .loop .inv .7)
+include-all-same-length-7 t c = (c .before .before .before .before .before .before .before .before .before .before .before .before .before .before .before .before .before .before .before .before .before .include-one .kept .1 .1 .1 .1 .1 .1 .1 .0) ∙ (c .before .before .before .before .before .before .before .before .before .before .before .before .before .before .before .before .before .before .before .before .before .before .before .before .before .before .before .before .before .before .before .before .loop .inv .7)
 
 include-all-same-length-8 : (t : ℕ) → include-all-lts.Need-same-length-8 (
   body-reads.Asked,
@@ -1711,14 +1798,14 @@ include-all-same-length-8 : (t : ℕ) → include-all-lts.Need-same-length-8 (
   token-at-reads.Learnt,
   include-one-below t,
   include-one.Post,
-  since-reads.Asked,
-  since-reads.Learnt,
-  is-sign-reads.Asked,
-  is-sign-reads.Learnt,
+  resumed-reads.Asked,
+  resumed-reads.Learnt,
   left-at-reads.Asked,
   left-at-reads.Learnt,
+  is-sign-reads.Asked,
+  is-sign-reads.Learnt,
 ) (include-all-at t) include-all.Post include-all-Inv-loop include-all-μ-loop
-include-all-same-length-8 t c = (c .before .before .before .before .before .before .before .before .before .before .before .before .before .before .before .before .before .before .before .before .include-one .kept .1 .1 .1 .1 .1 .1 .1 .1 .0) ∙ (c .before .before .before .before .before .before .before .before .before .before .before .before .before .before .before .before .before .before .before .before .before .before .before .before .before .before .before .before .before .before .before .loop .inv .8)
+include-all-same-length-8 t c = (c .before .before .before .before .before .before .before .before .before .before .before .before .before .before .before .before .before .before .before .before .before .include-one .kept .1 .1 .1 .1 .1 .1 .1 .1 .0) ∙ (c .before .before .before .before .before .before .before .before .before .before .before .before .before .before .before .before .before .before .before .before .before .before .before .before .before .before .before .before .before .before .before .before .loop .inv .8)
 
 include-all-returns : (t : ℕ) → include-all-lts.Need-returns (
   body-reads.Asked,
@@ -1733,14 +1820,14 @@ include-all-returns : (t : ℕ) → include-all-lts.Need-returns (
   token-at-reads.Learnt,
   include-one-below t,
   include-one.Post,
-  since-reads.Asked,
-  since-reads.Learnt,
-  is-sign-reads.Asked,
-  is-sign-reads.Learnt,
+  resumed-reads.Asked,
+  resumed-reads.Learnt,
   left-at-reads.Asked,
   left-at-reads.Learnt,
+  is-sign-reads.Asked,
+  is-sign-reads.Learnt,
 ) (include-all-at t) include-all.Post include-all-Inv-loop include-all-μ-loop
-include-all-returns t c = search needs
+include-all-returns t c = all-went _ _ _ _ _ _ _ _ _ _ _ _ _ _ _ (c .before .before .before .before .before .before .before .before .before .before .before .before .before .before .before .before .before .before .before .before .before .before .before .before .before .before .before .before .before .before .before .before .before .before .with-below .ensures) _ (c .before .before .before .before .before .before .before .before .before .before .before .before .before .before .before .before .before .before .before .before .before .before .before .before .before .before .before .before .before .before .before .before .before .before .before .before .before .part-here .ensures) _ (c .before .before .before .before .before .before .before .before .before .before .before .before .before .before .before .before .before .before .before .before .before .before .before .before .before .before .before .before .before .before .before .before .before .before .before .before .row-at .ensures) _ (c .before .before .before .before .before .before .before .before .before .before .before .before .before .before .before .before .before .before .before .before .before .before .before .before .before .before .before .before .before .before .before .before .before .before .before .before .before .before .before .body .ensures) _ _ _ _ _ _ _ _ _ _ _ _ (c .before .before .before .before .before .before .before .before .before .before .before .before .before .before .before .before .before .before .before .before .before .before .before .before .before .before .before .before .before .before .before .before .loop .inv .0) _ (c .before .before .before .before .before .before .before .before .before .before .before .before .before .before .before .before .before .before .before .before .before .before .before .before .before .before .before .before .before .before .token-at .ensures) _ _ _ _ _ _ _ _ _ (c .before .before .before .before .before .before .before .before .before .before .before .before .before .before .before .before .before .before .before .before .before .include-one .ensures) _ (c .before .before .before .resumed .ensures) _ _ _ (c .before .enum-told .given .1) (c .left-at .ensures)
 
 include-all-enum-told-2 : (t : ℕ) → include-all-lts.Need-enum-told-2 (
   body-reads.Asked,
@@ -1755,14 +1842,36 @@ include-all-enum-told-2 : (t : ℕ) → include-all-lts.Need-enum-told-2 (
   token-at-reads.Learnt,
   include-one-below t,
   include-one.Post,
-  since-reads.Asked,
-  since-reads.Learnt,
-  is-sign-reads.Asked,
-  is-sign-reads.Learnt,
+  resumed-reads.Asked,
+  resumed-reads.Learnt,
   left-at-reads.Asked,
   left-at-reads.Learnt,
+  is-sign-reads.Asked,
+  is-sign-reads.Learnt,
 ) (include-all-at t) include-all.Post include-all-Inv-loop include-all-μ-loop
 include-all-enum-told-2 t c = search needs
+
+include-all-left-at-requires-2 : (t : ℕ) → include-all-lts.Need-left-at-requires-2 (
+  body-reads.Asked,
+  body-reads.Learnt,
+  part-here-reads.Asked,
+  part-here-reads.Learnt,
+  row-at-reads.Asked,
+  row-at-reads.Learnt,
+  with-below-reads.Asked,
+  with-below-reads.Learnt,
+  token-at-reads.Asked,
+  token-at-reads.Learnt,
+  include-one-below t,
+  include-one.Post,
+  resumed-reads.Asked,
+  resumed-reads.Learnt,
+  left-at-reads.Asked,
+  left-at-reads.Learnt,
+  is-sign-reads.Asked,
+  is-sign-reads.Learnt,
+) (include-all-at t) include-all.Post include-all-Inv-loop include-all-μ-loop
+include-all-left-at-requires-2 t c κs = search needs
 
 include-all-same-length-9 : (t : ℕ) → include-all-lts.Need-same-length-9 (
   body-reads.Asked,
@@ -1777,14 +1886,14 @@ include-all-same-length-9 : (t : ℕ) → include-all-lts.Need-same-length-9 (
   token-at-reads.Learnt,
   include-one-below t,
   include-one.Post,
-  since-reads.Asked,
-  since-reads.Learnt,
-  is-sign-reads.Asked,
-  is-sign-reads.Learnt,
+  resumed-reads.Asked,
+  resumed-reads.Learnt,
   left-at-reads.Asked,
   left-at-reads.Learnt,
+  is-sign-reads.Asked,
+  is-sign-reads.Learnt,
 ) (include-all-at t) include-all.Post include-all-Inv-loop include-all-μ-loop
-include-all-same-length-9 t c = (c .before .before .before .before .before .before .before .before .before .before .before .before .before .before .before .before .before .before .before .before .include-one .kept .1 .0) ∙ (c .before .before .before .before .before .before .before .before .before .before .before .before .before .before .before .before .before .before .before .before .before .before .before .before .before .before .before .before .before .before .before .loop .inv .1)
+include-all-same-length-9 t c = (c .before .before .before .before .before .before .before .before .before .before .before .before .before .before .before .before .before .before .before .before .before .include-one .kept .1 .0) ∙ (c .before .before .before .before .before .before .before .before .before .before .before .before .before .before .before .before .before .before .before .before .before .before .before .before .before .before .before .before .before .before .before .before .loop .inv .1)
 
 include-all-same-length-10 : (t : ℕ) → include-all-lts.Need-same-length-10 (
   body-reads.Asked,
@@ -1799,14 +1908,14 @@ include-all-same-length-10 : (t : ℕ) → include-all-lts.Need-same-length-10 (
   token-at-reads.Learnt,
   include-one-below t,
   include-one.Post,
-  since-reads.Asked,
-  since-reads.Learnt,
-  is-sign-reads.Asked,
-  is-sign-reads.Learnt,
+  resumed-reads.Asked,
+  resumed-reads.Learnt,
   left-at-reads.Asked,
   left-at-reads.Learnt,
+  is-sign-reads.Asked,
+  is-sign-reads.Learnt,
 ) (include-all-at t) include-all.Post include-all-Inv-loop include-all-μ-loop
-include-all-same-length-10 t c = (c .before .before .before .before .before .before .before .before .before .before .before .before .before .before .before .before .before .before .before .before .include-one .kept .1 .1 .0) ∙ (c .before .before .before .before .before .before .before .before .before .before .before .before .before .before .before .before .before .before .before .before .before .before .before .before .before .before .before .before .before .before .before .loop .inv .2)
+include-all-same-length-10 t c = (c .before .before .before .before .before .before .before .before .before .before .before .before .before .before .before .before .before .before .before .before .before .include-one .kept .1 .1 .0) ∙ (c .before .before .before .before .before .before .before .before .before .before .before .before .before .before .before .before .before .before .before .before .before .before .before .before .before .before .before .before .before .before .before .before .loop .inv .2)
 
 include-all-same-length-11 : (t : ℕ) → include-all-lts.Need-same-length-11 (
   body-reads.Asked,
@@ -1821,14 +1930,14 @@ include-all-same-length-11 : (t : ℕ) → include-all-lts.Need-same-length-11 (
   token-at-reads.Learnt,
   include-one-below t,
   include-one.Post,
-  since-reads.Asked,
-  since-reads.Learnt,
-  is-sign-reads.Asked,
-  is-sign-reads.Learnt,
+  resumed-reads.Asked,
+  resumed-reads.Learnt,
   left-at-reads.Asked,
   left-at-reads.Learnt,
+  is-sign-reads.Asked,
+  is-sign-reads.Learnt,
 ) (include-all-at t) include-all.Post include-all-Inv-loop include-all-μ-loop
-include-all-same-length-11 t c = (c .before .before .before .before .before .before .before .before .before .before .before .before .before .before .before .before .before .before .before .before .include-one .kept .1 .1 .1 .0) ∙ (c .before .before .before .before .before .before .before .before .before .before .before .before .before .before .before .before .before .before .before .before .before .before .before .before .before .before .before .before .before .before .before .loop .inv .3)
+include-all-same-length-11 t c = (c .before .before .before .before .before .before .before .before .before .before .before .before .before .before .before .before .before .before .before .before .before .include-one .kept .1 .1 .1 .0) ∙ (c .before .before .before .before .before .before .before .before .before .before .before .before .before .before .before .before .before .before .before .before .before .before .before .before .before .before .before .before .before .before .before .before .loop .inv .3)
 
 include-all-same-length-12 : (t : ℕ) → include-all-lts.Need-same-length-12 (
   body-reads.Asked,
@@ -1843,14 +1952,14 @@ include-all-same-length-12 : (t : ℕ) → include-all-lts.Need-same-length-12 (
   token-at-reads.Learnt,
   include-one-below t,
   include-one.Post,
-  since-reads.Asked,
-  since-reads.Learnt,
-  is-sign-reads.Asked,
-  is-sign-reads.Learnt,
+  resumed-reads.Asked,
+  resumed-reads.Learnt,
   left-at-reads.Asked,
   left-at-reads.Learnt,
+  is-sign-reads.Asked,
+  is-sign-reads.Learnt,
 ) (include-all-at t) include-all.Post include-all-Inv-loop include-all-μ-loop
-include-all-same-length-12 t c = (c .before .before .before .before .before .before .before .before .before .before .before .before .before .before .before .before .before .before .before .before .include-one .kept .1 .1 .1 .1 .0) ∙ (c .before .before .before .before .before .before .before .before .before .before .before .before .before .before .before .before .before .before .before .before .before .before .before .before .before .before .before .before .before .before .before .loop .inv .4)
+include-all-same-length-12 t c = (c .before .before .before .before .before .before .before .before .before .before .before .before .before .before .before .before .before .before .before .before .before .include-one .kept .1 .1 .1 .1 .0) ∙ (c .before .before .before .before .before .before .before .before .before .before .before .before .before .before .before .before .before .before .before .before .before .before .before .before .before .before .before .before .before .before .before .before .loop .inv .4)
 
 include-all-same-length-13 : (t : ℕ) → include-all-lts.Need-same-length-13 (
   body-reads.Asked,
@@ -1865,14 +1974,14 @@ include-all-same-length-13 : (t : ℕ) → include-all-lts.Need-same-length-13 (
   token-at-reads.Learnt,
   include-one-below t,
   include-one.Post,
-  since-reads.Asked,
-  since-reads.Learnt,
-  is-sign-reads.Asked,
-  is-sign-reads.Learnt,
+  resumed-reads.Asked,
+  resumed-reads.Learnt,
   left-at-reads.Asked,
   left-at-reads.Learnt,
+  is-sign-reads.Asked,
+  is-sign-reads.Learnt,
 ) (include-all-at t) include-all.Post include-all-Inv-loop include-all-μ-loop
-include-all-same-length-13 t c = (c .before .before .before .before .before .before .before .before .before .before .before .before .before .before .before .before .before .before .before .before .include-one .kept .1 .1 .1 .1 .1 .0) ∙ (c .before .before .before .before .before .before .before .before .before .before .before .before .before .before .before .before .before .before .before .before .before .before .before .before .before .before .before .before .before .before .before .loop .inv .5)
+include-all-same-length-13 t c = (c .before .before .before .before .before .before .before .before .before .before .before .before .before .before .before .before .before .before .before .before .before .include-one .kept .1 .1 .1 .1 .1 .0) ∙ (c .before .before .before .before .before .before .before .before .before .before .before .before .before .before .before .before .before .before .before .before .before .before .before .before .before .before .before .before .before .before .before .before .loop .inv .5)
 
 include-all-same-length-14 : (t : ℕ) → include-all-lts.Need-same-length-14 (
   body-reads.Asked,
@@ -1887,14 +1996,14 @@ include-all-same-length-14 : (t : ℕ) → include-all-lts.Need-same-length-14 (
   token-at-reads.Learnt,
   include-one-below t,
   include-one.Post,
-  since-reads.Asked,
-  since-reads.Learnt,
-  is-sign-reads.Asked,
-  is-sign-reads.Learnt,
+  resumed-reads.Asked,
+  resumed-reads.Learnt,
   left-at-reads.Asked,
   left-at-reads.Learnt,
+  is-sign-reads.Asked,
+  is-sign-reads.Learnt,
 ) (include-all-at t) include-all.Post include-all-Inv-loop include-all-μ-loop
-include-all-same-length-14 t c = (c .before .before .before .before .before .before .before .before .before .before .before .before .before .before .before .before .before .before .before .before .include-one .kept .1 .1 .1 .1 .1 .1 .0) ∙ (c .before .before .before .before .before .before .before .before .before .before .before .before .before .before .before .before .before .before .before .before .before .before .before .before .before .before .before .before .before .before .before .loop .inv .6)
+include-all-same-length-14 t c = (c .before .before .before .before .before .before .before .before .before .before .before .before .before .before .before .before .before .before .before .before .before .include-one .kept .1 .1 .1 .1 .1 .1 .0) ∙ (c .before .before .before .before .before .before .before .before .before .before .before .before .before .before .before .before .before .before .before .before .before .before .before .before .before .before .before .before .before .before .before .before .loop .inv .6)
 
 include-all-same-length-15 : (t : ℕ) → include-all-lts.Need-same-length-15 (
   body-reads.Asked,
@@ -1909,14 +2018,14 @@ include-all-same-length-15 : (t : ℕ) → include-all-lts.Need-same-length-15 (
   token-at-reads.Learnt,
   include-one-below t,
   include-one.Post,
-  since-reads.Asked,
-  since-reads.Learnt,
-  is-sign-reads.Asked,
-  is-sign-reads.Learnt,
+  resumed-reads.Asked,
+  resumed-reads.Learnt,
   left-at-reads.Asked,
   left-at-reads.Learnt,
+  is-sign-reads.Asked,
+  is-sign-reads.Learnt,
 ) (include-all-at t) include-all.Post include-all-Inv-loop include-all-μ-loop
-include-all-same-length-15 t c = (c .before .before .before .before .before .before .before .before .before .before .before .before .before .before .before .before .before .before .before .before .include-one .kept .1 .1 .1 .1 .1 .1 .1 .0) ∙ (c .before .before .before .before .before .before .before .before .before .before .before .before .before .before .before .before .before .before .before .before .before .before .before .before .before .before .before .before .before .before .before .loop .inv .7)
+include-all-same-length-15 t c = (c .before .before .before .before .before .before .before .before .before .before .before .before .before .before .before .before .before .before .before .before .before .include-one .kept .1 .1 .1 .1 .1 .1 .1 .0) ∙ (c .before .before .before .before .before .before .before .before .before .before .before .before .before .before .before .before .before .before .before .before .before .before .before .before .before .before .before .before .before .before .before .before .loop .inv .7)
 
 include-all-same-length-16 : (t : ℕ) → include-all-lts.Need-same-length-16 (
   body-reads.Asked,
@@ -1931,14 +2040,14 @@ include-all-same-length-16 : (t : ℕ) → include-all-lts.Need-same-length-16 (
   token-at-reads.Learnt,
   include-one-below t,
   include-one.Post,
-  since-reads.Asked,
-  since-reads.Learnt,
-  is-sign-reads.Asked,
-  is-sign-reads.Learnt,
+  resumed-reads.Asked,
+  resumed-reads.Learnt,
   left-at-reads.Asked,
   left-at-reads.Learnt,
+  is-sign-reads.Asked,
+  is-sign-reads.Learnt,
 ) (include-all-at t) include-all.Post include-all-Inv-loop include-all-μ-loop
-include-all-same-length-16 t c = (c .before .before .before .before .before .before .before .before .before .before .before .before .before .before .before .before .before .before .before .before .include-one .kept .1 .1 .1 .1 .1 .1 .1 .1 .0) ∙ (c .before .before .before .before .before .before .before .before .before .before .before .before .before .before .before .before .before .before .before .before .before .before .before .before .before .before .before .before .before .before .before .loop .inv .8)
+include-all-same-length-16 t c = (c .before .before .before .before .before .before .before .before .before .before .before .before .before .before .before .before .before .before .before .before .before .include-one .kept .1 .1 .1 .1 .1 .1 .1 .1 .0) ∙ (c .before .before .before .before .before .before .before .before .before .before .before .before .before .before .before .before .before .before .before .before .before .before .before .before .before .before .before .before .before .before .before .before .loop .inv .8)
 
 include-all-returns-2 : (t : ℕ) → include-all-lts.Need-returns-2 (
   body-reads.Asked,
@@ -1953,14 +2062,14 @@ include-all-returns-2 : (t : ℕ) → include-all-lts.Need-returns-2 (
   token-at-reads.Learnt,
   include-one-below t,
   include-one.Post,
-  since-reads.Asked,
-  since-reads.Learnt,
-  is-sign-reads.Asked,
-  is-sign-reads.Learnt,
+  resumed-reads.Asked,
+  resumed-reads.Learnt,
   left-at-reads.Asked,
   left-at-reads.Learnt,
+  is-sign-reads.Asked,
+  is-sign-reads.Learnt,
 ) (include-all-at t) include-all.Post include-all-Inv-loop include-all-μ-loop
-include-all-returns-2 t c = search needs
+include-all-returns-2 t c = all-stopped _ _ _ _ _ _ _ _ _ _ _ _ _ _ _ (c .before .before .before .before .before .before .before .before .before .before .before .before .before .before .before .before .before .before .before .before .before .before .before .before .before .before .before .before .before .before .before .before .before .before .with-below .ensures) _ (c .before .before .before .before .before .before .before .before .before .before .before .before .before .before .before .before .before .before .before .before .before .before .before .before .before .before .before .before .before .before .before .before .before .before .before .before .before .part-here .ensures) _ (c .before .before .before .before .before .before .before .before .before .before .before .before .before .before .before .before .before .before .before .before .before .before .before .before .before .before .before .before .before .before .before .before .before .before .before .before .row-at .ensures) _ (c .before .before .before .before .before .before .before .before .before .before .before .before .before .before .before .before .before .before .before .before .before .before .before .before .before .before .before .before .before .before .before .before .before .before .before .before .before .before .before .body .ensures) _ _ _ _ _ _ _ _ _ _ _ _ (c .before .before .before .before .before .before .before .before .before .before .before .before .before .before .before .before .before .before .before .before .before .before .before .before .before .before .before .before .before .before .before .before .loop .inv .0) _ (c .before .before .before .before .before .before .before .before .before .before .before .before .before .before .before .before .before .before .before .before .before .before .before .before .before .before .before .before .before .before .token-at .ensures) _ _ _ _ _ _ _ _ _ (c .before .before .before .before .before .before .before .before .before .before .before .before .before .before .before .before .before .before .before .before .before .include-one .ensures) _ (c .before .before .before .resumed .ensures) _ _ _ (c .before .enum-told2 .given .1) (c .left-at2 .ensures)
 
 include-all-token-at-requires-2 : (t : ℕ) → include-all-lts.Need-token-at-requires-2 (
   body-reads.Asked,
@@ -1975,12 +2084,12 @@ include-all-token-at-requires-2 : (t : ℕ) → include-all-lts.Need-token-at-re
   token-at-reads.Learnt,
   include-one-below t,
   include-one.Post,
-  since-reads.Asked,
-  since-reads.Learnt,
-  is-sign-reads.Asked,
-  is-sign-reads.Learnt,
+  resumed-reads.Asked,
+  resumed-reads.Learnt,
   left-at-reads.Asked,
   left-at-reads.Learnt,
+  is-sign-reads.Asked,
+  is-sign-reads.Learnt,
 ) (include-all-at t) include-all.Post include-all-Inv-loop include-all-μ-loop
 include-all-token-at-requires-2 t c κs = search needs
 
@@ -1997,12 +2106,12 @@ include-all-slice-aggregate-is-sign : (t : ℕ) → include-all-lts.Need-slice-a
   token-at-reads.Learnt,
   include-one-below t,
   include-one.Post,
-  since-reads.Asked,
-  since-reads.Learnt,
-  is-sign-reads.Asked,
-  is-sign-reads.Learnt,
+  resumed-reads.Asked,
+  resumed-reads.Learnt,
   left-at-reads.Asked,
   left-at-reads.Learnt,
+  is-sign-reads.Asked,
+  is-sign-reads.Learnt,
 ) (include-all-at t) include-all.Post include-all-Inv-loop include-all-μ-loop
 include-all-slice-aggregate-is-sign t c = search needs
 
@@ -2019,12 +2128,12 @@ include-all-is-sign-requires : (t : ℕ) → include-all-lts.Need-is-sign-requir
   token-at-reads.Learnt,
   include-one-below t,
   include-one.Post,
-  since-reads.Asked,
-  since-reads.Learnt,
-  is-sign-reads.Asked,
-  is-sign-reads.Learnt,
+  resumed-reads.Asked,
+  resumed-reads.Learnt,
   left-at-reads.Asked,
   left-at-reads.Learnt,
+  is-sign-reads.Asked,
+  is-sign-reads.Learnt,
 ) (include-all-at t) include-all.Post include-all-Inv-loop include-all-μ-loop
 include-all-is-sign-requires t c κs = search needs
 
@@ -2041,12 +2150,12 @@ include-all-loop-less : (t : ℕ) → include-all-lts.Need-loop-less (
   token-at-reads.Learnt,
   include-one-below t,
   include-one.Post,
-  since-reads.Asked,
-  since-reads.Learnt,
-  is-sign-reads.Asked,
-  is-sign-reads.Learnt,
+  resumed-reads.Asked,
+  resumed-reads.Learnt,
   left-at-reads.Asked,
   left-at-reads.Learnt,
+  is-sign-reads.Asked,
+  is-sign-reads.Learnt,
 ) (include-all-at t) include-all.Post include-all-Inv-loop include-all-μ-loop
 include-all-loop-less t c = omega (arith, (c .before .before .before .before .before .before .before .before .before .before .before .before .before .before .before .before .before .before .before .before .before .before .before .before .before .before .before .before .before .before .before .before .before .before .before .loop-test .taken))
 
@@ -2063,16 +2172,16 @@ include-all-loop-again : (t : ℕ) → include-all-lts.Need-loop-again (
   token-at-reads.Learnt,
   include-one-below t,
   include-one.Post,
-  since-reads.Asked,
-  since-reads.Learnt,
-  is-sign-reads.Asked,
-  is-sign-reads.Learnt,
+  resumed-reads.Asked,
+  resumed-reads.Learnt,
   left-at-reads.Asked,
   left-at-reads.Learnt,
+  is-sign-reads.Asked,
+  is-sign-reads.Learnt,
 ) (include-all-at t) include-all.Post include-all-Inv-loop include-all-μ-loop
-include-all-loop-again t c = (omega (arith, (c .before .before .before .before .before .before .before .before .before .before .before .before .before .before .before .before .before .before .before .before .before .before .before .before .before .before .before .before .before .before .before .before .before .before .before .before .loop .inv .0), (c .before .before .before .before .before .before .before .before .before .before .before .before .before .before .before .before .before .before .before .before .before .before .before .before .before .before .before .before .before .before .before .before .before .before .before .loop-test .taken)), (c .before .before .before .before .before .before .before .before .before .before .before .before .before .before .before .before .before .before .before .before .before .before .before .before .before .include-one .kept .1 .0) ∙ (c .before .before .before .before .before .before .before .before .before .before .before .before .before .before .before .before .before .before .before .before .before .before .before .before .before .before .before .before .before .before .before .before .before .before .before .before .loop .inv .1), (c .before .before .before .before .before .before .before .before .before .before .before .before .before .before .before .before .before .before .before .before .before .before .before .before .before .include-one .kept .1 .1 .0) ∙ (c .before .before .before .before .before .before .before .before .before .before .before .before .before .before .before .before .before .before .before .before .before .before .before .before .before .before .before .before .before .before .before .before .before .before .before .before .loop .inv .2), (c .before .before .before .before .before .before .before .before .before .before .before .before .before .before .before .before .before .before .before .before .before .before .before .before .before .include-one .kept .1 .1 .1 .0) ∙ (c .before .before .before .before .before .before .before .before .before .before .before .before .before .before .before .before .before .before .before .before .before .before .before .before .before .before .before .before .before .before .before .before .before .before .before .before .loop .inv .3), (c .before .before .before .before .before .before .before .before .before .before .before .before .before .before .before .before .before .before .before .before .before .before .before .before .before .include-one .kept .1 .1 .1 .1 .0) ∙ (c .before .before .before .before .before .before .before .before .before .before .before .before .before .before .before .before .before .before .before .before .before .before .before .before .before .before .before .before .before .before .before .before .before .before .before .before .loop .inv .4), (c .before .before .before .before .before .before .before .before .before .before .before .before .before .before .before .before .before .before .before .before .before .before .before .before .before .include-one .kept .1 .1 .1 .1 .1 .0) ∙ (c .before .before .before .before .before .before .before .before .before .before .before .before .before .before .before .before .before .before .before .before .before .before .before .before .before .before .before .before .before .before .before .before .before .before .before .before .loop .inv .5), (c .before .before .before .before .before .before .before .before .before .before .before .before .before .before .before .before .before .before .before .before .before .before .before .before .before .include-one .kept .1 .1 .1 .1 .1 .1 .0) ∙ (c .before .before .before .before .before .before .before .before .before .before .before .before .before .before .before .before .before .before .before .before .before .before .before .before .before .before .before .before .before .before .before .before .before .before .before .before .loop .inv .6), (c .before .before .before .before .before .before .before .before .before .before .before .before .before .before .before .before .before .before .before .before .before .before .before .before .before .include-one .kept .1 .1 .1 .1 .1 .1 .1 .0) ∙ (c .before .before .before .before .before .before .before .before .before .before .before .before .before .before .before .before .before .before .before .before .before .before .before .before .before .before .before .before .before .before .before .before .before .before .before .before .loop .inv .7), (c .before .before .before .before .before .before .before .before .before .before .before .before .before .before .before .before .before .before .before .before .before .before .before .before .before .include-one .kept .1 .1 .1 .1 .1 .1 .1 .1 .0) ∙ (c .before .before .before .before .before .before .before .before .before .before .before .before .before .before .before .before .before .before .before .before .before .before .before .before .before .before .before .before .before .before .before .before .before .before .before .before .loop .inv .8))
+include-all-loop-again t c = (going-more _ _ _ _ _ _ _ _ _ _ _ _ _ _ _ _ _ (c .before .before .before .before .before .before .before .before .before .before .before .before .before .before .before .before .before .before .before .before .before .before .before .before .before .before .before .before .before .before .before .before .before .before .before .before .before .before .before .before .before .before .before .body .ensures) _ _ _ _ _ _ _ _ _ _ _ _ (c .before .before .before .before .before .before .before .before .before .before .before .before .before .before .before .before .before .before .before .before .before .before .before .before .before .before .before .before .before .before .before .before .before .before .before .before .loop .inv .0) _ (c .before .before .before .before .before .before .before .before .before .before .before .before .before .before .before .before .before .before .before .before .before .before .before .before .before .before .before .before .before .before .before .before .before .before .token-at .ensures) _ _ _ _ _ _ _ _ _ (c .before .before .before .before .before .before .before .before .before .before .before .before .before .before .before .before .before .before .before .before .before .before .before .before .before .include-one .ensures) _ (c .before .before .before .before .before .before .before .resumed .ensures) _ (c .before .before .before .before .before .e .given .1) _ (c .before .before .before .token-at2 .ensures) _ (c .before .is-sign .ensures) (c .if1 .taken), (c .before .before .before .before .before .before .before .before .before .before .before .before .before .before .before .before .before .before .before .before .before .before .before .before .before .include-one .kept .1 .0) ∙ (c .before .before .before .before .before .before .before .before .before .before .before .before .before .before .before .before .before .before .before .before .before .before .before .before .before .before .before .before .before .before .before .before .before .before .before .before .loop .inv .1), (c .before .before .before .before .before .before .before .before .before .before .before .before .before .before .before .before .before .before .before .before .before .before .before .before .before .include-one .kept .1 .1 .0) ∙ (c .before .before .before .before .before .before .before .before .before .before .before .before .before .before .before .before .before .before .before .before .before .before .before .before .before .before .before .before .before .before .before .before .before .before .before .before .loop .inv .2), (c .before .before .before .before .before .before .before .before .before .before .before .before .before .before .before .before .before .before .before .before .before .before .before .before .before .include-one .kept .1 .1 .1 .0) ∙ (c .before .before .before .before .before .before .before .before .before .before .before .before .before .before .before .before .before .before .before .before .before .before .before .before .before .before .before .before .before .before .before .before .before .before .before .before .loop .inv .3), (c .before .before .before .before .before .before .before .before .before .before .before .before .before .before .before .before .before .before .before .before .before .before .before .before .before .include-one .kept .1 .1 .1 .1 .0) ∙ (c .before .before .before .before .before .before .before .before .before .before .before .before .before .before .before .before .before .before .before .before .before .before .before .before .before .before .before .before .before .before .before .before .before .before .before .before .loop .inv .4), (c .before .before .before .before .before .before .before .before .before .before .before .before .before .before .before .before .before .before .before .before .before .before .before .before .before .include-one .kept .1 .1 .1 .1 .1 .0) ∙ (c .before .before .before .before .before .before .before .before .before .before .before .before .before .before .before .before .before .before .before .before .before .before .before .before .before .before .before .before .before .before .before .before .before .before .before .before .loop .inv .5), (c .before .before .before .before .before .before .before .before .before .before .before .before .before .before .before .before .before .before .before .before .before .before .before .before .before .include-one .kept .1 .1 .1 .1 .1 .1 .0) ∙ (c .before .before .before .before .before .before .before .before .before .before .before .before .before .before .before .before .before .before .before .before .before .before .before .before .before .before .before .before .before .before .before .before .before .before .before .before .loop .inv .6), (c .before .before .before .before .before .before .before .before .before .before .before .before .before .before .before .before .before .before .before .before .before .before .before .before .before .include-one .kept .1 .1 .1 .1 .1 .1 .1 .0) ∙ (c .before .before .before .before .before .before .before .before .before .before .before .before .before .before .before .before .before .before .before .before .before .before .before .before .before .before .before .before .before .before .before .before .before .before .before .before .loop .inv .7), (c .before .before .before .before .before .before .before .before .before .before .before .before .before .before .before .before .before .before .before .before .before .before .before .before .before .include-one .kept .1 .1 .1 .1 .1 .1 .1 .1 .0) ∙ (c .before .before .before .before .before .before .before .before .before .before .before .before .before .before .before .before .before .before .before .before .before .before .before .before .before .before .before .before .before .before .before .before .before .before .before .before .loop .inv .8))
 
-include-all-left-at-requires : (t : ℕ) → include-all-lts.Need-left-at-requires (
+include-all-left-at-requires-3 : (t : ℕ) → include-all-lts.Need-left-at-requires-3 (
   body-reads.Asked,
   body-reads.Learnt,
   part-here-reads.Asked,
@@ -2085,14 +2194,14 @@ include-all-left-at-requires : (t : ℕ) → include-all-lts.Need-left-at-requir
   token-at-reads.Learnt,
   include-one-below t,
   include-one.Post,
-  since-reads.Asked,
-  since-reads.Learnt,
-  is-sign-reads.Asked,
-  is-sign-reads.Learnt,
+  resumed-reads.Asked,
+  resumed-reads.Learnt,
   left-at-reads.Asked,
   left-at-reads.Learnt,
+  is-sign-reads.Asked,
+  is-sign-reads.Learnt,
 ) (include-all-at t) include-all.Post include-all-Inv-loop include-all-μ-loop
-include-all-left-at-requires t c κs = search needs
+include-all-left-at-requires-3 t c κs = search needs
 
 include-all-same-length-17 : (t : ℕ) → include-all-lts.Need-same-length-17 (
   body-reads.Asked,
@@ -2107,12 +2216,12 @@ include-all-same-length-17 : (t : ℕ) → include-all-lts.Need-same-length-17 (
   token-at-reads.Learnt,
   include-one-below t,
   include-one.Post,
-  since-reads.Asked,
-  since-reads.Learnt,
-  is-sign-reads.Asked,
-  is-sign-reads.Learnt,
+  resumed-reads.Asked,
+  resumed-reads.Learnt,
   left-at-reads.Asked,
   left-at-reads.Learnt,
+  is-sign-reads.Asked,
+  is-sign-reads.Learnt,
 ) (include-all-at t) include-all.Post include-all-Inv-loop include-all-μ-loop
 include-all-same-length-17 t c = (c .before .before .before .before .before .before .before .before .before .before .before .before .before .before .before .before .before .before .before .before .before .before .before .before .before .before .include-one .kept .1 .0) ∙ (c .before .before .before .before .before .before .before .before .before .before .before .before .before .before .before .before .before .before .before .before .before .before .before .before .before .before .before .before .before .before .before .before .before .before .before .before .before .loop .inv .1)
 
@@ -2129,12 +2238,12 @@ include-all-same-length-18 : (t : ℕ) → include-all-lts.Need-same-length-18 (
   token-at-reads.Learnt,
   include-one-below t,
   include-one.Post,
-  since-reads.Asked,
-  since-reads.Learnt,
-  is-sign-reads.Asked,
-  is-sign-reads.Learnt,
+  resumed-reads.Asked,
+  resumed-reads.Learnt,
   left-at-reads.Asked,
   left-at-reads.Learnt,
+  is-sign-reads.Asked,
+  is-sign-reads.Learnt,
 ) (include-all-at t) include-all.Post include-all-Inv-loop include-all-μ-loop
 include-all-same-length-18 t c = (c .before .before .before .before .before .before .before .before .before .before .before .before .before .before .before .before .before .before .before .before .before .before .before .before .before .before .include-one .kept .1 .1 .0) ∙ (c .before .before .before .before .before .before .before .before .before .before .before .before .before .before .before .before .before .before .before .before .before .before .before .before .before .before .before .before .before .before .before .before .before .before .before .before .before .loop .inv .2)
 
@@ -2151,12 +2260,12 @@ include-all-same-length-19 : (t : ℕ) → include-all-lts.Need-same-length-19 (
   token-at-reads.Learnt,
   include-one-below t,
   include-one.Post,
-  since-reads.Asked,
-  since-reads.Learnt,
-  is-sign-reads.Asked,
-  is-sign-reads.Learnt,
+  resumed-reads.Asked,
+  resumed-reads.Learnt,
   left-at-reads.Asked,
   left-at-reads.Learnt,
+  is-sign-reads.Asked,
+  is-sign-reads.Learnt,
 ) (include-all-at t) include-all.Post include-all-Inv-loop include-all-μ-loop
 include-all-same-length-19 t c = (c .before .before .before .before .before .before .before .before .before .before .before .before .before .before .before .before .before .before .before .before .before .before .before .before .before .before .include-one .kept .1 .1 .1 .0) ∙ (c .before .before .before .before .before .before .before .before .before .before .before .before .before .before .before .before .before .before .before .before .before .before .before .before .before .before .before .before .before .before .before .before .before .before .before .before .before .loop .inv .3)
 
@@ -2173,12 +2282,12 @@ include-all-same-length-20 : (t : ℕ) → include-all-lts.Need-same-length-20 (
   token-at-reads.Learnt,
   include-one-below t,
   include-one.Post,
-  since-reads.Asked,
-  since-reads.Learnt,
-  is-sign-reads.Asked,
-  is-sign-reads.Learnt,
+  resumed-reads.Asked,
+  resumed-reads.Learnt,
   left-at-reads.Asked,
   left-at-reads.Learnt,
+  is-sign-reads.Asked,
+  is-sign-reads.Learnt,
 ) (include-all-at t) include-all.Post include-all-Inv-loop include-all-μ-loop
 include-all-same-length-20 t c = (c .before .before .before .before .before .before .before .before .before .before .before .before .before .before .before .before .before .before .before .before .before .before .before .before .before .before .include-one .kept .1 .1 .1 .1 .0) ∙ (c .before .before .before .before .before .before .before .before .before .before .before .before .before .before .before .before .before .before .before .before .before .before .before .before .before .before .before .before .before .before .before .before .before .before .before .before .before .loop .inv .4)
 
@@ -2195,12 +2304,12 @@ include-all-same-length-21 : (t : ℕ) → include-all-lts.Need-same-length-21 (
   token-at-reads.Learnt,
   include-one-below t,
   include-one.Post,
-  since-reads.Asked,
-  since-reads.Learnt,
-  is-sign-reads.Asked,
-  is-sign-reads.Learnt,
+  resumed-reads.Asked,
+  resumed-reads.Learnt,
   left-at-reads.Asked,
   left-at-reads.Learnt,
+  is-sign-reads.Asked,
+  is-sign-reads.Learnt,
 ) (include-all-at t) include-all.Post include-all-Inv-loop include-all-μ-loop
 include-all-same-length-21 t c = (c .before .before .before .before .before .before .before .before .before .before .before .before .before .before .before .before .before .before .before .before .before .before .before .before .before .before .include-one .kept .1 .1 .1 .1 .1 .0) ∙ (c .before .before .before .before .before .before .before .before .before .before .before .before .before .before .before .before .before .before .before .before .before .before .before .before .before .before .before .before .before .before .before .before .before .before .before .before .before .loop .inv .5)
 
@@ -2217,12 +2326,12 @@ include-all-same-length-22 : (t : ℕ) → include-all-lts.Need-same-length-22 (
   token-at-reads.Learnt,
   include-one-below t,
   include-one.Post,
-  since-reads.Asked,
-  since-reads.Learnt,
-  is-sign-reads.Asked,
-  is-sign-reads.Learnt,
+  resumed-reads.Asked,
+  resumed-reads.Learnt,
   left-at-reads.Asked,
   left-at-reads.Learnt,
+  is-sign-reads.Asked,
+  is-sign-reads.Learnt,
 ) (include-all-at t) include-all.Post include-all-Inv-loop include-all-μ-loop
 include-all-same-length-22 t c = (c .before .before .before .before .before .before .before .before .before .before .before .before .before .before .before .before .before .before .before .before .before .before .before .before .before .before .include-one .kept .1 .1 .1 .1 .1 .1 .0) ∙ (c .before .before .before .before .before .before .before .before .before .before .before .before .before .before .before .before .before .before .before .before .before .before .before .before .before .before .before .before .before .before .before .before .before .before .before .before .before .loop .inv .6)
 
@@ -2239,12 +2348,12 @@ include-all-same-length-23 : (t : ℕ) → include-all-lts.Need-same-length-23 (
   token-at-reads.Learnt,
   include-one-below t,
   include-one.Post,
-  since-reads.Asked,
-  since-reads.Learnt,
-  is-sign-reads.Asked,
-  is-sign-reads.Learnt,
+  resumed-reads.Asked,
+  resumed-reads.Learnt,
   left-at-reads.Asked,
   left-at-reads.Learnt,
+  is-sign-reads.Asked,
+  is-sign-reads.Learnt,
 ) (include-all-at t) include-all.Post include-all-Inv-loop include-all-μ-loop
 include-all-same-length-23 t c = (c .before .before .before .before .before .before .before .before .before .before .before .before .before .before .before .before .before .before .before .before .before .before .before .before .before .before .include-one .kept .1 .1 .1 .1 .1 .1 .1 .0) ∙ (c .before .before .before .before .before .before .before .before .before .before .before .before .before .before .before .before .before .before .before .before .before .before .before .before .before .before .before .before .before .before .before .before .before .before .before .before .before .loop .inv .7)
 
@@ -2261,12 +2370,12 @@ include-all-same-length-24 : (t : ℕ) → include-all-lts.Need-same-length-24 (
   token-at-reads.Learnt,
   include-one-below t,
   include-one.Post,
-  since-reads.Asked,
-  since-reads.Learnt,
-  is-sign-reads.Asked,
-  is-sign-reads.Learnt,
+  resumed-reads.Asked,
+  resumed-reads.Learnt,
   left-at-reads.Asked,
   left-at-reads.Learnt,
+  is-sign-reads.Asked,
+  is-sign-reads.Learnt,
 ) (include-all-at t) include-all.Post include-all-Inv-loop include-all-μ-loop
 include-all-same-length-24 t c = (c .before .before .before .before .before .before .before .before .before .before .before .before .before .before .before .before .before .before .before .before .before .before .before .before .before .before .include-one .kept .1 .1 .1 .1 .1 .1 .1 .1 .0) ∙ (c .before .before .before .before .before .before .before .before .before .before .before .before .before .before .before .before .before .before .before .before .before .before .before .before .before .before .before .before .before .before .before .before .before .before .before .before .before .loop .inv .8)
 
@@ -2283,16 +2392,16 @@ include-all-returns-3 : (t : ℕ) → include-all-lts.Need-returns-3 (
   token-at-reads.Learnt,
   include-one-below t,
   include-one.Post,
-  since-reads.Asked,
-  since-reads.Learnt,
-  is-sign-reads.Asked,
-  is-sign-reads.Learnt,
+  resumed-reads.Asked,
+  resumed-reads.Learnt,
   left-at-reads.Asked,
   left-at-reads.Learnt,
+  is-sign-reads.Asked,
+  is-sign-reads.Learnt,
 ) (include-all-at t) include-all.Post include-all-Inv-loop include-all-μ-loop
-include-all-returns-3 t c = search needs
+include-all-returns-3 t c = all-ran _ _ _ _ _ _ _ _ _ _ _ _ _ _ _ (c .before .before .before .before .before .before .before .before .before .before .before .before .before .before .before .before .before .before .before .before .before .before .before .before .before .before .before .before .before .before .before .before .before .before .before .before .before .before .before .with-below .ensures) _ (c .before .before .before .before .before .before .before .before .before .before .before .before .before .before .before .before .before .before .before .before .before .before .before .before .before .before .before .before .before .before .before .before .before .before .before .before .before .before .before .before .before .before .part-here .ensures) _ (c .before .before .before .before .before .before .before .before .before .before .before .before .before .before .before .before .before .before .before .before .before .before .before .before .before .before .before .before .before .before .before .before .before .before .before .before .before .before .before .before .before .row-at .ensures) _ (c .before .before .before .before .before .before .before .before .before .before .before .before .before .before .before .before .before .before .before .before .before .before .before .before .before .before .before .before .before .before .before .before .before .before .before .before .before .before .before .before .before .before .before .before .body .ensures) _ _ _ _ _ _ _ _ _ _ _ _ (c .before .before .before .before .before .before .before .before .before .before .before .before .before .before .before .before .before .before .before .before .before .before .before .before .before .before .before .before .before .before .before .before .before .before .before .before .before .loop .inv .0) _ (c .before .before .before .before .before .before .before .before .before .before .before .before .before .before .before .before .before .before .before .before .before .before .before .before .before .before .before .before .before .before .before .before .before .before .before .token-at .ensures) _ _ _ _ _ _ _ _ _ (c .before .before .before .before .before .before .before .before .before .before .before .before .before .before .before .before .before .before .before .before .before .before .before .before .before .before .include-one .ensures) _ (c .before .before .before .before .before .before .before .before .resumed .ensures) _ (c .before .before .before .before .before .before .e .given .1) _ (c .before .before .before .before .token-at2 .ensures) _ (c .before .before .is-sign .ensures) (c .before .if1 .left) _ (c .left-at3 .ensures)
 
-include-all-left-at-requires-2 : (t : ℕ) → include-all-lts.Need-left-at-requires-2 (
+include-all-left-at-requires-4 : (t : ℕ) → include-all-lts.Need-left-at-requires-4 (
   body-reads.Asked,
   body-reads.Learnt,
   part-here-reads.Asked,
@@ -2305,14 +2414,14 @@ include-all-left-at-requires-2 : (t : ℕ) → include-all-lts.Need-left-at-requ
   token-at-reads.Learnt,
   include-one-below t,
   include-one.Post,
-  since-reads.Asked,
-  since-reads.Learnt,
-  is-sign-reads.Asked,
-  is-sign-reads.Learnt,
+  resumed-reads.Asked,
+  resumed-reads.Learnt,
   left-at-reads.Asked,
   left-at-reads.Learnt,
+  is-sign-reads.Asked,
+  is-sign-reads.Learnt,
 ) (include-all-at t) include-all.Post include-all-Inv-loop include-all-μ-loop
-include-all-left-at-requires-2 t c κs = search needs
+include-all-left-at-requires-4 t c κs = search needs
 
 include-all-same-length-25 : (t : ℕ) → include-all-lts.Need-same-length-25 (
   body-reads.Asked,
@@ -2327,14 +2436,14 @@ include-all-same-length-25 : (t : ℕ) → include-all-lts.Need-same-length-25 (
   token-at-reads.Learnt,
   include-one-below t,
   include-one.Post,
-  since-reads.Asked,
-  since-reads.Learnt,
-  is-sign-reads.Asked,
-  is-sign-reads.Learnt,
+  resumed-reads.Asked,
+  resumed-reads.Learnt,
   left-at-reads.Asked,
   left-at-reads.Learnt,
+  is-sign-reads.Asked,
+  is-sign-reads.Learnt,
 ) (include-all-at t) include-all.Post include-all-Inv-loop include-all-μ-loop
-include-all-same-length-25 t c = search needs
+include-all-same-length-25 t c = (c .before .before .loop .inv .1)
 
 include-all-same-length-26 : (t : ℕ) → include-all-lts.Need-same-length-26 (
   body-reads.Asked,
@@ -2349,14 +2458,14 @@ include-all-same-length-26 : (t : ℕ) → include-all-lts.Need-same-length-26 (
   token-at-reads.Learnt,
   include-one-below t,
   include-one.Post,
-  since-reads.Asked,
-  since-reads.Learnt,
-  is-sign-reads.Asked,
-  is-sign-reads.Learnt,
+  resumed-reads.Asked,
+  resumed-reads.Learnt,
   left-at-reads.Asked,
   left-at-reads.Learnt,
+  is-sign-reads.Asked,
+  is-sign-reads.Learnt,
 ) (include-all-at t) include-all.Post include-all-Inv-loop include-all-μ-loop
-include-all-same-length-26 t c = search needs
+include-all-same-length-26 t c = (c .before .before .loop .inv .2)
 
 include-all-same-length-27 : (t : ℕ) → include-all-lts.Need-same-length-27 (
   body-reads.Asked,
@@ -2371,14 +2480,14 @@ include-all-same-length-27 : (t : ℕ) → include-all-lts.Need-same-length-27 (
   token-at-reads.Learnt,
   include-one-below t,
   include-one.Post,
-  since-reads.Asked,
-  since-reads.Learnt,
-  is-sign-reads.Asked,
-  is-sign-reads.Learnt,
+  resumed-reads.Asked,
+  resumed-reads.Learnt,
   left-at-reads.Asked,
   left-at-reads.Learnt,
+  is-sign-reads.Asked,
+  is-sign-reads.Learnt,
 ) (include-all-at t) include-all.Post include-all-Inv-loop include-all-μ-loop
-include-all-same-length-27 t c = search needs
+include-all-same-length-27 t c = (c .before .before .loop .inv .3)
 
 include-all-same-length-28 : (t : ℕ) → include-all-lts.Need-same-length-28 (
   body-reads.Asked,
@@ -2393,14 +2502,14 @@ include-all-same-length-28 : (t : ℕ) → include-all-lts.Need-same-length-28 (
   token-at-reads.Learnt,
   include-one-below t,
   include-one.Post,
-  since-reads.Asked,
-  since-reads.Learnt,
-  is-sign-reads.Asked,
-  is-sign-reads.Learnt,
+  resumed-reads.Asked,
+  resumed-reads.Learnt,
   left-at-reads.Asked,
   left-at-reads.Learnt,
+  is-sign-reads.Asked,
+  is-sign-reads.Learnt,
 ) (include-all-at t) include-all.Post include-all-Inv-loop include-all-μ-loop
-include-all-same-length-28 t c = search needs
+include-all-same-length-28 t c = (c .before .before .loop .inv .4)
 
 include-all-same-length-29 : (t : ℕ) → include-all-lts.Need-same-length-29 (
   body-reads.Asked,
@@ -2415,14 +2524,14 @@ include-all-same-length-29 : (t : ℕ) → include-all-lts.Need-same-length-29 (
   token-at-reads.Learnt,
   include-one-below t,
   include-one.Post,
-  since-reads.Asked,
-  since-reads.Learnt,
-  is-sign-reads.Asked,
-  is-sign-reads.Learnt,
+  resumed-reads.Asked,
+  resumed-reads.Learnt,
   left-at-reads.Asked,
   left-at-reads.Learnt,
+  is-sign-reads.Asked,
+  is-sign-reads.Learnt,
 ) (include-all-at t) include-all.Post include-all-Inv-loop include-all-μ-loop
-include-all-same-length-29 t c = search needs
+include-all-same-length-29 t c = (c .before .before .loop .inv .5)
 
 include-all-same-length-30 : (t : ℕ) → include-all-lts.Need-same-length-30 (
   body-reads.Asked,
@@ -2437,14 +2546,14 @@ include-all-same-length-30 : (t : ℕ) → include-all-lts.Need-same-length-30 (
   token-at-reads.Learnt,
   include-one-below t,
   include-one.Post,
-  since-reads.Asked,
-  since-reads.Learnt,
-  is-sign-reads.Asked,
-  is-sign-reads.Learnt,
+  resumed-reads.Asked,
+  resumed-reads.Learnt,
   left-at-reads.Asked,
   left-at-reads.Learnt,
+  is-sign-reads.Asked,
+  is-sign-reads.Learnt,
 ) (include-all-at t) include-all.Post include-all-Inv-loop include-all-μ-loop
-include-all-same-length-30 t c = search needs
+include-all-same-length-30 t c = (c .before .before .loop .inv .6)
 
 include-all-same-length-31 : (t : ℕ) → include-all-lts.Need-same-length-31 (
   body-reads.Asked,
@@ -2459,14 +2568,14 @@ include-all-same-length-31 : (t : ℕ) → include-all-lts.Need-same-length-31 (
   token-at-reads.Learnt,
   include-one-below t,
   include-one.Post,
-  since-reads.Asked,
-  since-reads.Learnt,
-  is-sign-reads.Asked,
-  is-sign-reads.Learnt,
+  resumed-reads.Asked,
+  resumed-reads.Learnt,
   left-at-reads.Asked,
   left-at-reads.Learnt,
+  is-sign-reads.Asked,
+  is-sign-reads.Learnt,
 ) (include-all-at t) include-all.Post include-all-Inv-loop include-all-μ-loop
-include-all-same-length-31 t c = search needs
+include-all-same-length-31 t c = (c .before .before .loop .inv .7)
 
 include-all-same-length-32 : (t : ℕ) → include-all-lts.Need-same-length-32 (
   body-reads.Asked,
@@ -2481,14 +2590,14 @@ include-all-same-length-32 : (t : ℕ) → include-all-lts.Need-same-length-32 (
   token-at-reads.Learnt,
   include-one-below t,
   include-one.Post,
-  since-reads.Asked,
-  since-reads.Learnt,
-  is-sign-reads.Asked,
-  is-sign-reads.Learnt,
+  resumed-reads.Asked,
+  resumed-reads.Learnt,
   left-at-reads.Asked,
   left-at-reads.Learnt,
+  is-sign-reads.Asked,
+  is-sign-reads.Learnt,
 ) (include-all-at t) include-all.Post include-all-Inv-loop include-all-μ-loop
-include-all-same-length-32 t c = search needs
+include-all-same-length-32 t c = (c .before .before .loop .inv .8)
 
 include-all-returns-4 : (t : ℕ) → include-all-lts.Need-returns-4 (
   body-reads.Asked,
@@ -2503,14 +2612,14 @@ include-all-returns-4 : (t : ℕ) → include-all-lts.Need-returns-4 (
   token-at-reads.Learnt,
   include-one-below t,
   include-one.Post,
-  since-reads.Asked,
-  since-reads.Learnt,
-  is-sign-reads.Asked,
-  is-sign-reads.Learnt,
+  resumed-reads.Asked,
+  resumed-reads.Learnt,
   left-at-reads.Asked,
   left-at-reads.Learnt,
+  is-sign-reads.Asked,
+  is-sign-reads.Learnt,
 ) (include-all-at t) include-all.Post include-all-Inv-loop include-all-μ-loop
-include-all-returns-4 t c = search needs
+include-all-returns-4 t c = all-turned _ _ _ _ _ _ _ _ _ _ _ _ _ _ _ (c .before .before .before .before .with-below .ensures) _ (c .before .before .before .before .before .before .before .part-here .ensures) _ (c .before .before .before .before .before .before .row-at .ensures) _ _ _ _ _ _ _ _ _ _ _ _ (c .before .before .loop .inv .0) (c .before .loop-test .left) _
 
 include-one-member-named-requires : (t : ℕ) → include-one-lts.Need-member-named-requires (
   member-named-reads.Asked,
@@ -2622,7 +2731,7 @@ include-one-returns : (t : ℕ) → include-one-lts.Need-returns (
   enter-and-run-below t,
   enter-and-run.Post,
 ) (include-one-at t) include-one.Post
-include-one-returns t c = search needs
+include-one-returns t c = include-deep _ _ _ _ _ _ _ _ _ _ _ _ _ _ _ _ (c .before .before .before .before .before .before .member-named .ensures) _ _ _ (c .before .before .before .before .found .given .1) (c .before .before .if1 .taken) (c .before .stopped2 .ensures) (c .left-at2 .ensures)
 
 include-one-in-member-requires : (t : ℕ) → include-one-lts.Need-in-member-requires (
   member-named-reads.Asked,
@@ -2664,7 +2773,7 @@ include-one-returns-2 : (t : ℕ) → include-one-lts.Need-returns-2 (
   enter-and-run-below t,
   enter-and-run.Post,
 ) (include-one-at t) include-one.Post
-include-one-returns-2 t c = search needs
+include-one-returns-2 t c = include-unknown _ _ _ _ _ _ _ _ _ _ _ _ _ _ _ _ (c .before .before .before .before .member-named .ensures) _ _ (c .before .before .enum-told .given .1) (c .before .stopped .ensures) (c .left-at .ensures)
 
 include-one-same-length : (t : ℕ) → include-one-lts.Need-same-length (
   member-named-reads.Asked,
@@ -2790,10 +2899,10 @@ include-one-returns-3 : (t : ℕ) → include-one-lts.Need-returns-3 (
   enter-and-run-below t,
   enter-and-run.Post,
 ) (include-one-at t) include-one.Post
-include-one-returns-3 t c = search needs
+include-one-returns-3 t c = include-enters _ _ _ _ _ _ _ _ _ _ _ _ _ _ _ _ (c .before .before .before .before .before .before .before .before .before .before .before .before .before .before .before .before .before .before .before .before .before .before .before .before .before .before .before .before .before .before .member-named .ensures) _ _ _ _ _ _ _ _ _ _ _ (c .before .before .before .before .before .before .before .before .before .before .before .before .before .before .before .before .before .before .before .before .before .before .before .before .before .before .before .before .found .given .1) (c .before .before .before .before .before .before .before .before .before .before .before .before .before .before .before .before .before .before .before .before .before .before .before .before .before .before .if1 .left) (c .before .before .before .before .before .before .before .before .before .before .before .before .before .before .before .before .before .in-member .ensures) (c .before .before .before .before .before .before .before .before .before .before .before .before .before .before .before .before .enter-and-run .ensures)
 
 abbrev run-rows-Inv-loop : run-rows-lts.InvT-loop
-run-rows-Inv-loop deck rows₀ names₀ cells₀ low₀ high₀ work₀ text₀ list₀ below left s next₀ fs₀ here₀ g₀ turns₀ rows names cells low high work text list next fs here g turns = (turns ≤ turns₀) × (length rows ≡ length rows₀) × (length names ≡ length names₀) × (length cells ≡ length cells₀) × (length low ≡ length low₀) × (length high ≡ length high₀) × (length work ≡ length work₀) × (length text ≡ length text₀) × (length list ≡ length list₀)
+run-rows-Inv-loop deck rows₀ names₀ cells₀ low₀ high₀ work₀ text₀ list₀ below left s next₀ fs₀ here₀ g₀ turns₀ rows names cells low high work text list next fs here g turns = Runs deck s rows₀ names₀ cells₀ low₀ high₀ work₀ text₀ list₀ next₀ below here₀ left g₀ turns next fs here g rows names cells low high work text list × (length rows ≡ length rows₀) × (length names ≡ length names₀) × (length cells ≡ length cells₀) × (length low ≡ length low₀) × (length high ≡ length high₀) × (length work ≡ length work₀) × (length text ≡ length text₀) × (length list ≡ length list₀)
 
 abbrev run-rows-μ-loop : run-rows-lts.MeasureT-loop
 run-rows-μ-loop deck rows₀ names₀ cells₀ low₀ high₀ work₀ text₀ list₀ below left s next₀ fs₀ here₀ g₀ turns₀ rows names cells low high work text list next fs here g turns = turns
@@ -2876,7 +2985,7 @@ run-rows-loop-holds : (t : ℕ) → run-rows-lts.Need-loop-holds (
   settle-reads.Asked,
   settle-reads.Learnt,
 ) (run-rows-at t) run-rows.Post run-rows-Inv-loop run-rows-μ-loop
-run-rows-loop-holds t c = search needs
+run-rows-loop-holds t c = (runs-start _ _ _ _ _ _ _ _ _ _ _ _ _ _ _ (c .before .before .before .body .ensures) _ (c .before .before .no-frames .ensures) _ (c .turns-left .ensures), refl, refl, refl, refl, refl, refl, refl, refl)
 
 run-rows-sub-turns : (t : ℕ) → run-rows-lts.Need-sub-turns (
   body-reads.Asked,
@@ -2896,7 +3005,7 @@ run-rows-sub-turns : (t : ℕ) → run-rows-lts.Need-sub-turns (
   settle-reads.Asked,
   settle-reads.Learnt,
 ) (run-rows-at t) run-rows.Post run-rows-Inv-loop run-rows-μ-loop
-run-rows-sub-turns t c = search needs
+run-rows-sub-turns t c = omega (arith, (c .loop-test .taken))
 
 run-rows-is-over-requires : (t : ℕ) → run-rows-lts.Need-is-over-requires (
   body-reads.Asked,
@@ -2956,7 +3065,7 @@ run-rows-same-length : (t : ℕ) → run-rows-lts.Need-same-length (
   settle-reads.Asked,
   settle-reads.Learnt,
 ) (run-rows-at t) run-rows.Post run-rows-Inv-loop run-rows-μ-loop
-run-rows-same-length t c = search needs
+run-rows-same-length t c = (c .before .before .before .before .loop .inv .1)
 
 run-rows-same-length-2 : (t : ℕ) → run-rows-lts.Need-same-length-2 (
   body-reads.Asked,
@@ -2976,7 +3085,7 @@ run-rows-same-length-2 : (t : ℕ) → run-rows-lts.Need-same-length-2 (
   settle-reads.Asked,
   settle-reads.Learnt,
 ) (run-rows-at t) run-rows.Post run-rows-Inv-loop run-rows-μ-loop
-run-rows-same-length-2 t c = search needs
+run-rows-same-length-2 t c = (c .before .before .before .before .loop .inv .2)
 
 run-rows-same-length-3 : (t : ℕ) → run-rows-lts.Need-same-length-3 (
   body-reads.Asked,
@@ -2996,7 +3105,7 @@ run-rows-same-length-3 : (t : ℕ) → run-rows-lts.Need-same-length-3 (
   settle-reads.Asked,
   settle-reads.Learnt,
 ) (run-rows-at t) run-rows.Post run-rows-Inv-loop run-rows-μ-loop
-run-rows-same-length-3 t c = search needs
+run-rows-same-length-3 t c = (c .before .before .before .before .loop .inv .3)
 
 run-rows-same-length-4 : (t : ℕ) → run-rows-lts.Need-same-length-4 (
   body-reads.Asked,
@@ -3016,7 +3125,7 @@ run-rows-same-length-4 : (t : ℕ) → run-rows-lts.Need-same-length-4 (
   settle-reads.Asked,
   settle-reads.Learnt,
 ) (run-rows-at t) run-rows.Post run-rows-Inv-loop run-rows-μ-loop
-run-rows-same-length-4 t c = search needs
+run-rows-same-length-4 t c = (c .before .before .before .before .loop .inv .4)
 
 run-rows-same-length-5 : (t : ℕ) → run-rows-lts.Need-same-length-5 (
   body-reads.Asked,
@@ -3036,7 +3145,7 @@ run-rows-same-length-5 : (t : ℕ) → run-rows-lts.Need-same-length-5 (
   settle-reads.Asked,
   settle-reads.Learnt,
 ) (run-rows-at t) run-rows.Post run-rows-Inv-loop run-rows-μ-loop
-run-rows-same-length-5 t c = search needs
+run-rows-same-length-5 t c = (c .before .before .before .before .loop .inv .5)
 
 run-rows-same-length-6 : (t : ℕ) → run-rows-lts.Need-same-length-6 (
   body-reads.Asked,
@@ -3056,7 +3165,7 @@ run-rows-same-length-6 : (t : ℕ) → run-rows-lts.Need-same-length-6 (
   settle-reads.Asked,
   settle-reads.Learnt,
 ) (run-rows-at t) run-rows.Post run-rows-Inv-loop run-rows-μ-loop
-run-rows-same-length-6 t c = search needs
+run-rows-same-length-6 t c = (c .before .before .before .before .loop .inv .6)
 
 run-rows-same-length-7 : (t : ℕ) → run-rows-lts.Need-same-length-7 (
   body-reads.Asked,
@@ -3076,7 +3185,7 @@ run-rows-same-length-7 : (t : ℕ) → run-rows-lts.Need-same-length-7 (
   settle-reads.Asked,
   settle-reads.Learnt,
 ) (run-rows-at t) run-rows.Post run-rows-Inv-loop run-rows-μ-loop
-run-rows-same-length-7 t c = search needs
+run-rows-same-length-7 t c = (c .before .before .before .before .loop .inv .7)
 
 run-rows-same-length-8 : (t : ℕ) → run-rows-lts.Need-same-length-8 (
   body-reads.Asked,
@@ -3096,7 +3205,7 @@ run-rows-same-length-8 : (t : ℕ) → run-rows-lts.Need-same-length-8 (
   settle-reads.Asked,
   settle-reads.Learnt,
 ) (run-rows-at t) run-rows.Post run-rows-Inv-loop run-rows-μ-loop
-run-rows-same-length-8 t c = search needs
+run-rows-same-length-8 t c = (c .before .before .before .before .loop .inv .8)
 
 run-rows-returns : (t : ℕ) → run-rows-lts.Need-returns (
   body-reads.Asked,
@@ -3116,7 +3225,7 @@ run-rows-returns : (t : ℕ) → run-rows-lts.Need-returns (
   settle-reads.Asked,
   settle-reads.Learnt,
 ) (run-rows-at t) run-rows.Post run-rows-Inv-loop run-rows-μ-loop
-run-rows-returns t c = search needs
+run-rows-returns t c = runs-over _ _ _ _ _ _ _ _ _ _ _ _ _ _ _ _ _ _ _ _ _ _ _ _ _ _ _ _ (c .before .before .before .before .loop .inv .0) _ (c .before .before .is-over .ensures) (c .before .if1 .taken) _ (c .left-at .ensures)
 
 run-rows-turn-requires : (t : ℕ) → run-rows-lts.Need-turn-requires (
   body-reads.Asked,
@@ -3236,7 +3345,7 @@ run-rows-loop-again : (t : ℕ) → run-rows-lts.Need-loop-again (
   settle-reads.Asked,
   settle-reads.Learnt,
 ) (run-rows-at t) run-rows.Post run-rows-Inv-loop run-rows-μ-loop
-run-rows-loop-again t c = (omega (arith, (c .before .before .before .before .before .before .before .before .before .before .before .before .before .before .before .before .before .before .before .before .before .before .before .before .before .before .before .before .before .before .before .before .before .before .before .before .before .before .before .before .before .before .before .before .before .before .before .before .before .before .before .before .before .before .before .before .loop .inv .0), (c .before .before .before .before .before .before .before .before .before .before .before .before .before .before .before .before .before .before .before .before .before .before .before .before .before .before .before .before .before .before .before .before .before .before .before .before .before .before .before .before .before .before .before .before .before .before .before .before .before .before .before .before .before .before .before .loop-test .taken)), (c .before .before .before .before .before .before .before .before .before .before .before .before .before .before .before .before .before .before .before .before .before .before .before .before .before .before .before .before .before .before .before .before .before .before .before .before .before .before .before .before .before .before .before .before .turn .kept .1 .1 .0) ∙ (c .before .before .before .before .before .before .before .before .before .before .before .before .before .before .before .before .before .before .before .before .before .before .before .before .before .before .before .before .before .before .before .before .before .before .before .before .before .before .before .before .before .before .before .before .before .before .before .before .before .before .before .before .before .before .before .before .loop .inv .1), (c .before .before .before .before .before .before .before .before .before .before .before .before .before .before .before .before .before .before .before .before .before .before .before .before .before .before .before .before .before .before .before .before .before .before .before .before .before .before .before .before .before .before .before .before .turn .kept .1 .1 .1 .0) ∙ (c .before .before .before .before .before .before .before .before .before .before .before .before .before .before .before .before .before .before .before .before .before .before .before .before .before .before .before .before .before .before .before .before .before .before .before .before .before .before .before .before .before .before .before .before .before .before .before .before .before .before .before .before .before .before .before .before .loop .inv .2), (c .before .before .before .before .before .before .before .before .before .before .before .before .before .before .before .settle .kept .1 .1 .1 .1 .0) ∙ (c .before .before .before .before .before .before .before .before .before .before .before .before .before .before .before .before .before .before .before .before .before .before .before .before .before .before .before .before .before .before .before .before .before .before .before .before .before .before .before .before .before .before .before .before .turn .kept .1 .1 .1 .1 .0) ∙ (c .before .before .before .before .before .before .before .before .before .before .before .before .before .before .before .before .before .before .before .before .before .before .before .before .before .before .before .before .before .before .before .before .before .before .before .before .before .before .before .before .before .before .before .before .before .before .before .before .before .before .before .before .before .before .before .before .loop .inv .3), (c .before .before .before .before .before .before .before .before .before .before .before .before .before .before .before .settle .kept .1 .1 .1 .1 .1 .0) ∙ (c .before .before .before .before .before .before .before .before .before .before .before .before .before .before .before .before .before .before .before .before .before .before .before .before .before .before .before .before .before .before .before .before .before .before .before .before .before .before .before .before .before .before .before .before .turn .kept .1 .1 .1 .1 .1 .0) ∙ (c .before .before .before .before .before .before .before .before .before .before .before .before .before .before .before .before .before .before .before .before .before .before .before .before .before .before .before .before .before .before .before .before .before .before .before .before .before .before .before .before .before .before .before .before .before .before .before .before .before .before .before .before .before .before .before .before .loop .inv .4), (c .before .before .before .before .before .before .before .before .before .before .before .before .before .before .before .settle .kept .1 .1 .1 .1 .1 .1 .0) ∙ (c .before .before .before .before .before .before .before .before .before .before .before .before .before .before .before .before .before .before .before .before .before .before .before .before .before .before .before .before .before .before .before .before .before .before .before .before .before .before .before .before .before .before .before .before .turn .kept .1 .1 .1 .1 .1 .1 .0) ∙ (c .before .before .before .before .before .before .before .before .before .before .before .before .before .before .before .before .before .before .before .before .before .before .before .before .before .before .before .before .before .before .before .before .before .before .before .before .before .before .before .before .before .before .before .before .before .before .before .before .before .before .before .before .before .before .before .before .loop .inv .5), (c .before .before .before .before .before .before .before .before .before .before .before .before .before .before .before .settle .kept .1 .1 .1 .1 .1 .1 .1 .0) ∙ (c .before .before .before .before .before .before .before .before .before .before .before .before .before .before .before .before .before .before .before .before .before .before .before .before .before .before .before .before .before .before .before .before .before .before .before .before .before .before .before .before .before .before .before .before .turn .kept .1 .1 .1 .1 .1 .1 .1 .0) ∙ (c .before .before .before .before .before .before .before .before .before .before .before .before .before .before .before .before .before .before .before .before .before .before .before .before .before .before .before .before .before .before .before .before .before .before .before .before .before .before .before .before .before .before .before .before .before .before .before .before .before .before .before .before .before .before .before .before .loop .inv .6), (c .before .before .before .before .before .before .before .before .before .before .before .before .before .before .before .settle .kept .1 .1 .1 .1 .1 .1 .1 .1 .0) ∙ (c .before .before .before .before .before .before .before .before .before .before .before .before .before .before .before .before .before .before .before .before .before .before .before .before .before .before .before .before .before .before .before .before .before .before .before .before .before .before .before .before .before .before .before .before .turn .kept .1 .1 .1 .1 .1 .1 .1 .1 .0) ∙ (c .before .before .before .before .before .before .before .before .before .before .before .before .before .before .before .before .before .before .before .before .before .before .before .before .before .before .before .before .before .before .before .before .before .before .before .before .before .before .before .before .before .before .before .before .before .before .before .before .before .before .before .before .before .before .before .before .loop .inv .7), (c .before .before .before .before .before .before .before .before .before .before .before .before .before .before .before .settle .kept .1 .1 .1 .1 .1 .1 .1 .1 .1 .0) ∙ (c .before .before .before .before .before .before .before .before .before .before .before .before .before .before .before .before .before .before .before .before .before .before .before .before .before .before .before .before .before .before .before .before .before .before .before .before .before .before .before .before .before .before .before .before .turn .kept .1 .1 .1 .1 .1 .1 .1 .1 .1 .0) ∙ (c .before .before .before .before .before .before .before .before .before .before .before .before .before .before .before .before .before .before .before .before .before .before .before .before .before .before .before .before .before .before .before .before .before .before .before .before .before .before .before .before .before .before .before .before .before .before .before .before .before .before .before .before .before .before .before .before .loop .inv .8))
+run-rows-loop-again t c = (runs-more _ _ _ _ _ _ _ _ _ _ _ _ _ _ _ _ _ _ _ _ _ _ _ _ _ _ _ _ (c .before .before .before .before .before .before .before .before .before .before .before .before .before .before .before .before .before .before .before .before .before .before .before .before .before .before .before .before .before .before .before .before .before .before .before .before .before .before .before .before .before .before .before .before .before .before .before .before .before .before .before .before .before .before .before .before .loop .inv .0) _ (c .before .before .before .before .before .before .before .before .before .before .before .before .before .before .before .before .before .before .before .before .before .before .before .before .before .before .before .before .before .before .before .before .before .before .before .before .before .before .before .before .before .before .before .before .before .before .before .before .before .before .before .before .before .before .is-over .ensures) (c .before .before .before .before .before .before .before .before .before .before .before .before .before .before .before .before .before .before .before .before .before .before .before .before .before .before .before .before .before .before .before .before .before .before .before .before .before .before .before .before .before .before .before .before .before .before .before .before .before .before .before .before .before .if1 .left) _ _ _ _ _ _ _ _ _ (c .before .before .before .before .before .before .before .before .before .before .before .before .before .before .before .before .before .before .before .before .before .before .before .before .before .before .before .before .before .before .before .before .before .before .before .before .before .before .before .before .before .before .before .before .turn .ensures) _ (c .before .before .before .before .before .before .before .before .before .before .before .before .before .before .before .before .before .before .before .before .before .before .before .before .before .before .since .ensures) _ _ _ _ _ _ _ (c .before .before .before .before .before .before .before .before .before .before .before .before .before .before .before .settle .ensures) _ _ (c .before .a .given .1), (c .before .before .before .before .before .before .before .before .before .before .before .before .before .before .before .before .before .before .before .before .before .before .before .before .before .before .before .before .before .before .before .before .before .before .before .before .before .before .before .before .before .before .before .before .turn .kept .1 .1 .0) ∙ (c .before .before .before .before .before .before .before .before .before .before .before .before .before .before .before .before .before .before .before .before .before .before .before .before .before .before .before .before .before .before .before .before .before .before .before .before .before .before .before .before .before .before .before .before .before .before .before .before .before .before .before .before .before .before .before .before .loop .inv .1), (c .before .before .before .before .before .before .before .before .before .before .before .before .before .before .before .before .before .before .before .before .before .before .before .before .before .before .before .before .before .before .before .before .before .before .before .before .before .before .before .before .before .before .before .before .turn .kept .1 .1 .1 .0) ∙ (c .before .before .before .before .before .before .before .before .before .before .before .before .before .before .before .before .before .before .before .before .before .before .before .before .before .before .before .before .before .before .before .before .before .before .before .before .before .before .before .before .before .before .before .before .before .before .before .before .before .before .before .before .before .before .before .before .loop .inv .2), (c .before .before .before .before .before .before .before .before .before .before .before .before .before .before .before .settle .kept .1 .1 .1 .1 .0) ∙ (c .before .before .before .before .before .before .before .before .before .before .before .before .before .before .before .before .before .before .before .before .before .before .before .before .before .before .before .before .before .before .before .before .before .before .before .before .before .before .before .before .before .before .before .before .turn .kept .1 .1 .1 .1 .0) ∙ (c .before .before .before .before .before .before .before .before .before .before .before .before .before .before .before .before .before .before .before .before .before .before .before .before .before .before .before .before .before .before .before .before .before .before .before .before .before .before .before .before .before .before .before .before .before .before .before .before .before .before .before .before .before .before .before .before .loop .inv .3), (c .before .before .before .before .before .before .before .before .before .before .before .before .before .before .before .settle .kept .1 .1 .1 .1 .1 .0) ∙ (c .before .before .before .before .before .before .before .before .before .before .before .before .before .before .before .before .before .before .before .before .before .before .before .before .before .before .before .before .before .before .before .before .before .before .before .before .before .before .before .before .before .before .before .before .turn .kept .1 .1 .1 .1 .1 .0) ∙ (c .before .before .before .before .before .before .before .before .before .before .before .before .before .before .before .before .before .before .before .before .before .before .before .before .before .before .before .before .before .before .before .before .before .before .before .before .before .before .before .before .before .before .before .before .before .before .before .before .before .before .before .before .before .before .before .before .loop .inv .4), (c .before .before .before .before .before .before .before .before .before .before .before .before .before .before .before .settle .kept .1 .1 .1 .1 .1 .1 .0) ∙ (c .before .before .before .before .before .before .before .before .before .before .before .before .before .before .before .before .before .before .before .before .before .before .before .before .before .before .before .before .before .before .before .before .before .before .before .before .before .before .before .before .before .before .before .before .turn .kept .1 .1 .1 .1 .1 .1 .0) ∙ (c .before .before .before .before .before .before .before .before .before .before .before .before .before .before .before .before .before .before .before .before .before .before .before .before .before .before .before .before .before .before .before .before .before .before .before .before .before .before .before .before .before .before .before .before .before .before .before .before .before .before .before .before .before .before .before .before .loop .inv .5), (c .before .before .before .before .before .before .before .before .before .before .before .before .before .before .before .settle .kept .1 .1 .1 .1 .1 .1 .1 .0) ∙ (c .before .before .before .before .before .before .before .before .before .before .before .before .before .before .before .before .before .before .before .before .before .before .before .before .before .before .before .before .before .before .before .before .before .before .before .before .before .before .before .before .before .before .before .before .turn .kept .1 .1 .1 .1 .1 .1 .1 .0) ∙ (c .before .before .before .before .before .before .before .before .before .before .before .before .before .before .before .before .before .before .before .before .before .before .before .before .before .before .before .before .before .before .before .before .before .before .before .before .before .before .before .before .before .before .before .before .before .before .before .before .before .before .before .before .before .before .before .before .loop .inv .6), (c .before .before .before .before .before .before .before .before .before .before .before .before .before .before .before .settle .kept .1 .1 .1 .1 .1 .1 .1 .1 .0) ∙ (c .before .before .before .before .before .before .before .before .before .before .before .before .before .before .before .before .before .before .before .before .before .before .before .before .before .before .before .before .before .before .before .before .before .before .before .before .before .before .before .before .before .before .before .before .turn .kept .1 .1 .1 .1 .1 .1 .1 .1 .0) ∙ (c .before .before .before .before .before .before .before .before .before .before .before .before .before .before .before .before .before .before .before .before .before .before .before .before .before .before .before .before .before .before .before .before .before .before .before .before .before .before .before .before .before .before .before .before .before .before .before .before .before .before .before .before .before .before .before .before .loop .inv .7), (c .before .before .before .before .before .before .before .before .before .before .before .before .before .before .before .settle .kept .1 .1 .1 .1 .1 .1 .1 .1 .1 .0) ∙ (c .before .before .before .before .before .before .before .before .before .before .before .before .before .before .before .before .before .before .before .before .before .before .before .before .before .before .before .before .before .before .before .before .before .before .before .before .before .before .before .before .before .before .before .before .turn .kept .1 .1 .1 .1 .1 .1 .1 .1 .1 .0) ∙ (c .before .before .before .before .before .before .before .before .before .before .before .before .before .before .before .before .before .before .before .before .before .before .before .before .before .before .before .before .before .before .before .before .before .before .before .before .before .before .before .before .before .before .before .before .before .before .before .before .before .before .before .before .before .before .before .before .loop .inv .8))
 
 run-rows-enum-known-a-2 : (t : ℕ) → run-rows-lts.Need-enum-known-a-2 (
   body-reads.Asked,
@@ -3456,7 +3565,7 @@ run-rows-returns-2 : (t : ℕ) → run-rows-lts.Need-returns-2 (
   settle-reads.Asked,
   settle-reads.Learnt,
 ) (run-rows-at t) run-rows.Post run-rows-Inv-loop run-rows-μ-loop
-run-rows-returns-2 t c = search needs
+run-rows-returns-2 t c = runs-end _ _ _ _ _ _ _ _ _ _ _ _ _ _ _ _ _ _ _ _ _ _ _ _ _ _ _ _ (c .before .before .before .before .before .before .before .before .before .before .before .before .before .before .before .before .before .before .before .before .before .before .before .before .before .before .before .before .before .before .before .before .before .before .before .before .before .before .before .before .before .before .before .before .before .before .before .before .before .before .before .before .before .before .before .before .before .loop .inv .0) _ (c .before .before .before .before .before .before .before .before .before .before .before .before .before .before .before .before .before .before .before .before .before .before .before .before .before .before .before .before .before .before .before .before .before .before .before .before .before .before .before .before .before .before .before .before .before .before .before .before .before .before .before .before .before .before .before .is-over .ensures) (c .before .before .before .before .before .before .before .before .before .before .before .before .before .before .before .before .before .before .before .before .before .before .before .before .before .before .before .before .before .before .before .before .before .before .before .before .before .before .before .before .before .before .before .before .before .before .before .before .before .before .before .before .before .before .if1 .left) _ _ _ _ _ _ _ _ _ (c .before .before .before .before .before .before .before .before .before .before .before .before .before .before .before .before .before .before .before .before .before .before .before .before .before .before .before .before .before .before .before .before .before .before .before .before .before .before .before .before .before .before .before .before .before .turn .ensures) _ (c .before .before .before .before .before .before .before .before .before .before .before .before .before .before .before .before .before .before .before .before .before .before .before .before .before .before .before .since .ensures) _ _ _ _ _ _ _ (c .before .before .before .before .before .before .before .before .before .before .before .before .before .before .before .before .settle .ensures) _ (c .before .before .a2 .given .1) _ (c .left-at2 .ensures)
 
 run-rows-left-at-requires-3 : (t : ℕ) → run-rows-lts.Need-left-at-requires-3 (
   body-reads.Asked,
@@ -3496,7 +3605,7 @@ run-rows-same-length-17 : (t : ℕ) → run-rows-lts.Need-same-length-17 (
   settle-reads.Asked,
   settle-reads.Learnt,
 ) (run-rows-at t) run-rows.Post run-rows-Inv-loop run-rows-μ-loop
-run-rows-same-length-17 t c = search needs
+run-rows-same-length-17 t c = (c .before .before .loop .inv .1)
 
 run-rows-same-length-18 : (t : ℕ) → run-rows-lts.Need-same-length-18 (
   body-reads.Asked,
@@ -3516,7 +3625,7 @@ run-rows-same-length-18 : (t : ℕ) → run-rows-lts.Need-same-length-18 (
   settle-reads.Asked,
   settle-reads.Learnt,
 ) (run-rows-at t) run-rows.Post run-rows-Inv-loop run-rows-μ-loop
-run-rows-same-length-18 t c = search needs
+run-rows-same-length-18 t c = (c .before .before .loop .inv .2)
 
 run-rows-same-length-19 : (t : ℕ) → run-rows-lts.Need-same-length-19 (
   body-reads.Asked,
@@ -3536,7 +3645,7 @@ run-rows-same-length-19 : (t : ℕ) → run-rows-lts.Need-same-length-19 (
   settle-reads.Asked,
   settle-reads.Learnt,
 ) (run-rows-at t) run-rows.Post run-rows-Inv-loop run-rows-μ-loop
-run-rows-same-length-19 t c = search needs
+run-rows-same-length-19 t c = (c .before .before .loop .inv .3)
 
 run-rows-same-length-20 : (t : ℕ) → run-rows-lts.Need-same-length-20 (
   body-reads.Asked,
@@ -3556,7 +3665,7 @@ run-rows-same-length-20 : (t : ℕ) → run-rows-lts.Need-same-length-20 (
   settle-reads.Asked,
   settle-reads.Learnt,
 ) (run-rows-at t) run-rows.Post run-rows-Inv-loop run-rows-μ-loop
-run-rows-same-length-20 t c = search needs
+run-rows-same-length-20 t c = (c .before .before .loop .inv .4)
 
 run-rows-same-length-21 : (t : ℕ) → run-rows-lts.Need-same-length-21 (
   body-reads.Asked,
@@ -3576,7 +3685,7 @@ run-rows-same-length-21 : (t : ℕ) → run-rows-lts.Need-same-length-21 (
   settle-reads.Asked,
   settle-reads.Learnt,
 ) (run-rows-at t) run-rows.Post run-rows-Inv-loop run-rows-μ-loop
-run-rows-same-length-21 t c = search needs
+run-rows-same-length-21 t c = (c .before .before .loop .inv .5)
 
 run-rows-same-length-22 : (t : ℕ) → run-rows-lts.Need-same-length-22 (
   body-reads.Asked,
@@ -3596,7 +3705,7 @@ run-rows-same-length-22 : (t : ℕ) → run-rows-lts.Need-same-length-22 (
   settle-reads.Asked,
   settle-reads.Learnt,
 ) (run-rows-at t) run-rows.Post run-rows-Inv-loop run-rows-μ-loop
-run-rows-same-length-22 t c = search needs
+run-rows-same-length-22 t c = (c .before .before .loop .inv .6)
 
 run-rows-same-length-23 : (t : ℕ) → run-rows-lts.Need-same-length-23 (
   body-reads.Asked,
@@ -3616,7 +3725,7 @@ run-rows-same-length-23 : (t : ℕ) → run-rows-lts.Need-same-length-23 (
   settle-reads.Asked,
   settle-reads.Learnt,
 ) (run-rows-at t) run-rows.Post run-rows-Inv-loop run-rows-μ-loop
-run-rows-same-length-23 t c = search needs
+run-rows-same-length-23 t c = (c .before .before .loop .inv .7)
 
 run-rows-same-length-24 : (t : ℕ) → run-rows-lts.Need-same-length-24 (
   body-reads.Asked,
@@ -3636,7 +3745,7 @@ run-rows-same-length-24 : (t : ℕ) → run-rows-lts.Need-same-length-24 (
   settle-reads.Asked,
   settle-reads.Learnt,
 ) (run-rows-at t) run-rows.Post run-rows-Inv-loop run-rows-μ-loop
-run-rows-same-length-24 t c = search needs
+run-rows-same-length-24 t c = (c .before .before .loop .inv .8)
 
 run-rows-returns-3 : (t : ℕ) → run-rows-lts.Need-returns-3 (
   body-reads.Asked,
@@ -3656,7 +3765,7 @@ run-rows-returns-3 : (t : ℕ) → run-rows-lts.Need-returns-3 (
   settle-reads.Asked,
   settle-reads.Learnt,
 ) (run-rows-at t) run-rows.Post run-rows-Inv-loop run-rows-μ-loop
-run-rows-returns-3 t c = search needs
+run-rows-returns-3 t c = runs-out _ _ _ _ _ _ _ _ _ _ _ _ _ _ _ _ _ _ _ _ _ _ _ _ _ _ _ _ (c .before .before .loop .inv .0) (c .before .loop-test .left) _
 
 run-source-body-requires : (t : ℕ) → run-source-lts.Need-body-requires (
   body-reads.Asked,
@@ -3880,7 +3989,7 @@ run-source-returns : (t : ℕ) → run-source-lts.Need-returns (
   left-at-reads.Asked,
   left-at-reads.Learnt,
 ) (run-source-at t) run-source.Post
-run-source-returns t c = search needs
+run-source-returns t c = source-runs _ _ _ _ _ _ _ _ _ _ _ _ _ _ _ (c .before .before .before .before .before .before .before .before .before .before .before .before .before .before .before .before .before .before .before .before .before .before .before .before .before .before .before .before .before .before .before .before .before .before .before .before .before .before .before .before .before .before .before .before .before .before .before .before .before .before .body .ensures) _ _ _ _ _ _ _ (c .before .before .before .before .before .before .before .before .before .before .before .before .before .before .before .before .before .before .before .before .before .before .before .before .before .before .before .before .before .before .before .before .before .before .before .before .before .before .before .before .before .lead-out .ensures) _ (c .before .before .before .before .before .before .before .before .before .before .before .before .before .before .before .before .before .before .before .before .before .before .before .before .before .before .before .l .given .1) (c .before .before .before .before .before .before .before .before .before .before .before .before .before .before .before .before .before .before .before .before .before .before .before .before .before .before .before .before .before .before .before .before .before .before .before .before .before .before .before .before .before .lead-out .kept .1 .1 .1 .1 .0) _ (c .before .before .before .before .before .before .before .before .before .before .before .before .before .before .before .before .before .first-of .ensures) _ _ _ _ _ _ _ _ _ (c .before .before .before .before .before .before .before .before .before .before .before .before .before .before .before .before .run-rows .ensures)
 
 run-source-same-length-9 : (t : ℕ) → run-source-lts.Need-same-length-9 (
   body-reads.Asked,
@@ -4006,7 +4115,7 @@ run-source-returns-2 : (t : ℕ) → run-source-lts.Need-returns-2 (
   left-at-reads.Asked,
   left-at-reads.Learnt,
 ) (run-source-at t) run-source.Post
-run-source-returns-2 t c = search needs
+run-source-returns-2 t c = source-bad _ _ _ _ _ _ _ _ _ _ _ _ _ _ _ (c .before .before .before .before .before .before .before .before .before .before .before .before .before .before .before .before .before .before .before .before .before .before .before .before .before .body .ensures) _ _ _ _ _ _ _ (c .before .before .before .before .before .before .before .before .before .before .before .before .before .before .before .before .lead-out .ensures) _ _ (c .before .before .l2 .given .1) _ (c .left-at .ensures)
 
 turn-enum-known-next : (t : ℕ) → turn-lts.Need-enum-known-next (
   begin-below t,
@@ -4258,7 +4367,7 @@ turn-returns : (t : ℕ) → turn-lts.Need-returns (
   with-step-reads.Asked,
   with-step-reads.Learnt,
 ) (turn-at t) turn.Post
-turn-returns t c = search needs
+turn-returns t c = turn-begin _ _ _ _ _ _ _ _ _ _ _ _ _ _ _ _ _ (c .before .before .before .before .before .before .before .before .before .before .before .before .before .before .before .before .before .before .before .before .before .before .before .before .before .before .next .given .1) _ _ _ _ _ _ _ _ _ (c .before .before .before .before .before .before .before .before .before .before .before .before .before .before .before .before .begin .ensures)
 
 turn-same-length-9 : (t : ℕ) → turn-lts.Need-same-length-9 (
   begin-below t,
@@ -4384,7 +4493,7 @@ turn-returns-2 : (t : ℕ) → turn-lts.Need-returns-2 (
   with-step-reads.Asked,
   with-step-reads.Learnt,
 ) (turn-at t) turn.Post
-turn-returns-2 t c = search needs
+turn-returns-2 t c = turn-again _ _ _ _ _ _ _ _ _ _ _ _ _ _ _ _ _ (c .before .before .before .before .before .before .before .before .before .before .before .before .before .before .before .before .before .before .before .before .before .before .before .before .next2 .given .1) _ (c .before .before .before .before .before .before .before .before .before .before .before .before .before .before .before .before .before .before .before .before .before .part-here .ensures) _ _ _ _ _ _ _ (c .before .before .before .before .before .before .before .before .before .before .before .before .before .into-again .ensures) _ (c .turned-at .ensures)
 
 turn-returns-3 : (t : ℕ) → turn-lts.Need-returns-3 (
   begin-below t,
@@ -4398,7 +4507,7 @@ turn-returns-3 : (t : ℕ) → turn-lts.Need-returns-3 (
   with-step-reads.Asked,
   with-step-reads.Learnt,
 ) (turn-at t) turn.Post
-turn-returns-3 t c = search needs
+turn-returns-3 t c = turn-over _ _ _ _ _ _ _ _ _ _ _ _ _ _ _ _ (c .before .before .enum-told .given .1) _
 
 pub +begin+enter-and-run+include-all+include-one+run-rows+run-source+turn-spec :
     {M : Type 1} → statement M
@@ -4471,6 +4580,8 @@ pub +begin+enter-and-run+include-all+include-one+run-rows+run-source+turn-spec :
     (λ t. enter-and-run-lts.spec (
       read-behind-reads.Asked,
       read-behind-reads.Learnt,
+      forget-reads.Asked,
+      forget-reads.Learnt,
       entered-reads.Asked,
       entered-reads.Learnt,
       with-source-reads.Asked,
@@ -4486,6 +4597,7 @@ pub +begin+enter-and-run+include-all+include-one+run-rows+run-source+turn-spec :
     enter-and-run.Post
     (enter-and-run-read-behind-requires t)
     (enter-and-run-enum-told t)
+    (enter-and-run-forget-requires t)
     (enter-and-run-entered-requires t)
     (enter-and-run-with-source-requires t)
     (enter-and-run-run-source-requires t)
@@ -4517,12 +4629,12 @@ pub +begin+enter-and-run+include-all+include-one+run-rows+run-source+turn-spec :
       token-at-reads.Learnt,
       include-one-below t,
       include-one.Post,
-      since-reads.Asked,
-      since-reads.Learnt,
-      is-sign-reads.Asked,
-      is-sign-reads.Learnt,
+      resumed-reads.Asked,
+      resumed-reads.Learnt,
       left-at-reads.Asked,
       left-at-reads.Learnt,
+      is-sign-reads.Asked,
+      is-sign-reads.Learnt,
     )
     (include-all-at t)
     include-all.Post
@@ -4538,9 +4650,10 @@ pub +begin+enter-and-run+include-all+include-one+run-rows+run-source+turn-spec :
     (include-all-sub-turns t)
     (include-all-token-at-requires t)
     (include-all-include-one-requires t)
-    (include-all-since-requires t)
+    (include-all-resumed-requires t)
     (include-all-enum-known-e t)
     (include-all-enum-told t)
+    (include-all-left-at-requires t)
     (include-all-same-length t)
     (include-all-same-length-2 t)
     (include-all-same-length-3 t)
@@ -4551,6 +4664,7 @@ pub +begin+enter-and-run+include-all+include-one+run-rows+run-source+turn-spec :
     (include-all-same-length-8 t)
     (include-all-returns t)
     (include-all-enum-told-2 t)
+    (include-all-left-at-requires-2 t)
     (include-all-same-length-9 t)
     (include-all-same-length-10 t)
     (include-all-same-length-11 t)
@@ -4565,7 +4679,7 @@ pub +begin+enter-and-run+include-all+include-one+run-rows+run-source+turn-spec :
     (include-all-is-sign-requires t)
     (include-all-loop-less t)
     (include-all-loop-again t)
-    (include-all-left-at-requires t)
+    (include-all-left-at-requires-3 t)
     (include-all-same-length-17 t)
     (include-all-same-length-18 t)
     (include-all-same-length-19 t)
@@ -4575,7 +4689,7 @@ pub +begin+enter-and-run+include-all+include-one+run-rows+run-source+turn-spec :
     (include-all-same-length-23 t)
     (include-all-same-length-24 t)
     (include-all-returns-3 t)
-    (include-all-left-at-requires-2 t)
+    (include-all-left-at-requires-4 t)
     (include-all-same-length-25 t)
     (include-all-same-length-26 t)
     (include-all-same-length-27 t)
