@@ -2,7 +2,7 @@
 -- Assumes nothing.
 use mathlib.Core.Path.{_≡_, refl, sym, ap, subst, _∙_}
 use mathlib.Core.Bool.{true}
-use mathlib.Core.List.{List, [], _∷_, _++_}
+use mathlib.Core.List.{List, [], _++_}
 use Prim.Native.Nat.{ℕ, zero, suc, _+_, _*_, _-_, _/_, _<_, _≤_}
 use native.Mathlib.Omega.{arith}
 use borrow.Author.Tests.{eq-eqb}
@@ -44,13 +44,13 @@ use Rattle.outcomes.specs.Texts.{Awake}
 use Rattle.reading.specs.declared.Source.{Source}
 use Rattle.reading.specs.Members.{namesOf, Membered, Members, Whole}
 use Rattle.showing.specs.Worlds.{Placed, Laid, memberIn, Enters}
-use Rattle.showing.specs.Later.{Later, Grew}
+use Rattle.showing.specs.Later.{Grew}
 use Rattle.showing.proofs.Bodies.{Lined, lined, main-low}
 use Rattle.showing.proofs.Worlds.{Entered, entered-is, placed-new, placed-same, size-placed, rows-shown}
 use Rattle.showing.proofs.Laying.{laid-new, laid-same, behind-back}
 use Rattle.showing.proofs.Enters.{member-enters}
-use Rattle.showing.proofs.Later.{later-same, later-on, later-enter, later-size}
-use Rattle.showing.proofs.Returning.{grew-none, grew-on, grew-behind}
+use Rattle.showing.proofs.Later.{later-same, later-on, later-enter}
+use Rattle.showing.proofs.Returning.{grew-behind}
 use Rattle.leaving.specs.declared.Below.{Below}
 use Rattle.leaving.specs.Places.{belowOf, NoneBelow, Stand}
 use Rattle.texts.specs.declared.Progress.{Progress}
@@ -65,24 +65,10 @@ use Rattle.stepping.specs.Steps.{EndNow}
 use Rattle.running.specs.declared.Left.{Left}
 use Rattle.running.specs.Included.{enteredRun, enterRun}
 use Rattle.running.specs.Members.{hereAt, Since, EndsAs, Deep, Running, SourceOf, SourceIs, EnterIs, RanTo, RunIs}
-use Rattle.running.specs.Readers.{ReadIs, RowsWith, WithSource, StartedAt, leftAt, stoppedAt}
+use Rattle.running.specs.Readers.{ReadIs, RowsWith, WithSource, StartedAt, stoppedAt}
+use Rattle.running.specs.Ways.{leftAt}
+use Rattle.running.proofs.Afterwards.{since-on, stand-later}
 use Rattle.running.proofs.Values.{Held, declare-held, forgotten, values-forgotten, slots-forgotten}
-
--- ---- what there is later, one after the other
-pub since-none : (rows : List ℕ) (B : World) → Since rows B rows B
-since-none rows B = record { later = later-same B B refl refl refl; more = omega arith; grew = grew-none rows (B .sentences) }
-
-pub since-on : (rows rows′ rows″ : List ℕ) (B B′ B″ : World) → Since rows B rows′ B′ → Since rows′ B′ rows″ B″ → Since rows B rows″ B″
-since-on rows rows′ rows″ B B′ B″ h i = record {
-  later = later-on B B′ B″ (h .later) (i .later);
-  more = omega (arith, h .more, i .more);
-  grew = grew-on rows rows′ rows″ (B .sentences) (B′ .sentences) (h .more) (h .grew) (i .grew);
-}
-
--- members below stand where they stood
-pub stand-later : (ps : List Place) (B B′ : World) → Later B B′ → Stand ps B → Stand ps B′
-stand-later [] B B′ h s = tt
-stand-later (p ∷ ps) B B′ h s = (later-size B B′ (p .member) (p .row) h (s .0), stand-later ps B B′ h (s .1))
 
 -- ---- MEMBER k IS READ behind the rows that there are
 pub read-behind : (deck rows names : List ℕ) (k : ℕ) (g : Progress) (from : ℕ) → PartPlace rows (g .rows) from → (t rows′ names′ : List ℕ) (r : Source)

@@ -1,6 +1,7 @@
 -- Laws that belong to no one function.
 pub mod Including
 pub mod Thrift
+pub mod Afterwards
 pub mod Turning
 pub mod Looping
 pub mod Values

@@ -65,7 +65,8 @@ use Rattle.running.specs.Members.{hereAt, Since, EndsAs, Running, TurnsA
 use Rattle.running.specs.Ways.{leftAt}
 use Rattle.running.proofs.Including.{run-member-is}
 use Rattle.running.proofs.Thrift.{Advanced, begin-advances, again-advances}
-use Rattle.running.proofs.Turning.{since-none, since-same, since-on, stand-later, member-later, running-later, row-here}
+use Rattle.running.proofs.Afterwards.{since-none, since-same, since-on, stand-later}
+use Rattle.running.proofs.Turning.{member-later, running-later, row-here}
 
 -- ---- the definition's turns
 run-step : (M : F.Machine Run.Stop) (f : ℕ) (y : F.Next) (G : List F.Frame) (w : World) → F.runOn M (suc f) y G w ≡ F.continued M (F.turn M y G w) (λ a H v. F.runOn M f a H v)

@@ -58,8 +58,10 @@ use Rattle.stepping.specs.Steps.{EndNow}
 use Rattle.running.specs.declared.Left.{Left}
 use Rattle.running.specs.Included.{enterRun, foundRun, endOn, includeOn}
 use Rattle.running.specs.Members.{hereAt, Since, EndsAs, Running, FoundIs, IncludeOneIs, IncludeAllIs, EnterIs}
-use Rattle.running.specs.Readers.{StartedAt, leftAt, stoppedAt}
-use Rattle.running.proofs.Entering.{since-none, since-on, stand-later, here-is}
+use Rattle.running.specs.Readers.{StartedAt, stoppedAt}
+use Rattle.running.specs.Ways.{leftAt}
+use Rattle.running.proofs.Afterwards.{since-none, since-on, stand-later}
+use Rattle.running.proofs.Entering.{here-is}
 
 -- ---- a name in the body of a member is the same bytes in the deck
 body-there : (d : List ℕ) (k : ℕ) → 0 < length (bodyIn d k) → lineAt d k .offset + lineAt d k .size ≤ length d

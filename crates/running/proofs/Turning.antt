@@ -2,9 +2,8 @@
 -- Assumes nothing.
 use mathlib.Core.Path.{_≡_, refl, sym, ap, subst, _∙_}
 use mathlib.Core.Bool.{Bool, true, false, cond, false≢true}
-use mathlib.Core.List.{List, [], _∷_}
+use mathlib.Core.List.{List, _∷_}
 use Prim.Native.Nat.{ℕ, _<_}
-use native.Mathlib.Omega.{arith}
 use borrow.Author.Tests.{eqb-true, eq-eqb, ne-eqb, eqb-false}
 use lib.Dec.{eqb}
 use lib.ListN.{length}
@@ -44,10 +43,10 @@ use Rattle.showing.specs.Listed.{Lists, Named}
 use Rattle.showing.specs.Later.{Later, Grew}
 use Rattle.showing.proofs.Including.{include-named}
 use Rattle.showing.proofs.Worlds.{rows-written}
-use Rattle.showing.proofs.Later.{later-rows, later-size, later-same, later-on}
-use Rattle.showing.proofs.Returning.{grew-none, grew-on, back-part, framed-back}
+use Rattle.showing.proofs.Later.{later-rows}
+use Rattle.showing.proofs.Returning.{back-part, framed-back}
 use Rattle.leaving.specs.declared.Below.{Below}
-use Rattle.leaving.specs.Places.{belowOf, rowFor, Stand}
+use Rattle.leaving.specs.Places.{belowOf, rowFor}
 use Rattle.texts.specs.declared.Progress.{Progress}
 use Rattle.texts.specs.declared.Here.{Here}
 use Rattle.texts.specs.declared.Stop.{Stop}
@@ -66,26 +65,9 @@ use Rattle.running.specs.Included.{levelOf, includeOn}
 use Rattle.running.specs.Members.{hereAt, Since, EndsAs, Running, IncludeAllIs, TurnsAs, TurnIs}
 use Rattle.running.specs.Ways.{begunAt, endedTo, endedAt}
 use Rattle.running.proofs.Including.{include-is}
+use Rattle.running.proofs.Afterwards.{since-none, since-same, stand-later}
 
--- ---- what there is later
-pub since-none : (rows : List ℕ) (B : World) → Since rows B rows B
-since-none rows B = record { later = later-same B B refl refl refl; more = omega arith; grew = grew-none rows (B .sentences) }
-
-pub since-same : (rows : List ℕ) (B B′ : World) → Later B B′ → B′ .sentences ≡ B .sentences → Since rows B rows B′
-since-same rows B B′ h e = record { later = h; more = omega (arith, e); grew = grew-none rows (B .sentences) }
-
-pub since-on : (rows rows′ rows″ : List ℕ) (B B′ B″ : World) → Since rows B rows′ B′ → Since rows′ B′ rows″ B″ → Since rows B rows″ B″
-since-on rows rows′ rows″ B B′ B″ h i = record {
-  later = later-on B B′ B″ (h .later) (i .later);
-  more = omega (arith, h .more, i .more);
-  grew = grew-on rows rows′ rows″ (B .sentences) (B′ .sentences) (h .more) (h .grew) (i .grew);
-}
-
--- members that stand below, stand
-pub stand-later : (ps : List Place) (B B′ : World) → Later B B′ → Stand ps B → Stand ps B′
-stand-later [] B B′ h k = tt
-stand-later (p ∷ ps) B B′ h k = (later-size B B′ (p .member) (p .row) h (k .0), stand-later ps B B′ h (k .1))
-
+-- ---- the member later
 -- the member that runs, which has a row, has its rows
 pub member-later : (deck s rows rows′ : List ℕ) (here : Here) (starts : Starts) (B B′ : World) (n : ℕ) → InMember deck s rows here B → Later B B′ → n < length (rowsOf (here .member) B) → InMember deck s rows′ (hereAt (here .member) starts) B′
 member-later deck s rows rows′ here starts B B′ n im h l = record { body = im .body; whole = im .whole; short = im .short; low = im .low; entered = later-rows B B′ (here .member) n h l ∙ im .entered }

@@ -1,9 +1,8 @@
 -- THE CONTRACTS of members that run: what an answer stands for, with the table of rows and the world as they have grown.
-use Prim.Native.Nat.{ℕ, zero, suc, _+_, _-_, _<_, _≤_}
-use mathlib.Core.Bool.{Bool, true, false, cond}
+use Prim.Native.Nat.{ℕ, suc, _+_, _-_, _<_, _≤_}
+use mathlib.Core.Bool.{true, false}
 use mathlib.Core.Path.{_≡_}
 use mathlib.Core.List.{List, [], _∷_}
-use lib.Dec.{leb}
 use lib.ListN.{length}
 use Rattle.definition.specs.Lists.{part}
 use Rattle.definition.specs.Room.{zeros}
@@ -17,13 +16,11 @@ use Rattle.definition.specs.Calls.{Place}
 use Rattle.definition.specs.Run as Run
 use Rattle.definition.specs.Run.{bodyOf}
 use Rattle.definition.specs.Expansion as X
-use Rattle.definition.specs.declared.Why.{Why}
 use Rattle.deck.specs.declared.Found.{Found}
 use Rattle.deck.specs.Answer.{bodyIn, foundFor}
-use Rattle.meter.specs.declared.Meter.{Meter}
 use Rattle.tokens.specs.declared.Lexeme.{Lexeme}
 use Rattle.rows.specs.Table.{rowIn}
-use Rattle.rows.specs.Parts.{startIn, StartsAt}
+use Rattle.rows.specs.Parts.{startIn}
 use Rattle.rows.specs.declared.Starts.{Starts}
 use Rattle.flow.specs.declared.Frames.{Frames}
 use Rattle.flow.specs.declared.Next.{Next}
@@ -42,8 +39,6 @@ use Rattle.texts.specs.declared.Here.{Here}
 use Rattle.texts.specs.declared.Ran.{Ran}
 use Rattle.texts.specs.declared.Ran.the-variants as Rn
 use Rattle.texts.specs.Shown.{stopFor, Written}
-use Rattle.stepping.specs.declared.Ended.{Ended}
-use Rattle.stepping.specs.declared.Turned.{Turned}
 use Rattle.stepping.specs.Stage.{Roomy, Stage, InMember, partHere, machineOf}
 use Rattle.stepping.specs.Steps.{StepNow, EndNow}
 use Rattle.stepping.specs.Ways.{isOver}

@@ -13,7 +13,6 @@ use Rattle.texts.specs.declared.Progress.{Progress}
 use Rattle.texts.specs.declared.Here.{Here}
 use Rattle.stepping.specs.declared.Ended.{Ended}
 use Rattle.stepping.specs.declared.Ended.the-variants as En
-use Rattle.running.specs.declared.Left.{Left}
 
 -- member k was read into the part of the table behind its rows
 pub record ReadIs (deck rows names : List ℕ) (k : ℕ) (g : Progress) (rows′ names′ : List ℕ) (r : Source) : Type 0 where
@@ -39,8 +38,5 @@ pub record StartedAt (here : Here) (x : Starts) (n : ℕ) (r : Here) : Type 0 wh
   pub starts : StartsAt x (here .member) n (r .starts)
 
 -- ---- how a member has ended
-abbrev pub leftAt : Here → Ended → Left
-leftAt here e = record { ended = e; starts = here .starts }
-
 abbrev pub stoppedAt : Progress → Why → ℕ → ℕ → Ended
 stoppedAt g e m p = En.Bad (record { why = e; member = m; place = p }) g
