@@ -240,7 +240,7 @@ pub fn start(
 // ---- bodies of procedures; `part` is the rows of the member
 
 // The statement of row n in the procedure at p, whose step is charged.
-fn body_statement(
+fn begun(
     deck: &[u8],
     s: &[u8],
     part: &[u16],
@@ -331,7 +331,7 @@ fn body_turn(
             let paid = m.charged();
             let k = paid.meter;
             if paid.paid {
-                return body_statement(
+                return begun(
                     deck,
                     s,
                     part,

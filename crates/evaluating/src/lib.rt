@@ -186,7 +186,7 @@ fn arguments(
 }
 
 // A name with a list, which begins at a place.
-fn listed_name(
+fn listed(
     deck: &[u8],
     s: &[u8],
     rows: &[u16],
@@ -244,7 +244,7 @@ fn listed_name(
 }
 
 // A name without a list, behind which the place is `to`.
-fn plain_name(
+fn plain(
     deck: &[u8],
     rows: &[u16],
     names: &[u16],
@@ -316,7 +316,7 @@ fn reference(
     let x = meant_by(deck, s, names, c.names, owner, t.from, t.to);
     let next = token_at(s, t.to);
     if is_sign(s, next, b"(") {
-        return listed_name(
+        return listed(
             deck,
             s,
             rows,
@@ -333,7 +333,7 @@ fn reference(
             m,
         );
     }
-    plain_name(deck, rows, names, cells, low, high, work, x, t.to, u, c, m)
+    plain(deck, rows, names, cells, low, high, work, x, t.to, u, c, m)
 }
 
 fn primitive(

@@ -6,61 +6,61 @@ use borrow.Fn.Kinds.{In}
 use borrow.Fn.PlainCycle.{Measures, is, falls, and}
 use Rattle.evaluating.proofs.arguments.Reads as arguments
 use Rattle.evaluating.proofs.arguments.Kinds as arguments-kinds
-use Rattle.evaluating.proofs.+arguments+call+chain+deeds-assign+deeds-body_statement+deeds-body_turn+deeds-bounded+deeds-bounds+deeds-run_body+deeds-start+deeds-test+evaluate+inside+levels+listed_name+operand+plain_name+primitive+reference.Lts-arguments as arguments-lts
+use Rattle.evaluating.proofs.+arguments+call+chain+deeds-assign+deeds-begun+deeds-body_turn+deeds-bounded+deeds-bounds+deeds-run_body+deeds-start+deeds-test+evaluate+inside+levels+listed+operand+plain+primitive+reference.Lts-arguments as arguments-lts
 use Rattle.evaluating.proofs.call.Reads as call
 use Rattle.evaluating.proofs.call.Kinds as call-kinds
-use Rattle.evaluating.proofs.+arguments+call+chain+deeds-assign+deeds-body_statement+deeds-body_turn+deeds-bounded+deeds-bounds+deeds-run_body+deeds-start+deeds-test+evaluate+inside+levels+listed_name+operand+plain_name+primitive+reference.Lts-call as call-lts
+use Rattle.evaluating.proofs.+arguments+call+chain+deeds-assign+deeds-begun+deeds-body_turn+deeds-bounded+deeds-bounds+deeds-run_body+deeds-start+deeds-test+evaluate+inside+levels+listed+operand+plain+primitive+reference.Lts-call as call-lts
 use Rattle.evaluating.proofs.chain.Reads as chain
 use Rattle.evaluating.proofs.chain.Kinds as chain-kinds
-use Rattle.evaluating.proofs.+arguments+call+chain+deeds-assign+deeds-body_statement+deeds-body_turn+deeds-bounded+deeds-bounds+deeds-run_body+deeds-start+deeds-test+evaluate+inside+levels+listed_name+operand+plain_name+primitive+reference.Lts-chain as chain-lts
+use Rattle.evaluating.proofs.+arguments+call+chain+deeds-assign+deeds-begun+deeds-body_turn+deeds-bounded+deeds-bounds+deeds-run_body+deeds-start+deeds-test+evaluate+inside+levels+listed+operand+plain+primitive+reference.Lts-chain as chain-lts
 use Rattle.evaluating.proofs.deeds.assign.Reads as deeds·assign
 use Rattle.evaluating.proofs.deeds.assign.Kinds as deeds·assign-kinds
-use Rattle.evaluating.proofs.+arguments+call+chain+deeds-assign+deeds-body_statement+deeds-body_turn+deeds-bounded+deeds-bounds+deeds-run_body+deeds-start+deeds-test+evaluate+inside+levels+listed_name+operand+plain_name+primitive+reference.Lts-deeds-assign as deeds·assign-lts
-use Rattle.evaluating.proofs.deeds.body_statement.Reads as deeds·body-statement
-use Rattle.evaluating.proofs.deeds.body_statement.Kinds as deeds·body-statement-kinds
-use Rattle.evaluating.proofs.+arguments+call+chain+deeds-assign+deeds-body_statement+deeds-body_turn+deeds-bounded+deeds-bounds+deeds-run_body+deeds-start+deeds-test+evaluate+inside+levels+listed_name+operand+plain_name+primitive+reference.Lts-deeds-body_statement as deeds·body-statement-lts
+use Rattle.evaluating.proofs.+arguments+call+chain+deeds-assign+deeds-begun+deeds-body_turn+deeds-bounded+deeds-bounds+deeds-run_body+deeds-start+deeds-test+evaluate+inside+levels+listed+operand+plain+primitive+reference.Lts-deeds-assign as deeds·assign-lts
+use Rattle.evaluating.proofs.deeds.begun.Reads as deeds·begun
+use Rattle.evaluating.proofs.deeds.begun.Kinds as deeds·begun-kinds
+use Rattle.evaluating.proofs.+arguments+call+chain+deeds-assign+deeds-begun+deeds-body_turn+deeds-bounded+deeds-bounds+deeds-run_body+deeds-start+deeds-test+evaluate+inside+levels+listed+operand+plain+primitive+reference.Lts-deeds-begun as deeds·begun-lts
 use Rattle.evaluating.proofs.deeds.body_turn.Reads as deeds·body-turn
 use Rattle.evaluating.proofs.deeds.body_turn.Kinds as deeds·body-turn-kinds
-use Rattle.evaluating.proofs.+arguments+call+chain+deeds-assign+deeds-body_statement+deeds-body_turn+deeds-bounded+deeds-bounds+deeds-run_body+deeds-start+deeds-test+evaluate+inside+levels+listed_name+operand+plain_name+primitive+reference.Lts-deeds-body_turn as deeds·body-turn-lts
+use Rattle.evaluating.proofs.+arguments+call+chain+deeds-assign+deeds-begun+deeds-body_turn+deeds-bounded+deeds-bounds+deeds-run_body+deeds-start+deeds-test+evaluate+inside+levels+listed+operand+plain+primitive+reference.Lts-deeds-body_turn as deeds·body-turn-lts
 use Rattle.evaluating.proofs.deeds.bounded.Reads as deeds·bounded
 use Rattle.evaluating.proofs.deeds.bounded.Kinds as deeds·bounded-kinds
-use Rattle.evaluating.proofs.+arguments+call+chain+deeds-assign+deeds-body_statement+deeds-body_turn+deeds-bounded+deeds-bounds+deeds-run_body+deeds-start+deeds-test+evaluate+inside+levels+listed_name+operand+plain_name+primitive+reference.Lts-deeds-bounded as deeds·bounded-lts
+use Rattle.evaluating.proofs.+arguments+call+chain+deeds-assign+deeds-begun+deeds-body_turn+deeds-bounded+deeds-bounds+deeds-run_body+deeds-start+deeds-test+evaluate+inside+levels+listed+operand+plain+primitive+reference.Lts-deeds-bounded as deeds·bounded-lts
 use Rattle.evaluating.proofs.deeds.bounds.Reads as deeds·bounds
 use Rattle.evaluating.proofs.deeds.bounds.Kinds as deeds·bounds-kinds
-use Rattle.evaluating.proofs.+arguments+call+chain+deeds-assign+deeds-body_statement+deeds-body_turn+deeds-bounded+deeds-bounds+deeds-run_body+deeds-start+deeds-test+evaluate+inside+levels+listed_name+operand+plain_name+primitive+reference.Lts-deeds-bounds as deeds·bounds-lts
+use Rattle.evaluating.proofs.+arguments+call+chain+deeds-assign+deeds-begun+deeds-body_turn+deeds-bounded+deeds-bounds+deeds-run_body+deeds-start+deeds-test+evaluate+inside+levels+listed+operand+plain+primitive+reference.Lts-deeds-bounds as deeds·bounds-lts
 use Rattle.evaluating.proofs.deeds.run_body.Reads as deeds·run-body
 use Rattle.evaluating.proofs.deeds.run_body.Kinds as deeds·run-body-kinds
-use Rattle.evaluating.proofs.+arguments+call+chain+deeds-assign+deeds-body_statement+deeds-body_turn+deeds-bounded+deeds-bounds+deeds-run_body+deeds-start+deeds-test+evaluate+inside+levels+listed_name+operand+plain_name+primitive+reference.Lts-deeds-run_body as deeds·run-body-lts
+use Rattle.evaluating.proofs.+arguments+call+chain+deeds-assign+deeds-begun+deeds-body_turn+deeds-bounded+deeds-bounds+deeds-run_body+deeds-start+deeds-test+evaluate+inside+levels+listed+operand+plain+primitive+reference.Lts-deeds-run_body as deeds·run-body-lts
 use Rattle.evaluating.proofs.deeds.start.Reads as deeds·start
 use Rattle.evaluating.proofs.deeds.start.Kinds as deeds·start-kinds
-use Rattle.evaluating.proofs.+arguments+call+chain+deeds-assign+deeds-body_statement+deeds-body_turn+deeds-bounded+deeds-bounds+deeds-run_body+deeds-start+deeds-test+evaluate+inside+levels+listed_name+operand+plain_name+primitive+reference.Lts-deeds-start as deeds·start-lts
+use Rattle.evaluating.proofs.+arguments+call+chain+deeds-assign+deeds-begun+deeds-body_turn+deeds-bounded+deeds-bounds+deeds-run_body+deeds-start+deeds-test+evaluate+inside+levels+listed+operand+plain+primitive+reference.Lts-deeds-start as deeds·start-lts
 use Rattle.evaluating.proofs.deeds.test.Reads as deeds·test
 use Rattle.evaluating.proofs.deeds.test.Kinds as deeds·test-kinds
-use Rattle.evaluating.proofs.+arguments+call+chain+deeds-assign+deeds-body_statement+deeds-body_turn+deeds-bounded+deeds-bounds+deeds-run_body+deeds-start+deeds-test+evaluate+inside+levels+listed_name+operand+plain_name+primitive+reference.Lts-deeds-test as deeds·test-lts
+use Rattle.evaluating.proofs.+arguments+call+chain+deeds-assign+deeds-begun+deeds-body_turn+deeds-bounded+deeds-bounds+deeds-run_body+deeds-start+deeds-test+evaluate+inside+levels+listed+operand+plain+primitive+reference.Lts-deeds-test as deeds·test-lts
 use Rattle.evaluating.proofs.evaluate.Reads as evaluate
 use Rattle.evaluating.proofs.evaluate.Kinds as evaluate-kinds
-use Rattle.evaluating.proofs.+arguments+call+chain+deeds-assign+deeds-body_statement+deeds-body_turn+deeds-bounded+deeds-bounds+deeds-run_body+deeds-start+deeds-test+evaluate+inside+levels+listed_name+operand+plain_name+primitive+reference.Lts-evaluate as evaluate-lts
+use Rattle.evaluating.proofs.+arguments+call+chain+deeds-assign+deeds-begun+deeds-body_turn+deeds-bounded+deeds-bounds+deeds-run_body+deeds-start+deeds-test+evaluate+inside+levels+listed+operand+plain+primitive+reference.Lts-evaluate as evaluate-lts
 use Rattle.evaluating.proofs.inside.Reads as inside
 use Rattle.evaluating.proofs.inside.Kinds as inside-kinds
-use Rattle.evaluating.proofs.+arguments+call+chain+deeds-assign+deeds-body_statement+deeds-body_turn+deeds-bounded+deeds-bounds+deeds-run_body+deeds-start+deeds-test+evaluate+inside+levels+listed_name+operand+plain_name+primitive+reference.Lts-inside as inside-lts
+use Rattle.evaluating.proofs.+arguments+call+chain+deeds-assign+deeds-begun+deeds-body_turn+deeds-bounded+deeds-bounds+deeds-run_body+deeds-start+deeds-test+evaluate+inside+levels+listed+operand+plain+primitive+reference.Lts-inside as inside-lts
 use Rattle.evaluating.proofs.levels.Reads as levels
 use Rattle.evaluating.proofs.levels.Kinds as levels-kinds
-use Rattle.evaluating.proofs.+arguments+call+chain+deeds-assign+deeds-body_statement+deeds-body_turn+deeds-bounded+deeds-bounds+deeds-run_body+deeds-start+deeds-test+evaluate+inside+levels+listed_name+operand+plain_name+primitive+reference.Lts-levels as levels-lts
-use Rattle.evaluating.proofs.listed_name.Reads as listed-name
-use Rattle.evaluating.proofs.listed_name.Kinds as listed-name-kinds
-use Rattle.evaluating.proofs.+arguments+call+chain+deeds-assign+deeds-body_statement+deeds-body_turn+deeds-bounded+deeds-bounds+deeds-run_body+deeds-start+deeds-test+evaluate+inside+levels+listed_name+operand+plain_name+primitive+reference.Lts-listed_name as listed-name-lts
+use Rattle.evaluating.proofs.+arguments+call+chain+deeds-assign+deeds-begun+deeds-body_turn+deeds-bounded+deeds-bounds+deeds-run_body+deeds-start+deeds-test+evaluate+inside+levels+listed+operand+plain+primitive+reference.Lts-levels as levels-lts
+use Rattle.evaluating.proofs.listed.Reads as listed
+use Rattle.evaluating.proofs.listed.Kinds as listed-kinds
+use Rattle.evaluating.proofs.+arguments+call+chain+deeds-assign+deeds-begun+deeds-body_turn+deeds-bounded+deeds-bounds+deeds-run_body+deeds-start+deeds-test+evaluate+inside+levels+listed+operand+plain+primitive+reference.Lts-listed as listed-lts
 use Rattle.evaluating.proofs.operand.Reads as operand
 use Rattle.evaluating.proofs.operand.Kinds as operand-kinds
-use Rattle.evaluating.proofs.+arguments+call+chain+deeds-assign+deeds-body_statement+deeds-body_turn+deeds-bounded+deeds-bounds+deeds-run_body+deeds-start+deeds-test+evaluate+inside+levels+listed_name+operand+plain_name+primitive+reference.Lts-operand as operand-lts
-use Rattle.evaluating.proofs.plain_name.Reads as plain-name
-use Rattle.evaluating.proofs.plain_name.Kinds as plain-name-kinds
-use Rattle.evaluating.proofs.+arguments+call+chain+deeds-assign+deeds-body_statement+deeds-body_turn+deeds-bounded+deeds-bounds+deeds-run_body+deeds-start+deeds-test+evaluate+inside+levels+listed_name+operand+plain_name+primitive+reference.Lts-plain_name as plain-name-lts
+use Rattle.evaluating.proofs.+arguments+call+chain+deeds-assign+deeds-begun+deeds-body_turn+deeds-bounded+deeds-bounds+deeds-run_body+deeds-start+deeds-test+evaluate+inside+levels+listed+operand+plain+primitive+reference.Lts-operand as operand-lts
+use Rattle.evaluating.proofs.plain.Reads as plain
+use Rattle.evaluating.proofs.plain.Kinds as plain-kinds
+use Rattle.evaluating.proofs.+arguments+call+chain+deeds-assign+deeds-begun+deeds-body_turn+deeds-bounded+deeds-bounds+deeds-run_body+deeds-start+deeds-test+evaluate+inside+levels+listed+operand+plain+primitive+reference.Lts-plain as plain-lts
 use Rattle.evaluating.proofs.primitive.Reads as primitive
 use Rattle.evaluating.proofs.primitive.Kinds as primitive-kinds
-use Rattle.evaluating.proofs.+arguments+call+chain+deeds-assign+deeds-body_statement+deeds-body_turn+deeds-bounded+deeds-bounds+deeds-run_body+deeds-start+deeds-test+evaluate+inside+levels+listed_name+operand+plain_name+primitive+reference.Lts-primitive as primitive-lts
+use Rattle.evaluating.proofs.+arguments+call+chain+deeds-assign+deeds-begun+deeds-body_turn+deeds-bounded+deeds-bounds+deeds-run_body+deeds-start+deeds-test+evaluate+inside+levels+listed+operand+plain+primitive+reference.Lts-primitive as primitive-lts
 use Rattle.evaluating.proofs.reference.Reads as reference
 use Rattle.evaluating.proofs.reference.Kinds as reference-kinds
-use Rattle.evaluating.proofs.+arguments+call+chain+deeds-assign+deeds-body_statement+deeds-body_turn+deeds-bounded+deeds-bounds+deeds-run_body+deeds-start+deeds-test+evaluate+inside+levels+listed_name+operand+plain_name+primitive+reference.Lts-reference as reference-lts
+use Rattle.evaluating.proofs.+arguments+call+chain+deeds-assign+deeds-begun+deeds-body_turn+deeds-bounded+deeds-bounds+deeds-run_body+deeds-start+deeds-test+evaluate+inside+levels+listed+operand+plain+primitive+reference.Lts-reference as reference-lts
 use Rattle.bodies.proofs.bound_of.Reads as bound-of-reads
 use Rattle.bodies.proofs.bound_word.Reads as bound-word-reads
 use Rattle.bodies.proofs.bounded_by.Reads as bounded-by-reads
@@ -116,10 +116,10 @@ use Rattle.rows.proofs.part_of.Reads as part-of-reads
 use Rattle.rows.proofs.row_at.Reads as row-at-reads
 use Rattle.tokens.proofs.is_sign.Reads as is-sign-reads
 use Rattle.tokens.proofs.token_at.Reads as token-at-reads
-use Rattle.evaluating.proofs.+arguments+call+chain+deeds-assign+deeds-body_statement+deeds-body_turn+deeds-bounded+deeds-bounds+deeds-run_body+deeds-start+deeds-test+evaluate+inside+levels+listed_name+operand+plain_name+primitive+reference.{
+use Rattle.evaluating.proofs.+arguments+call+chain+deeds-assign+deeds-begun+deeds-body_turn+deeds-bounded+deeds-bounds+deeds-run_body+deeds-start+deeds-test+evaluate+inside+levels+listed+operand+plain+primitive+reference.{
   statement,
 }
-use Rattle.evaluating.proofs.+arguments+call+chain+deeds-assign+deeds-body_statement+deeds-body_turn+deeds-bounded+deeds-bounds+deeds-run_body+deeds-start+deeds-test+evaluate+inside+levels+listed_name+operand+plain_name+primitive+reference.Tie.{
+use Rattle.evaluating.proofs.+arguments+call+chain+deeds-assign+deeds-begun+deeds-body_turn+deeds-bounded+deeds-bounds+deeds-run_body+deeds-start+deeds-test+evaluate+inside+levels+listed+operand+plain+primitive+reference.Tie.{
   close,
 }
 use Prim.Native.Nat.{_+_, _*_, _≤_, _-_}
@@ -149,8 +149,8 @@ abbrev μ-chain : Measures 8 chain-kinds.ps ℕ
 abbrev μ-deeds·assign : Measures 8 deeds·assign-kinds.ps ℕ
 μ-deeds·assign κs a = 1000 * a .1 .1 .1 .1 .1 .1 .1 .1 .1 .1 .0 .running .left + 870
 
-abbrev μ-deeds·body-statement : Measures 9 deeds·body-statement-kinds.ps ℕ
-μ-deeds·body-statement κs a = 1000 * a .1 .1 .1 .1 .1 .1 .1 .1 .1 .1 .1 .1 .1 .0 .running .left + 880
+abbrev μ-deeds·begun : Measures 9 deeds·begun-kinds.ps ℕ
+μ-deeds·begun κs a = 1000 * a .1 .1 .1 .1 .1 .1 .1 .1 .1 .1 .1 .1 .1 .0 .running .left + 880
 
 abbrev μ-deeds·body-turn : Measures 9 deeds·body-turn-kinds.ps ℕ
 μ-deeds·body-turn κs a = 1000 * a .1 .1 .1 .1 .1 .1 .1 .1 .1 .1 .1 .1 .1 .0 .running .left + 890
@@ -179,14 +179,14 @@ abbrev μ-inside : Measures 8 inside-kinds.ps ℕ
 abbrev μ-levels : Measures 8 levels-kinds.ps ℕ
 μ-levels κs a = 1000 * a .1 .1 .1 .1 .1 .1 .1 .1 .1 .1 .1 .1 .0 .running .left + 32 * a .1 .1 .1 .1 .1 .1 .1 .1 .1 .1 .0 + 2 * a .1 .1 .1 .1 .1 .1 .1 .1 .1 .0 + 8
 
-abbrev μ-listed-name : Measures 8 listed-name-kinds.ps ℕ
-μ-listed-name κs a = 1000 * a .1 .1 .1 .1 .1 .1 .1 .1 .1 .1 .1 .1 .0 .running .left + 32 * a .1 .1 .1 .1 .1 .1 .1 .1 .1 .1 .0 + 3
+abbrev μ-listed : Measures 8 listed-kinds.ps ℕ
+μ-listed κs a = 1000 * a .1 .1 .1 .1 .1 .1 .1 .1 .1 .1 .1 .1 .0 .running .left + 32 * a .1 .1 .1 .1 .1 .1 .1 .1 .1 .1 .0 + 3
 
 abbrev μ-operand : Measures 8 operand-kinds.ps ℕ
 μ-operand κs a = 1000 * a .1 .1 .1 .1 .1 .1 .1 .1 .1 .1 .1 .0 .running .left + 32 * a .1 .1 .1 .1 .1 .1 .1 .1 .1 .0 + 6
 
-abbrev μ-plain-name : Measures 7 plain-name-kinds.ps ℕ
-μ-plain-name κs a = 1000 * a .1 .1 .1 .1 .1 .1 .1 .1 .1 .1 .0 .running .left + 1
+abbrev μ-plain : Measures 7 plain-kinds.ps ℕ
+μ-plain κs a = 1000 * a .1 .1 .1 .1 .1 .1 .1 .1 .1 .1 .0 .running .left + 1
 
 abbrev μ-primitive : Measures 8 primitive-kinds.ps ℕ
 μ-primitive κs a = 1000 * a .1 .1 .1 .1 .1 .1 .1 .1 .1 .1 .1 .0 .running .left + 32 * a .1 .1 .1 .1 .1 .1 .1 .1 .1 .0 + 5
@@ -225,21 +225,21 @@ deeds·assign-below t =
     (falls 8 deeds·assign-kinds.ps _<_ μ-deeds·assign t)
     deeds·assign.Pre
 
-abbrev deeds·body-statement-at : ℕ → In 9 deeds·body-statement-kinds.ps
-deeds·body-statement-at t =
+abbrev deeds·begun-at : ℕ → In 9 deeds·begun-kinds.ps
+deeds·begun-at t =
     and
     9
-    deeds·body-statement-kinds.ps
-    (is 9 deeds·body-statement-kinds.ps μ-deeds·body-statement t)
-    deeds·body-statement.Pre
+    deeds·begun-kinds.ps
+    (is 9 deeds·begun-kinds.ps μ-deeds·begun t)
+    deeds·begun.Pre
 
-abbrev deeds·body-statement-below : ℕ → In 9 deeds·body-statement-kinds.ps
-deeds·body-statement-below t =
+abbrev deeds·begun-below : ℕ → In 9 deeds·begun-kinds.ps
+deeds·begun-below t =
     and
     9
-    deeds·body-statement-kinds.ps
-    (falls 9 deeds·body-statement-kinds.ps _<_ μ-deeds·body-statement t)
-    deeds·body-statement.Pre
+    deeds·begun-kinds.ps
+    (falls 9 deeds·begun-kinds.ps _<_ μ-deeds·begun t)
+    deeds·begun.Pre
 
 abbrev deeds·body-turn-at : ℕ → In 9 deeds·body-turn-kinds.ps
 deeds·body-turn-at t =
@@ -332,13 +332,13 @@ levels-at t = and 8 levels-kinds.ps (is 8 levels-kinds.ps μ-levels t) levels.Pr
 abbrev levels-below : ℕ → In 8 levels-kinds.ps
 levels-below t = and 8 levels-kinds.ps (falls 8 levels-kinds.ps _<_ μ-levels t) levels.Pre
 
-abbrev listed-name-at : ℕ → In 8 listed-name-kinds.ps
-listed-name-at t =
-    and 8 listed-name-kinds.ps (is 8 listed-name-kinds.ps μ-listed-name t) listed-name.Pre
+abbrev listed-at : ℕ → In 8 listed-kinds.ps
+listed-at t =
+    and 8 listed-kinds.ps (is 8 listed-kinds.ps μ-listed t) listed.Pre
 
-abbrev listed-name-below : ℕ → In 8 listed-name-kinds.ps
-listed-name-below t =
-    and 8 listed-name-kinds.ps (falls 8 listed-name-kinds.ps _<_ μ-listed-name t) listed-name.Pre
+abbrev listed-below : ℕ → In 8 listed-kinds.ps
+listed-below t =
+    and 8 listed-kinds.ps (falls 8 listed-kinds.ps _<_ μ-listed t) listed.Pre
 
 abbrev operand-at : ℕ → In 8 operand-kinds.ps
 operand-at t = and 8 operand-kinds.ps (is 8 operand-kinds.ps μ-operand t) operand.Pre
@@ -346,13 +346,13 @@ operand-at t = and 8 operand-kinds.ps (is 8 operand-kinds.ps μ-operand t) opera
 abbrev operand-below : ℕ → In 8 operand-kinds.ps
 operand-below t = and 8 operand-kinds.ps (falls 8 operand-kinds.ps _<_ μ-operand t) operand.Pre
 
-abbrev plain-name-at : ℕ → In 7 plain-name-kinds.ps
-plain-name-at t =
-    and 7 plain-name-kinds.ps (is 7 plain-name-kinds.ps μ-plain-name t) plain-name.Pre
+abbrev plain-at : ℕ → In 7 plain-kinds.ps
+plain-at t =
+    and 7 plain-kinds.ps (is 7 plain-kinds.ps μ-plain t) plain.Pre
 
-abbrev plain-name-below : ℕ → In 7 plain-name-kinds.ps
-plain-name-below t =
-    and 7 plain-name-kinds.ps (falls 7 plain-name-kinds.ps _<_ μ-plain-name t) plain-name.Pre
+abbrev plain-below : ℕ → In 7 plain-kinds.ps
+plain-below t =
+    and 7 plain-kinds.ps (falls 7 plain-kinds.ps _<_ μ-plain t) plain.Pre
 
 abbrev primitive-at : ℕ → In 8 primitive-kinds.ps
 primitive-at t = and 8 primitive-kinds.ps (is 8 primitive-kinds.ps μ-primitive t) primitive.Pre
@@ -1934,7 +1934,7 @@ deeds·assign-returns-2 : (t : ℕ) → deeds·assign-lts.Need-returns-2 (
 ) (deeds·assign-at t) deeds·assign.Post
 deeds·assign-returns-2 t c = search (assign-none, (c .before .before .before .token-at .ensures), (c .before .before .target-at .ensures), (c .enum-told))
 
-deeds·body-statement-row-at-requires : (t : ℕ) → deeds·body-statement-lts.Need-row-at-requires (
+deeds·begun-row-at-requires : (t : ℕ) → deeds·begun-lts.Need-row-at-requires (
   row-at-reads.Asked,
   row-at-reads.Learnt,
   deeds·assign-below t,
@@ -1961,10 +1961,10 @@ deeds·body-statement-row-at-requires : (t : ℕ) → deeds·body-statement-lts.
   with-step-reads.Learnt,
   jump-in-reads.Asked,
   jump-in-reads.Learnt,
-) (deeds·body-statement-at t) deeds·body-statement.Post
-deeds·body-statement-row-at-requires t c κs = search needs
+) (deeds·begun-at t) deeds·begun.Post
+deeds·begun-row-at-requires t c κs = search needs
 
-deeds·body-statement-cast-at : (t : ℕ) → deeds·body-statement-lts.Need-cast-at (
+deeds·begun-cast-at : (t : ℕ) → deeds·begun-lts.Need-cast-at (
   row-at-reads.Asked,
   row-at-reads.Learnt,
   deeds·assign-below t,
@@ -1991,10 +1991,10 @@ deeds·body-statement-cast-at : (t : ℕ) → deeds·body-statement-lts.Need-cas
   with-step-reads.Learnt,
   jump-in-reads.Asked,
   jump-in-reads.Learnt,
-) (deeds·body-statement-at t) deeds·body-statement.Post
-deeds·body-statement-cast-at t c = search needs
+) (deeds·begun-at t) deeds·begun.Post
+deeds·begun-cast-at t c = search needs
 
-deeds·body-statement-enum-told : (t : ℕ) → deeds·body-statement-lts.Need-enum-told (
+deeds·begun-enum-told : (t : ℕ) → deeds·begun-lts.Need-enum-told (
   row-at-reads.Asked,
   row-at-reads.Learnt,
   deeds·assign-below t,
@@ -2021,10 +2021,10 @@ deeds·body-statement-enum-told : (t : ℕ) → deeds·body-statement-lts.Need-e
   with-step-reads.Learnt,
   jump-in-reads.Asked,
   jump-in-reads.Learnt,
-) (deeds·body-statement-at t) deeds·body-statement.Post
-deeds·body-statement-enum-told t c = search needs
+) (deeds·begun-at t) deeds·begun.Post
+deeds·begun-enum-told t c = search needs
 
-deeds·body-statement-assign-requires : (t : ℕ) → deeds·body-statement-lts.Need-assign-requires (
+deeds·begun-assign-requires : (t : ℕ) → deeds·begun-lts.Need-assign-requires (
   row-at-reads.Asked,
   row-at-reads.Learnt,
   deeds·assign-below t,
@@ -2051,11 +2051,11 @@ deeds·body-statement-assign-requires : (t : ℕ) → deeds·body-statement-lts.
   with-step-reads.Learnt,
   jump-in-reads.Asked,
   jump-in-reads.Learnt,
-) (deeds·body-statement-at t) deeds·body-statement.Post
-deeds·body-statement-assign-requires t c κs = search needs
+) (deeds·begun-at t) deeds·begun.Post
+deeds·begun-assign-requires t c κs = search needs
 
-deeds·body-statement-on-behind-requires :
-    (t : ℕ) → deeds·body-statement-lts.Need-on-behind-requires (
+deeds·begun-on-behind-requires :
+    (t : ℕ) → deeds·begun-lts.Need-on-behind-requires (
       row-at-reads.Asked,
       row-at-reads.Learnt,
       deeds·assign-below t,
@@ -2082,10 +2082,10 @@ deeds·body-statement-on-behind-requires :
       with-step-reads.Learnt,
       jump-in-reads.Asked,
       jump-in-reads.Learnt,
-    ) (deeds·body-statement-at t) deeds·body-statement.Post
-deeds·body-statement-on-behind-requires t c κs = search needs
+    ) (deeds·begun-at t) deeds·begun.Post
+deeds·begun-on-behind-requires t c κs = search needs
 
-deeds·body-statement-enum-told-2 : (t : ℕ) → deeds·body-statement-lts.Need-enum-told-2 (
+deeds·begun-enum-told-2 : (t : ℕ) → deeds·begun-lts.Need-enum-told-2 (
   row-at-reads.Asked,
   row-at-reads.Learnt,
   deeds·assign-below t,
@@ -2112,10 +2112,10 @@ deeds·body-statement-enum-told-2 : (t : ℕ) → deeds·body-statement-lts.Need
   with-step-reads.Learnt,
   jump-in-reads.Asked,
   jump-in-reads.Learnt,
-) (deeds·body-statement-at t) deeds·body-statement.Post
-deeds·body-statement-enum-told-2 t c = search needs
+) (deeds·begun-at t) deeds·begun.Post
+deeds·begun-enum-told-2 t c = search needs
 
-deeds·body-statement-test-requires : (t : ℕ) → deeds·body-statement-lts.Need-test-requires (
+deeds·begun-test-requires : (t : ℕ) → deeds·begun-lts.Need-test-requires (
   row-at-reads.Asked,
   row-at-reads.Learnt,
   deeds·assign-below t,
@@ -2142,10 +2142,10 @@ deeds·body-statement-test-requires : (t : ℕ) → deeds·body-statement-lts.Ne
   with-step-reads.Learnt,
   jump-in-reads.Asked,
   jump-in-reads.Learnt,
-) (deeds·body-statement-at t) deeds·body-statement.Post
-deeds·body-statement-test-requires t c κs = search needs
+) (deeds·begun-at t) deeds·begun.Post
+deeds·begun-test-requires t c κs = search needs
 
-deeds·body-statement-on-test-requires : (t : ℕ) → deeds·body-statement-lts.Need-on-test-requires (
+deeds·begun-on-test-requires : (t : ℕ) → deeds·begun-lts.Need-on-test-requires (
   row-at-reads.Asked,
   row-at-reads.Learnt,
   deeds·assign-below t,
@@ -2172,10 +2172,10 @@ deeds·body-statement-on-test-requires : (t : ℕ) → deeds·body-statement-lts
   with-step-reads.Learnt,
   jump-in-reads.Asked,
   jump-in-reads.Learnt,
-) (deeds·body-statement-at t) deeds·body-statement.Post
-deeds·body-statement-on-test-requires t c κs = search needs
+) (deeds·begun-at t) deeds·begun.Post
+deeds·begun-on-test-requires t c κs = search needs
 
-deeds·body-statement-enum-told-3 : (t : ℕ) → deeds·body-statement-lts.Need-enum-told-3 (
+deeds·begun-enum-told-3 : (t : ℕ) → deeds·begun-lts.Need-enum-told-3 (
   row-at-reads.Asked,
   row-at-reads.Learnt,
   deeds·assign-below t,
@@ -2202,10 +2202,10 @@ deeds·body-statement-enum-told-3 : (t : ℕ) → deeds·body-statement-lts.Need
   with-step-reads.Learnt,
   jump-in-reads.Asked,
   jump-in-reads.Learnt,
-) (deeds·body-statement-at t) deeds·body-statement.Post
-deeds·body-statement-enum-told-3 t c = search needs
+) (deeds·begun-at t) deeds·begun.Post
+deeds·begun-enum-told-3 t c = search needs
 
-deeds·body-statement-start-requires : (t : ℕ) → deeds·body-statement-lts.Need-start-requires (
+deeds·begun-start-requires : (t : ℕ) → deeds·begun-lts.Need-start-requires (
   row-at-reads.Asked,
   row-at-reads.Learnt,
   deeds·assign-below t,
@@ -2232,10 +2232,10 @@ deeds·body-statement-start-requires : (t : ℕ) → deeds·body-statement-lts.N
   with-step-reads.Learnt,
   jump-in-reads.Asked,
   jump-in-reads.Learnt,
-) (deeds·body-statement-at t) deeds·body-statement.Post
-deeds·body-statement-start-requires t c κs = search needs
+) (deeds·begun-at t) deeds·begun.Post
+deeds·begun-start-requires t c κs = search needs
 
-deeds·body-statement-on-start-requires : (t : ℕ) → deeds·body-statement-lts.Need-on-start-requires (
+deeds·begun-on-start-requires : (t : ℕ) → deeds·begun-lts.Need-on-start-requires (
   row-at-reads.Asked,
   row-at-reads.Learnt,
   deeds·assign-below t,
@@ -2262,10 +2262,10 @@ deeds·body-statement-on-start-requires : (t : ℕ) → deeds·body-statement-lt
   with-step-reads.Learnt,
   jump-in-reads.Asked,
   jump-in-reads.Learnt,
-) (deeds·body-statement-at t) deeds·body-statement.Post
-deeds·body-statement-on-start-requires t c κs = search needs
+) (deeds·begun-at t) deeds·begun.Post
+deeds·begun-on-start-requires t c κs = search needs
 
-deeds·body-statement-enum-told-4 : (t : ℕ) → deeds·body-statement-lts.Need-enum-told-4 (
+deeds·begun-enum-told-4 : (t : ℕ) → deeds·begun-lts.Need-enum-told-4 (
   row-at-reads.Asked,
   row-at-reads.Learnt,
   deeds·assign-below t,
@@ -2292,10 +2292,10 @@ deeds·body-statement-enum-told-4 : (t : ℕ) → deeds·body-statement-lts.Need
   with-step-reads.Learnt,
   jump-in-reads.Asked,
   jump-in-reads.Learnt,
-) (deeds·body-statement-at t) deeds·body-statement.Post
-deeds·body-statement-enum-told-4 t c = search needs
+) (deeds·begun-at t) deeds·begun.Post
+deeds·begun-enum-told-4 t c = search needs
 
-deeds·body-statement-token-at-requires : (t : ℕ) → deeds·body-statement-lts.Need-token-at-requires (
+deeds·begun-token-at-requires : (t : ℕ) → deeds·begun-lts.Need-token-at-requires (
   row-at-reads.Asked,
   row-at-reads.Learnt,
   deeds·assign-below t,
@@ -2322,10 +2322,10 @@ deeds·body-statement-token-at-requires : (t : ℕ) → deeds·body-statement-lt
   with-step-reads.Learnt,
   jump-in-reads.Asked,
   jump-in-reads.Learnt,
-) (deeds·body-statement-at t) deeds·body-statement.Post
-deeds·body-statement-token-at-requires t c κs = search needs
+) (deeds·begun-at t) deeds·begun.Post
+deeds·begun-token-at-requires t c κs = search needs
 
-deeds·body-statement-evaluate-requires : (t : ℕ) → deeds·body-statement-lts.Need-evaluate-requires (
+deeds·begun-evaluate-requires : (t : ℕ) → deeds·begun-lts.Need-evaluate-requires (
   row-at-reads.Asked,
   row-at-reads.Learnt,
   deeds·assign-below t,
@@ -2352,10 +2352,10 @@ deeds·body-statement-evaluate-requires : (t : ℕ) → deeds·body-statement-lt
   with-step-reads.Learnt,
   jump-in-reads.Asked,
   jump-in-reads.Learnt,
-) (deeds·body-statement-at t) deeds·body-statement.Post
-deeds·body-statement-evaluate-requires t c κs = search needs
+) (deeds·begun-at t) deeds·begun.Post
+deeds·begun-evaluate-requires t c κs = search needs
 
-deeds·body-statement-row-at-requires-2 : (t : ℕ) → deeds·body-statement-lts.Need-row-at-requires-2 (
+deeds·begun-row-at-requires-2 : (t : ℕ) → deeds·begun-lts.Need-row-at-requires-2 (
   row-at-reads.Asked,
   row-at-reads.Learnt,
   deeds·assign-below t,
@@ -2382,11 +2382,11 @@ deeds·body-statement-row-at-requires-2 : (t : ℕ) → deeds·body-statement-lt
   with-step-reads.Learnt,
   jump-in-reads.Asked,
   jump-in-reads.Learnt,
-) (deeds·body-statement-at t) deeds·body-statement.Post
-deeds·body-statement-row-at-requires-2 t c κs = search needs
+) (deeds·begun-at t) deeds·begun.Post
+deeds·begun-row-at-requires-2 t c κs = search needs
 
-deeds·body-statement-on-return-requires :
-    (t : ℕ) → deeds·body-statement-lts.Need-on-return-requires (
+deeds·begun-on-return-requires :
+    (t : ℕ) → deeds·begun-lts.Need-on-return-requires (
       row-at-reads.Asked,
       row-at-reads.Learnt,
       deeds·assign-below t,
@@ -2413,10 +2413,10 @@ deeds·body-statement-on-return-requires :
       with-step-reads.Learnt,
       jump-in-reads.Asked,
       jump-in-reads.Learnt,
-    ) (deeds·body-statement-at t) deeds·body-statement.Post
-deeds·body-statement-on-return-requires t c κs = search needs
+    ) (deeds·begun-at t) deeds·begun.Post
+deeds·begun-on-return-requires t c κs = search needs
 
-deeds·body-statement-enum-told-5 : (t : ℕ) → deeds·body-statement-lts.Need-enum-told-5 (
+deeds·begun-enum-told-5 : (t : ℕ) → deeds·begun-lts.Need-enum-told-5 (
   row-at-reads.Asked,
   row-at-reads.Learnt,
   deeds·assign-below t,
@@ -2443,11 +2443,11 @@ deeds·body-statement-enum-told-5 : (t : ℕ) → deeds·body-statement-lts.Need
   with-step-reads.Learnt,
   jump-in-reads.Asked,
   jump-in-reads.Learnt,
-) (deeds·body-statement-at t) deeds·body-statement.Post
-deeds·body-statement-enum-told-5 t c = search needs
+) (deeds·begun-at t) deeds·begun.Post
+deeds·begun-enum-told-5 t c = search needs
 
-deeds·body-statement-into-group-requires :
-    (t : ℕ) → deeds·body-statement-lts.Need-into-group-requires (
+deeds·begun-into-group-requires :
+    (t : ℕ) → deeds·begun-lts.Need-into-group-requires (
       row-at-reads.Asked,
       row-at-reads.Learnt,
       deeds·assign-below t,
@@ -2474,11 +2474,11 @@ deeds·body-statement-into-group-requires :
       with-step-reads.Learnt,
       jump-in-reads.Asked,
       jump-in-reads.Learnt,
-    ) (deeds·body-statement-at t) deeds·body-statement.Post
-deeds·body-statement-into-group-requires t c κs = search needs
+    ) (deeds·begun-at t) deeds·begun.Post
+deeds·begun-into-group-requires t c κs = search needs
 
-deeds·body-statement-with-step-requires :
-    (t : ℕ) → deeds·body-statement-lts.Need-with-step-requires (
+deeds·begun-with-step-requires :
+    (t : ℕ) → deeds·begun-lts.Need-with-step-requires (
       row-at-reads.Asked,
       row-at-reads.Learnt,
       deeds·assign-below t,
@@ -2505,10 +2505,10 @@ deeds·body-statement-with-step-requires :
       with-step-reads.Learnt,
       jump-in-reads.Asked,
       jump-in-reads.Learnt,
-    ) (deeds·body-statement-at t) deeds·body-statement.Post
-deeds·body-statement-with-step-requires t c κs = search needs
+    ) (deeds·begun-at t) deeds·begun.Post
+deeds·begun-with-step-requires t c κs = search needs
 
-deeds·body-statement-enum-told-6 : (t : ℕ) → deeds·body-statement-lts.Need-enum-told-6 (
+deeds·begun-enum-told-6 : (t : ℕ) → deeds·begun-lts.Need-enum-told-6 (
   row-at-reads.Asked,
   row-at-reads.Learnt,
   deeds·assign-below t,
@@ -2535,10 +2535,10 @@ deeds·body-statement-enum-told-6 : (t : ℕ) → deeds·body-statement-lts.Need
   with-step-reads.Learnt,
   jump-in-reads.Asked,
   jump-in-reads.Learnt,
-) (deeds·body-statement-at t) deeds·body-statement.Post
-deeds·body-statement-enum-told-6 t c = search needs
+) (deeds·begun-at t) deeds·begun.Post
+deeds·begun-enum-told-6 t c = search needs
 
-deeds·body-statement-jump-in-requires : (t : ℕ) → deeds·body-statement-lts.Need-jump-in-requires (
+deeds·begun-jump-in-requires : (t : ℕ) → deeds·begun-lts.Need-jump-in-requires (
   row-at-reads.Asked,
   row-at-reads.Learnt,
   deeds·assign-below t,
@@ -2565,10 +2565,10 @@ deeds·body-statement-jump-in-requires : (t : ℕ) → deeds·body-statement-lts
   with-step-reads.Learnt,
   jump-in-reads.Asked,
   jump-in-reads.Learnt,
-) (deeds·body-statement-at t) deeds·body-statement.Post
-deeds·body-statement-jump-in-requires t c κs = search needs
+) (deeds·begun-at t) deeds·begun.Post
+deeds·begun-jump-in-requires t c κs = search needs
 
-deeds·body-statement-enum-told-7 : (t : ℕ) → deeds·body-statement-lts.Need-enum-told-7 (
+deeds·begun-enum-told-7 : (t : ℕ) → deeds·begun-lts.Need-enum-told-7 (
   row-at-reads.Asked,
   row-at-reads.Learnt,
   deeds·assign-below t,
@@ -2595,11 +2595,11 @@ deeds·body-statement-enum-told-7 : (t : ℕ) → deeds·body-statement-lts.Need
   with-step-reads.Learnt,
   jump-in-reads.Asked,
   jump-in-reads.Learnt,
-) (deeds·body-statement-at t) deeds·body-statement.Post
-deeds·body-statement-enum-told-7 t c = search needs
+) (deeds·begun-at t) deeds·begun.Post
+deeds·begun-enum-told-7 t c = search needs
 
-deeds·body-statement-on-behind-requires-2 :
-    (t : ℕ) → deeds·body-statement-lts.Need-on-behind-requires-2 (
+deeds·begun-on-behind-requires-2 :
+    (t : ℕ) → deeds·begun-lts.Need-on-behind-requires-2 (
       row-at-reads.Asked,
       row-at-reads.Learnt,
       deeds·assign-below t,
@@ -2626,10 +2626,10 @@ deeds·body-statement-on-behind-requires-2 :
       with-step-reads.Learnt,
       jump-in-reads.Asked,
       jump-in-reads.Learnt,
-    ) (deeds·body-statement-at t) deeds·body-statement.Post
-deeds·body-statement-on-behind-requires-2 t c κs = search needs
+    ) (deeds·begun-at t) deeds·begun.Post
+deeds·begun-on-behind-requires-2 t c κs = search needs
 
-deeds·body-statement-enum-told-8 : (t : ℕ) → deeds·body-statement-lts.Need-enum-told-8 (
+deeds·begun-enum-told-8 : (t : ℕ) → deeds·begun-lts.Need-enum-told-8 (
   row-at-reads.Asked,
   row-at-reads.Learnt,
   deeds·assign-below t,
@@ -2656,11 +2656,11 @@ deeds·body-statement-enum-told-8 : (t : ℕ) → deeds·body-statement-lts.Need
   with-step-reads.Learnt,
   jump-in-reads.Asked,
   jump-in-reads.Learnt,
-) (deeds·body-statement-at t) deeds·body-statement.Post
-deeds·body-statement-enum-told-8 t c = search needs
+) (deeds·begun-at t) deeds·begun.Post
+deeds·begun-enum-told-8 t c = search needs
 
-deeds·body-statement-on-behind-requires-3 :
-    (t : ℕ) → deeds·body-statement-lts.Need-on-behind-requires-3 (
+deeds·begun-on-behind-requires-3 :
+    (t : ℕ) → deeds·begun-lts.Need-on-behind-requires-3 (
       row-at-reads.Asked,
       row-at-reads.Learnt,
       deeds·assign-below t,
@@ -2687,10 +2687,10 @@ deeds·body-statement-on-behind-requires-3 :
       with-step-reads.Learnt,
       jump-in-reads.Asked,
       jump-in-reads.Learnt,
-    ) (deeds·body-statement-at t) deeds·body-statement.Post
-deeds·body-statement-on-behind-requires-3 t c κs = search needs
+    ) (deeds·begun-at t) deeds·begun.Post
+deeds·begun-on-behind-requires-3 t c κs = search needs
 
-deeds·body-statement-enum-told-9 : (t : ℕ) → deeds·body-statement-lts.Need-enum-told-9 (
+deeds·begun-enum-told-9 : (t : ℕ) → deeds·begun-lts.Need-enum-told-9 (
   row-at-reads.Asked,
   row-at-reads.Learnt,
   deeds·assign-below t,
@@ -2717,11 +2717,11 @@ deeds·body-statement-enum-told-9 : (t : ℕ) → deeds·body-statement-lts.Need
   with-step-reads.Learnt,
   jump-in-reads.Asked,
   jump-in-reads.Learnt,
-) (deeds·body-statement-at t) deeds·body-statement.Post
-deeds·body-statement-enum-told-9 t c = search needs
+) (deeds·begun-at t) deeds·begun.Post
+deeds·begun-enum-told-9 t c = search needs
 
-deeds·body-statement-on-behind-requires-4 :
-    (t : ℕ) → deeds·body-statement-lts.Need-on-behind-requires-4 (
+deeds·begun-on-behind-requires-4 :
+    (t : ℕ) → deeds·begun-lts.Need-on-behind-requires-4 (
       row-at-reads.Asked,
       row-at-reads.Learnt,
       deeds·assign-below t,
@@ -2748,10 +2748,10 @@ deeds·body-statement-on-behind-requires-4 :
       with-step-reads.Learnt,
       jump-in-reads.Asked,
       jump-in-reads.Learnt,
-    ) (deeds·body-statement-at t) deeds·body-statement.Post
-deeds·body-statement-on-behind-requires-4 t c κs = search needs
+    ) (deeds·begun-at t) deeds·begun.Post
+deeds·begun-on-behind-requires-4 t c κs = search needs
 
-deeds·body-statement-enum-told-10 : (t : ℕ) → deeds·body-statement-lts.Need-enum-told-10 (
+deeds·begun-enum-told-10 : (t : ℕ) → deeds·begun-lts.Need-enum-told-10 (
   row-at-reads.Asked,
   row-at-reads.Learnt,
   deeds·assign-below t,
@@ -2778,11 +2778,11 @@ deeds·body-statement-enum-told-10 : (t : ℕ) → deeds·body-statement-lts.Nee
   with-step-reads.Learnt,
   jump-in-reads.Asked,
   jump-in-reads.Learnt,
-) (deeds·body-statement-at t) deeds·body-statement.Post
-deeds·body-statement-enum-told-10 t c = search needs
+) (deeds·begun-at t) deeds·begun.Post
+deeds·begun-enum-told-10 t c = search needs
 
-deeds·body-statement-on-behind-requires-5 :
-    (t : ℕ) → deeds·body-statement-lts.Need-on-behind-requires-5 (
+deeds·begun-on-behind-requires-5 :
+    (t : ℕ) → deeds·begun-lts.Need-on-behind-requires-5 (
       row-at-reads.Asked,
       row-at-reads.Learnt,
       deeds·assign-below t,
@@ -2809,10 +2809,10 @@ deeds·body-statement-on-behind-requires-5 :
       with-step-reads.Learnt,
       jump-in-reads.Asked,
       jump-in-reads.Learnt,
-    ) (deeds·body-statement-at t) deeds·body-statement.Post
-deeds·body-statement-on-behind-requires-5 t c κs = search needs
+    ) (deeds·begun-at t) deeds·begun.Post
+deeds·begun-on-behind-requires-5 t c κs = search needs
 
-deeds·body-statement-enum-told-11 : (t : ℕ) → deeds·body-statement-lts.Need-enum-told-11 (
+deeds·begun-enum-told-11 : (t : ℕ) → deeds·begun-lts.Need-enum-told-11 (
   row-at-reads.Asked,
   row-at-reads.Learnt,
   deeds·assign-below t,
@@ -2839,11 +2839,11 @@ deeds·body-statement-enum-told-11 : (t : ℕ) → deeds·body-statement-lts.Nee
   with-step-reads.Learnt,
   jump-in-reads.Asked,
   jump-in-reads.Learnt,
-) (deeds·body-statement-at t) deeds·body-statement.Post
-deeds·body-statement-enum-told-11 t c = search needs
+) (deeds·begun-at t) deeds·begun.Post
+deeds·begun-enum-told-11 t c = search needs
 
-deeds·body-statement-on-behind-requires-6 :
-    (t : ℕ) → deeds·body-statement-lts.Need-on-behind-requires-6 (
+deeds·begun-on-behind-requires-6 :
+    (t : ℕ) → deeds·begun-lts.Need-on-behind-requires-6 (
       row-at-reads.Asked,
       row-at-reads.Learnt,
       deeds·assign-below t,
@@ -2870,10 +2870,10 @@ deeds·body-statement-on-behind-requires-6 :
       with-step-reads.Learnt,
       jump-in-reads.Asked,
       jump-in-reads.Learnt,
-    ) (deeds·body-statement-at t) deeds·body-statement.Post
-deeds·body-statement-on-behind-requires-6 t c κs = search needs
+    ) (deeds·begun-at t) deeds·begun.Post
+deeds·begun-on-behind-requires-6 t c κs = search needs
 
-deeds·body-statement-enum-told-12 : (t : ℕ) → deeds·body-statement-lts.Need-enum-told-12 (
+deeds·begun-enum-told-12 : (t : ℕ) → deeds·begun-lts.Need-enum-told-12 (
   row-at-reads.Asked,
   row-at-reads.Learnt,
   deeds·assign-below t,
@@ -2900,11 +2900,11 @@ deeds·body-statement-enum-told-12 : (t : ℕ) → deeds·body-statement-lts.Nee
   with-step-reads.Learnt,
   jump-in-reads.Asked,
   jump-in-reads.Learnt,
-) (deeds·body-statement-at t) deeds·body-statement.Post
-deeds·body-statement-enum-told-12 t c = search needs
+) (deeds·begun-at t) deeds·begun.Post
+deeds·begun-enum-told-12 t c = search needs
 
-deeds·body-statement-on-behind-requires-7 :
-    (t : ℕ) → deeds·body-statement-lts.Need-on-behind-requires-7 (
+deeds·begun-on-behind-requires-7 :
+    (t : ℕ) → deeds·begun-lts.Need-on-behind-requires-7 (
       row-at-reads.Asked,
       row-at-reads.Learnt,
       deeds·assign-below t,
@@ -2931,10 +2931,10 @@ deeds·body-statement-on-behind-requires-7 :
       with-step-reads.Learnt,
       jump-in-reads.Asked,
       jump-in-reads.Learnt,
-    ) (deeds·body-statement-at t) deeds·body-statement.Post
-deeds·body-statement-on-behind-requires-7 t c κs = search needs
+    ) (deeds·begun-at t) deeds·begun.Post
+deeds·begun-on-behind-requires-7 t c κs = search needs
 
-deeds·body-statement-same-length : (t : ℕ) → deeds·body-statement-lts.Need-same-length (
+deeds·begun-same-length : (t : ℕ) → deeds·begun-lts.Need-same-length (
   row-at-reads.Asked,
   row-at-reads.Learnt,
   deeds·assign-below t,
@@ -2961,10 +2961,10 @@ deeds·body-statement-same-length : (t : ℕ) → deeds·body-statement-lts.Need
   with-step-reads.Learnt,
   jump-in-reads.Asked,
   jump-in-reads.Learnt,
-) (deeds·body-statement-at t) deeds·body-statement.Post
-deeds·body-statement-same-length t c = search needs
+) (deeds·begun-at t) deeds·begun.Post
+deeds·begun-same-length t c = search needs
 
-deeds·body-statement-same-length-2 : (t : ℕ) → deeds·body-statement-lts.Need-same-length-2 (
+deeds·begun-same-length-2 : (t : ℕ) → deeds·begun-lts.Need-same-length-2 (
   row-at-reads.Asked,
   row-at-reads.Learnt,
   deeds·assign-below t,
@@ -2991,10 +2991,10 @@ deeds·body-statement-same-length-2 : (t : ℕ) → deeds·body-statement-lts.Ne
   with-step-reads.Learnt,
   jump-in-reads.Asked,
   jump-in-reads.Learnt,
-) (deeds·body-statement-at t) deeds·body-statement.Post
-deeds·body-statement-same-length-2 t c = search needs
+) (deeds·begun-at t) deeds·begun.Post
+deeds·begun-same-length-2 t c = search needs
 
-deeds·body-statement-same-length-3 : (t : ℕ) → deeds·body-statement-lts.Need-same-length-3 (
+deeds·begun-same-length-3 : (t : ℕ) → deeds·begun-lts.Need-same-length-3 (
   row-at-reads.Asked,
   row-at-reads.Learnt,
   deeds·assign-below t,
@@ -3021,10 +3021,10 @@ deeds·body-statement-same-length-3 : (t : ℕ) → deeds·body-statement-lts.Ne
   with-step-reads.Learnt,
   jump-in-reads.Asked,
   jump-in-reads.Learnt,
-) (deeds·body-statement-at t) deeds·body-statement.Post
-deeds·body-statement-same-length-3 t c = search needs
+) (deeds·begun-at t) deeds·begun.Post
+deeds·begun-same-length-3 t c = search needs
 
-deeds·body-statement-same-length-4 : (t : ℕ) → deeds·body-statement-lts.Need-same-length-4 (
+deeds·begun-same-length-4 : (t : ℕ) → deeds·begun-lts.Need-same-length-4 (
   row-at-reads.Asked,
   row-at-reads.Learnt,
   deeds·assign-below t,
@@ -3051,10 +3051,10 @@ deeds·body-statement-same-length-4 : (t : ℕ) → deeds·body-statement-lts.Ne
   with-step-reads.Learnt,
   jump-in-reads.Asked,
   jump-in-reads.Learnt,
-) (deeds·body-statement-at t) deeds·body-statement.Post
-deeds·body-statement-same-length-4 t c = search needs
+) (deeds·begun-at t) deeds·begun.Post
+deeds·begun-same-length-4 t c = search needs
 
-deeds·body-statement-returns : (t : ℕ) → deeds·body-statement-lts.Need-returns (
+deeds·begun-returns : (t : ℕ) → deeds·begun-lts.Need-returns (
   row-at-reads.Asked,
   row-at-reads.Learnt,
   deeds·assign-below t,
@@ -3081,10 +3081,10 @@ deeds·body-statement-returns : (t : ℕ) → deeds·body-statement-lts.Need-ret
   with-step-reads.Learnt,
   jump-in-reads.Asked,
   jump-in-reads.Learnt,
-) (deeds·body-statement-at t) deeds·body-statement.Post
-deeds·body-statement-returns t c = row-assign _ _ _ _ _ _ _ _ _ _ _ _ _ _ _ _ (c .before .before .before .before .before .before .before .before .before .before .before .before .before .before .before .before .before .row-at .ensures) (search (c .before .before .before .before .before .before .before .before .before .before .before .before .before .before .enum-told)) _ _ _ _ _ (c .before .before .before .before .before .before .before .before .before .assign .ensures) _ (c .on-behind .ensures)
+) (deeds·begun-at t) deeds·begun.Post
+deeds·begun-returns t c = row-assign _ _ _ _ _ _ _ _ _ _ _ _ _ _ _ _ (c .before .before .before .before .before .before .before .before .before .before .before .before .before .before .before .before .before .row-at .ensures) (search (c .before .before .before .before .before .before .before .before .before .before .before .before .before .before .enum-told)) _ _ _ _ _ (c .before .before .before .before .before .before .before .before .before .assign .ensures) _ (c .on-behind .ensures)
 
-deeds·body-statement-same-length-5 : (t : ℕ) → deeds·body-statement-lts.Need-same-length-5 (
+deeds·begun-same-length-5 : (t : ℕ) → deeds·begun-lts.Need-same-length-5 (
   row-at-reads.Asked,
   row-at-reads.Learnt,
   deeds·assign-below t,
@@ -3111,10 +3111,10 @@ deeds·body-statement-same-length-5 : (t : ℕ) → deeds·body-statement-lts.Ne
   with-step-reads.Learnt,
   jump-in-reads.Asked,
   jump-in-reads.Learnt,
-) (deeds·body-statement-at t) deeds·body-statement.Post
-deeds·body-statement-same-length-5 t c = search needs
+) (deeds·begun-at t) deeds·begun.Post
+deeds·begun-same-length-5 t c = search needs
 
-deeds·body-statement-same-length-6 : (t : ℕ) → deeds·body-statement-lts.Need-same-length-6 (
+deeds·begun-same-length-6 : (t : ℕ) → deeds·begun-lts.Need-same-length-6 (
   row-at-reads.Asked,
   row-at-reads.Learnt,
   deeds·assign-below t,
@@ -3141,10 +3141,10 @@ deeds·body-statement-same-length-6 : (t : ℕ) → deeds·body-statement-lts.Ne
   with-step-reads.Learnt,
   jump-in-reads.Asked,
   jump-in-reads.Learnt,
-) (deeds·body-statement-at t) deeds·body-statement.Post
-deeds·body-statement-same-length-6 t c = search needs
+) (deeds·begun-at t) deeds·begun.Post
+deeds·begun-same-length-6 t c = search needs
 
-deeds·body-statement-same-length-7 : (t : ℕ) → deeds·body-statement-lts.Need-same-length-7 (
+deeds·begun-same-length-7 : (t : ℕ) → deeds·begun-lts.Need-same-length-7 (
   row-at-reads.Asked,
   row-at-reads.Learnt,
   deeds·assign-below t,
@@ -3171,10 +3171,10 @@ deeds·body-statement-same-length-7 : (t : ℕ) → deeds·body-statement-lts.Ne
   with-step-reads.Learnt,
   jump-in-reads.Asked,
   jump-in-reads.Learnt,
-) (deeds·body-statement-at t) deeds·body-statement.Post
-deeds·body-statement-same-length-7 t c = search needs
+) (deeds·begun-at t) deeds·begun.Post
+deeds·begun-same-length-7 t c = search needs
 
-deeds·body-statement-same-length-8 : (t : ℕ) → deeds·body-statement-lts.Need-same-length-8 (
+deeds·begun-same-length-8 : (t : ℕ) → deeds·begun-lts.Need-same-length-8 (
   row-at-reads.Asked,
   row-at-reads.Learnt,
   deeds·assign-below t,
@@ -3201,10 +3201,10 @@ deeds·body-statement-same-length-8 : (t : ℕ) → deeds·body-statement-lts.Ne
   with-step-reads.Learnt,
   jump-in-reads.Asked,
   jump-in-reads.Learnt,
-) (deeds·body-statement-at t) deeds·body-statement.Post
-deeds·body-statement-same-length-8 t c = search needs
+) (deeds·begun-at t) deeds·begun.Post
+deeds·begun-same-length-8 t c = search needs
 
-deeds·body-statement-returns-2 : (t : ℕ) → deeds·body-statement-lts.Need-returns-2 (
+deeds·begun-returns-2 : (t : ℕ) → deeds·begun-lts.Need-returns-2 (
   row-at-reads.Asked,
   row-at-reads.Learnt,
   deeds·assign-below t,
@@ -3231,10 +3231,10 @@ deeds·body-statement-returns-2 : (t : ℕ) → deeds·body-statement-lts.Need-r
   with-step-reads.Learnt,
   jump-in-reads.Asked,
   jump-in-reads.Learnt,
-) (deeds·body-statement-at t) deeds·body-statement.Post
-deeds·body-statement-returns-2 t c = row-test _ _ _ _ _ _ _ _ _ _ _ _ _ _ _ _ (c .before .before .before .before .before .before .before .before .before .before .before .before .before .before .before .before .before .row-at .ensures) (search (c .before .before .before .before .before .before .before .before .before .before .before .before .before .before .enum-told2)) _ _ _ _ _ (c .before .before .before .before .before .before .before .before .before .test .ensures) _ (c .on-test .ensures)
+) (deeds·begun-at t) deeds·begun.Post
+deeds·begun-returns-2 t c = row-test _ _ _ _ _ _ _ _ _ _ _ _ _ _ _ _ (c .before .before .before .before .before .before .before .before .before .before .before .before .before .before .before .before .before .row-at .ensures) (search (c .before .before .before .before .before .before .before .before .before .before .before .before .before .before .enum-told2)) _ _ _ _ _ (c .before .before .before .before .before .before .before .before .before .test .ensures) _ (c .on-test .ensures)
 
-deeds·body-statement-same-length-9 : (t : ℕ) → deeds·body-statement-lts.Need-same-length-9 (
+deeds·begun-same-length-9 : (t : ℕ) → deeds·begun-lts.Need-same-length-9 (
   row-at-reads.Asked,
   row-at-reads.Learnt,
   deeds·assign-below t,
@@ -3261,10 +3261,10 @@ deeds·body-statement-same-length-9 : (t : ℕ) → deeds·body-statement-lts.Ne
   with-step-reads.Learnt,
   jump-in-reads.Asked,
   jump-in-reads.Learnt,
-) (deeds·body-statement-at t) deeds·body-statement.Post
-deeds·body-statement-same-length-9 t c = search needs
+) (deeds·begun-at t) deeds·begun.Post
+deeds·begun-same-length-9 t c = search needs
 
-deeds·body-statement-same-length-10 : (t : ℕ) → deeds·body-statement-lts.Need-same-length-10 (
+deeds·begun-same-length-10 : (t : ℕ) → deeds·begun-lts.Need-same-length-10 (
   row-at-reads.Asked,
   row-at-reads.Learnt,
   deeds·assign-below t,
@@ -3291,10 +3291,10 @@ deeds·body-statement-same-length-10 : (t : ℕ) → deeds·body-statement-lts.N
   with-step-reads.Learnt,
   jump-in-reads.Asked,
   jump-in-reads.Learnt,
-) (deeds·body-statement-at t) deeds·body-statement.Post
-deeds·body-statement-same-length-10 t c = search needs
+) (deeds·begun-at t) deeds·begun.Post
+deeds·begun-same-length-10 t c = search needs
 
-deeds·body-statement-same-length-11 : (t : ℕ) → deeds·body-statement-lts.Need-same-length-11 (
+deeds·begun-same-length-11 : (t : ℕ) → deeds·begun-lts.Need-same-length-11 (
   row-at-reads.Asked,
   row-at-reads.Learnt,
   deeds·assign-below t,
@@ -3321,10 +3321,10 @@ deeds·body-statement-same-length-11 : (t : ℕ) → deeds·body-statement-lts.N
   with-step-reads.Learnt,
   jump-in-reads.Asked,
   jump-in-reads.Learnt,
-) (deeds·body-statement-at t) deeds·body-statement.Post
-deeds·body-statement-same-length-11 t c = search needs
+) (deeds·begun-at t) deeds·begun.Post
+deeds·begun-same-length-11 t c = search needs
 
-deeds·body-statement-same-length-12 : (t : ℕ) → deeds·body-statement-lts.Need-same-length-12 (
+deeds·begun-same-length-12 : (t : ℕ) → deeds·begun-lts.Need-same-length-12 (
   row-at-reads.Asked,
   row-at-reads.Learnt,
   deeds·assign-below t,
@@ -3351,10 +3351,10 @@ deeds·body-statement-same-length-12 : (t : ℕ) → deeds·body-statement-lts.N
   with-step-reads.Learnt,
   jump-in-reads.Asked,
   jump-in-reads.Learnt,
-) (deeds·body-statement-at t) deeds·body-statement.Post
-deeds·body-statement-same-length-12 t c = search needs
+) (deeds·begun-at t) deeds·begun.Post
+deeds·begun-same-length-12 t c = search needs
 
-deeds·body-statement-returns-3 : (t : ℕ) → deeds·body-statement-lts.Need-returns-3 (
+deeds·begun-returns-3 : (t : ℕ) → deeds·begun-lts.Need-returns-3 (
   row-at-reads.Asked,
   row-at-reads.Learnt,
   deeds·assign-below t,
@@ -3381,10 +3381,10 @@ deeds·body-statement-returns-3 : (t : ℕ) → deeds·body-statement-lts.Need-r
   with-step-reads.Learnt,
   jump-in-reads.Asked,
   jump-in-reads.Learnt,
-) (deeds·body-statement-at t) deeds·body-statement.Post
-deeds·body-statement-returns-3 t c = row-start _ _ _ _ _ _ _ _ _ _ _ _ _ _ _ _ (c .before .before .before .before .before .before .before .before .before .before .before .before .before .before .before .before .before .row-at .ensures) (search (c .before .before .before .before .before .before .before .before .before .before .before .before .before .before .enum-told3)) _ _ _ _ _ (c .before .before .before .before .before .before .before .before .before .start .ensures) _ (c .on-start .ensures)
+) (deeds·begun-at t) deeds·begun.Post
+deeds·begun-returns-3 t c = row-start _ _ _ _ _ _ _ _ _ _ _ _ _ _ _ _ (c .before .before .before .before .before .before .before .before .before .before .before .before .before .before .before .before .before .row-at .ensures) (search (c .before .before .before .before .before .before .before .before .before .before .before .before .before .before .enum-told3)) _ _ _ _ _ (c .before .before .before .before .before .before .before .before .before .start .ensures) _ (c .on-start .ensures)
 
-deeds·body-statement-same-length-13 : (t : ℕ) → deeds·body-statement-lts.Need-same-length-13 (
+deeds·begun-same-length-13 : (t : ℕ) → deeds·begun-lts.Need-same-length-13 (
   row-at-reads.Asked,
   row-at-reads.Learnt,
   deeds·assign-below t,
@@ -3411,10 +3411,10 @@ deeds·body-statement-same-length-13 : (t : ℕ) → deeds·body-statement-lts.N
   with-step-reads.Learnt,
   jump-in-reads.Asked,
   jump-in-reads.Learnt,
-) (deeds·body-statement-at t) deeds·body-statement.Post
-deeds·body-statement-same-length-13 t c = search needs
+) (deeds·begun-at t) deeds·begun.Post
+deeds·begun-same-length-13 t c = search needs
 
-deeds·body-statement-same-length-14 : (t : ℕ) → deeds·body-statement-lts.Need-same-length-14 (
+deeds·begun-same-length-14 : (t : ℕ) → deeds·begun-lts.Need-same-length-14 (
   row-at-reads.Asked,
   row-at-reads.Learnt,
   deeds·assign-below t,
@@ -3441,10 +3441,10 @@ deeds·body-statement-same-length-14 : (t : ℕ) → deeds·body-statement-lts.N
   with-step-reads.Learnt,
   jump-in-reads.Asked,
   jump-in-reads.Learnt,
-) (deeds·body-statement-at t) deeds·body-statement.Post
-deeds·body-statement-same-length-14 t c = search needs
+) (deeds·begun-at t) deeds·begun.Post
+deeds·begun-same-length-14 t c = search needs
 
-deeds·body-statement-same-length-15 : (t : ℕ) → deeds·body-statement-lts.Need-same-length-15 (
+deeds·begun-same-length-15 : (t : ℕ) → deeds·begun-lts.Need-same-length-15 (
   row-at-reads.Asked,
   row-at-reads.Learnt,
   deeds·assign-below t,
@@ -3471,10 +3471,10 @@ deeds·body-statement-same-length-15 : (t : ℕ) → deeds·body-statement-lts.N
   with-step-reads.Learnt,
   jump-in-reads.Asked,
   jump-in-reads.Learnt,
-) (deeds·body-statement-at t) deeds·body-statement.Post
-deeds·body-statement-same-length-15 t c = search needs
+) (deeds·begun-at t) deeds·begun.Post
+deeds·begun-same-length-15 t c = search needs
 
-deeds·body-statement-same-length-16 : (t : ℕ) → deeds·body-statement-lts.Need-same-length-16 (
+deeds·begun-same-length-16 : (t : ℕ) → deeds·begun-lts.Need-same-length-16 (
   row-at-reads.Asked,
   row-at-reads.Learnt,
   deeds·assign-below t,
@@ -3501,10 +3501,10 @@ deeds·body-statement-same-length-16 : (t : ℕ) → deeds·body-statement-lts.N
   with-step-reads.Learnt,
   jump-in-reads.Asked,
   jump-in-reads.Learnt,
-) (deeds·body-statement-at t) deeds·body-statement.Post
-deeds·body-statement-same-length-16 t c = search needs
+) (deeds·begun-at t) deeds·begun.Post
+deeds·begun-same-length-16 t c = search needs
 
-deeds·body-statement-returns-4 : (t : ℕ) → deeds·body-statement-lts.Need-returns-4 (
+deeds·begun-returns-4 : (t : ℕ) → deeds·begun-lts.Need-returns-4 (
   row-at-reads.Asked,
   row-at-reads.Learnt,
   deeds·assign-below t,
@@ -3531,10 +3531,10 @@ deeds·body-statement-returns-4 : (t : ℕ) → deeds·body-statement-lts.Need-r
   with-step-reads.Learnt,
   jump-in-reads.Asked,
   jump-in-reads.Learnt,
-) (deeds·body-statement-at t) deeds·body-statement.Post
-deeds·body-statement-returns-4 t c = row-return _ _ _ _ _ _ _ _ _ _ _ _ _ _ _ _ (c .before .before .before .before .before .before .before .before .before .before .before .before .before .before .before .before .before .before .before .before .before .before .row-at .ensures) (search (c .before .before .before .before .before .before .before .before .before .before .before .before .before .before .before .before .before .before .before .enum-told4)) _ (c .before .before .before .before .before .before .before .before .before .before .before .before .before .before .before .before .before .before .token-at .ensures) _ _ _ _ (c .before .before .before .before .before .before .before .before .before .before .before .before .before .evaluate .kept .1 .1 .1 .1 .1 .1 .1 .0) _ (c .before .before .before .before .before .before .before .before .before .before .before .before .before .evaluate .ensures) _ (c .before .before .before .before .row-at2 .ensures) _ _ (c .before .before .on-return .ensures)
+) (deeds·begun-at t) deeds·begun.Post
+deeds·begun-returns-4 t c = row-return _ _ _ _ _ _ _ _ _ _ _ _ _ _ _ _ (c .before .before .before .before .before .before .before .before .before .before .before .before .before .before .before .before .before .before .before .before .before .before .row-at .ensures) (search (c .before .before .before .before .before .before .before .before .before .before .before .before .before .before .before .before .before .before .before .enum-told4)) _ (c .before .before .before .before .before .before .before .before .before .before .before .before .before .before .before .before .before .before .token-at .ensures) _ _ _ _ (c .before .before .before .before .before .before .before .before .before .before .before .before .before .evaluate .kept .1 .1 .1 .1 .1 .1 .1 .0) _ (c .before .before .before .before .before .before .before .before .before .before .before .before .before .evaluate .ensures) _ (c .before .before .before .before .row-at2 .ensures) _ _ (c .before .before .on-return .ensures)
 
-deeds·body-statement-returns-5 : (t : ℕ) → deeds·body-statement-lts.Need-returns-5 (
+deeds·begun-returns-5 : (t : ℕ) → deeds·begun-lts.Need-returns-5 (
   row-at-reads.Asked,
   row-at-reads.Learnt,
   deeds·assign-below t,
@@ -3561,10 +3561,10 @@ deeds·body-statement-returns-5 : (t : ℕ) → deeds·body-statement-lts.Need-r
   with-step-reads.Learnt,
   jump-in-reads.Asked,
   jump-in-reads.Learnt,
-) (deeds·body-statement-at t) deeds·body-statement.Post
-deeds·body-statement-returns-5 t c = row-group _ _ _ _ _ _ _ _ _ _ _ _ _ _ _ _ (c .before .before .before .before .before .row-at .ensures) (search (c .before .before .enum-told5)) _ (c .before .into-group .ensures) _ (c .with-step .ensures)
+) (deeds·begun-at t) deeds·begun.Post
+deeds·begun-returns-5 t c = row-group _ _ _ _ _ _ _ _ _ _ _ _ _ _ _ _ (c .before .before .before .before .before .row-at .ensures) (search (c .before .before .enum-told5)) _ (c .before .into-group .ensures) _ (c .with-step .ensures)
 
-deeds·body-statement-returns-6 : (t : ℕ) → deeds·body-statement-lts.Need-returns-6 (
+deeds·begun-returns-6 : (t : ℕ) → deeds·begun-lts.Need-returns-6 (
   row-at-reads.Asked,
   row-at-reads.Learnt,
   deeds·assign-below t,
@@ -3591,10 +3591,10 @@ deeds·body-statement-returns-6 : (t : ℕ) → deeds·body-statement-lts.Need-r
   with-step-reads.Learnt,
   jump-in-reads.Asked,
   jump-in-reads.Learnt,
-) (deeds·body-statement-at t) deeds·body-statement.Post
-deeds·body-statement-returns-6 t c = row-goto _ _ _ _ _ _ _ _ _ _ _ _ _ _ _ _ (c .before .before .before .before .row-at .ensures) (search (c .before .enum-told6)) _ (c .jump-in .ensures)
+) (deeds·begun-at t) deeds·begun.Post
+deeds·begun-returns-6 t c = row-goto _ _ _ _ _ _ _ _ _ _ _ _ _ _ _ _ (c .before .before .before .before .row-at .ensures) (search (c .before .enum-told6)) _ (c .jump-in .ensures)
 
-deeds·body-statement-returns-7 : (t : ℕ) → deeds·body-statement-lts.Need-returns-7 (
+deeds·begun-returns-7 : (t : ℕ) → deeds·begun-lts.Need-returns-7 (
   row-at-reads.Asked,
   row-at-reads.Learnt,
   deeds·assign-below t,
@@ -3621,10 +3621,10 @@ deeds·body-statement-returns-7 : (t : ℕ) → deeds·body-statement-lts.Need-r
   with-step-reads.Learnt,
   jump-in-reads.Asked,
   jump-in-reads.Learnt,
-) (deeds·body-statement-at t) deeds·body-statement.Post
-deeds·body-statement-returns-7 t c = row-passed _ _ _ _ _ _ _ _ _ _ _ _ _ _ _ _ (c .before .before .before .before .row-at .ensures) S.Null (search (c .before .enum-told7)) refl _ (c .on-behind2 .ensures)
+) (deeds·begun-at t) deeds·begun.Post
+deeds·begun-returns-7 t c = row-passed _ _ _ _ _ _ _ _ _ _ _ _ _ _ _ _ (c .before .before .before .before .row-at .ensures) S.Null (search (c .before .enum-told7)) refl _ (c .on-behind2 .ensures)
 
-deeds·body-statement-returns-8 : (t : ℕ) → deeds·body-statement-lts.Need-returns-8 (
+deeds·begun-returns-8 : (t : ℕ) → deeds·begun-lts.Need-returns-8 (
   row-at-reads.Asked,
   row-at-reads.Learnt,
   deeds·assign-below t,
@@ -3651,10 +3651,10 @@ deeds·body-statement-returns-8 : (t : ℕ) → deeds·body-statement-lts.Need-r
   with-step-reads.Learnt,
   jump-in-reads.Asked,
   jump-in-reads.Learnt,
-) (deeds·body-statement-at t) deeds·body-statement.Post
-deeds·body-statement-returns-8 t c = row-passed _ _ _ _ _ _ _ _ _ _ _ _ _ _ _ _ (c .before .before .before .before .row-at .ensures) S.Declare (search (c .before .enum-told8)) refl _ (c .on-behind3 .ensures)
+) (deeds·begun-at t) deeds·begun.Post
+deeds·begun-returns-8 t c = row-passed _ _ _ _ _ _ _ _ _ _ _ _ _ _ _ _ (c .before .before .before .before .row-at .ensures) S.Declare (search (c .before .enum-told8)) refl _ (c .on-behind3 .ensures)
 
-deeds·body-statement-returns-9 : (t : ℕ) → deeds·body-statement-lts.Need-returns-9 (
+deeds·begun-returns-9 : (t : ℕ) → deeds·begun-lts.Need-returns-9 (
   row-at-reads.Asked,
   row-at-reads.Learnt,
   deeds·assign-below t,
@@ -3681,10 +3681,10 @@ deeds·body-statement-returns-9 : (t : ℕ) → deeds·body-statement-lts.Need-r
   with-step-reads.Learnt,
   jump-in-reads.Asked,
   jump-in-reads.Learnt,
-) (deeds·body-statement-at t) deeds·body-statement.Post
-deeds·body-statement-returns-9 t c = row-passed _ _ _ _ _ _ _ _ _ _ _ _ _ _ _ _ (c .before .before .before .before .row-at .ensures) S.Procedure (search (c .before .enum-told9)) refl _ (c .on-behind4 .ensures)
+) (deeds·begun-at t) deeds·begun.Post
+deeds·begun-returns-9 t c = row-passed _ _ _ _ _ _ _ _ _ _ _ _ _ _ _ _ (c .before .before .before .before .row-at .ensures) S.Procedure (search (c .before .enum-told9)) refl _ (c .on-behind4 .ensures)
 
-deeds·body-statement-returns-10 : (t : ℕ) → deeds·body-statement-lts.Need-returns-10 (
+deeds·begun-returns-10 : (t : ℕ) → deeds·begun-lts.Need-returns-10 (
   row-at-reads.Asked,
   row-at-reads.Learnt,
   deeds·assign-below t,
@@ -3711,10 +3711,10 @@ deeds·body-statement-returns-10 : (t : ℕ) → deeds·body-statement-lts.Need-
   with-step-reads.Learnt,
   jump-in-reads.Asked,
   jump-in-reads.Learnt,
-) (deeds·body-statement-at t) deeds·body-statement.Post
-deeds·body-statement-returns-10 t c = row-passed _ _ _ _ _ _ _ _ _ _ _ _ _ _ _ _ (c .before .before .before .before .row-at .ensures) S.Include (search (c .before .enum-told10)) refl _ (c .on-behind5 .ensures)
+) (deeds·begun-at t) deeds·begun.Post
+deeds·begun-returns-10 t c = row-passed _ _ _ _ _ _ _ _ _ _ _ _ _ _ _ _ (c .before .before .before .before .row-at .ensures) S.Include (search (c .before .enum-told10)) refl _ (c .on-behind5 .ensures)
 
-deeds·body-statement-returns-11 : (t : ℕ) → deeds·body-statement-lts.Need-returns-11 (
+deeds·begun-returns-11 : (t : ℕ) → deeds·begun-lts.Need-returns-11 (
   row-at-reads.Asked,
   row-at-reads.Learnt,
   deeds·assign-below t,
@@ -3741,10 +3741,10 @@ deeds·body-statement-returns-11 : (t : ℕ) → deeds·body-statement-lts.Need-
   with-step-reads.Learnt,
   jump-in-reads.Asked,
   jump-in-reads.Learnt,
-) (deeds·body-statement-at t) deeds·body-statement.Post
-deeds·body-statement-returns-11 t c = row-passed _ _ _ _ _ _ _ _ _ _ _ _ _ _ _ _ (c .before .before .before .before .row-at .ensures) S.Activate (search (c .before .enum-told11)) refl _ (c .on-behind6 .ensures)
+) (deeds·begun-at t) deeds·begun.Post
+deeds·begun-returns-11 t c = row-passed _ _ _ _ _ _ _ _ _ _ _ _ _ _ _ _ (c .before .before .before .before .row-at .ensures) S.Activate (search (c .before .enum-told11)) refl _ (c .on-behind6 .ensures)
 
-deeds·body-statement-returns-12 : (t : ℕ) → deeds·body-statement-lts.Need-returns-12 (
+deeds·begun-returns-12 : (t : ℕ) → deeds·begun-lts.Need-returns-12 (
   row-at-reads.Asked,
   row-at-reads.Learnt,
   deeds·assign-below t,
@@ -3771,14 +3771,14 @@ deeds·body-statement-returns-12 : (t : ℕ) → deeds·body-statement-lts.Need-
   with-step-reads.Learnt,
   jump-in-reads.Asked,
   jump-in-reads.Learnt,
-) (deeds·body-statement-at t) deeds·body-statement.Post
-deeds·body-statement-returns-12 t c = row-passed _ _ _ _ _ _ _ _ _ _ _ _ _ _ _ _ (c .before .before .before .before .row-at .ensures) S.Deactivate (search (c .before .enum-told12)) refl _ (c .on-behind7 .ensures)
+) (deeds·begun-at t) deeds·begun.Post
+deeds·begun-returns-12 t c = row-passed _ _ _ _ _ _ _ _ _ _ _ _ _ _ _ _ (c .before .before .before .before .row-at .ensures) S.Deactivate (search (c .before .enum-told12)) refl _ (c .on-behind7 .ensures)
 
 deeds·body-turn-enum-known-next : (t : ℕ) → deeds·body-turn-lts.Need-enum-known-next (
   charged-reads.Asked,
   charged-reads.Learnt,
-  deeds·body-statement-below t,
-  deeds·body-statement.Post,
+  deeds·begun-below t,
+  deeds·begun.Post,
   with-step-reads.Asked,
   with-step-reads.Learnt,
   frame-of-reads.Asked,
@@ -3793,8 +3793,8 @@ deeds·body-turn-enum-known-next t c = search needs
 deeds·body-turn-charged-requires : (t : ℕ) → deeds·body-turn-lts.Need-charged-requires (
   charged-reads.Asked,
   charged-reads.Learnt,
-  deeds·body-statement-below t,
-  deeds·body-statement.Post,
+  deeds·begun-below t,
+  deeds·begun.Post,
   with-step-reads.Asked,
   with-step-reads.Learnt,
   frame-of-reads.Asked,
@@ -3806,12 +3806,12 @@ deeds·body-turn-charged-requires : (t : ℕ) → deeds·body-turn-lts.Need-char
 ) (deeds·body-turn-at t) deeds·body-turn.Post
 deeds·body-turn-charged-requires t c κs = search needs
 
-deeds·body-turn-body-statement-requires :
-    (t : ℕ) → deeds·body-turn-lts.Need-body-statement-requires (
+deeds·body-turn-begun-requires :
+    (t : ℕ) → deeds·body-turn-lts.Need-begun-requires (
       charged-reads.Asked,
       charged-reads.Learnt,
-      deeds·body-statement-below t,
-      deeds·body-statement.Post,
+      deeds·begun-below t,
+      deeds·begun.Post,
       with-step-reads.Asked,
       with-step-reads.Learnt,
       frame-of-reads.Asked,
@@ -3821,13 +3821,13 @@ deeds·body-turn-body-statement-requires :
       on-again-reads.Asked,
       on-again-reads.Learnt,
     ) (deeds·body-turn-at t) deeds·body-turn.Post
-deeds·body-turn-body-statement-requires t c κs = search needs
+deeds·body-turn-begun-requires t c κs = search needs
 
 deeds·body-turn-same-length : (t : ℕ) → deeds·body-turn-lts.Need-same-length (
   charged-reads.Asked,
   charged-reads.Learnt,
-  deeds·body-statement-below t,
-  deeds·body-statement.Post,
+  deeds·begun-below t,
+  deeds·begun.Post,
   with-step-reads.Asked,
   with-step-reads.Learnt,
   frame-of-reads.Asked,
@@ -3842,8 +3842,8 @@ deeds·body-turn-same-length t c = search needs
 deeds·body-turn-same-length-2 : (t : ℕ) → deeds·body-turn-lts.Need-same-length-2 (
   charged-reads.Asked,
   charged-reads.Learnt,
-  deeds·body-statement-below t,
-  deeds·body-statement.Post,
+  deeds·begun-below t,
+  deeds·begun.Post,
   with-step-reads.Asked,
   with-step-reads.Learnt,
   frame-of-reads.Asked,
@@ -3858,8 +3858,8 @@ deeds·body-turn-same-length-2 t c = search needs
 deeds·body-turn-same-length-3 : (t : ℕ) → deeds·body-turn-lts.Need-same-length-3 (
   charged-reads.Asked,
   charged-reads.Learnt,
-  deeds·body-statement-below t,
-  deeds·body-statement.Post,
+  deeds·begun-below t,
+  deeds·begun.Post,
   with-step-reads.Asked,
   with-step-reads.Learnt,
   frame-of-reads.Asked,
@@ -3874,8 +3874,8 @@ deeds·body-turn-same-length-3 t c = search needs
 deeds·body-turn-same-length-4 : (t : ℕ) → deeds·body-turn-lts.Need-same-length-4 (
   charged-reads.Asked,
   charged-reads.Learnt,
-  deeds·body-statement-below t,
-  deeds·body-statement.Post,
+  deeds·begun-below t,
+  deeds·begun.Post,
   with-step-reads.Asked,
   with-step-reads.Learnt,
   frame-of-reads.Asked,
@@ -3890,8 +3890,8 @@ deeds·body-turn-same-length-4 t c = search needs
 deeds·body-turn-returns : (t : ℕ) → deeds·body-turn-lts.Need-returns (
   charged-reads.Asked,
   charged-reads.Learnt,
-  deeds·body-statement-below t,
-  deeds·body-statement.Post,
+  deeds·begun-below t,
+  deeds·begun.Post,
   with-step-reads.Asked,
   with-step-reads.Learnt,
   frame-of-reads.Asked,
@@ -3901,13 +3901,13 @@ deeds·body-turn-returns : (t : ℕ) → deeds·body-turn-lts.Need-returns (
   on-again-reads.Asked,
   on-again-reads.Learnt,
 ) (deeds·body-turn-at t) deeds·body-turn.Post
-deeds·body-turn-returns t c = turn-begin _ _ _ _ _ _ _ _ _ _ _ _ _ _ _ _ (c .before .before .before .before .before .before .before .before .before .before .before .before .before .before .before .before .before .next .given .1) _ (c .before .before .before .before .before .before .before .before .before .before .before .before .before .before .before .charged .ensures) (c .before .before .before .before .before .before .before .before .before .before .before .before .before .if1 .taken) _ _ _ _ _ (c .before .before .before .before .before .before .before .before .body-statement .ensures)
+deeds·body-turn-returns t c = turn-begin _ _ _ _ _ _ _ _ _ _ _ _ _ _ _ _ (c .before .before .before .before .before .before .before .before .before .before .before .before .before .before .before .before .before .next .given .1) _ (c .before .before .before .before .before .before .before .before .before .before .before .before .before .before .before .charged .ensures) (c .before .before .before .before .before .before .before .before .before .before .before .before .before .if1 .taken) _ _ _ _ _ (c .before .before .before .before .before .before .before .before .begun .ensures)
 
 deeds·body-turn-with-step-requires : (t : ℕ) → deeds·body-turn-lts.Need-with-step-requires (
   charged-reads.Asked,
   charged-reads.Learnt,
-  deeds·body-statement-below t,
-  deeds·body-statement.Post,
+  deeds·begun-below t,
+  deeds·begun.Post,
   with-step-reads.Asked,
   with-step-reads.Learnt,
   frame-of-reads.Asked,
@@ -3922,8 +3922,8 @@ deeds·body-turn-with-step-requires t c κs = search needs
 deeds·body-turn-enum-known-next-2 : (t : ℕ) → deeds·body-turn-lts.Need-enum-known-next-2 (
   charged-reads.Asked,
   charged-reads.Learnt,
-  deeds·body-statement-below t,
-  deeds·body-statement.Post,
+  deeds·begun-below t,
+  deeds·begun.Post,
   with-step-reads.Asked,
   with-step-reads.Learnt,
   frame-of-reads.Asked,
@@ -3938,8 +3938,8 @@ deeds·body-turn-enum-known-next-2 t c = search needs
 deeds·body-turn-frame-of-requires : (t : ℕ) → deeds·body-turn-lts.Need-frame-of-requires (
   charged-reads.Asked,
   charged-reads.Learnt,
-  deeds·body-statement-below t,
-  deeds·body-statement.Post,
+  deeds·begun-below t,
+  deeds·begun.Post,
   with-step-reads.Asked,
   with-step-reads.Learnt,
   frame-of-reads.Asked,
@@ -3954,8 +3954,8 @@ deeds·body-turn-frame-of-requires t c κs = search needs
 deeds·body-turn-stepped-requires : (t : ℕ) → deeds·body-turn-lts.Need-stepped-requires (
   charged-reads.Asked,
   charged-reads.Learnt,
-  deeds·body-statement-below t,
-  deeds·body-statement.Post,
+  deeds·begun-below t,
+  deeds·begun.Post,
   with-step-reads.Asked,
   with-step-reads.Learnt,
   frame-of-reads.Asked,
@@ -3970,8 +3970,8 @@ deeds·body-turn-stepped-requires t c κs = search needs
 deeds·body-turn-on-again-requires : (t : ℕ) → deeds·body-turn-lts.Need-on-again-requires (
   charged-reads.Asked,
   charged-reads.Learnt,
-  deeds·body-statement-below t,
-  deeds·body-statement.Post,
+  deeds·begun-below t,
+  deeds·begun.Post,
   with-step-reads.Asked,
   with-step-reads.Learnt,
   frame-of-reads.Asked,
@@ -3986,8 +3986,8 @@ deeds·body-turn-on-again-requires t c κs = search needs
 deeds·body-turn-enum-told : (t : ℕ) → deeds·body-turn-lts.Need-enum-told (
   charged-reads.Asked,
   charged-reads.Learnt,
-  deeds·body-statement-below t,
-  deeds·body-statement.Post,
+  deeds·begun-below t,
+  deeds·begun.Post,
   with-step-reads.Asked,
   with-step-reads.Learnt,
   frame-of-reads.Asked,
@@ -4002,8 +4002,8 @@ deeds·body-turn-enum-told t c = search needs
 deeds·body-turn-with-step-requires-2 : (t : ℕ) → deeds·body-turn-lts.Need-with-step-requires-2 (
   charged-reads.Asked,
   charged-reads.Learnt,
-  deeds·body-statement-below t,
-  deeds·body-statement.Post,
+  deeds·begun-below t,
+  deeds·begun.Post,
   with-step-reads.Asked,
   with-step-reads.Learnt,
   frame-of-reads.Asked,
@@ -4018,8 +4018,8 @@ deeds·body-turn-with-step-requires-2 t c κs = search needs
 deeds·body-turn-returns-2 : (t : ℕ) → deeds·body-turn-lts.Need-returns-2 (
   charged-reads.Asked,
   charged-reads.Learnt,
-  deeds·body-statement-below t,
-  deeds·body-statement.Post,
+  deeds·begun-below t,
+  deeds·begun.Post,
   with-step-reads.Asked,
   with-step-reads.Learnt,
   frame-of-reads.Asked,
@@ -4034,8 +4034,8 @@ deeds·body-turn-returns-2 t c = turn-due _ _ _ _ _ _ _ _ _ _ _ _ _ _ _ _ (c .be
 deeds·body-turn-same-length-5 : (t : ℕ) → deeds·body-turn-lts.Need-same-length-5 (
   charged-reads.Asked,
   charged-reads.Learnt,
-  deeds·body-statement-below t,
-  deeds·body-statement.Post,
+  deeds·begun-below t,
+  deeds·begun.Post,
   with-step-reads.Asked,
   with-step-reads.Learnt,
   frame-of-reads.Asked,
@@ -4050,8 +4050,8 @@ deeds·body-turn-same-length-5 t c = search needs
 deeds·body-turn-returns-3 : (t : ℕ) → deeds·body-turn-lts.Need-returns-3 (
   charged-reads.Asked,
   charged-reads.Learnt,
-  deeds·body-statement-below t,
-  deeds·body-statement.Post,
+  deeds·begun-below t,
+  deeds·begun.Post,
   with-step-reads.Asked,
   with-step-reads.Learnt,
   frame-of-reads.Asked,
@@ -4066,8 +4066,8 @@ deeds·body-turn-returns-3 t c = turn-again _ _ _ _ _ _ _ _ _ _ _ _ _ _ _ _ (c .
 deeds·body-turn-returns-4 : (t : ℕ) → deeds·body-turn-lts.Need-returns-4 (
   charged-reads.Asked,
   charged-reads.Learnt,
-  deeds·body-statement-below t,
-  deeds·body-statement.Post,
+  deeds·begun-below t,
+  deeds·begun.Post,
   with-step-reads.Asked,
   with-step-reads.Learnt,
   frame-of-reads.Asked,
@@ -5338,7 +5338,7 @@ levels-returns-3 : (t : ℕ) → levels-lts.Need-returns-3 (
 ) (levels-at t) levels.Post
 levels-returns-3 t c = search (levels-failed, (c .before .before .before .before .before .before .before .before .before .before .before .before .before .before .before .before .if1 .left), (c .before .before .before .before .before .before .before .before .before .before .before .levels .ensures), (c .before .first2), (c .known-told2))
 
-listed-name-count-arguments-requires : (t : ℕ) → listed-name-lts.Need-count-arguments-requires (
+listed-count-arguments-requires : (t : ℕ) → listed-lts.Need-count-arguments-requires (
   count-arguments-reads.Asked,
   count-arguments-reads.Learnt,
   aim-of-reads.Asked,
@@ -5351,10 +5351,10 @@ listed-name-count-arguments-requires : (t : ℕ) → listed-name-lts.Need-count-
   up-to-reads.Learnt,
   substr-of-reads.Asked,
   substr-of-reads.Learnt,
-) (listed-name-at t) listed-name.Post
-listed-name-count-arguments-requires t c κs = search needs
+) (listed-at t) listed.Post
+listed-count-arguments-requires t c κs = search needs
 
-listed-name-aim-of-requires : (t : ℕ) → listed-name-lts.Need-aim-of-requires (
+listed-aim-of-requires : (t : ℕ) → listed-lts.Need-aim-of-requires (
   count-arguments-reads.Asked,
   count-arguments-reads.Learnt,
   aim-of-reads.Asked,
@@ -5367,10 +5367,10 @@ listed-name-aim-of-requires : (t : ℕ) → listed-name-lts.Need-aim-of-requires
   up-to-reads.Learnt,
   substr-of-reads.Asked,
   substr-of-reads.Learnt,
-) (listed-name-at t) listed-name.Post
-listed-name-aim-of-requires t c κs = search needs
+) (listed-at t) listed.Post
+listed-aim-of-requires t c κs = search needs
 
-listed-name-enum-known-aim : (t : ℕ) → listed-name-lts.Need-enum-known-aim (
+listed-enum-known-aim : (t : ℕ) → listed-lts.Need-enum-known-aim (
   count-arguments-reads.Asked,
   count-arguments-reads.Learnt,
   aim-of-reads.Asked,
@@ -5383,10 +5383,10 @@ listed-name-enum-known-aim : (t : ℕ) → listed-name-lts.Need-enum-known-aim (
   up-to-reads.Learnt,
   substr-of-reads.Asked,
   substr-of-reads.Learnt,
-) (listed-name-at t) listed-name.Post
-listed-name-enum-known-aim t c = search needs
+) (listed-at t) listed.Post
+listed-enum-known-aim t c = search needs
 
-listed-name-arguments-requires : (t : ℕ) → listed-name-lts.Need-arguments-requires (
+listed-arguments-requires : (t : ℕ) → listed-lts.Need-arguments-requires (
   count-arguments-reads.Asked,
   count-arguments-reads.Learnt,
   aim-of-reads.Asked,
@@ -5399,10 +5399,10 @@ listed-name-arguments-requires : (t : ℕ) → listed-name-lts.Need-arguments-re
   up-to-reads.Learnt,
   substr-of-reads.Asked,
   substr-of-reads.Learnt,
-) (listed-name-at t) listed-name.Post
-listed-name-arguments-requires t c κs = search needs
+) (listed-at t) listed.Post
+listed-arguments-requires t c κs = search needs
 
-listed-name-enum-known-outcome : (t : ℕ) → listed-name-lts.Need-enum-known-outcome (
+listed-enum-known-outcome : (t : ℕ) → listed-lts.Need-enum-known-outcome (
   count-arguments-reads.Asked,
   count-arguments-reads.Learnt,
   aim-of-reads.Asked,
@@ -5415,10 +5415,10 @@ listed-name-enum-known-outcome : (t : ℕ) → listed-name-lts.Need-enum-known-o
   up-to-reads.Learnt,
   substr-of-reads.Asked,
   substr-of-reads.Learnt,
-) (listed-name-at t) listed-name.Post
-listed-name-enum-known-outcome t c = search needs
+) (listed-at t) listed.Post
+listed-enum-known-outcome t c = search needs
 
-listed-name-enum-known-t : (t : ℕ) → listed-name-lts.Need-enum-known-t (
+listed-enum-known-t : (t : ℕ) → listed-lts.Need-enum-known-t (
   count-arguments-reads.Asked,
   count-arguments-reads.Learnt,
   aim-of-reads.Asked,
@@ -5431,10 +5431,10 @@ listed-name-enum-known-t : (t : ℕ) → listed-name-lts.Need-enum-known-t (
   up-to-reads.Learnt,
   substr-of-reads.Asked,
   substr-of-reads.Learnt,
-) (listed-name-at t) listed-name.Post
-listed-name-enum-known-t t c = search needs
+) (listed-at t) listed.Post
+listed-enum-known-t t c = search needs
 
-listed-name-call-requires : (t : ℕ) → listed-name-lts.Need-call-requires (
+listed-call-requires : (t : ℕ) → listed-lts.Need-call-requires (
   count-arguments-reads.Asked,
   count-arguments-reads.Learnt,
   aim-of-reads.Asked,
@@ -5447,10 +5447,10 @@ listed-name-call-requires : (t : ℕ) → listed-name-lts.Need-call-requires (
   up-to-reads.Learnt,
   substr-of-reads.Asked,
   substr-of-reads.Learnt,
-) (listed-name-at t) listed-name.Post
-listed-name-call-requires t c κs = omega (arith, (c .before .before .before .before .before .before .before .before .before .before .before .before .before .before .before .before .before .before .before .before .before .before .before .before .before .before .before .before .before .before .before .before .before .before .before .before .before .before .pre))
+) (listed-at t) listed.Post
+listed-call-requires t c κs = omega (arith, (c .before .before .before .before .before .before .before .before .before .before .before .before .before .before .before .before .before .before .before .before .before .before .before .before .before .before .before .before .before .before .before .before .before .before .before .before .before .before .pre))
 
-listed-name-up-to-requires : (t : ℕ) → listed-name-lts.Need-up-to-requires (
+listed-up-to-requires : (t : ℕ) → listed-lts.Need-up-to-requires (
   count-arguments-reads.Asked,
   count-arguments-reads.Learnt,
   aim-of-reads.Asked,
@@ -5463,10 +5463,10 @@ listed-name-up-to-requires : (t : ℕ) → listed-name-lts.Need-up-to-requires (
   up-to-reads.Learnt,
   substr-of-reads.Asked,
   substr-of-reads.Learnt,
-) (listed-name-at t) listed-name.Post
-listed-name-up-to-requires t c κs = search needs
+) (listed-at t) listed.Post
+listed-up-to-requires t c κs = search needs
 
-listed-name-enum-told : (t : ℕ) → listed-name-lts.Need-enum-told (
+listed-enum-told : (t : ℕ) → listed-lts.Need-enum-told (
   count-arguments-reads.Asked,
   count-arguments-reads.Learnt,
   aim-of-reads.Asked,
@@ -5479,10 +5479,10 @@ listed-name-enum-told : (t : ℕ) → listed-name-lts.Need-enum-told (
   up-to-reads.Learnt,
   substr-of-reads.Asked,
   substr-of-reads.Learnt,
-) (listed-name-at t) listed-name.Post
-listed-name-enum-told t c = search needs
+) (listed-at t) listed.Post
+listed-enum-told t c = search needs
 
-listed-name-substr-of-requires : (t : ℕ) → listed-name-lts.Need-substr-of-requires (
+listed-substr-of-requires : (t : ℕ) → listed-lts.Need-substr-of-requires (
   count-arguments-reads.Asked,
   count-arguments-reads.Learnt,
   aim-of-reads.Asked,
@@ -5495,10 +5495,10 @@ listed-name-substr-of-requires : (t : ℕ) → listed-name-lts.Need-substr-of-re
   up-to-reads.Learnt,
   substr-of-reads.Asked,
   substr-of-reads.Learnt,
-) (listed-name-at t) listed-name.Post
-listed-name-substr-of-requires t c κs = search needs
+) (listed-at t) listed.Post
+listed-substr-of-requires t c κs = search needs
 
-listed-name-enum-known-outcome-2 : (t : ℕ) → listed-name-lts.Need-enum-known-outcome-2 (
+listed-enum-known-outcome-2 : (t : ℕ) → listed-lts.Need-enum-known-outcome-2 (
   count-arguments-reads.Asked,
   count-arguments-reads.Learnt,
   aim-of-reads.Asked,
@@ -5511,10 +5511,10 @@ listed-name-enum-known-outcome-2 : (t : ℕ) → listed-name-lts.Need-enum-known
   up-to-reads.Learnt,
   substr-of-reads.Asked,
   substr-of-reads.Learnt,
-) (listed-name-at t) listed-name.Post
-listed-name-enum-known-outcome-2 t c = search needs
+) (listed-at t) listed.Post
+listed-enum-known-outcome-2 t c = search needs
 
-listed-name-enum-known-aim-2 : (t : ℕ) → listed-name-lts.Need-enum-known-aim-2 (
+listed-enum-known-aim-2 : (t : ℕ) → listed-lts.Need-enum-known-aim-2 (
   count-arguments-reads.Asked,
   count-arguments-reads.Learnt,
   aim-of-reads.Asked,
@@ -5527,10 +5527,10 @@ listed-name-enum-known-aim-2 : (t : ℕ) → listed-name-lts.Need-enum-known-aim
   up-to-reads.Learnt,
   substr-of-reads.Asked,
   substr-of-reads.Learnt,
-) (listed-name-at t) listed-name.Post
-listed-name-enum-known-aim-2 t c = search needs
+) (listed-at t) listed.Post
+listed-enum-known-aim-2 t c = search needs
 
-listed-name-same-length : (t : ℕ) → listed-name-lts.Need-same-length (
+listed-same-length : (t : ℕ) → listed-lts.Need-same-length (
   count-arguments-reads.Asked,
   count-arguments-reads.Learnt,
   aim-of-reads.Asked,
@@ -5543,10 +5543,10 @@ listed-name-same-length : (t : ℕ) → listed-name-lts.Need-same-length (
   up-to-reads.Learnt,
   substr-of-reads.Asked,
   substr-of-reads.Learnt,
-) (listed-name-at t) listed-name.Post
-listed-name-same-length t c = (c .before .before .before .before .before .before .before .before .before .call .kept .1 .1 .1 .0) ∙ (c .before .before .before .before .before .before .before .before .before .before .before .before .before .before .before .before .before .before .before .before .before .before .before .before .before .before .before .before .before .arguments .kept .1 .1 .1 .1 .0)
+) (listed-at t) listed.Post
+listed-same-length t c = (c .before .before .before .before .before .before .before .before .before .call .kept .1 .1 .1 .0) ∙ (c .before .before .before .before .before .before .before .before .before .before .before .before .before .before .before .before .before .before .before .before .before .before .before .before .before .before .before .before .before .arguments .kept .1 .1 .1 .1 .0)
 
-listed-name-same-length-2 : (t : ℕ) → listed-name-lts.Need-same-length-2 (
+listed-same-length-2 : (t : ℕ) → listed-lts.Need-same-length-2 (
   count-arguments-reads.Asked,
   count-arguments-reads.Learnt,
   aim-of-reads.Asked,
@@ -5559,10 +5559,10 @@ listed-name-same-length-2 : (t : ℕ) → listed-name-lts.Need-same-length-2 (
   up-to-reads.Learnt,
   substr-of-reads.Asked,
   substr-of-reads.Learnt,
-) (listed-name-at t) listed-name.Post
-listed-name-same-length-2 t c = (c .before .before .before .before .before .before .before .before .before .call .kept .1 .1 .1 .1 .0) ∙ (c .before .before .before .before .before .before .before .before .before .before .before .before .before .before .before .before .before .before .before .before .before .before .before .before .before .before .before .before .before .arguments .kept .1 .1 .1 .1 .1 .0)
+) (listed-at t) listed.Post
+listed-same-length-2 t c = (c .before .before .before .before .before .before .before .before .before .call .kept .1 .1 .1 .1 .0) ∙ (c .before .before .before .before .before .before .before .before .before .before .before .before .before .before .before .before .before .before .before .before .before .before .before .before .before .before .before .before .before .arguments .kept .1 .1 .1 .1 .1 .0)
 
-listed-name-same-length-3 : (t : ℕ) → listed-name-lts.Need-same-length-3 (
+listed-same-length-3 : (t : ℕ) → listed-lts.Need-same-length-3 (
   count-arguments-reads.Asked,
   count-arguments-reads.Learnt,
   aim-of-reads.Asked,
@@ -5575,10 +5575,10 @@ listed-name-same-length-3 : (t : ℕ) → listed-name-lts.Need-same-length-3 (
   up-to-reads.Learnt,
   substr-of-reads.Asked,
   substr-of-reads.Learnt,
-) (listed-name-at t) listed-name.Post
-listed-name-same-length-3 t c = search needs
+) (listed-at t) listed.Post
+listed-same-length-3 t c = search needs
 
-listed-name-same-length-4 : (t : ℕ) → listed-name-lts.Need-same-length-4 (
+listed-same-length-4 : (t : ℕ) → listed-lts.Need-same-length-4 (
   count-arguments-reads.Asked,
   count-arguments-reads.Learnt,
   aim-of-reads.Asked,
@@ -5591,10 +5591,10 @@ listed-name-same-length-4 : (t : ℕ) → listed-name-lts.Need-same-length-4 (
   up-to-reads.Learnt,
   substr-of-reads.Asked,
   substr-of-reads.Learnt,
-) (listed-name-at t) listed-name.Post
-listed-name-same-length-4 t c = search needs
+) (listed-at t) listed.Post
+listed-same-length-4 t c = search needs
 
-listed-name-returns : (t : ℕ) → listed-name-lts.Need-returns (
+listed-returns : (t : ℕ) → listed-lts.Need-returns (
   count-arguments-reads.Asked,
   count-arguments-reads.Learnt,
   aim-of-reads.Asked,
@@ -5607,10 +5607,10 @@ listed-name-returns : (t : ℕ) → listed-name-lts.Need-returns (
   up-to-reads.Learnt,
   substr-of-reads.Asked,
   substr-of-reads.Learnt,
-) (listed-name-at t) listed-name.Post
-listed-name-returns t c = listed-call _ _ _ _ _ _ _ _ _ _ _ _ _ _ _ (c .before .before .before .before .before .before .before .before .before .before .before .before .before .before .before .before .before .before .before .before .before .before .before .before .before .before .before .before .before .before .before .before .before .before .before .before .before .before .before .count-arguments .ensures) _ (c .before .before .before .before .before .before .before .before .before .before .before .before .before .before .before .before .before .before .before .before .before .before .before .before .before .before .before .before .before .before .before .before .before .before .before .before .before .aim-of .ensures) _ (c .before .before .before .before .before .before .before .before .before .before .before .before .before .before .before .before .before .before .before .before .before .before .before .before .before .before .before .before .before .before .before .before .before .before .before .aim .given .1) _ _ _ _ (c .before .before .before .before .before .before .before .before .before .before .before .before .before .before .before .before .before .before .before .before .before .before .before .before .before .before .before .before .before .arguments .kept .1 .1 .1 .1 .1 .1 .1 .0) _ _ _ (c .before .before .before .before .before .before .before .before .before .before .before .before .before .before .before .before .before .before .before .before .before .before .before .before .before .before .before .before .before .arguments .ensures) _ _ (c .before .before .before .before .before .before .before .before .before .before .before .before .before .before .before .before .before .before .outcome .given .1) _ (c .before .before .before .before .before .before .before .before .before .before .before .before .before .before .before .t .given .1) _ _ _ _ _ (c .before .before .before .before .before .before .before .before .before .call .ensures) _ (c .up-to .ensures)
+) (listed-at t) listed.Post
+listed-returns t c = listed-call _ _ _ _ _ _ _ _ _ _ _ _ _ _ _ (c .before .before .before .before .before .before .before .before .before .before .before .before .before .before .before .before .before .before .before .before .before .before .before .before .before .before .before .before .before .before .before .before .before .before .before .before .before .before .before .count-arguments .ensures) _ (c .before .before .before .before .before .before .before .before .before .before .before .before .before .before .before .before .before .before .before .before .before .before .before .before .before .before .before .before .before .before .before .before .before .before .before .before .before .aim-of .ensures) _ (c .before .before .before .before .before .before .before .before .before .before .before .before .before .before .before .before .before .before .before .before .before .before .before .before .before .before .before .before .before .before .before .before .before .before .before .aim .given .1) _ _ _ _ (c .before .before .before .before .before .before .before .before .before .before .before .before .before .before .before .before .before .before .before .before .before .before .before .before .before .before .before .before .before .arguments .kept .1 .1 .1 .1 .1 .1 .1 .0) _ _ _ (c .before .before .before .before .before .before .before .before .before .before .before .before .before .before .before .before .before .before .before .before .before .before .before .before .before .before .before .before .before .arguments .ensures) _ _ (c .before .before .before .before .before .before .before .before .before .before .before .before .before .before .before .before .before .before .outcome .given .1) _ (c .before .before .before .before .before .before .before .before .before .before .before .before .before .before .before .t .given .1) _ _ _ _ _ (c .before .before .before .before .before .before .before .before .before .call .ensures) _ (c .up-to .ensures)
 
-listed-name-same-length-5 : (t : ℕ) → listed-name-lts.Need-same-length-5 (
+listed-same-length-5 : (t : ℕ) → listed-lts.Need-same-length-5 (
   count-arguments-reads.Asked,
   count-arguments-reads.Learnt,
   aim-of-reads.Asked,
@@ -5623,10 +5623,10 @@ listed-name-same-length-5 : (t : ℕ) → listed-name-lts.Need-same-length-5 (
   up-to-reads.Learnt,
   substr-of-reads.Asked,
   substr-of-reads.Learnt,
-) (listed-name-at t) listed-name.Post
-listed-name-same-length-5 t c = search needs
+) (listed-at t) listed.Post
+listed-same-length-5 t c = search needs
 
-listed-name-same-length-6 : (t : ℕ) → listed-name-lts.Need-same-length-6 (
+listed-same-length-6 : (t : ℕ) → listed-lts.Need-same-length-6 (
   count-arguments-reads.Asked,
   count-arguments-reads.Learnt,
   aim-of-reads.Asked,
@@ -5639,10 +5639,10 @@ listed-name-same-length-6 : (t : ℕ) → listed-name-lts.Need-same-length-6 (
   up-to-reads.Learnt,
   substr-of-reads.Asked,
   substr-of-reads.Learnt,
-) (listed-name-at t) listed-name.Post
-listed-name-same-length-6 t c = search needs
+) (listed-at t) listed.Post
+listed-same-length-6 t c = search needs
 
-listed-name-same-length-7 : (t : ℕ) → listed-name-lts.Need-same-length-7 (
+listed-same-length-7 : (t : ℕ) → listed-lts.Need-same-length-7 (
   count-arguments-reads.Asked,
   count-arguments-reads.Learnt,
   aim-of-reads.Asked,
@@ -5655,10 +5655,10 @@ listed-name-same-length-7 : (t : ℕ) → listed-name-lts.Need-same-length-7 (
   up-to-reads.Learnt,
   substr-of-reads.Asked,
   substr-of-reads.Learnt,
-) (listed-name-at t) listed-name.Post
-listed-name-same-length-7 t c = search needs
+) (listed-at t) listed.Post
+listed-same-length-7 t c = search needs
 
-listed-name-same-length-8 : (t : ℕ) → listed-name-lts.Need-same-length-8 (
+listed-same-length-8 : (t : ℕ) → listed-lts.Need-same-length-8 (
   count-arguments-reads.Asked,
   count-arguments-reads.Learnt,
   aim-of-reads.Asked,
@@ -5671,10 +5671,10 @@ listed-name-same-length-8 : (t : ℕ) → listed-name-lts.Need-same-length-8 (
   up-to-reads.Learnt,
   substr-of-reads.Asked,
   substr-of-reads.Learnt,
-) (listed-name-at t) listed-name.Post
-listed-name-same-length-8 t c = search needs
+) (listed-at t) listed.Post
+listed-same-length-8 t c = search needs
 
-listed-name-returns-2 : (t : ℕ) → listed-name-lts.Need-returns-2 (
+listed-returns-2 : (t : ℕ) → listed-lts.Need-returns-2 (
   count-arguments-reads.Asked,
   count-arguments-reads.Learnt,
   aim-of-reads.Asked,
@@ -5687,10 +5687,10 @@ listed-name-returns-2 : (t : ℕ) → listed-name-lts.Need-returns-2 (
   up-to-reads.Learnt,
   substr-of-reads.Asked,
   substr-of-reads.Learnt,
-) (listed-name-at t) listed-name.Post
-listed-name-returns-2 t c = search (listed-substr, (c .before .before .before .before .before .before .before .before .before .before .before .before .before .before .before .before .before .before .before .before .before .before .before .before .before .before .before .before .count-arguments .ensures), (c .before .before .before .before .before .before .before .before .before .before .before .before .before .before .before .before .before .before .before .before .before .before .before .before .before .before .aim-of .ensures), (c .before .before .before .before .before .before .before .before .before .before .before .before .before .before .before .before .before .before .before .before .before .before .before .before .aim .given .1), (c .before .before .before .before .before .before .before .before .before .before .before .before .before .before .before .before .before .before .arguments .kept .1 .1 .1 .1 .1 .1 .1 .0), (c .before .before .before .before .before .before .before .before .before .before .before .before .before .before .before .before .before .before .arguments .ensures), (c .before .before .before .before .before .before .before .outcome .given .1), (c .before .before .before .before .enum-told), (c .before .before .substr-of .ensures))
+) (listed-at t) listed.Post
+listed-returns-2 t c = search (listed-substr, (c .before .before .before .before .before .before .before .before .before .before .before .before .before .before .before .before .before .before .before .before .before .before .before .before .before .before .before .before .count-arguments .ensures), (c .before .before .before .before .before .before .before .before .before .before .before .before .before .before .before .before .before .before .before .before .before .before .before .before .before .before .aim-of .ensures), (c .before .before .before .before .before .before .before .before .before .before .before .before .before .before .before .before .before .before .before .before .before .before .before .before .aim .given .1), (c .before .before .before .before .before .before .before .before .before .before .before .before .before .before .before .before .before .before .arguments .kept .1 .1 .1 .1 .1 .1 .1 .0), (c .before .before .before .before .before .before .before .before .before .before .before .before .before .before .before .before .before .before .arguments .ensures), (c .before .before .before .before .before .before .before .outcome .given .1), (c .before .before .before .before .enum-told), (c .before .before .substr-of .ensures))
 
-listed-name-same-length-9 : (t : ℕ) → listed-name-lts.Need-same-length-9 (
+listed-same-length-9 : (t : ℕ) → listed-lts.Need-same-length-9 (
   count-arguments-reads.Asked,
   count-arguments-reads.Learnt,
   aim-of-reads.Asked,
@@ -5703,10 +5703,10 @@ listed-name-same-length-9 : (t : ℕ) → listed-name-lts.Need-same-length-9 (
   up-to-reads.Learnt,
   substr-of-reads.Asked,
   substr-of-reads.Learnt,
-) (listed-name-at t) listed-name.Post
-listed-name-same-length-9 t c = search needs
+) (listed-at t) listed.Post
+listed-same-length-9 t c = search needs
 
-listed-name-same-length-10 : (t : ℕ) → listed-name-lts.Need-same-length-10 (
+listed-same-length-10 : (t : ℕ) → listed-lts.Need-same-length-10 (
   count-arguments-reads.Asked,
   count-arguments-reads.Learnt,
   aim-of-reads.Asked,
@@ -5719,10 +5719,10 @@ listed-name-same-length-10 : (t : ℕ) → listed-name-lts.Need-same-length-10 (
   up-to-reads.Learnt,
   substr-of-reads.Asked,
   substr-of-reads.Learnt,
-) (listed-name-at t) listed-name.Post
-listed-name-same-length-10 t c = search needs
+) (listed-at t) listed.Post
+listed-same-length-10 t c = search needs
 
-listed-name-same-length-11 : (t : ℕ) → listed-name-lts.Need-same-length-11 (
+listed-same-length-11 : (t : ℕ) → listed-lts.Need-same-length-11 (
   count-arguments-reads.Asked,
   count-arguments-reads.Learnt,
   aim-of-reads.Asked,
@@ -5735,10 +5735,10 @@ listed-name-same-length-11 : (t : ℕ) → listed-name-lts.Need-same-length-11 (
   up-to-reads.Learnt,
   substr-of-reads.Asked,
   substr-of-reads.Learnt,
-) (listed-name-at t) listed-name.Post
-listed-name-same-length-11 t c = search needs
+) (listed-at t) listed.Post
+listed-same-length-11 t c = search needs
 
-listed-name-same-length-12 : (t : ℕ) → listed-name-lts.Need-same-length-12 (
+listed-same-length-12 : (t : ℕ) → listed-lts.Need-same-length-12 (
   count-arguments-reads.Asked,
   count-arguments-reads.Learnt,
   aim-of-reads.Asked,
@@ -5751,10 +5751,10 @@ listed-name-same-length-12 : (t : ℕ) → listed-name-lts.Need-same-length-12 (
   up-to-reads.Learnt,
   substr-of-reads.Asked,
   substr-of-reads.Learnt,
-) (listed-name-at t) listed-name.Post
-listed-name-same-length-12 t c = search needs
+) (listed-at t) listed.Post
+listed-same-length-12 t c = search needs
 
-listed-name-returns-3 : (t : ℕ) → listed-name-lts.Need-returns-3 (
+listed-returns-3 : (t : ℕ) → listed-lts.Need-returns-3 (
   count-arguments-reads.Asked,
   count-arguments-reads.Learnt,
   aim-of-reads.Asked,
@@ -5767,10 +5767,10 @@ listed-name-returns-3 : (t : ℕ) → listed-name-lts.Need-returns-3 (
   up-to-reads.Learnt,
   substr-of-reads.Asked,
   substr-of-reads.Learnt,
-) (listed-name-at t) listed-name.Post
-listed-name-returns-3 t c = listed-refused _ _ _ _ _ _ _ _ _ _ _ _ _ _ _ (c .before .before .before .before .before .before .before .before .before .before .before .before .before .before .before .before .before .before .before .before .before .before .count-arguments .ensures) _ (c .before .before .before .before .before .before .before .before .before .before .before .before .before .before .before .before .before .before .before .before .aim-of .ensures) _ (c .before .before .before .before .before .before .before .before .before .before .before .before .before .before .before .before .before .before .aim .given .1) _ _ _ _ (c .before .before .before .before .before .before .before .before .before .before .before .before .arguments .kept .1 .1 .1 .1 .1 .1 .1 .0) _ _ _ (c .before .before .before .before .before .before .before .before .before .before .before .before .arguments .ensures) _ _ (c .before .outcome2 .given .1)
+) (listed-at t) listed.Post
+listed-returns-3 t c = listed-refused _ _ _ _ _ _ _ _ _ _ _ _ _ _ _ (c .before .before .before .before .before .before .before .before .before .before .before .before .before .before .before .before .before .before .before .before .before .before .count-arguments .ensures) _ (c .before .before .before .before .before .before .before .before .before .before .before .before .before .before .before .before .before .before .before .before .aim-of .ensures) _ (c .before .before .before .before .before .before .before .before .before .before .before .before .before .before .before .before .before .before .aim .given .1) _ _ _ _ (c .before .before .before .before .before .before .before .before .before .before .before .before .arguments .kept .1 .1 .1 .1 .1 .1 .1 .0) _ _ _ (c .before .before .before .before .before .before .before .before .before .before .before .before .arguments .ensures) _ _ (c .before .outcome2 .given .1)
 
-listed-name-returns-4 : (t : ℕ) → listed-name-lts.Need-returns-4 (
+listed-returns-4 : (t : ℕ) → listed-lts.Need-returns-4 (
   count-arguments-reads.Asked,
   count-arguments-reads.Learnt,
   aim-of-reads.Asked,
@@ -5783,8 +5783,8 @@ listed-name-returns-4 : (t : ℕ) → listed-name-lts.Need-returns-4 (
   up-to-reads.Learnt,
   substr-of-reads.Asked,
   substr-of-reads.Learnt,
-) (listed-name-at t) listed-name.Post
-listed-name-returns-4 t c = search (listed-fails, (c .before .before .before .before .before .count-arguments .ensures), (c .before .before .before .aim-of .ensures), (c .before .aim2 .given .1))
+) (listed-at t) listed.Post
+listed-returns-4 t c = search (listed-fails, (c .before .before .before .before .before .count-arguments .ensures), (c .before .before .before .aim-of .ensures), (c .before .aim2 .given .1))
 
 operand-past-prefixes-requires : (t : ℕ) → operand-lts.Need-past-prefixes-requires (
   past-prefixes-reads.Asked,
@@ -5866,7 +5866,7 @@ operand-returns : (t : ℕ) → operand-lts.Need-returns (
 ) (operand-at t) operand.Post
 operand-returns t c = search (operand-done, (c .before .before .before .before .before .before .before .before .before .before .before .before .before .before .before .before .before .past-prefixes .ensures), (c .before .before .before .before .before .before .before .before .before .before .before .before .primitive .ensures), (c .before .before .before .before .before .before .before .before .before .before .before .before .primitive .kept .1 .1 .1 .1 .1 .1 .1 .0), (c .before .before .prefixes-done .ensures))
 
-plain-name-enum-known-x : (t : ℕ) → plain-name-lts.Need-enum-known-x (
+plain-enum-known-x : (t : ℕ) → plain-lts.Need-enum-known-x (
   callee-of-reads.Asked,
   callee-of-reads.Learnt,
   nothing-held-reads.Asked,
@@ -5877,10 +5877,10 @@ plain-name-enum-known-x : (t : ℕ) → plain-name-lts.Need-enum-known-x (
   up-to-reads.Learnt,
   plain-value-reads.Asked,
   plain-value-reads.Learnt,
-) (plain-name-at t) plain-name.Post
-plain-name-enum-known-x t c = search needs
+) (plain-at t) plain.Post
+plain-enum-known-x t c = search needs
 
-plain-name-callee-of-requires : (t : ℕ) → plain-name-lts.Need-callee-of-requires (
+plain-callee-of-requires : (t : ℕ) → plain-lts.Need-callee-of-requires (
   callee-of-reads.Asked,
   callee-of-reads.Learnt,
   nothing-held-reads.Asked,
@@ -5891,10 +5891,10 @@ plain-name-callee-of-requires : (t : ℕ) → plain-name-lts.Need-callee-of-requ
   up-to-reads.Learnt,
   plain-value-reads.Asked,
   plain-value-reads.Learnt,
-) (plain-name-at t) plain-name.Post
-plain-name-callee-of-requires t c κs = search needs
+) (plain-at t) plain.Post
+plain-callee-of-requires t c κs = search needs
 
-plain-name-enum-known-y : (t : ℕ) → plain-name-lts.Need-enum-known-y (
+plain-enum-known-y : (t : ℕ) → plain-lts.Need-enum-known-y (
   callee-of-reads.Asked,
   callee-of-reads.Learnt,
   nothing-held-reads.Asked,
@@ -5905,10 +5905,10 @@ plain-name-enum-known-y : (t : ℕ) → plain-name-lts.Need-enum-known-y (
   up-to-reads.Learnt,
   plain-value-reads.Asked,
   plain-value-reads.Learnt,
-) (plain-name-at t) plain-name.Post
-plain-name-enum-known-y t c = search needs
+) (plain-at t) plain.Post
+plain-enum-known-y t c = search needs
 
-plain-name-nothing-held-requires : (t : ℕ) → plain-name-lts.Need-nothing-held-requires (
+plain-nothing-held-requires : (t : ℕ) → plain-lts.Need-nothing-held-requires (
   callee-of-reads.Asked,
   callee-of-reads.Learnt,
   nothing-held-reads.Asked,
@@ -5919,10 +5919,10 @@ plain-name-nothing-held-requires : (t : ℕ) → plain-name-lts.Need-nothing-hel
   up-to-reads.Learnt,
   plain-value-reads.Asked,
   plain-value-reads.Learnt,
-) (plain-name-at t) plain-name.Post
-plain-name-nothing-held-requires t c κs = search needs
+) (plain-at t) plain.Post
+plain-nothing-held-requires t c κs = search needs
 
-plain-name-call-requires : (t : ℕ) → plain-name-lts.Need-call-requires (
+plain-call-requires : (t : ℕ) → plain-lts.Need-call-requires (
   callee-of-reads.Asked,
   callee-of-reads.Learnt,
   nothing-held-reads.Asked,
@@ -5933,10 +5933,10 @@ plain-name-call-requires : (t : ℕ) → plain-name-lts.Need-call-requires (
   up-to-reads.Learnt,
   plain-value-reads.Asked,
   plain-value-reads.Learnt,
-) (plain-name-at t) plain-name.Post
-plain-name-call-requires t c κs = search needs
+) (plain-at t) plain.Post
+plain-call-requires t c κs = search needs
 
-plain-name-up-to-requires : (t : ℕ) → plain-name-lts.Need-up-to-requires (
+plain-up-to-requires : (t : ℕ) → plain-lts.Need-up-to-requires (
   callee-of-reads.Asked,
   callee-of-reads.Learnt,
   nothing-held-reads.Asked,
@@ -5947,10 +5947,10 @@ plain-name-up-to-requires : (t : ℕ) → plain-name-lts.Need-up-to-requires (
   up-to-reads.Learnt,
   plain-value-reads.Asked,
   plain-value-reads.Learnt,
-) (plain-name-at t) plain-name.Post
-plain-name-up-to-requires t c κs = search needs
+) (plain-at t) plain.Post
+plain-up-to-requires t c κs = search needs
 
-plain-name-same-length : (t : ℕ) → plain-name-lts.Need-same-length (
+plain-same-length : (t : ℕ) → plain-lts.Need-same-length (
   callee-of-reads.Asked,
   callee-of-reads.Learnt,
   nothing-held-reads.Asked,
@@ -5961,10 +5961,10 @@ plain-name-same-length : (t : ℕ) → plain-name-lts.Need-same-length (
   up-to-reads.Learnt,
   plain-value-reads.Asked,
   plain-value-reads.Learnt,
-) (plain-name-at t) plain-name.Post
-plain-name-same-length t c = search needs
+) (plain-at t) plain.Post
+plain-same-length t c = search needs
 
-plain-name-same-length-2 : (t : ℕ) → plain-name-lts.Need-same-length-2 (
+plain-same-length-2 : (t : ℕ) → plain-lts.Need-same-length-2 (
   callee-of-reads.Asked,
   callee-of-reads.Learnt,
   nothing-held-reads.Asked,
@@ -5975,10 +5975,10 @@ plain-name-same-length-2 : (t : ℕ) → plain-name-lts.Need-same-length-2 (
   up-to-reads.Learnt,
   plain-value-reads.Asked,
   plain-value-reads.Learnt,
-) (plain-name-at t) plain-name.Post
-plain-name-same-length-2 t c = search needs
+) (plain-at t) plain.Post
+plain-same-length-2 t c = search needs
 
-plain-name-same-length-3 : (t : ℕ) → plain-name-lts.Need-same-length-3 (
+plain-same-length-3 : (t : ℕ) → plain-lts.Need-same-length-3 (
   callee-of-reads.Asked,
   callee-of-reads.Learnt,
   nothing-held-reads.Asked,
@@ -5989,10 +5989,10 @@ plain-name-same-length-3 : (t : ℕ) → plain-name-lts.Need-same-length-3 (
   up-to-reads.Learnt,
   plain-value-reads.Asked,
   plain-value-reads.Learnt,
-) (plain-name-at t) plain-name.Post
-plain-name-same-length-3 t c = search needs
+) (plain-at t) plain.Post
+plain-same-length-3 t c = search needs
 
-plain-name-same-length-4 : (t : ℕ) → plain-name-lts.Need-same-length-4 (
+plain-same-length-4 : (t : ℕ) → plain-lts.Need-same-length-4 (
   callee-of-reads.Asked,
   callee-of-reads.Learnt,
   nothing-held-reads.Asked,
@@ -6003,10 +6003,10 @@ plain-name-same-length-4 : (t : ℕ) → plain-name-lts.Need-same-length-4 (
   up-to-reads.Learnt,
   plain-value-reads.Asked,
   plain-value-reads.Learnt,
-) (plain-name-at t) plain-name.Post
-plain-name-same-length-4 t c = search needs
+) (plain-at t) plain.Post
+plain-same-length-4 t c = search needs
 
-plain-name-returns : (t : ℕ) → plain-name-lts.Need-returns (
+plain-returns : (t : ℕ) → plain-lts.Need-returns (
   callee-of-reads.Asked,
   callee-of-reads.Learnt,
   nothing-held-reads.Asked,
@@ -6017,10 +6017,10 @@ plain-name-returns : (t : ℕ) → plain-name-lts.Need-returns (
   up-to-reads.Learnt,
   plain-value-reads.Asked,
   plain-value-reads.Learnt,
-) (plain-name-at t) plain-name.Post
-plain-name-returns t c = entry-called _ _ _ _ _ _ _ _ _ _ _ _ (c .before .before .before .before .before .before .before .before .before .before .before .before .before .before .before .before .before .before .before .before .callee-of .ensures) _ (c .before .before .before .before .before .before .before .before .before .before .before .before .before .before .before .before .before .before .before .before .before .before .before .x .given .1) _ _ (c .before .before .before .before .before .before .before .before .before .before .before .before .before .before .before .before .before .before .y .given .1) (c .before .before .before .before .before .before .before .before .before .before .before .before .before .before .before .if1 .taken) _ _ _ _ _ _ (c .before .before .before .before .before .before .before .before .before .call .ensures) _ (c .up-to .ensures)
+) (plain-at t) plain.Post
+plain-returns t c = entry-called _ _ _ _ _ _ _ _ _ _ _ _ (c .before .before .before .before .before .before .before .before .before .before .before .before .before .before .before .before .before .before .before .before .callee-of .ensures) _ (c .before .before .before .before .before .before .before .before .before .before .before .before .before .before .before .before .before .before .before .before .before .before .before .x .given .1) _ _ (c .before .before .before .before .before .before .before .before .before .before .before .before .before .before .before .before .before .before .y .given .1) (c .before .before .before .before .before .before .before .before .before .before .before .before .before .before .before .if1 .taken) _ _ _ _ _ _ (c .before .before .before .before .before .before .before .before .before .call .ensures) _ (c .up-to .ensures)
 
-plain-name-enum-known-y-2 : (t : ℕ) → plain-name-lts.Need-enum-known-y-2 (
+plain-enum-known-y-2 : (t : ℕ) → plain-lts.Need-enum-known-y-2 (
   callee-of-reads.Asked,
   callee-of-reads.Learnt,
   nothing-held-reads.Asked,
@@ -6031,10 +6031,10 @@ plain-name-enum-known-y-2 : (t : ℕ) → plain-name-lts.Need-enum-known-y-2 (
   up-to-reads.Learnt,
   plain-value-reads.Asked,
   plain-value-reads.Learnt,
-) (plain-name-at t) plain-name.Post
-plain-name-enum-known-y-2 t c = search needs
+) (plain-at t) plain.Post
+plain-enum-known-y-2 t c = search needs
 
-plain-name-enum-told : (t : ℕ) → plain-name-lts.Need-enum-told (
+plain-enum-told : (t : ℕ) → plain-lts.Need-enum-told (
   callee-of-reads.Asked,
   callee-of-reads.Learnt,
   nothing-held-reads.Asked,
@@ -6045,10 +6045,10 @@ plain-name-enum-told : (t : ℕ) → plain-name-lts.Need-enum-told (
   up-to-reads.Learnt,
   plain-value-reads.Asked,
   plain-value-reads.Learnt,
-) (plain-name-at t) plain-name.Post
-plain-name-enum-told t c = search needs
+) (plain-at t) plain.Post
+plain-enum-told t c = search needs
 
-plain-name-plain-value-requires : (t : ℕ) → plain-name-lts.Need-plain-value-requires (
+plain-plain-value-requires : (t : ℕ) → plain-lts.Need-plain-value-requires (
   callee-of-reads.Asked,
   callee-of-reads.Learnt,
   nothing-held-reads.Asked,
@@ -6059,10 +6059,10 @@ plain-name-plain-value-requires : (t : ℕ) → plain-name-lts.Need-plain-value-
   up-to-reads.Learnt,
   plain-value-reads.Asked,
   plain-value-reads.Learnt,
-) (plain-name-at t) plain-name.Post
-plain-name-plain-value-requires t c κs = search needs
+) (plain-at t) plain.Post
+plain-plain-value-requires t c κs = search needs
 
-plain-name-enum-told-2 : (t : ℕ) → plain-name-lts.Need-enum-told-2 (
+plain-enum-told-2 : (t : ℕ) → plain-lts.Need-enum-told-2 (
   callee-of-reads.Asked,
   callee-of-reads.Learnt,
   nothing-held-reads.Asked,
@@ -6073,10 +6073,10 @@ plain-name-enum-told-2 : (t : ℕ) → plain-name-lts.Need-enum-told-2 (
   up-to-reads.Learnt,
   plain-value-reads.Asked,
   plain-value-reads.Learnt,
-) (plain-name-at t) plain-name.Post
-plain-name-enum-told-2 t c = search needs
+) (plain-at t) plain.Post
+plain-enum-told-2 t c = search needs
 
-plain-name-plain-value-requires-2 : (t : ℕ) → plain-name-lts.Need-plain-value-requires-2 (
+plain-plain-value-requires-2 : (t : ℕ) → plain-lts.Need-plain-value-requires-2 (
   callee-of-reads.Asked,
   callee-of-reads.Learnt,
   nothing-held-reads.Asked,
@@ -6087,10 +6087,10 @@ plain-name-plain-value-requires-2 : (t : ℕ) → plain-name-lts.Need-plain-valu
   up-to-reads.Learnt,
   plain-value-reads.Asked,
   plain-value-reads.Learnt,
-) (plain-name-at t) plain-name.Post
-plain-name-plain-value-requires-2 t c κs = search needs
+) (plain-at t) plain.Post
+plain-plain-value-requires-2 t c κs = search needs
 
-plain-name-enum-told-3 : (t : ℕ) → plain-name-lts.Need-enum-told-3 (
+plain-enum-told-3 : (t : ℕ) → plain-lts.Need-enum-told-3 (
   callee-of-reads.Asked,
   callee-of-reads.Learnt,
   nothing-held-reads.Asked,
@@ -6101,10 +6101,10 @@ plain-name-enum-told-3 : (t : ℕ) → plain-name-lts.Need-enum-told-3 (
   up-to-reads.Learnt,
   plain-value-reads.Asked,
   plain-value-reads.Learnt,
-) (plain-name-at t) plain-name.Post
-plain-name-enum-told-3 t c = search needs
+) (plain-at t) plain.Post
+plain-enum-told-3 t c = search needs
 
-plain-name-plain-value-requires-3 : (t : ℕ) → plain-name-lts.Need-plain-value-requires-3 (
+plain-plain-value-requires-3 : (t : ℕ) → plain-lts.Need-plain-value-requires-3 (
   callee-of-reads.Asked,
   callee-of-reads.Learnt,
   nothing-held-reads.Asked,
@@ -6115,10 +6115,10 @@ plain-name-plain-value-requires-3 : (t : ℕ) → plain-name-lts.Need-plain-valu
   up-to-reads.Learnt,
   plain-value-reads.Asked,
   plain-value-reads.Learnt,
-) (plain-name-at t) plain-name.Post
-plain-name-plain-value-requires-3 t c κs = search needs
+) (plain-at t) plain.Post
+plain-plain-value-requires-3 t c κs = search needs
 
-plain-name-returns-2 : (t : ℕ) → plain-name-lts.Need-returns-2 (
+plain-returns-2 : (t : ℕ) → plain-lts.Need-returns-2 (
   callee-of-reads.Asked,
   callee-of-reads.Learnt,
   nothing-held-reads.Asked,
@@ -6129,10 +6129,10 @@ plain-name-returns-2 : (t : ℕ) → plain-name-lts.Need-returns-2 (
   up-to-reads.Learnt,
   plain-value-reads.Asked,
   plain-value-reads.Learnt,
-) (plain-name-at t) plain-name.Post
-plain-name-returns-2 t c = search entry-many
+) (plain-at t) plain.Post
+plain-returns-2 t c = search entry-many
 
-plain-name-returns-3 : (t : ℕ) → plain-name-lts.Need-returns-3 (
+plain-returns-3 : (t : ℕ) → plain-lts.Need-returns-3 (
   callee-of-reads.Asked,
   callee-of-reads.Learnt,
   nothing-held-reads.Asked,
@@ -6143,10 +6143,10 @@ plain-name-returns-3 : (t : ℕ) → plain-name-lts.Need-returns-3 (
   up-to-reads.Learnt,
   plain-value-reads.Asked,
   plain-value-reads.Learnt,
-) (plain-name-at t) plain-name.Post
-plain-name-returns-3 t c = search entry-fails
+) (plain-at t) plain.Post
+plain-returns-3 t c = search entry-fails
 
-plain-name-same-length-5 : (t : ℕ) → plain-name-lts.Need-same-length-5 (
+plain-same-length-5 : (t : ℕ) → plain-lts.Need-same-length-5 (
   callee-of-reads.Asked,
   callee-of-reads.Learnt,
   nothing-held-reads.Asked,
@@ -6157,10 +6157,10 @@ plain-name-same-length-5 : (t : ℕ) → plain-name-lts.Need-same-length-5 (
   up-to-reads.Learnt,
   plain-value-reads.Asked,
   plain-value-reads.Learnt,
-) (plain-name-at t) plain-name.Post
-plain-name-same-length-5 t c = search needs
+) (plain-at t) plain.Post
+plain-same-length-5 t c = search needs
 
-plain-name-same-length-6 : (t : ℕ) → plain-name-lts.Need-same-length-6 (
+plain-same-length-6 : (t : ℕ) → plain-lts.Need-same-length-6 (
   callee-of-reads.Asked,
   callee-of-reads.Learnt,
   nothing-held-reads.Asked,
@@ -6171,10 +6171,10 @@ plain-name-same-length-6 : (t : ℕ) → plain-name-lts.Need-same-length-6 (
   up-to-reads.Learnt,
   plain-value-reads.Asked,
   plain-value-reads.Learnt,
-) (plain-name-at t) plain-name.Post
-plain-name-same-length-6 t c = search needs
+) (plain-at t) plain.Post
+plain-same-length-6 t c = search needs
 
-plain-name-same-length-7 : (t : ℕ) → plain-name-lts.Need-same-length-7 (
+plain-same-length-7 : (t : ℕ) → plain-lts.Need-same-length-7 (
   callee-of-reads.Asked,
   callee-of-reads.Learnt,
   nothing-held-reads.Asked,
@@ -6185,10 +6185,10 @@ plain-name-same-length-7 : (t : ℕ) → plain-name-lts.Need-same-length-7 (
   up-to-reads.Learnt,
   plain-value-reads.Asked,
   plain-value-reads.Learnt,
-) (plain-name-at t) plain-name.Post
-plain-name-same-length-7 t c = search needs
+) (plain-at t) plain.Post
+plain-same-length-7 t c = search needs
 
-plain-name-same-length-8 : (t : ℕ) → plain-name-lts.Need-same-length-8 (
+plain-same-length-8 : (t : ℕ) → plain-lts.Need-same-length-8 (
   callee-of-reads.Asked,
   callee-of-reads.Learnt,
   nothing-held-reads.Asked,
@@ -6199,10 +6199,10 @@ plain-name-same-length-8 : (t : ℕ) → plain-name-lts.Need-same-length-8 (
   up-to-reads.Learnt,
   plain-value-reads.Asked,
   plain-value-reads.Learnt,
-) (plain-name-at t) plain-name.Post
-plain-name-same-length-8 t c = search needs
+) (plain-at t) plain.Post
+plain-same-length-8 t c = search needs
 
-plain-name-returns-4 : (t : ℕ) → plain-name-lts.Need-returns-4 (
+plain-returns-4 : (t : ℕ) → plain-lts.Need-returns-4 (
   callee-of-reads.Asked,
   callee-of-reads.Learnt,
   nothing-held-reads.Asked,
@@ -6213,10 +6213,10 @@ plain-name-returns-4 : (t : ℕ) → plain-name-lts.Need-returns-4 (
   up-to-reads.Learnt,
   plain-value-reads.Asked,
   plain-value-reads.Learnt,
-) (plain-name-at t) plain-name.Post
-plain-name-returns-4 t c = search named-variable
+) (plain-at t) plain.Post
+plain-returns-4 t c = search named-variable
 
-plain-name-same-length-9 : (t : ℕ) → plain-name-lts.Need-same-length-9 (
+plain-same-length-9 : (t : ℕ) → plain-lts.Need-same-length-9 (
   callee-of-reads.Asked,
   callee-of-reads.Learnt,
   nothing-held-reads.Asked,
@@ -6227,10 +6227,10 @@ plain-name-same-length-9 : (t : ℕ) → plain-name-lts.Need-same-length-9 (
   up-to-reads.Learnt,
   plain-value-reads.Asked,
   plain-value-reads.Learnt,
-) (plain-name-at t) plain-name.Post
-plain-name-same-length-9 t c = search needs
+) (plain-at t) plain.Post
+plain-same-length-9 t c = search needs
 
-plain-name-same-length-10 : (t : ℕ) → plain-name-lts.Need-same-length-10 (
+plain-same-length-10 : (t : ℕ) → plain-lts.Need-same-length-10 (
   callee-of-reads.Asked,
   callee-of-reads.Learnt,
   nothing-held-reads.Asked,
@@ -6241,10 +6241,10 @@ plain-name-same-length-10 : (t : ℕ) → plain-name-lts.Need-same-length-10 (
   up-to-reads.Learnt,
   plain-value-reads.Asked,
   plain-value-reads.Learnt,
-) (plain-name-at t) plain-name.Post
-plain-name-same-length-10 t c = search needs
+) (plain-at t) plain.Post
+plain-same-length-10 t c = search needs
 
-plain-name-same-length-11 : (t : ℕ) → plain-name-lts.Need-same-length-11 (
+plain-same-length-11 : (t : ℕ) → plain-lts.Need-same-length-11 (
   callee-of-reads.Asked,
   callee-of-reads.Learnt,
   nothing-held-reads.Asked,
@@ -6255,10 +6255,10 @@ plain-name-same-length-11 : (t : ℕ) → plain-name-lts.Need-same-length-11 (
   up-to-reads.Learnt,
   plain-value-reads.Asked,
   plain-value-reads.Learnt,
-) (plain-name-at t) plain-name.Post
-plain-name-same-length-11 t c = search needs
+) (plain-at t) plain.Post
+plain-same-length-11 t c = search needs
 
-plain-name-same-length-12 : (t : ℕ) → plain-name-lts.Need-same-length-12 (
+plain-same-length-12 : (t : ℕ) → plain-lts.Need-same-length-12 (
   callee-of-reads.Asked,
   callee-of-reads.Learnt,
   nothing-held-reads.Asked,
@@ -6269,10 +6269,10 @@ plain-name-same-length-12 : (t : ℕ) → plain-name-lts.Need-same-length-12 (
   up-to-reads.Learnt,
   plain-value-reads.Asked,
   plain-value-reads.Learnt,
-) (plain-name-at t) plain-name.Post
-plain-name-same-length-12 t c = search needs
+) (plain-at t) plain.Post
+plain-same-length-12 t c = search needs
 
-plain-name-returns-5 : (t : ℕ) → plain-name-lts.Need-returns-5 (
+plain-returns-5 : (t : ℕ) → plain-lts.Need-returns-5 (
   callee-of-reads.Asked,
   callee-of-reads.Learnt,
   nothing-held-reads.Asked,
@@ -6283,10 +6283,10 @@ plain-name-returns-5 : (t : ℕ) → plain-name-lts.Need-returns-5 (
   up-to-reads.Learnt,
   plain-value-reads.Asked,
   plain-value-reads.Learnt,
-) (plain-name-at t) plain-name.Post
-plain-name-returns-5 t c = search named-substr
+) (plain-at t) plain.Post
+plain-returns-5 t c = search named-substr
 
-plain-name-same-length-13 : (t : ℕ) → plain-name-lts.Need-same-length-13 (
+plain-same-length-13 : (t : ℕ) → plain-lts.Need-same-length-13 (
   callee-of-reads.Asked,
   callee-of-reads.Learnt,
   nothing-held-reads.Asked,
@@ -6297,10 +6297,10 @@ plain-name-same-length-13 : (t : ℕ) → plain-name-lts.Need-same-length-13 (
   up-to-reads.Learnt,
   plain-value-reads.Asked,
   plain-value-reads.Learnt,
-) (plain-name-at t) plain-name.Post
-plain-name-same-length-13 t c = search needs
+) (plain-at t) plain.Post
+plain-same-length-13 t c = search needs
 
-plain-name-same-length-14 : (t : ℕ) → plain-name-lts.Need-same-length-14 (
+plain-same-length-14 : (t : ℕ) → plain-lts.Need-same-length-14 (
   callee-of-reads.Asked,
   callee-of-reads.Learnt,
   nothing-held-reads.Asked,
@@ -6311,10 +6311,10 @@ plain-name-same-length-14 : (t : ℕ) → plain-name-lts.Need-same-length-14 (
   up-to-reads.Learnt,
   plain-value-reads.Asked,
   plain-value-reads.Learnt,
-) (plain-name-at t) plain-name.Post
-plain-name-same-length-14 t c = search needs
+) (plain-at t) plain.Post
+plain-same-length-14 t c = search needs
 
-plain-name-same-length-15 : (t : ℕ) → plain-name-lts.Need-same-length-15 (
+plain-same-length-15 : (t : ℕ) → plain-lts.Need-same-length-15 (
   callee-of-reads.Asked,
   callee-of-reads.Learnt,
   nothing-held-reads.Asked,
@@ -6325,10 +6325,10 @@ plain-name-same-length-15 : (t : ℕ) → plain-name-lts.Need-same-length-15 (
   up-to-reads.Learnt,
   plain-value-reads.Asked,
   plain-value-reads.Learnt,
-) (plain-name-at t) plain-name.Post
-plain-name-same-length-15 t c = search needs
+) (plain-at t) plain.Post
+plain-same-length-15 t c = search needs
 
-plain-name-same-length-16 : (t : ℕ) → plain-name-lts.Need-same-length-16 (
+plain-same-length-16 : (t : ℕ) → plain-lts.Need-same-length-16 (
   callee-of-reads.Asked,
   callee-of-reads.Learnt,
   nothing-held-reads.Asked,
@@ -6339,10 +6339,10 @@ plain-name-same-length-16 : (t : ℕ) → plain-name-lts.Need-same-length-16 (
   up-to-reads.Learnt,
   plain-value-reads.Asked,
   plain-value-reads.Learnt,
-) (plain-name-at t) plain-name.Post
-plain-name-same-length-16 t c = search needs
+) (plain-at t) plain.Post
+plain-same-length-16 t c = search needs
 
-plain-name-returns-6 : (t : ℕ) → plain-name-lts.Need-returns-6 (
+plain-returns-6 : (t : ℕ) → plain-lts.Need-returns-6 (
   callee-of-reads.Asked,
   callee-of-reads.Learnt,
   nothing-held-reads.Asked,
@@ -6353,8 +6353,8 @@ plain-name-returns-6 : (t : ℕ) → plain-name-lts.Need-returns-6 (
   up-to-reads.Learnt,
   plain-value-reads.Asked,
   plain-value-reads.Learnt,
-) (plain-name-at t) plain-name.Post
-plain-name-returns-6 t c = search named-none
+) (plain-at t) plain.Post
+plain-returns-6 t c = search named-none
 
 primitive-token-at-requires : (t : ℕ) → primitive-lts.Need-token-at-requires (
   token-at-reads.Asked,
@@ -6859,10 +6859,10 @@ reference-meant-by-requires : (t : ℕ) → reference-lts.Need-meant-by-requires
   token-at-reads.Learnt,
   is-sign-reads.Asked,
   is-sign-reads.Learnt,
-  listed-name-below t,
-  listed-name.Post,
-  plain-name-below t,
-  plain-name.Post,
+  listed-below t,
+  listed.Post,
+  plain-below t,
+  plain.Post,
 ) (reference-at t) reference.Post
 reference-meant-by-requires t c κs = search needs
 
@@ -6873,10 +6873,10 @@ reference-token-at-requires : (t : ℕ) → reference-lts.Need-token-at-requires
   token-at-reads.Learnt,
   is-sign-reads.Asked,
   is-sign-reads.Learnt,
-  listed-name-below t,
-  listed-name.Post,
-  plain-name-below t,
-  plain-name.Post,
+  listed-below t,
+  listed.Post,
+  plain-below t,
+  plain.Post,
 ) (reference-at t) reference.Post
 reference-token-at-requires t c κs = search needs
 
@@ -6887,10 +6887,10 @@ reference-slice-aggregate-is-sign : (t : ℕ) → reference-lts.Need-slice-aggre
   token-at-reads.Learnt,
   is-sign-reads.Asked,
   is-sign-reads.Learnt,
-  listed-name-below t,
-  listed-name.Post,
-  plain-name-below t,
-  plain-name.Post,
+  listed-below t,
+  listed.Post,
+  plain-below t,
+  plain.Post,
 ) (reference-at t) reference.Post
 reference-slice-aggregate-is-sign t c = search needs
 
@@ -6901,26 +6901,26 @@ reference-is-sign-requires : (t : ℕ) → reference-lts.Need-is-sign-requires (
   token-at-reads.Learnt,
   is-sign-reads.Asked,
   is-sign-reads.Learnt,
-  listed-name-below t,
-  listed-name.Post,
-  plain-name-below t,
-  plain-name.Post,
+  listed-below t,
+  listed.Post,
+  plain-below t,
+  plain.Post,
 ) (reference-at t) reference.Post
 reference-is-sign-requires t c κs = search needs
 
-reference-listed-name-requires : (t : ℕ) → reference-lts.Need-listed-name-requires (
+reference-listed-requires : (t : ℕ) → reference-lts.Need-listed-requires (
   meant-by-reads.Asked,
   meant-by-reads.Learnt,
   token-at-reads.Asked,
   token-at-reads.Learnt,
   is-sign-reads.Asked,
   is-sign-reads.Learnt,
-  listed-name-below t,
-  listed-name.Post,
-  plain-name-below t,
-  plain-name.Post,
+  listed-below t,
+  listed.Post,
+  plain-below t,
+  plain.Post,
 ) (reference-at t) reference.Post
-reference-listed-name-requires t c κs = search needs
+reference-listed-requires t c κs = search needs
 
 reference-same-length : (t : ℕ) → reference-lts.Need-same-length (
   meant-by-reads.Asked,
@@ -6929,10 +6929,10 @@ reference-same-length : (t : ℕ) → reference-lts.Need-same-length (
   token-at-reads.Learnt,
   is-sign-reads.Asked,
   is-sign-reads.Learnt,
-  listed-name-below t,
-  listed-name.Post,
-  plain-name-below t,
-  plain-name.Post,
+  listed-below t,
+  listed.Post,
+  plain-below t,
+  plain.Post,
 ) (reference-at t) reference.Post
 reference-same-length t c = search needs
 
@@ -6943,10 +6943,10 @@ reference-same-length-2 : (t : ℕ) → reference-lts.Need-same-length-2 (
   token-at-reads.Learnt,
   is-sign-reads.Asked,
   is-sign-reads.Learnt,
-  listed-name-below t,
-  listed-name.Post,
-  plain-name-below t,
-  plain-name.Post,
+  listed-below t,
+  listed.Post,
+  plain-below t,
+  plain.Post,
 ) (reference-at t) reference.Post
 reference-same-length-2 t c = search needs
 
@@ -6957,10 +6957,10 @@ reference-same-length-3 : (t : ℕ) → reference-lts.Need-same-length-3 (
   token-at-reads.Learnt,
   is-sign-reads.Asked,
   is-sign-reads.Learnt,
-  listed-name-below t,
-  listed-name.Post,
-  plain-name-below t,
-  plain-name.Post,
+  listed-below t,
+  listed.Post,
+  plain-below t,
+  plain.Post,
 ) (reference-at t) reference.Post
 reference-same-length-3 t c = search needs
 
@@ -6971,10 +6971,10 @@ reference-same-length-4 : (t : ℕ) → reference-lts.Need-same-length-4 (
   token-at-reads.Learnt,
   is-sign-reads.Asked,
   is-sign-reads.Learnt,
-  listed-name-below t,
-  listed-name.Post,
-  plain-name-below t,
-  plain-name.Post,
+  listed-below t,
+  listed.Post,
+  plain-below t,
+  plain.Post,
 ) (reference-at t) reference.Post
 reference-same-length-4 t c = search needs
 
@@ -6985,26 +6985,26 @@ reference-returns : (t : ℕ) → reference-lts.Need-returns (
   token-at-reads.Learnt,
   is-sign-reads.Asked,
   is-sign-reads.Learnt,
-  listed-name-below t,
-  listed-name.Post,
-  plain-name-below t,
-  plain-name.Post,
+  listed-below t,
+  listed.Post,
+  plain-below t,
+  plain.Post,
 ) (reference-at t) reference.Post
-reference-returns t c = search (reference-listed, (c .before .before .before .before .before .before .before .before .before .before .before .before .before .before .before .before .before .meant-by .ensures), (c .before .before .before .before .before .before .before .before .before .before .before .before .before .before .before .before .token-at .ensures), (c .before .before .before .before .before .before .before .before .before .before .before .before .before .before .is-sign .ensures), (c .before .before .before .before .before .before .before .before .before .before .before .before .before .if1 .taken), (c .before .before .before .before .before .before .before .before .listed-name .ensures))
+reference-returns t c = search (reference-listed, (c .before .before .before .before .before .before .before .before .before .before .before .before .before .before .before .before .before .meant-by .ensures), (c .before .before .before .before .before .before .before .before .before .before .before .before .before .before .before .before .token-at .ensures), (c .before .before .before .before .before .before .before .before .before .before .before .before .before .before .is-sign .ensures), (c .before .before .before .before .before .before .before .before .before .before .before .before .before .if1 .taken), (c .before .before .before .before .before .before .before .before .listed .ensures))
 
-reference-plain-name-requires : (t : ℕ) → reference-lts.Need-plain-name-requires (
+reference-plain-requires : (t : ℕ) → reference-lts.Need-plain-requires (
   meant-by-reads.Asked,
   meant-by-reads.Learnt,
   token-at-reads.Asked,
   token-at-reads.Learnt,
   is-sign-reads.Asked,
   is-sign-reads.Learnt,
-  listed-name-below t,
-  listed-name.Post,
-  plain-name-below t,
-  plain-name.Post,
+  listed-below t,
+  listed.Post,
+  plain-below t,
+  plain.Post,
 ) (reference-at t) reference.Post
-reference-plain-name-requires t c κs = search needs
+reference-plain-requires t c κs = search needs
 
 reference-same-length-5 : (t : ℕ) → reference-lts.Need-same-length-5 (
   meant-by-reads.Asked,
@@ -7013,10 +7013,10 @@ reference-same-length-5 : (t : ℕ) → reference-lts.Need-same-length-5 (
   token-at-reads.Learnt,
   is-sign-reads.Asked,
   is-sign-reads.Learnt,
-  listed-name-below t,
-  listed-name.Post,
-  plain-name-below t,
-  plain-name.Post,
+  listed-below t,
+  listed.Post,
+  plain-below t,
+  plain.Post,
 ) (reference-at t) reference.Post
 reference-same-length-5 t c = search needs
 
@@ -7027,10 +7027,10 @@ reference-same-length-6 : (t : ℕ) → reference-lts.Need-same-length-6 (
   token-at-reads.Learnt,
   is-sign-reads.Asked,
   is-sign-reads.Learnt,
-  listed-name-below t,
-  listed-name.Post,
-  plain-name-below t,
-  plain-name.Post,
+  listed-below t,
+  listed.Post,
+  plain-below t,
+  plain.Post,
 ) (reference-at t) reference.Post
 reference-same-length-6 t c = search needs
 
@@ -7041,10 +7041,10 @@ reference-same-length-7 : (t : ℕ) → reference-lts.Need-same-length-7 (
   token-at-reads.Learnt,
   is-sign-reads.Asked,
   is-sign-reads.Learnt,
-  listed-name-below t,
-  listed-name.Post,
-  plain-name-below t,
-  plain-name.Post,
+  listed-below t,
+  listed.Post,
+  plain-below t,
+  plain.Post,
 ) (reference-at t) reference.Post
 reference-same-length-7 t c = search needs
 
@@ -7055,10 +7055,10 @@ reference-same-length-8 : (t : ℕ) → reference-lts.Need-same-length-8 (
   token-at-reads.Learnt,
   is-sign-reads.Asked,
   is-sign-reads.Learnt,
-  listed-name-below t,
-  listed-name.Post,
-  plain-name-below t,
-  plain-name.Post,
+  listed-below t,
+  listed.Post,
+  plain-below t,
+  plain.Post,
 ) (reference-at t) reference.Post
 reference-same-length-8 t c = search needs
 
@@ -7069,22 +7069,22 @@ reference-returns-2 : (t : ℕ) → reference-lts.Need-returns-2 (
   token-at-reads.Learnt,
   is-sign-reads.Asked,
   is-sign-reads.Learnt,
-  listed-name-below t,
-  listed-name.Post,
-  plain-name-below t,
-  plain-name.Post,
+  listed-below t,
+  listed.Post,
+  plain-below t,
+  plain.Post,
 ) (reference-at t) reference.Post
-reference-returns-2 t c = search (reference-plain, (c .before .before .before .before .before .before .before .before .before .before .before .before .before .before .before .before .before .meant-by .ensures), (c .before .before .before .before .before .before .before .before .before .before .before .before .before .before .before .before .token-at .ensures), (c .before .before .before .before .before .before .before .before .before .before .before .before .before .before .is-sign .ensures), (c .before .before .before .before .before .before .before .before .before .before .before .before .before .if1 .left), (c .before .before .before .before .before .before .before .before .plain-name .ensures))
+reference-returns-2 t c = search (reference-plain, (c .before .before .before .before .before .before .before .before .before .before .before .before .before .before .before .before .before .meant-by .ensures), (c .before .before .before .before .before .before .before .before .before .before .before .before .before .before .before .before .token-at .ensures), (c .before .before .before .before .before .before .before .before .before .before .before .before .before .before .is-sign .ensures), (c .before .before .before .before .before .before .before .before .before .before .before .before .before .if1 .left), (c .before .before .before .before .before .before .before .before .plain .ensures))
 
-pub +arguments+call+chain+deeds·assign+deeds·body-statement+deeds·body-turn+deeds·bounded+deeds·bounds+deeds·run-body+deeds·start+deeds·test+evaluate+inside+levels+listed-name+operand+plain-name+primitive+reference-spec :
+pub +arguments+call+chain+deeds·assign+deeds·begun+deeds·body-turn+deeds·bounded+deeds·bounds+deeds·run-body+deeds·start+deeds·test+evaluate+inside+levels+listed+operand+plain+primitive+reference-spec :
     {M : Type 1} → statement M
-+arguments+call+chain+deeds·assign+deeds·body-statement+deeds·body-turn+deeds·bounded+deeds·bounds+deeds·run-body+deeds·start+deeds·test+evaluate+inside+levels+listed-name+operand+plain-name+primitive+reference-spec =
++arguments+call+chain+deeds·assign+deeds·begun+deeds·body-turn+deeds·bounded+deeds·bounds+deeds·run-body+deeds·start+deeds·test+evaluate+inside+levels+listed+operand+plain+primitive+reference-spec =
     close
     μ-arguments
     μ-call
     μ-chain
     μ-deeds·assign
-    μ-deeds·body-statement
+    μ-deeds·begun
     μ-deeds·body-turn
     μ-deeds·bounded
     μ-deeds·bounds
@@ -7094,9 +7094,9 @@ pub +arguments+call+chain+deeds·assign+deeds·body-statement+deeds·body-turn+d
     μ-evaluate
     μ-inside
     μ-levels
-    μ-listed-name
+    μ-listed
     μ-operand
-    μ-plain-name
+    μ-plain
     μ-primitive
     μ-reference
     (λ t. arguments-lts.spec (
@@ -7256,7 +7256,7 @@ pub +arguments+call+chain+deeds·assign+deeds·body-statement+deeds·body-turn+d
     (deeds·assign-same-length-4 t)
     (deeds·assign-returns t)
     (deeds·assign-returns-2 t))
-    (λ t. deeds·body-statement-lts.spec (
+    (λ t. deeds·begun-lts.spec (
       row-at-reads.Asked,
       row-at-reads.Learnt,
       deeds·assign-below t,
@@ -7284,74 +7284,74 @@ pub +arguments+call+chain+deeds·assign+deeds·body-statement+deeds·body-turn+d
       jump-in-reads.Asked,
       jump-in-reads.Learnt,
     )
-    (deeds·body-statement-at t)
-    deeds·body-statement.Post
-    (deeds·body-statement-row-at-requires t)
-    (deeds·body-statement-cast-at t)
-    (deeds·body-statement-enum-told t)
-    (deeds·body-statement-assign-requires t)
-    (deeds·body-statement-on-behind-requires t)
-    (deeds·body-statement-enum-told-2 t)
-    (deeds·body-statement-test-requires t)
-    (deeds·body-statement-on-test-requires t)
-    (deeds·body-statement-enum-told-3 t)
-    (deeds·body-statement-start-requires t)
-    (deeds·body-statement-on-start-requires t)
-    (deeds·body-statement-enum-told-4 t)
-    (deeds·body-statement-token-at-requires t)
-    (deeds·body-statement-evaluate-requires t)
-    (deeds·body-statement-row-at-requires-2 t)
-    (deeds·body-statement-on-return-requires t)
-    (deeds·body-statement-enum-told-5 t)
-    (deeds·body-statement-into-group-requires t)
-    (deeds·body-statement-with-step-requires t)
-    (deeds·body-statement-enum-told-6 t)
-    (deeds·body-statement-jump-in-requires t)
-    (deeds·body-statement-enum-told-7 t)
-    (deeds·body-statement-on-behind-requires-2 t)
-    (deeds·body-statement-enum-told-8 t)
-    (deeds·body-statement-on-behind-requires-3 t)
-    (deeds·body-statement-enum-told-9 t)
-    (deeds·body-statement-on-behind-requires-4 t)
-    (deeds·body-statement-enum-told-10 t)
-    (deeds·body-statement-on-behind-requires-5 t)
-    (deeds·body-statement-enum-told-11 t)
-    (deeds·body-statement-on-behind-requires-6 t)
-    (deeds·body-statement-enum-told-12 t)
-    (deeds·body-statement-on-behind-requires-7 t)
-    (deeds·body-statement-same-length t)
-    (deeds·body-statement-same-length-2 t)
-    (deeds·body-statement-same-length-3 t)
-    (deeds·body-statement-same-length-4 t)
-    (deeds·body-statement-returns t)
-    (deeds·body-statement-same-length-5 t)
-    (deeds·body-statement-same-length-6 t)
-    (deeds·body-statement-same-length-7 t)
-    (deeds·body-statement-same-length-8 t)
-    (deeds·body-statement-returns-2 t)
-    (deeds·body-statement-same-length-9 t)
-    (deeds·body-statement-same-length-10 t)
-    (deeds·body-statement-same-length-11 t)
-    (deeds·body-statement-same-length-12 t)
-    (deeds·body-statement-returns-3 t)
-    (deeds·body-statement-same-length-13 t)
-    (deeds·body-statement-same-length-14 t)
-    (deeds·body-statement-same-length-15 t)
-    (deeds·body-statement-same-length-16 t)
-    (deeds·body-statement-returns-4 t)
-    (deeds·body-statement-returns-5 t)
-    (deeds·body-statement-returns-6 t)
-    (deeds·body-statement-returns-7 t)
-    (deeds·body-statement-returns-8 t)
-    (deeds·body-statement-returns-9 t)
-    (deeds·body-statement-returns-10 t)
-    (deeds·body-statement-returns-11 t)
-    (deeds·body-statement-returns-12 t))
+    (deeds·begun-at t)
+    deeds·begun.Post
+    (deeds·begun-row-at-requires t)
+    (deeds·begun-cast-at t)
+    (deeds·begun-enum-told t)
+    (deeds·begun-assign-requires t)
+    (deeds·begun-on-behind-requires t)
+    (deeds·begun-enum-told-2 t)
+    (deeds·begun-test-requires t)
+    (deeds·begun-on-test-requires t)
+    (deeds·begun-enum-told-3 t)
+    (deeds·begun-start-requires t)
+    (deeds·begun-on-start-requires t)
+    (deeds·begun-enum-told-4 t)
+    (deeds·begun-token-at-requires t)
+    (deeds·begun-evaluate-requires t)
+    (deeds·begun-row-at-requires-2 t)
+    (deeds·begun-on-return-requires t)
+    (deeds·begun-enum-told-5 t)
+    (deeds·begun-into-group-requires t)
+    (deeds·begun-with-step-requires t)
+    (deeds·begun-enum-told-6 t)
+    (deeds·begun-jump-in-requires t)
+    (deeds·begun-enum-told-7 t)
+    (deeds·begun-on-behind-requires-2 t)
+    (deeds·begun-enum-told-8 t)
+    (deeds·begun-on-behind-requires-3 t)
+    (deeds·begun-enum-told-9 t)
+    (deeds·begun-on-behind-requires-4 t)
+    (deeds·begun-enum-told-10 t)
+    (deeds·begun-on-behind-requires-5 t)
+    (deeds·begun-enum-told-11 t)
+    (deeds·begun-on-behind-requires-6 t)
+    (deeds·begun-enum-told-12 t)
+    (deeds·begun-on-behind-requires-7 t)
+    (deeds·begun-same-length t)
+    (deeds·begun-same-length-2 t)
+    (deeds·begun-same-length-3 t)
+    (deeds·begun-same-length-4 t)
+    (deeds·begun-returns t)
+    (deeds·begun-same-length-5 t)
+    (deeds·begun-same-length-6 t)
+    (deeds·begun-same-length-7 t)
+    (deeds·begun-same-length-8 t)
+    (deeds·begun-returns-2 t)
+    (deeds·begun-same-length-9 t)
+    (deeds·begun-same-length-10 t)
+    (deeds·begun-same-length-11 t)
+    (deeds·begun-same-length-12 t)
+    (deeds·begun-returns-3 t)
+    (deeds·begun-same-length-13 t)
+    (deeds·begun-same-length-14 t)
+    (deeds·begun-same-length-15 t)
+    (deeds·begun-same-length-16 t)
+    (deeds·begun-returns-4 t)
+    (deeds·begun-returns-5 t)
+    (deeds·begun-returns-6 t)
+    (deeds·begun-returns-7 t)
+    (deeds·begun-returns-8 t)
+    (deeds·begun-returns-9 t)
+    (deeds·begun-returns-10 t)
+    (deeds·begun-returns-11 t)
+    (deeds·begun-returns-12 t))
     (λ t. deeds·body-turn-lts.spec (
       charged-reads.Asked,
       charged-reads.Learnt,
-      deeds·body-statement-below t,
-      deeds·body-statement.Post,
+      deeds·begun-below t,
+      deeds·begun.Post,
       with-step-reads.Asked,
       with-step-reads.Learnt,
       frame-of-reads.Asked,
@@ -7365,7 +7365,7 @@ pub +arguments+call+chain+deeds·assign+deeds·body-statement+deeds·body-turn+d
     deeds·body-turn.Post
     (deeds·body-turn-enum-known-next t)
     (deeds·body-turn-charged-requires t)
-    (deeds·body-turn-body-statement-requires t)
+    (deeds·body-turn-begun-requires t)
     (deeds·body-turn-same-length t)
     (deeds·body-turn-same-length-2 t)
     (deeds·body-turn-same-length-3 t)
@@ -7571,7 +7571,7 @@ pub +arguments+call+chain+deeds·assign+deeds·body-statement+deeds·body-turn+d
     (levels-same-length-11 t)
     (levels-same-length-12 t)
     (levels-returns-3 t))
-    (λ t. listed-name-lts.spec (
+    (λ t. listed-lts.spec (
       count-arguments-reads.Asked,
       count-arguments-reads.Learnt,
       aim-of-reads.Asked,
@@ -7585,36 +7585,36 @@ pub +arguments+call+chain+deeds·assign+deeds·body-statement+deeds·body-turn+d
       substr-of-reads.Asked,
       substr-of-reads.Learnt,
     )
-    (listed-name-at t)
-    listed-name.Post
-    (listed-name-count-arguments-requires t)
-    (listed-name-aim-of-requires t)
-    (listed-name-enum-known-aim t)
-    (listed-name-arguments-requires t)
-    (listed-name-enum-known-outcome t)
-    (listed-name-enum-known-t t)
-    (listed-name-call-requires t)
-    (listed-name-up-to-requires t)
-    (listed-name-enum-told t)
-    (listed-name-substr-of-requires t)
-    (listed-name-enum-known-outcome-2 t)
-    (listed-name-enum-known-aim-2 t)
-    (listed-name-same-length t)
-    (listed-name-same-length-2 t)
-    (listed-name-same-length-3 t)
-    (listed-name-same-length-4 t)
-    (listed-name-returns t)
-    (listed-name-same-length-5 t)
-    (listed-name-same-length-6 t)
-    (listed-name-same-length-7 t)
-    (listed-name-same-length-8 t)
-    (listed-name-returns-2 t)
-    (listed-name-same-length-9 t)
-    (listed-name-same-length-10 t)
-    (listed-name-same-length-11 t)
-    (listed-name-same-length-12 t)
-    (listed-name-returns-3 t)
-    (listed-name-returns-4 t))
+    (listed-at t)
+    listed.Post
+    (listed-count-arguments-requires t)
+    (listed-aim-of-requires t)
+    (listed-enum-known-aim t)
+    (listed-arguments-requires t)
+    (listed-enum-known-outcome t)
+    (listed-enum-known-t t)
+    (listed-call-requires t)
+    (listed-up-to-requires t)
+    (listed-enum-told t)
+    (listed-substr-of-requires t)
+    (listed-enum-known-outcome-2 t)
+    (listed-enum-known-aim-2 t)
+    (listed-same-length t)
+    (listed-same-length-2 t)
+    (listed-same-length-3 t)
+    (listed-same-length-4 t)
+    (listed-returns t)
+    (listed-same-length-5 t)
+    (listed-same-length-6 t)
+    (listed-same-length-7 t)
+    (listed-same-length-8 t)
+    (listed-returns-2 t)
+    (listed-same-length-9 t)
+    (listed-same-length-10 t)
+    (listed-same-length-11 t)
+    (listed-same-length-12 t)
+    (listed-returns-3 t)
+    (listed-returns-4 t))
     (λ t. operand-lts.spec (
       past-prefixes-reads.Asked,
       past-prefixes-reads.Learnt,
@@ -7633,7 +7633,7 @@ pub +arguments+call+chain+deeds·assign+deeds·body-statement+deeds·body-turn+d
     (operand-same-length-3 t)
     (operand-same-length-4 t)
     (operand-returns t))
-    (λ t. plain-name-lts.spec (
+    (λ t. plain-lts.spec (
       callee-of-reads.Asked,
       callee-of-reads.Learnt,
       nothing-held-reads.Asked,
@@ -7645,43 +7645,43 @@ pub +arguments+call+chain+deeds·assign+deeds·body-statement+deeds·body-turn+d
       plain-value-reads.Asked,
       plain-value-reads.Learnt,
     )
-    (plain-name-at t)
-    plain-name.Post
-    (plain-name-enum-known-x t)
-    (plain-name-callee-of-requires t)
-    (plain-name-enum-known-y t)
-    (plain-name-nothing-held-requires t)
-    (plain-name-call-requires t)
-    (plain-name-up-to-requires t)
-    (plain-name-same-length t)
-    (plain-name-same-length-2 t)
-    (plain-name-same-length-3 t)
-    (plain-name-same-length-4 t)
-    (plain-name-returns t)
-    (plain-name-enum-known-y-2 t)
-    (plain-name-enum-told t)
-    (plain-name-plain-value-requires t)
-    (plain-name-enum-told-2 t)
-    (plain-name-plain-value-requires-2 t)
-    (plain-name-enum-told-3 t)
-    (plain-name-plain-value-requires-3 t)
-    (plain-name-returns-2 t)
-    (plain-name-returns-3 t)
-    (plain-name-same-length-5 t)
-    (plain-name-same-length-6 t)
-    (plain-name-same-length-7 t)
-    (plain-name-same-length-8 t)
-    (plain-name-returns-4 t)
-    (plain-name-same-length-9 t)
-    (plain-name-same-length-10 t)
-    (plain-name-same-length-11 t)
-    (plain-name-same-length-12 t)
-    (plain-name-returns-5 t)
-    (plain-name-same-length-13 t)
-    (plain-name-same-length-14 t)
-    (plain-name-same-length-15 t)
-    (plain-name-same-length-16 t)
-    (plain-name-returns-6 t))
+    (plain-at t)
+    plain.Post
+    (plain-enum-known-x t)
+    (plain-callee-of-requires t)
+    (plain-enum-known-y t)
+    (plain-nothing-held-requires t)
+    (plain-call-requires t)
+    (plain-up-to-requires t)
+    (plain-same-length t)
+    (plain-same-length-2 t)
+    (plain-same-length-3 t)
+    (plain-same-length-4 t)
+    (plain-returns t)
+    (plain-enum-known-y-2 t)
+    (plain-enum-told t)
+    (plain-plain-value-requires t)
+    (plain-enum-told-2 t)
+    (plain-plain-value-requires-2 t)
+    (plain-enum-told-3 t)
+    (plain-plain-value-requires-3 t)
+    (plain-returns-2 t)
+    (plain-returns-3 t)
+    (plain-same-length-5 t)
+    (plain-same-length-6 t)
+    (plain-same-length-7 t)
+    (plain-same-length-8 t)
+    (plain-returns-4 t)
+    (plain-same-length-9 t)
+    (plain-same-length-10 t)
+    (plain-same-length-11 t)
+    (plain-same-length-12 t)
+    (plain-returns-5 t)
+    (plain-same-length-13 t)
+    (plain-same-length-14 t)
+    (plain-same-length-15 t)
+    (plain-same-length-16 t)
+    (plain-returns-6 t))
     (λ t. primitive-lts.spec (
       token-at-reads.Asked,
       token-at-reads.Learnt,
@@ -7736,10 +7736,10 @@ pub +arguments+call+chain+deeds·assign+deeds·body-statement+deeds·body-turn+d
       token-at-reads.Learnt,
       is-sign-reads.Asked,
       is-sign-reads.Learnt,
-      listed-name-below t,
-      listed-name.Post,
-      plain-name-below t,
-      plain-name.Post,
+      listed-below t,
+      listed.Post,
+      plain-below t,
+      plain.Post,
     )
     (reference-at t)
     reference.Post
@@ -7747,13 +7747,13 @@ pub +arguments+call+chain+deeds·assign+deeds·body-statement+deeds·body-turn+d
     (reference-token-at-requires t)
     (reference-slice-aggregate-is-sign t)
     (reference-is-sign-requires t)
-    (reference-listed-name-requires t)
+    (reference-listed-requires t)
     (reference-same-length t)
     (reference-same-length-2 t)
     (reference-same-length-3 t)
     (reference-same-length-4 t)
     (reference-returns t)
-    (reference-plain-name-requires t)
+    (reference-plain-requires t)
     (reference-same-length-5 t)
     (reference-same-length-6 t)
     (reference-same-length-7 t)
