@@ -33,7 +33,7 @@ impl Meter {
     }
 
     // A step with none left is not counted.
-    pub fn charged(self) -> Charged
+    fn after_step(self) -> Charged
         ensures { λ r. ⌜ Charges self r ⌝ }
     {
         if self.used < self.limit {
@@ -51,14 +51,23 @@ impl Meter {
             }
         }
     }
+
+    // The same for whoever holds the meter by value.
+    pub fn charged(self) -> Charged
+        ensures { λ r. ⌜ Charges self r ⌝ }
+    {
+        let mut meter = self;
+        let paid = charge(&mut meter);
+        Charged { paid, meter }
+    }
 }
 
-// The same in place. Thin, with no branch, since whatever is lent a struct is proved by hand.
+// Every step of a run is charged here, in place. Thin, with no branch, since whatever is lent a struct is proved by hand.
 pub fn charge(m: &mut Meter) -> bool
     ensures { λ r. ⌜ Charges (now (m .entry)) (record { paid = r; meter = now (m .exit) }) ⌝ }
 {
     let before = *m;
-    let after = before.charged();
+    let after = before.after_step();
     *m = after.meter;
     after.paid
 }

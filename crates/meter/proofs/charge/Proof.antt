@@ -1,5 +1,5 @@
 -- `meter::charge` meets its contract: a walk of its MIR, by hand. The borrow is opened, the meter is copied out and charged by value, and the borrow is closed at the meter that came back.
--- All that the proof knows of `charged` is that it meets its contract.
+-- All that the proof knows of `after_step` is that it meets its contract.
 use mathlib.Core.Path.{refl, ap}
 use Prim.Native.Nat.{ℕ}
 use mathlib.Core.List.{[], _∷_, List}
@@ -45,10 +45,10 @@ use Rattle.meter.proofs.Meter as T
 use Rattle.meter.proofs.Meter.Laws as T′
 use Rattle.meter.proofs.Charged as R
 use Rattle.meter.proofs.Charged.Laws as R′
-use Rattle.meter.proofs.Meter.charged as charged
-use Rattle.meter.proofs.Meter.charged.Symbol as charged-def
-use Rattle.meter.proofs.Meter.charged.Symbol.{name as #charged}
-use Rattle.meter.proofs.Meter.charged.Met as charged-thm
+use Rattle.meter.proofs.Meter.after_step as after-step
+use Rattle.meter.proofs.Meter.after_step.Symbol as after-step-def
+use Rattle.meter.proofs.Meter.after_step.Symbol.{name as #after-step}
+use Rattle.meter.proofs.Meter.after_step.Met as after-step-thm
 use Rattle.meter.proofs.charge.Key.{name as #charge}
 use Rattle.meter.proofs.charge as charge
 use Rattle.meter.proofs.charge.Statement as stated
@@ -59,7 +59,7 @@ stayed = (stay-ref (0 ∷ []) tt (plain (λ _. T.the-row)), tt)
 
 -- the contract that the proof cites
 abbrev ByValue : {M : Type 1} (𝓤 : URA M) (H : Heap 𝓤) (A : Atoms 𝓤) (mem : Memory → SProp 𝓤) (run : Routine → Fun 𝓤) → Contract 𝓤
-ByValue 𝓤 H A mem run = tripleOf 𝓤 H A charged.signature (charged.spec 𝓤 H A mem run)
+ByValue 𝓤 H A mem run = tripleOf 𝓤 H A after-step.signature (after-step.spec 𝓤 H A mem run)
 
 module _ {M : Type 1} (𝓤 : URA M) (H : Heap 𝓤) (A : Atoms 𝓤) (W : Given 𝓤 H A) (at-mem : Memory → SProp 𝓤) (run : Routine → Fun 𝓤) (κ : Lft) (q : Share) (b o : ℕ) (γ : GName) (h : Meter) where
   abbrev Arg : Type 0
@@ -74,15 +74,15 @@ module _ {M : Type 1} (𝓤 : URA M) (H : Heap 𝓤) (A : Atoms 𝓤) (W : Given
   abbrev Post : Val → SProp 𝓤
   Post = walkOf 𝓤 H A charge.ended stayed (charge.clauses 𝓤 H A at-mem run) .post (((κ, tt), (q, tt), tt, x, at), tt)
 
-  -- what `charged` is passed, what it asks, and what is known of its result
+  -- what `after_step` is passed, what it asks, and what is known of its result
   abbrev to : ByValue 𝓤 H A at-mem run .Ghost
   to = ((tt, tt, tt, (h, tt), (T′.lowered h ∷ [], tt)), tt)
 
   goes : ent 𝓤 (sem 𝓤 H A (T.the-row .own h (T′.lowered h ∷ []))) (ByValue 𝓤 H A at-mem run .pre to)
   goes = qed W (‵ (T.the-row .own h (T′.lowered h ∷ [])) ∷ []) ∵ nothing ! $ move ! (1 ∷ 0 ∷ []) $ join ! $ nothing ! $ join ! $ frame ! $ done !
 
-  said : (r : Charged) → ent 𝓤 (ensured 𝓤 H A charged.ended (charged.clauses 𝓤 H A at-mem run) tt (h, tt) tt r) (fact 𝓤 (Charges h r))
-  said r = exE 𝓤 _ (λ ws. snd∗ 𝓤 (sem 𝓤 H A (lasts charged.ended tt (h, tt) ws)) (fact 𝓤 (Charges h r)))
+  said : (r : Charged) → ent 𝓤 (ensured 𝓤 H A after-step.ended (after-step.clauses 𝓤 H A at-mem run) tt (h, tt) tt r) (fact 𝓤 (Charges h r))
+  said r = exE 𝓤 _ (λ ws. snd∗ 𝓤 (sem 𝓤 H A (lasts after-step.ended tt (h, tt) ws)) (fact 𝓤 (Charges h r)))
 
   -- what whoever holds a Charged knows of its meter, and that a meter has its MIR type
   held : (r : Charged) (v : Val) → Is R.the-row r (v ∷ []) → Is T.the-row (r .meter) (T′.lowered (r .meter) ∷ [])
@@ -98,7 +98,7 @@ module _ {M : Type 1} (𝓤 : URA M) (H : Heap 𝓤) (A : Atoms 𝓤) (W : Given
       frame ! $ feqI ! (List Val) (vptr b o ∷ []) (vptr b o ∷ []) refl $ fjoin3 ! $ nothing ! $ move ! (1 ∷ 0 ∷ []) $ fjoin ! $
       owned ! bool (Is bool) (bool-makes 𝓤 H A W) (r .paid) _ refl $ move ! (1 ∷ 0 ∷ []) $ done !
 
-  module _ (C : Calls 𝓤 H) (Λ : Loops 𝓤 H) (fm : FmC 𝓤 H (W .laws) C) (known : Triple 𝓤 (C #charged) (ByValue 𝓤 H A at-mem run)) where
+  module _ (C : Calls 𝓤 H) (Λ : Loops 𝓤 H) (fm : FmC 𝓤 H (W .laws) C) (known : Triple 𝓤 (C #after-step) (ByValue 𝓤 H A at-mem run)) where
     walk : ent 𝓤 (onEntry 𝓤 H A charge.signature (κ, tt) (q, tt) x at) (WpFn 𝓤 H C Λ code.function (vptr b o ∷ []) Post)
     walk =
         qed W ((‵ (flft κ q) ⊛ ‵ ftrue) ∷ ‵ (owns (MutRef (named 0) κ T.the-row ∷ []) x at) ∷ []) ∵ enter ! C Λ code.function (vptr b o ∷ []) _ $
@@ -110,7 +110,7 @@ module _ {M : Type 1} (𝓤 : URA M) (H : Heap 𝓤) (A : Atoms 𝓤) (W : Given
         assigns ! (of-opd ! (load ! (from ! (hop ! (look ! 11 refl) (stop !))) (look ! 0 refl))) (from ! (stop !)) (init ! 9 refl (typed h was)) $
         move ! (1 ∷ []) $ use1 W (raw (ByValue 𝓤 H A at-mem run .pre to)) goes $
         calls-at ! fm (ByValue 𝓤 H A at-mem run) known to (and-then ! (load ! (from ! (stop !)) (look ! 9 refl)) (no-more !)) (λ v.
-        use1 W (later (some (λ (r : Charged). (‵ ftrue ⊛ ‵ (R.the-row .own r (v ∷ []))) ⊛ raw (ensured 𝓤 H A charged.ended (charged.clauses 𝓤 H A at-mem run) tt (h, tt) tt r)))) (id⊢ 𝓤 _) $ await ! tt $ pick ! (λ r.
+        use1 W (later (some (λ (r : Charged). (‵ ftrue ⊛ ‵ (R.the-row .own r (v ∷ []))) ⊛ raw (ensured 𝓤 H A after-step.ended (after-step.clauses 𝓤 H A at-mem run) tt (h, tt) tt r)))) (id⊢ 𝓤 _) $ await ! tt $ pick ! (λ r.
         split ! $ move ! (1 ∷ []) $ use1 W (raw (fact 𝓤 (Charges h r))) (said r) $ heard ! (Charges h r) (λ e. split ! $ drop ! $
         -- [what the Charged owns; the struct's cell; the open borrow; obs; auth; true; true; _3; …; _2; …; _1; …; room for _0; …]
         peeks ! R.the-row (Is R.the-row) (shows 𝓤 H A R.the-row) r (v ∷ []) (λ is.
@@ -123,11 +123,11 @@ module _ {M : Type 1} (𝓤 : URA M) (H : Heap 𝓤) (A : Atoms 𝓤) (W : Given
         move ! (11 ∷ 12 ∷ []) $ free1 ! $ move ! (9 ∷ 10 ∷ []) $ free1 ! $ move ! (7 ∷ 8 ∷ []) $ free1 ! $ move ! (5 ∷ 6 ∷ []) $ free1 ! $ free0 ! $ keep ! (0 ∷ 1 ∷ 2 ∷ []) $ by ! (exits r e)))))))))))
 
 module _ {M : Type 1} (𝓤 : URA M) (H : Heap 𝓤) (A : Atoms 𝓤) (W : Given 𝓤 H A) (at-mem : Memory → SProp 𝓤) (run : Routine → Fun 𝓤) where
-  charge-walks : (C : Calls 𝓤 H) (Λ : Loops 𝓤 H) → FmC 𝓤 H (W .laws) C → Triple 𝓤 (C #charged) (ByValue 𝓤 H A at-mem run) → Walks 𝓤 H A charge.ended stayed (WpFn 𝓤 H C Λ code.function) (charge.clauses 𝓤 H A at-mem run)
+  charge-walks : (C : Calls 𝓤 H) (Λ : Loops 𝓤 H) → FmC 𝓤 H (W .laws) C → Triple 𝓤 (C #after-step) (ByValue 𝓤 H A at-mem run) → Walks 𝓤 H A charge.ended stayed (WpFn 𝓤 H C Λ code.function) (charge.clauses 𝓤 H A at-mem run)
   charge-walks C Λ fm known = walked 𝓤 H A charge.ended stayed (charge.clauses 𝓤 H A at-mem run) (WpFn 𝓤 H C Λ code.function) (λ κs. (ptr-vals, tt)) (λ κs. (mut-tells (named 0) (κs .0) T.the-row, tt))
       (λ κs qs bounds a g are. via 𝓤 _ (fst∗ 𝓤 _ (emp 𝓤)) (walk 𝓤 H A W at-mem run (κs .0) (qs .0) (a .0 .ptr .0) (a .0 .ptr .1) (a .0 .name) (a .0 .now) C Λ fm known))
 
-charge-meets : {M : Type 1} (𝓤 : URA M) (H : Heap 𝓤) (A : Atoms 𝓤) (W : Given 𝓤 H A) (at-mem : Memory → SProp 𝓤) (run : Routine → Fun 𝓤) (𝓣 : Tables 𝓤 H) → Triple 𝓤 (𝓣 .C #charged) (ByValue 𝓤 H A at-mem run)
+charge-meets : {M : Type 1} (𝓤 : URA M) (H : Heap 𝓤) (A : Atoms 𝓤) (W : Given 𝓤 H A) (at-mem : Memory → SProp 𝓤) (run : Routine → Fun 𝓤) (𝓣 : Tables 𝓤 H) → Triple 𝓤 (𝓣 .C #after-step) (ByValue 𝓤 H A at-mem run)
     → Meets 𝓤 H A charge.signature (WpFn 𝓤 H (𝓣 .C) (𝓣 .Λ) code.function) (charge.spec 𝓤 H A at-mem run)
 charge-meets 𝓤 H A W at-mem run 𝓣 known = walk-meets 𝓤 H A charge.ended stayed W (goes-ref 𝓤 H A W 1 0 tt (plain (λ _. T.the-row)), tt) (charge.clauses 𝓤 H A at-mem run) (WpFn 𝓤 H (𝓣 .C) (𝓣 .Λ) code.function) (WpFn-mono 𝓤 H (W .laws) 𝓣 code.function)
     (charge-walks 𝓤 H A W at-mem run (𝓣 .C) (𝓣 .Λ) (fmOf 𝓤 H (W .laws) 𝓣) known)
@@ -138,4 +138,4 @@ charge-spec 𝓤 H 𝓜 𝓖 𝓡 =
     entered 𝓤 H (tripleOf 𝓤 H (𝓖 .A) charge.signature (charge.spec 𝓤 H (𝓖 .A) (𝓜 .mem) (𝓡 .run)))
     (tables 𝓤 H 𝓜 𝓡 code.env .C) (tables 𝓤 H 𝓜 𝓡 code.env .Λ) #charge code.function (code.unfolded 𝓤 H 𝓜 𝓡)
     (charge-meets 𝓤 H (𝓖 .A) (givenOf 𝓤 H 𝓜 𝓖) (𝓜 .mem) (𝓡 .run) (tablesOf 𝓤 H 𝓜 (tables 𝓤 H 𝓜 𝓡 code.env))
-    (cited 𝓤 H (ByValue 𝓤 H (𝓖 .A) (𝓜 .mem) (𝓡 .run)) 𝓜 𝓡 code.env #charged charged-def.routine code.calls-meter·Meter·charged (charged-thm.met 𝓤 H 𝓜 𝓖 𝓡)))
+    (cited 𝓤 H (ByValue 𝓤 H (𝓖 .A) (𝓜 .mem) (𝓡 .run)) 𝓜 𝓡 code.env #after-step after-step-def.routine code.calls-meter·Meter·after-step (after-step-thm.met 𝓤 H 𝓜 𝓖 𝓡)))
