@@ -10,11 +10,12 @@ use native.Mathlib.Omega.{arith}
 use borrow.Author.Needs.{needs}
 use borrow.Author.Tests.{eq-eqb, ne-eqb, le-leb, lt-leb}
 use lib.Dec.{eqb, leb}
-use lib.ListN.{length, getD, replicate, take, drop}
+use lib.ListN.{length, getD, replicate}
 use Rattle.definition.specs.Lists.{part, number, all, past, same}
 use Rattle.definition.specs.Bytes.{isLetter, isAlphameric, isBlank}
 use Rattle.definition.specs.Deck.{Line, linePlace, lineAt, linesFrom, lines, count, isMemberName, areNamed, isCalled, Found, none, line, find, isNone, areDistinct, follow, isSound, contents, holds, malformed}
 use Rattle.definition.proofs.Parts.{part-first, length-part, same-length}
+use Rattle.member.specs.Body.{bodyBytes}
 use Rattle.deck.specs.Answer as A
 use Rattle.deck.specs.Word.{Word}
 use Rattle.deck.specs.declared.Contents as C
@@ -338,19 +339,6 @@ module _ (d : List ℕ) (n : ℕ) (e : n ≡ count d) (small : length d ≤ 6553
             of-sound g = rw (size-ok, ← e, some-ok, few-ok, there-ok, ← f, named, ← i, distinct, ← k, g, length-lines d 0 n)
 
 -- ---- the body of a line
-module _ (d : List ℕ) (k from n : ℕ) (e : from ≡ lineAt d k .offset) (f : n ≡ lineAt d k .size) where
-  no-body : length d < from + n → [] ≡ A.bodyIn d k
-  unfolding A.bodyIn
-  no-body h = rw (← e, ← f, lt-leb (from + n) (length d) h)
-
-  pub body-past : (r : List ℕ) → r ≡ [] → length d < from → r ≡ A.bodyIn d k
-  body-past r g h = g ∙ no-body (omega arith)
-
-  pub body-short : (r : List ℕ) → r ≡ [] → from ≤ length d → length d - from < n → r ≡ A.bodyIn d k
-  body-short r g l h = g ∙ no-body (omega arith)
-
-  pub body-whole : (r : List ℕ) → r ≡ take (from + n - from) (drop from d) → from ≤ length d → n ≤ length d - from → r ≡ A.bodyIn d k
-  unfolding A.bodyIn
-  body-whole r g l h =
-      let a : from + n - from ≡ n = omega arith in
-      g ∙ rw (a, ← e, ← f, le-leb (from + n) (length d) (omega arith))
+pub body-line : (d : List ℕ) (k from n : ℕ) → from ≡ lineAt d k .offset → n ≡ lineAt d k .size → (r : List ℕ) → r ≡ bodyBytes d from n → r ≡ A.bodyIn d k
+unfolding A.bodyIn
+body-line d k from n e f r g = g ∙ rw (← e, ← f)

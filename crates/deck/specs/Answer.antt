@@ -1,10 +1,9 @@
 -- What the answers about a deck stand for in the definition.
-use Prim.Native.Nat.{ℕ, _+_}
-use mathlib.Core.Bool.{cond}
-use mathlib.Core.List.{List, []}
-use lib.Dec.{leb}
-use lib.ListN.{length, take, drop}
+use Prim.Native.Nat.{ℕ}
+use mathlib.Core.List.{List}
+use lib.ListN.{length}
 use Rattle.definition.specs.Deck as D
+use Rattle.member.specs.Body.{bodyBytes}
 use Rattle.deck.specs.declared.Contents.{Contents}
 use Rattle.deck.specs.declared.Contents.the-variants.{Malformed, Sound}
 use Rattle.deck.specs.declared.Found.{Found}
@@ -26,4 +25,4 @@ foundFor (D.line k) = Line k
 
 -- the bytes of line k; none where the deck does not have them all
 unfoldable pub bodyIn : List ℕ → ℕ → List ℕ
-bodyIn d k = cond (leb (D.lineAt d k .offset + D.lineAt d k .size) (length d)) (take (D.lineAt d k .size) (drop (D.lineAt d k .offset) d)) []
+bodyIn d k = bodyBytes d (D.lineAt d k .offset) (D.lineAt d k .size)

@@ -10,6 +10,7 @@ ghost use Rattle.deck.specs.Answer.{answerFor, foundFor, refusalOf, body
 ghost use Rattle.deck.specs.Word.{Word};
 use chars::is_alphameric;
 use chars::is_letter;
+use member::body_of;
 use rooms::byte;
 use rooms::get_u16;
 use rooms::get_u32;
@@ -219,20 +220,11 @@ impl Deck {
     }
 }
 
-// The body of line k; nothing where the deck does not have it.
+// The body of line k, through the view; nothing where the deck does not have it.
 pub fn body(d: &[u8], k: u16) -> &[u8]
     ensures { λ r. ⌜ now r ≡ bodyIn (now (d .entry)) k ⌝ }
 {
-    let from = offset(d, k) as usize;
-    let n = size(d, k) as usize;
-    if d.len() < from {
-        return &d[..0];
-    }
-    if d.len() - from < n {
-        return &d[..0];
-    }
-    let to = from + n;
-    &d[from..to]
+    body_of(d, offset(d, k) as usize, size(d, k) as usize)
 }
 
 // 01's number for the contents: 0, or 1 where the deck is malformed.

@@ -1,2 +1,3 @@
--- What the proofs by hand share.
+-- What the proofs share: Held those by hand, Laws that of `part`.
 pub mod Held
+pub mod Laws

@@ -1,4 +1,4 @@
-// The meter of steps: by value, where the work is done, and lent, for every part that charges in place.
+// The meter of steps. It is charged in place; whoever holds it by value lends a local.
 ghost use mathlib.Core.Path.{_≡_};
 ghost use Rattle.definition.specs.Limits.{programSteps};
 ghost use Rattle.meter.specs.Charges.{Charges};
@@ -52,7 +52,7 @@ impl Meter {
         }
     }
 
-    // The same for whoever holds the meter by value.
+    // Through `charge`, for whoever holds the meter by value: a caller that lent its own would need a proof by hand.
     pub fn charged(self) -> Charged
         ensures { λ r. ⌜ Charges self r ⌝ }
     {
@@ -62,7 +62,7 @@ impl Meter {
     }
 }
 
-// Every step of a run is charged here, in place. Thin, with no branch, since whatever is lent a struct is proved by hand.
+// Every step is charged here, in place. Thin, with no branch, since whatever is lent a struct is proved by hand.
 pub fn charge(m: &mut Meter) -> bool
     ensures { λ r. ⌜ Charges (now (m .entry)) (record { paid = r; meter = now (m .exit) }) ⌝ }
 {
