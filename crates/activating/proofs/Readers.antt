@@ -1,7 +1,7 @@
 -- The names that are set, one after the other, are those of the statement as the definition reads it.
 -- Assumes nothing.
 use mathlib.Core.Path.{_≡_, refl, sym, ap, _∙_, subst}
-use mathlib.Core.Bool.{Bool, true, false, cond, false≢true}
+use mathlib.Core.Bool.{Bool, true, false, cond, _||_, false≢true}
 use mathlib.Core.List.{List, [], _∷_, _++_, append-assoc, append-nil}
 use Prim.Native.Nat.{ℕ, zero, suc, _+_, _-_, _<_, _≤_}
 use Prim.Native.String.{String}
@@ -27,11 +27,13 @@ use Rattle.names.specs.Table.{activityOf}
 use Rattle.callees.specs.Answer.{spelledAt}
 use Rattle.callees.proofs.Listing.{name-is}
 use Rattle.reading.proofs.Places.{token-on}
+use Rattle.statements.specs.Clauses.{rescanPast}
+use Rattle.statements.proofs.Laws.{word-spelled}
 use Rattle.activating.specs.declared.Listed.{Listed}
 use Rattle.activating.specs.declared.Listed.the-variants.{Plainly, WithRescan, WithAttributes}
 use Rattle.activating.specs.declared.Following.{Following}
 use Rattle.activating.specs.declared.Following.the-variants.{NameAt, AtEnd}
-use Rattle.activating.specs.Lists.{pastSign, pastRescan, behindComma, declaredNext, nextIn, activityBehind, onward, nameEnd, setFrom}
+use Rattle.activating.specs.Lists.{pastSign, behindComma, declaredNext, nextIn, activityBehind, onward, nameEnd, setFrom}
 use Rattle.activating.specs.Sets.{SetsAll, DeclaresAll, ActivatesAll, DeactivatesAll}
 use Rattle.activating.proofs.Walks.{set-from, set-name}
 
@@ -187,9 +189,19 @@ module _ (s : List ℕ) where
   unfolding activations
   acts-more a ys w = refl
 
+  either-place : (a b : Bool) (x y : ℕ) → cond (a || b) x y ≡ cond a x (cond b x y)
+  either-place true b x y = refl
+  either-place false b x y = refl
+
+  past-is : (e : ℕ) → rescanPast s e ≡ cond (isWord "NORESCAN" (tokenAt s e .token)) (tokenAt s e .to) (cond (isWord "RESCAN" (tokenAt s e .token)) (tokenAt s e .to) e)
+  unfolding rescanPast
+  past-is e =
+      rw (word-spelled "NORESCAN" (78 ∷ 79 ∷ 82 ∷ 69 ∷ 83 ∷ 67 ∷ 65 ∷ 78 ∷ []) refl (tokenAt s e .token), word-spelled "RESCAN" (82 ∷ 69 ∷ 83 ∷ 67 ∷ 65 ∷ 78 ∷ []) refl (tokenAt s e .token))
+      (either-place (isWord "NORESCAN" (tokenAt s e .token)) (isWord "RESCAN" (tokenAt s e .token)) (tokenAt s e .to) e)
+
   acts-so : (make : List P.Activation → P.Statement) (f : ℕ) (xs : List P.Activation) (at : ℕ)
       → Held (λ w. setFrom WithRescan Rescanned s f at w) (λ ys w. activations ys w) make xs (D.listOf D.eachActivation make s f xs at)
-  unfolding D.listOf activityBehind nextIn pastRescan
+  unfolding D.listOf activityBehind nextIn
   acts-so make zero xs at = tt
   acts-so make (suc f) xs at =
       let S : Run = λ w. setFrom WithRescan Rescanned s (suc f) at w in
@@ -202,10 +214,10 @@ module _ (s : List ℕ) where
       let copied : P.Activation = record { spelling = n .spelling; isCopied = true } in
       let again : P.Activation = record { spelling = n .spelling; isCopied = false } in
       when-has (λ (T : Reading D.Clause). Held S run make xs T) (isWord "NORESCAN" (tokenAt s (n .to) .token)) _ _
-      (λ c. item copied (tokenAt s (n .to) .to) refl (rw c) (rw c)) λ c.
+      (λ c. item copied (tokenAt s (n .to) .to) refl (rw c) (rw (past-is (n .to), c))) λ c.
       when-has (λ (T : Reading D.Clause). Held S run make xs T) (isWord "RESCAN" (tokenAt s (n .to) .token)) _ _
-      (λ g. item again (tokenAt s (n .to) .to) refl (rw c) (rw (c, g)))
-      (λ g. item again (n .to) refl (rw c) (rw (c, g)))
+      (λ g. item again (tokenAt s (n .to) .to) refl (rw c) (rw (past-is (n .to), c, g)))
+      (λ g. item again (n .to) refl (rw c) (rw (past-is (n .to), c, g)))
 
   -- ---- DECLARE
   next-comma : (e : ℕ) → isSign "," (tokenAt s e .token) ≡ true → declaredNext s e ≡ NameAt (tokenAt s e .to)

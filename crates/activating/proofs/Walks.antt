@@ -22,11 +22,12 @@ use Rattle.callees.specs.Shown.{Named}
 use Rattle.callees.specs.Answer.{spelledAt}
 use Rattle.callees.proofs.Listing.{told}
 use Rattle.outcomes.specs.Texts.{Awake}
+use Rattle.statements.specs.Clauses.{rescanPast}
 use Rattle.activating.specs.declared.Listed.{Listed}
 use Rattle.activating.specs.declared.Listed.the-variants.{Plainly, WithRescan, WithAttributes}
 use Rattle.activating.specs.declared.Following.{Following}
 use Rattle.activating.specs.declared.Following.the-variants.{NameAt, AtEnd}
-use Rattle.activating.specs.Lists.{pastSign, pastRescan, behindComma, declaredNext, nextIn, activityBehind, onward, nameEnd, setFrom}
+use Rattle.activating.specs.Lists.{pastSign, behindComma, declaredNext, nextIn, activityBehind, onward, nameEnd, setFrom}
 use Rattle.activating.specs.Sets.{awake, outcome, Kept, SetsName, SetsAll}
 
 -- ---- signs and words
@@ -65,10 +66,6 @@ module _ (s : List ℕ) (at : ℕ) (l : Lexeme) (lex : Lexed s at l) (b : Bool) 
   comma-behind f g p h a q y k = rw (told s at l lex "," (44 ∷ []) b false refl f g, ← h, ← q .to) k
 
   module _ (f : b ≡ isWordIn s l (78 ∷ 79 ∷ 82 ∷ 69 ∷ 83 ∷ 67 ∷ 65 ∷ 78 ∷ [])) where
-    pub no-rescan-there : b ≡ true → l .to ≡ pastRescan s at
-    unfolding pastRescan
-    no-rescan-there g = rw (← L.is-word s at l lex "NORESCAN" (78 ∷ 79 ∷ 82 ∷ 69 ∷ 83 ∷ 67 ∷ 65 ∷ 78 ∷ []) refl, ← f, g, lex .to)
-
     pub copied-there : b ≡ true → (k : Listed) (x : Activity) → k ≡ WithRescan → CopiedOnly ≡ activityBehind k x s at
     unfolding activityBehind
     copied-there g k x h = rw (h, ← L.is-word s at l lex "NORESCAN" (78 ∷ 79 ∷ 82 ∷ 69 ∷ 83 ∷ 67 ∷ 65 ∷ 78 ∷ []) refl, ← f, g)
@@ -76,15 +73,6 @@ module _ (s : List ℕ) (at : ℕ) (l : Lexeme) (lex : Lexed s at l) (b : Bool) 
     pub copied-absent : b ≡ false → (k : Listed) (x : Activity) → k ≡ WithRescan → Rescanned ≡ activityBehind k x s at
     unfolding activityBehind
     copied-absent g k x h = rw (h, ← L.is-word s at l lex "NORESCAN" (78 ∷ 79 ∷ 82 ∷ 69 ∷ 83 ∷ 67 ∷ 65 ∷ 78 ∷ []) refl, ← f, g)
-
-    module _ (g : b ≡ false) (c : Bool) (h : c ≡ isWordIn s l (82 ∷ 69 ∷ 83 ∷ 67 ∷ 65 ∷ 78 ∷ [])) where
-      pub rescan-there : c ≡ true → l .to ≡ pastRescan s at
-      unfolding pastRescan
-      rescan-there k = rw (← L.is-word s at l lex "NORESCAN" (78 ∷ 79 ∷ 82 ∷ 69 ∷ 83 ∷ 67 ∷ 65 ∷ 78 ∷ []) refl, ← f, g, ← L.is-word s at l lex "RESCAN" (82 ∷ 69 ∷ 83 ∷ 67 ∷ 65 ∷ 78 ∷ []) refl, ← h, k, lex .to)
-
-      pub rescan-absent : c ≡ false → at ≡ pastRescan s at
-      unfolding pastRescan
-      rescan-absent k = rw (← L.is-word s at l lex "NORESCAN" (78 ∷ 79 ∷ 82 ∷ 69 ∷ 83 ∷ 67 ∷ 65 ∷ 78 ∷ []) refl, ← f, g, ← L.is-word s at l lex "RESCAN" (82 ∷ 69 ∷ 83 ∷ 67 ∷ 65 ∷ 78 ∷ []) refl, ← h, k)
 
 module _ (k : Listed) (s : List ℕ) (at : ℕ) where
   pub activity-plain : (x : Activity) → k ≡ Plainly → x ≡ activityBehind k x s at
@@ -99,7 +87,7 @@ module _ (k : Listed) (s : List ℕ) (at : ℕ) where
   unfolding nextIn
   next-plain y e f = rw e f
 
-  pub next-rescan : (y : Following) (p : ℕ) → k ≡ WithRescan → p ≡ pastRescan s at → y ≡ behindComma s p → y ≡ nextIn k s at
+  pub next-rescan : (y : Following) (p : ℕ) → k ≡ WithRescan → p ≡ rescanPast s at → y ≡ behindComma s p → y ≡ nextIn k s at
   unfolding nextIn
   next-rescan y p e g f = rw (e, ← g) f
 

@@ -11,6 +11,7 @@ use Rattle.names.specs.declared.Activity.{Activity}
 use Rattle.names.specs.declared.Activity.the-variants.{Rescanned, CopiedOnly}
 use Rattle.names.specs.Table.{activityOf}
 use Rattle.callees.specs.Answer.{spelledAt}
+use Rattle.statements.specs.Clauses.{rescanPast}
 use Rattle.activating.specs.declared.Listed.{Listed}
 use Rattle.activating.specs.declared.Listed.the-variants.{Plainly, WithRescan, WithAttributes}
 use Rattle.activating.specs.declared.Following.{Following}
@@ -19,10 +20,6 @@ use Rattle.activating.specs.declared.Following.the-variants.{NameAt, AtE
 -- past a sign, if it stands there
 unfoldable pub pastSign : String → List ℕ → ℕ → ℕ
 pastSign w s at = cond (isSign w (tokenAt s at .token)) (tokenAt s at .to) at
-
--- past NORESCAN or RESCAN
-unfoldable pub pastRescan : List ℕ → ℕ → ℕ
-pastRescan s at = cond (isWord "NORESCAN" (tokenAt s at .token)) (tokenAt s at .to) (cond (isWord "RESCAN" (tokenAt s at .token)) (tokenAt s at .to) at)
 
 -- ---- behind a name
 unfoldable pub behindComma : List ℕ → ℕ → Following
@@ -34,7 +31,7 @@ declaredNext s at = cond (isSign "," (tokenAt s at .token)) (NameAt (tokenAt s a
 
 unfoldable pub nextIn : Listed → List ℕ → ℕ → Following
 nextIn Plainly s at = behindComma s at
-nextIn WithRescan s at = behindComma s (pastRescan s at)
+nextIn WithRescan s at = behindComma s (rescanPast s at)
 nextIn WithAttributes s at = declaredNext s at
 
 -- what a name becomes: in ACTIVATE the word behind it says

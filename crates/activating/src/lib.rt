@@ -1,7 +1,7 @@
 // ACTIVATE, DEACTIVATE, and DECLARE outside procedures: the names of a list, one after the other, as the statement was read.
 ghost use mathlib.Core.Path.{_≡_};
 ghost use Rattle.names.specs.Table.{denotationOf};
-ghost use Rattle.activating.specs.Lists.{pastSign, pastRescan, behindComma, declaredNext, nextIn, activityBehind};
+ghost use Rattle.activating.specs.Lists.{pastSign, behindComma, declaredNext, nextIn, activityBehind};
 ghost use Rattle.activating.specs.Sets.{canWake, SetsName, SetsAll, DeclaresAll, ActivatesAll, DeactivatesAll};
 use names::Activity;
 use names::Denotation;
@@ -11,11 +11,12 @@ use names::Owner;
 use names::find;
 use names::name_at;
 use names::put_name;
-use operands::span;
+use statements::past_rescan;
 use tokens::Lexeme;
 use tokens::is_sign;
 use tokens::is_word;
 use tokens::token_at;
+use tokens::width;
 
 // ---- one name
 
@@ -35,7 +36,7 @@ fn is_active_kind(x: Name) -> bool
 fn activate(deck: &[u8], s: &[u8], names: &mut [u16], count: u16, t: Lexeme, act: Activity) -> bool
     ensures { λ r. ⌜ SetsName (now (deck .entry)) (now (s .entry)) (now (names .entry)) (now (names .exit)) count t act r ⌝ }
 {
-    let found = find(deck, names, count, s, t.from, span(t), Owner::Everyone);
+    let found = find(deck, names, count, s, t.from, width(t), Owner::Everyone);
     match found {
         Found::Unknown => false,
         Found::Known(a) => {
@@ -103,20 +104,6 @@ fn past_close(s: &[u8], at: usize) -> usize
 {
     let t = token_at(s, at);
     if is_sign(s, t, b")") {
-        return t.to;
-    }
-    at
-}
-
-// The place past NORESCAN or RESCAN, if one of them stands there.
-fn past_rescan(s: &[u8], at: usize) -> usize
-    ensures { λ r. ⌜ r ≡ pastRescan (now (s .entry)) at ⌝ }
-{
-    let t = token_at(s, at);
-    if is_word(s, t, b"NORESCAN") {
-        return t.to;
-    }
-    if is_word(s, t, b"RESCAN") {
         return t.to;
     }
     at

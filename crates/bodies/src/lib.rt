@@ -29,7 +29,6 @@ use names::find;
 use names::name_at;
 use operands::Evaluated;
 use operands::Scene;
-use operands::span;
 use operators::Given;
 use operators::NumberGiven;
 use operators::Truth;
@@ -45,6 +44,7 @@ use store::store_number;
 use tokens::Lexeme;
 use tokens::is_word;
 use tokens::token_at;
+use tokens::width;
 
 // ---- a statement that evaluates; its expression was evaluated last
 
@@ -444,11 +444,11 @@ fn label_of(names: &[u16], a: names::Address, is_local: bool) -> Jump
 fn jump_label(deck: &[u8], s: &[u8], names: &[u16], count: u16, owner: Owner, t: Lexeme) -> Jump
     ensures { λ r. ⌜ LabelIs (now (deck .entry)) (now (s .entry)) (now (names .entry)) count owner t r ⌝ }
 {
-    let local = find(deck, names, count, s, t.from, span(t), owner);
+    let local = find(deck, names, count, s, t.from, width(t), owner);
     match local {
         Found::Known(a) => label_of(names, a, true),
         Found::Unknown => {
-            let global = find(deck, names, count, s, t.from, span(t), Owner::Everyone);
+            let global = find(deck, names, count, s, t.from, width(t), Owner::Everyone);
             match global {
                 Found::Known(a) => label_of(names, a, false),
                 Found::Unknown => Jump::Bad(Why::WrongName),

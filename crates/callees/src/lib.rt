@@ -42,8 +42,10 @@ use store::copy_characters;
 use store::number_at;
 use store::store_characters;
 use store::store_number;
+use sums::less;
 use tokens::is_sign;
 use tokens::token_at;
+use tokens::width;
 
 // ---- what a name means
 
@@ -72,15 +74,6 @@ fn substr_or(is_builtin: bool) -> Meant
     Meant::NoSuch
 }
 
-fn span(from: usize, to: usize) -> usize
-    ensures { λ r. ⌜ r ≡ to - from ⌝ }
-{
-    if to < from {
-        return 0;
-    }
-    to - from
-}
-
 // "An undeclared SUBSTR is the builtin; any other BUILTIN name is 6 when used."
 pub fn meant_by(
     deck: &[u8],
@@ -93,7 +86,7 @@ pub fn meant_by(
 ) -> Meant
     ensures { λ r. ⌜ meantFor r ≡ E.meant (ownerOf owner) (part (to - from) from (now (s .entry))) (namesWorld (now (deck .entry)) (now (names .entry)) count) ⌝ }
 {
-    let n = span(from, to);
+    let n = less(to, from);
     let found = seen_from(deck, names, count, s, from, n, owner);
     match found {
         Found::Unknown => substr_or(is_substr(s, from, n)),
@@ -203,15 +196,7 @@ pub fn parameter_at(
     ensures { λ r. ⌜ ParameterIs (now (deck .entry)) (now (s .entry)) (now (names .entry)) count p at r ⌝ }
 {
     let t = token_at(s, at);
-    let found = find(
-        deck,
-        names,
-        count,
-        s,
-        t.from,
-        span(t.from, t.to),
-        Owner::Procedure(p),
-    );
+    let found = find(deck, names, count, s, t.from, width(t), Owner::Procedure(p));
     match found {
         Found::Unknown => ParameterAt::Wrong,
         Found::Known(a) => {

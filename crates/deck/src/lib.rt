@@ -40,7 +40,7 @@ pub fn count(d: &[u8]) -> u16
 }
 
 // Where line k stands.
-fn line_place(k: u16) -> usize
+pub fn line_place(k: u16) -> usize
     ensures { λ r. ⌜ r ≡ linePlace k ⌝ }
 {
     2 + 16 * (k as usize)

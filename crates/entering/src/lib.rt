@@ -24,6 +24,7 @@ use names::Place;
 use names::find;
 use names::name_at;
 use names::put_name;
+use sums::less;
 
 // What a declaration makes of a name.
 pub enum Meaning {
@@ -200,10 +201,7 @@ fn identifier(base: u16, x: Spelling) -> Identifier
 pub fn length_of(x: Spelling) -> usize
     ensures { λ r. ⌜ r ≡ x .to - x .from ⌝ }
 {
-    if x.to < x.from {
-        return 0;
-    }
-    x.to - x.from
+    less(x.to, x.from)
 }
 
 // A name that was not known.

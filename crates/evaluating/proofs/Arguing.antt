@@ -23,6 +23,8 @@ use Rattle.definition.specs.declared.Why.the-variants.{Syntax}
 use Rattle.definition.specs.declared.ValueType.{ValueType}
 use Rattle.definition.specs.declared.ValueType.the-variants.{FixedType, CharacterType}
 use Rattle.definition.proofs.Ranges.{Fine}
+use Rattle.sums.specs.Numbers.{greatest, sumTo}
+use Rattle.sums.proofs.Laws.{sum-fits}
 use Rattle.meter.specs.declared.Meter.{Meter}
 use Rattle.tokens.specs.declared.Lexeme.{Lexeme}
 use Rattle.tokens.specs.Answer.{Lexed}
@@ -182,19 +184,6 @@ typed-short CharacterType (Number x) h = absurd h
 typed-short CharacterType (Characters n) h = h
 typed-short CharacterType (Bits n) h = absurd h
 
--- ---- small functions
-pub more-one : (n : ℕ) → n < 1000000 → n + 1 ≡ cond (ltb n 1000000) (n + 1) n
-more-one n h = rw (lt-ltb n 1000000 h)
-
-pub more-none : (n : ℕ) → 1000000 ≤ n → n ≡ cond (ltb n 1000000) (n + 1) n
-more-none n h = rw (le-ltb n 1000000 h)
-
-pub first-new : (i : ℕ) (f v : Value) → i < 1 → v ≡ cond (ltb i 1) v f
-first-new i f v h = rw (lt-ltb i 1 h)
-
-pub first-old : (i : ℕ) (f v : Value) → 1 ≤ i → f ≡ cond (ltb i 1) v f
-first-old i f v h = rw (le-ltb i 1 h)
-
 -- ---- the loop
 module _ (deck rows names s c₀ l₀ h₀ w₀ : List ℕ) (from left u : ℕ) (t : Target) (x : Scene) (m₀ : Meter) where
   pub record Took (B : World) (p e : ℕ) (ws₀ : List Ev.Wish) (n₀ : ℕ) (R : Res Why (List Val.Value)) (turns i listed top at : ℕ) (f : Value) (k : Held) (m : Meter) (c l h w : List ℕ) : Type 0 where
@@ -337,7 +326,7 @@ module _ (deck rows names s c₀ l₀ h₀ w₀ : List ℕ) (from left u : ℕ) 
       taking-failed a n ey = record { is = λ B sh p d e q g ws co a₁ b₁. let j : Took B p e ws (count d) (taken x d ws u (worldIn B c₀ l₀ h₀ (m₀ .used))) turns i listed top at f k m c l h w = ta .is B sh p d e q g ws co a₁ b₁ in failed-by a n ey f k B p e ws (count d) _ j (now B p e ws (count d) _ j) }
 
       module _ (v : Value) (q₁ : ℕ) (n : Meter) (ey : y ≡ Is v q₁ n) (k′ : Held) (hw : HeldWith k i v k′) (f′ : Value) (ef : f′ ≡ cond (ltb i 1) v f) (z top′ : ℕ) (ez : z ≡ sizeFor v) (et : top′ ≡ topOf top z)
-          (lx : Lexeme) (lex : Lexed s q₁ lx) (i′ : ℕ) (ei : i′ ≡ cond (ltb i 1000000) (i + 1) i) (z₂ : length w₂ ≡ length w₁) where
+          (lx : Lexeme) (lex : Lexed s q₁ lx) (i′ : ℕ) (ei : i′ ≡ sumTo greatest i 1) (z₂ : length w₂ ≡ length w₁) where
         first-kept : 0 < i → f′ ≡ f
         first-kept h = ef ∙ rw (le-ltb i 1 (omega (arith, h)))
 
@@ -357,7 +346,7 @@ module _ (deck rows names s c₀ l₀ h₀ w₀ : List ℕ) (from left u : ℕ) 
             let sm : i < 256 = (let d : length (j .ws) ≡ suc (length (q .wishes)) = ap length (q .ws-is) in omega (arith, d, j .few)) in
             let ft : top + sizeFor v ≤ 65536 = rw ey at (q .fits) in
             let tp : top′ ≡ top + sizeFor v = et ∙ ap (topOf top) ez ∙ top-in top (sizeFor v) ft in
-            let ii : i′ ≡ suc i = ei ∙ rw (lt-ltb i 1000000 (omega (arith, sm)), add-one) in
+            let ii : i′ ≡ suc i = ei ∙ sum-fits i 1 (omega (arith, sm)) ∙ add-one i in
             let ev : good (valueIn w₂ top v) (worldIn B c₁ l₁ h₁ (n .used)) ≡ wishedOn top (q .wish) (valueOf x (q .step .first .tree) top (worldIn B c l h (m .used))) = rw ey at (q .value) in
             let on : One w₂ f′ k′ i top (q .wish) (valueIn w₂ top v) (sizeFor v) = one-by B p e ws₀ n₀ R j (q .step .first .tree) (q .wishes) sm ft (q .wish) (rw (q .ws-is) at (j .coming)) ev in
             let pk : Path w₂ f′ k′ 0 u ws₀ (j .values) i top (j .ws) = path-kept w w₂ f f′ k k′ i top (j .ws) (q .below) (held-other k i v k′ hw sm (j .sized)) first-kept 0 u ws₀ (j .values) (j .path) in

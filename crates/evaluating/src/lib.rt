@@ -39,7 +39,6 @@ use operands::count_arguments;
 use operands::first_kept;
 use operands::first_parameter;
 use operands::integer_value;
-use operands::one_more;
 use operands::plain_value;
 use operands::prefixes_done;
 use operands::string_value;
@@ -53,6 +52,7 @@ use operators::Value;
 use operators::above;
 use operators::size_of;
 use rows::part_of;
+use sums::sum;
 use tokens::Kind;
 use tokens::Lexeme;
 use tokens::is_sign;
@@ -176,7 +176,7 @@ fn arguments(
                 };
             }
         }
-        i = one_more(i);
+        i = sum(i, 1);
     }
     Taken {
         held,

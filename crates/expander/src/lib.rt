@@ -1,6 +1,5 @@
 // THE EXPANDER: any bytes, any rooms. Its numbers, its text and its list are the definition's, and every working room ends zero.
 ghost use mathlib.Core.Path.{_≡_};
-ghost use Prim.Native.Nat.{_%_};
 ghost use Rattle.definition.specs.Refusal.{numberOf};
 ghost use Rattle.definition.specs.Deck.{isSound};
 ghost use Rattle.definition.specs.Room.{over};
@@ -17,6 +16,7 @@ use running::run;
 use texts::Progress;
 use texts::Ran;
 use texts::Stop;
+use texts::size32;
 
 // The six numbers of an answer.
 pub struct Expansion {
@@ -82,12 +82,6 @@ fn refusal(number: u32, member: u32, offset: u32, steps: u32) -> Expansion
     }
 }
 
-fn small(n: usize) -> u32
-    ensures { λ r. ⌜ r ≡ n % 4294967296 ⌝ }
-{
-    (n % 4_294_967_296) as u32
-}
-
 fn refused(x: Stop, g: Progress) -> Expansion
     ensures { λ r. ⌜ r ≡ refusedFor x g ⌝ }
 {
@@ -95,7 +89,7 @@ fn refused(x: Stop, g: Progress) -> Expansion
     refusal(
         number_of(why),
         x.member as u32,
-        small(x.place),
+        size32(x.place),
         g.meter.used,
     )
 }
@@ -108,8 +102,8 @@ fn finished(g: Progress) -> Expansion
         member: 0,
         offset: 0,
         steps: g.meter.used,
-        text: small(g.out.text),
-        lines: small(g.out.lines),
+        text: size32(g.out.text),
+        lines: size32(g.out.lines),
     }
 }
 

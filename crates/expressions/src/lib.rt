@@ -1,6 +1,5 @@
 // The syntax of an expression: which operator stands next, a sign or a name that must follow, and where the whole ends.
 ghost use mathlib.Core.Path.{_≡_};
-ghost use Prim.Native.Nat.{_-_};
 ghost use lib.ListN.{length};
 ghost use Rattle.definition.specs.Tokens.{tokenAt, sign};
 ghost use Rattle.definition.specs.Expressions as E;
@@ -18,6 +17,7 @@ use tokens::is_sign;
 use tokens::is_word;
 use tokens::is_word_kind;
 use tokens::token_at;
+use tokens::width;
 
 // How many levels of binding the infix operators have.
 pub const LEVELS: usize = 6;
@@ -187,21 +187,12 @@ pub fn name_at(s: &[u8], at: usize) -> NamedAt
     let t = token_at(s, at);
     let kind = t.kind;
     if is_word_kind(kind) {
-        if length_of(t.from, t.to) <= Name::LONGEST {
+        if width(t) <= Name::LONGEST {
             return NamedAt::Is(t.from, t.to);
         }
         return NamedAt::Refused(Why::OverLimit, t.from);
     }
     NamedAt::Refused(Why::Syntax, t.from)
-}
-
-fn length_of(from: usize, to: usize) -> usize
-    ensures { λ r. ⌜ r ≡ to - from ⌝ }
-{
-    if to < from {
-        return 0;
-    }
-    to - from
 }
 
 // A word that must follow.

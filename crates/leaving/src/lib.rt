@@ -10,11 +10,11 @@ use names::Label;
 use names::Owner;
 use names::find;
 use names::name_at;
-use operands::span;
 use rows::Link;
 use rows::Starts;
 use rows::part_of;
 use tokens::token_at;
+use tokens::width;
 
 // Members that are running below this one: how many, and of each the row where it stands.
 pub struct Below {
@@ -116,7 +116,7 @@ pub fn jump_from(
     ensures { λ r. ⌜ JumpIs (now (deck .entry)) (now (s .entry)) (now (rows .entry)) (now (names .entry)) count below member starts n at r ⌝ }
 {
     let t = token_at(s, at);
-    let found = find(deck, names, count, s, t.from, span(t), Owner::Everyone);
+    let found = find(deck, names, count, s, t.from, width(t), Owner::Everyone);
     match found {
         Found::Unknown => Jump::Bad(Why::WrongName),
         Found::Known(a) => {

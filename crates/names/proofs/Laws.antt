@@ -16,6 +16,7 @@ use Rattle.definition.specs.World.{sameOwner, isIdentifier, addressIn}
 use Rattle.definition.specs.Room.{over}
 use Rattle.definition.proofs.Rooms.{over-next-at, getD-over-at, getD-over-low, getD-over-high}
 use Rattle.definition.proofs.Parts.{length-part, same-length}
+use Rattle.types.proofs.Laws.{type-back}
 use Rattle.names.specs.declared.Identifier.{Identifier}
 use Rattle.names.specs.declared.Address.{Address}
 use Rattle.names.specs.declared.Place.{Place}
@@ -27,12 +28,10 @@ use Rattle.names.specs.declared.Denotation.{Denotation}
 use Rattle.names.specs.declared.Denotation.the-variants.{Variable, EntryName, LabelName, Builtin}
 use Rattle.names.specs.declared.Activity.{Activity}
 use Rattle.names.specs.declared.Activity.the-variants.{Inactive, Rescanned, CopiedOnly}
-use Rattle.definition.specs.declared.ValueType.{ValueType}
-use Rattle.definition.specs.declared.ValueType.the-variants.{FixedType, CharacterType}
 use Rattle.names.specs.declared.Name.{Name}
 use Rattle.names.specs.declared.Found.{Found}
 use Rattle.names.specs.declared.Found.the-variants.{Known, Unknown}
-use Rattle.names.specs.Table.{ownerOf, ownerTag, ownerPlace, ownerNumbers, bodyTag, bodyPlace, bodyNumbers, bodyIn, flag, typeNumber, typeIn, activityNumber, denotationTag, denotationFlag, denotationBody, denotationPlace, denotationNumbers, numbersOf, samePlace, spelled, identifierOf, foundFor, ownerIn, denotationIn, activityIn, nameIn, identifiersFrom, orElse, seenIn}
+use Rattle.names.specs.Table.{ownerOf, ownerTag, ownerPlace, ownerNumbers, bodyTag, bodyPlace, bodyNumbers, bodyIn, flag, activityNumber, denotationTag, denotationFlag, denotationBody, denotationPlace, denotationNumbers, numbersOf, samePlace, spelled, identifierOf, foundFor, ownerIn, denotationIn, activityIn, nameIn, identifiersFrom, orElse, seenIn}
 
 -- ---- a record, from the numbers that were read
 pub name-is : (t : List ℕ) (a at : ℕ) (i : Identifier) (o : Owner) (e : Denotation) (x : Activity) (n0 n1 n2 n3 n4 n5 n6 n7 n8 n9 n10 : ℕ)
@@ -210,10 +209,6 @@ activity-back CopiedOnly = refl
 flag-back : (b : Bool) → eqb (flag b) 1 ≡ b
 flag-back true = refl
 flag-back false = refl
-
-type-back : (t : ValueType) → typeIn (typeNumber t) ≡ t
-type-back FixedType = refl
-type-back CharacterType = refl
 
 body-back : (b : Body) → bodyIn (bodyTag b) (bodyPlace b .member) (bodyPlace b .row) ≡ b
 body-back Nothing = refl

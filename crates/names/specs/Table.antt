@@ -5,9 +5,8 @@ use mathlib.Core.List.{List, [], _∷_, _++_}
 use lib.Dec.{eqb}
 use lib.ListN.{getD}
 use Rattle.definition.specs.Lists.{part}
-use Rattle.definition.specs.declared.ValueType.{ValueType}
-use Rattle.definition.specs.declared.ValueType.the-variants.{FixedType, CharacterType}
 use Rattle.definition.specs.World as W
+use Rattle.types.specs.Kept.{typeNumber, typeIn}
 use Rattle.names.specs.declared.Identifier.{Identifier}
 use Rattle.names.specs.declared.Place.{Place}
 use Rattle.names.specs.declared.Owner.{Owner}
@@ -62,10 +61,6 @@ placeIn m r = record { member = m; row = r }
 
 abbrev pub flag : Bool → ℕ
 flag b = cond b 1 0
-
-abbrev pub typeNumber : ValueType → ℕ
-typeNumber FixedType = 0
-typeNumber CharacterType = 1
 
 abbrev pub activityNumber : Activity → ℕ
 activityNumber Inactive = 0
@@ -131,9 +126,6 @@ ownerIn k m r = cond (eqb k 0) Everyone (Procedure (placeIn m r))
 
 abbrev pub bodyIn : ℕ → ℕ → ℕ → Body
 bodyIn k m r = cond (eqb k 0) Body.Nothing (Body.At (placeIn m r))
-
-abbrev pub typeIn : ℕ → ValueType
-typeIn k = cond (eqb k 0) FixedType CharacterType
 
 abbrev pub denotationIn : ℕ → ℕ → ℕ → ℕ → ℕ → Denotation
 denotationIn k x b m r =

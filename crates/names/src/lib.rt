@@ -13,6 +13,8 @@ use definition::ValueType;
 use rooms::is_same;
 use rooms::number16;
 use rooms::put_number16;
+use types::type_in;
+use types::type_number;
 
 // Where an identifier is spelled in the deck: its place and its length.
 pub struct Identifier(pub u16, pub u16);
@@ -116,16 +118,6 @@ fn body_in(k: u16, m: u16, r: u16) -> Body
         Body::Nothing
     } else {
         Body::At(Place { member: m, row: r })
-    }
-}
-
-fn type_in(k: u16) -> ValueType
-    ensures { λ x. ⌜ x ≡ T.typeIn k ⌝ }
-{
-    if k == 0 {
-        ValueType::FixedType
-    } else {
-        ValueType::CharacterType
     }
 }
 
@@ -312,15 +304,6 @@ fn flag(b: bool) -> u16
     ensures { λ r. ⌜ r ≡ T.flag b ⌝ }
 {
     if b { 1 } else { 0 }
-}
-
-fn type_number(t: ValueType) -> u16
-    ensures { λ r. ⌜ r ≡ T.typeNumber t ⌝ }
-{
-    match t {
-        ValueType::FixedType => 0,
-        ValueType::CharacterType => 1,
-    }
 }
 
 fn activity_number(x: Activity) -> u16

@@ -31,13 +31,16 @@ use statements::Keyword;
 use statements::Opens;
 use statements::Read;
 use statements::assignment;
+use statements::is_inside;
 use statements::keyword_of;
+use sums::less;
 use tokens::Ending;
 use tokens::Lexeme;
 use tokens::is_sign;
 use tokens::is_word;
 use tokens::is_word_kind;
 use tokens::token_at;
+use tokens::width;
 
 // ---- what is open
 
@@ -295,17 +298,6 @@ pub fn scope_out(k: Where, scope: Owner) -> Owner
     }
 }
 
-// ---- scopes
-
-pub fn is_inside(k: Owner) -> bool
-    ensures { λ r. ⌜ r ≡ C.isInside k ⌝ }
-{
-    match k {
-        Owner::Everyone => false,
-        Owner::Procedure(_) => true,
-    }
-}
-
 // ---- labels
 
 // Labels: how many they are, the first that is too long, and the place behind them.
@@ -376,27 +368,11 @@ pub fn labels_at(s: &[u8], from: usize) -> Labels
     }
 }
 
-// Never below 0, so that no caller owes an order of the places.
-fn length_of(from: usize, to: usize) -> usize
-    ensures { λ r. ⌜ r ≡ to - from ⌝ }
-{
-    if to < from {
-        return 0;
-    }
-    to - from
-}
-
-pub fn span(t: Lexeme) -> usize
-    ensures { λ r. ⌜ r ≡ t .to - t .from ⌝ }
-{
-    length_of(t.from, t.to)
-}
-
 fn is_spelled_alike(s: &[u8], t: Lexeme, from: usize, to: usize) -> bool
     ensures { λ r. ⌜ r ≡ same (spelling (now (s .entry)) t) (part (to - from) from (now (s .entry))) ⌝ }
 {
-    let n = length_of(from, to);
-    if span(t) == n {
+    let n = less(to, from);
+    if width(t) == n {
         return is_same(s, t.from, s, from, n);
     }
     false

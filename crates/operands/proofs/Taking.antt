@@ -246,15 +246,9 @@ module _ (w : List ℕ) (f : Value) (k : Held) (j t : ℕ) (g : Ev.Wish) (gs : L
   path-more i u (Ev.asType q ∷ ws) (x ∷ vs) (a, c, d, p) = (a, c, d, path-more (suc i) (u + heldSize k i q) ws vs p)
   path-more i u (Ev.asSubject ∷ ws) (x ∷ vs) (a, d, p) = (a, d, path-more (suc i) (u + sizeFor f) ws vs p)
 
--- ---- the first argument is kept, and the next is one more
+-- ---- the first argument is kept
 pub first-new : (i : ℕ) (f v : Value) → i < 1 → v ≡ cond (ltb i 1) v f
 first-new i f v h = rw (lt-ltb i 1 h)
 
 pub first-old : (i : ℕ) (f v : Value) → 1 ≤ i → f ≡ cond (ltb i 1) v f
 first-old i f v h = rw (le-ltb i 1 h)
-
-pub more-one : (n : ℕ) → n < 1000000 → n + 1 ≡ cond (ltb n 1000000) (n + 1) n
-more-one n h = rw (lt-ltb n 1000000 h)
-
-pub more-none : (n : ℕ) → 1000000 ≤ n → n ≡ cond (ltb n 1000000) (n + 1) n
-more-none n h = rw (le-ltb n 1000000 h)

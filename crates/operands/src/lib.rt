@@ -2,7 +2,7 @@
 // made. `u` is the bytes of the unfinished values that wait in the work room.
 ghost use mathlib.Core.Path.{_≡_};
 ghost use mathlib.Core.Bool.{cond};
-ghost use Prim.Native.Nat.{_+_, _-_};
+ghost use Prim.Native.Nat.{_+_};
 ghost use lib.Dec.{leb, ltb};
 ghost use Rattle.tokens.specs.Answer.{spelling, content};
 ghost use Rattle.operands.specs.Answer.{evaluatedFor, withEnd, WithInfix, PrefixesDone, ConstantIs, IntegerIs, stringTree, ClosedIs, PlainIs};
@@ -42,6 +42,7 @@ use tokens::content_size;
 use tokens::is_sign;
 use tokens::token_at;
 use tokens::unquote;
+use tokens::width;
 use values::NumberAnswer;
 use values::constant_number;
 
@@ -69,21 +70,12 @@ pub fn given_up_to(g: Given, to: usize, m: Meter) -> Evaluated
     }
 }
 
-pub fn span(t: Lexeme) -> usize
-    ensures { λ r. ⌜ r ≡ t .to - t .from ⌝ }
-{
-    if t.to < t.from {
-        return 0;
-    }
-    t.to - t.from
-}
-
 // ---- constants
 
 pub fn integer_value(s: &[u8], t: Lexeme, m: Meter) -> Evaluated
     ensures { λ r. ⌜ IntegerIs (spelling (now (s .entry)) t) (t .to) m r ⌝ }
 {
-    let x = constant_number(s, t.from, span(t));
+    let x = constant_number(s, t.from, width(t));
     match x {
         NumberAnswer::Is(n) => Evaluated::Is(Value::Number(n), t.to, m),
         NumberAnswer::NoConversion => Evaluated::Failed(Why::NoConversion, m),
@@ -307,15 +299,6 @@ pub fn count_arguments(s: &[u8], from: usize, left: usize) -> usize
                 return n;
             }
         }
-    }
-    n
-}
-
-pub fn one_more(n: usize) -> usize
-    ensures { λ r. ⌜ r ≡ cond (ltb n 1000000) (n + 1) n ⌝ }
-{
-    if n < 1_000_000 {
-        return n + 1;
     }
     n
 }

@@ -29,6 +29,7 @@ use values::NumberAnswer;
 use values::Order;
 use values::any_one;
 use values::are_bits;
+use values::bit_of;
 use values::bits_number;
 use values::bytes_order;
 use values::combine;
@@ -383,15 +384,6 @@ fn compared(work: &[u8], u: usize, x: Value, y: Value) -> OrderGiven
     }
 }
 
-fn bit(t: bool) -> u8
-    ensures { λ r. ⌜ r ≡ D.bitOf t ⌝ }
-{
-    if t {
-        return b'1';
-    }
-    b'0'
-}
-
 // The outcome of a comparison is one bit.
 fn comparing(work: &mut [u8], u: usize, c: Comparison, x: Value, y: Value) -> Given
     ensures { λ r. ⌜ Gave (now (work .entry)) u (sizeFor x + sizeFor y) (stacked u (D.comparing (wantedBy c) (valueIn (now (work .entry)) u x) (valueIn (now (work .entry)) (u + sizeFor x) y))) (now (work .exit)) r ⌝ }
@@ -400,7 +392,7 @@ fn comparing(work: &mut [u8], u: usize, c: Comparison, x: Value, y: Value) -> Gi
     match o {
         OrderGiven::Is(order) => {
             if fits(u, 1) {
-                put_byte(work, u, 0, bit(is_wanted(c, order)));
+                put_byte(work, u, 0, bit_of(is_wanted(c, order)));
                 return Given::Gives(Value::Bits(1));
             }
             Given::Fails(Why::TooLong)

@@ -20,14 +20,16 @@ use Rattle.definition.proofs.Ends.{pieceAt-past}
 use Rattle.tokens.specs.declared.Piece.{Piece}
 use Rattle.tokens.specs.Answer.{Cuts}
 use Rattle.tokens.proofs.Laws.{inside, Passing, passing-stop, passing-end}
+use Rattle.sums.specs.Numbers.{greatest, sumTo}
+use Rattle.sums.proofs.Laws.{sum-fits}
 use Rattle.outcomes.specs.declared.Src.{Src}
 use Rattle.outcomes.specs.declared.Ending.{Ending}
 use Rattle.outcomes.specs.declared.Ending.the-variants as E
 use Rattle.outcomes.specs.declared.Listing.{Listing}
 use Rattle.outcomes.specs.declared.Listing.the-variants as L
-use Rattle.outcomes.specs.Texts.{plusOf, roomOf, stretchOf}
+use Rattle.outcomes.specs.Texts.{roomOf, stretchOf}
 use Rattle.outcomes.specs.Arguments.{cutFrom, argument, before, EndWithin, EndIs, endPlace, listingFor, ListingIs, pastBlanks, ListIn, Ends, EndIn}
-use Rattle.outcomes.proofs.Sources.{plus-sum, slice-is, stretch-length, room-work, room-body}
+use Rattle.outcomes.proofs.Sources.{slice-is, stretch-length, room-work, room-body}
 use Rattle.outcomes.proofs.Naming.{never}
 
 -- ---- choices
@@ -181,20 +183,20 @@ module _ (t : List ℕ) (from p d turns : ℕ) (k : Ending′ t from p d turns) 
         by true false u v w = never _ (cc)
         by false y u v w = never _ (cc)
 
-    pub ending-opened : (q e : ℕ) → getD t p 0 ≡ 40 → e ≡ plusOf d 1 → q ≡ plusOf p 1 → 0 < turns → Ending′ t from q e (turns - 1)
+    pub ending-opened : (q e : ℕ) → getD t p 0 ≡ 40 → e ≡ sumTo greatest d 1 → q ≡ sumTo greatest p 1 → 0 < turns → Ending′ t from q e (turns - 1)
     ending-opened q e g i j r = record {
       so = λ l.
           let c = k .so l in
-          let u : q ≡ p + 1 = j ∙ plus-sum p 1 (omega arith) in
-          let v : e ≡ suc d = i ∙ plus-sum d 1 (omega (arith, c .few)) ∙ add-one d in
+          let u : q ≡ p + 1 = j ∙ sum-fits p 1 (omega arith) in
+          let v : e ≡ suc d = i ∙ sum-fits d 1 (omega (arith, c .few)) ∙ add-one d in
           record { is = rw (u, v) (sym (turn-open t d from p h g) ∙ c .is); enough = omega (arith, c .enough); low = omega (arith, c .low); few = omega (arith, c .few) };
     }
 
-    pub ending-closed : (q : ℕ) → getD t p 0 ≡ 41 → 1 ≤ d → q ≡ plusOf p 1 → 0 < turns → Ending′ t from q (d - 1) (turns - 1)
+    pub ending-closed : (q : ℕ) → getD t p 0 ≡ 41 → 1 ≤ d → q ≡ sumTo greatest p 1 → 0 < turns → Ending′ t from q (d - 1) (turns - 1)
     ending-closed q g i j r = record {
       so = λ l.
           let c = k .so l in
-          let u : q ≡ p + 1 = j ∙ plus-sum p 1 (omega arith) in
+          let u : q ≡ p + 1 = j ∙ sum-fits p 1 (omega arith) in
           record { is = rw u (sym (turn-less t d from p h g (omega arith)) ∙ c .is); enough = omega (arith, c .enough); low = omega (arith, c .low); few = omega (arith, c .few) };
     }
 
@@ -235,24 +237,24 @@ module _ (t : List ℕ) (first n from : ℕ) (k : Counting t first n from) where
     pub counting-open : e ≡ E.Open → ListingIs t first (cutFrom t first) L.NoList
     counting-open f = record { is = λ l. let c = k .so l in sym (ap (listingFor first) (c .is ∙ ap (before (c .cut)) (rw f at (g .is l)))) }
 
-    pub counting-close : (p q m : ℕ) → e ≡ E.Close p → q ≡ plusOf p 1 → m ≡ n + 1 → ListingIs t first (cutFrom t first) (L.Upto m first q)
+    pub counting-close : (p q m : ℕ) → e ≡ E.Close p → q ≡ sumTo greatest p 1 → m ≡ n + 1 → ListingIs t first (cutFrom t first) (L.Upto m first q)
     counting-close p q m f j i = record {
       is = λ l.
           let c = k .so l in
           let w : EndWithin t from (E.Close p) = rw f at (g .within l) in
-          let u : q ≡ p + 1 = j ∙ plus-sum p 1 (omega (arith, w .1)) in
+          let u : q ≡ p + 1 = j ∙ sum-fits p 1 (omega (arith, w .1)) in
           let z : cutFrom t first ≡ listUpTo (c .cut ++ argument from p ∷ []) (p + 1) = c .is ∙ ap (before (c .cut)) (rw f at (g .is l)) in
           let v : m ≡ length (c .cut ++ argument from p ∷ []) = omega (arith, append-length (c .cut) (argument from p), c .size) in
           rw (z, v, u);
     }
 
-    pub counting-more : (p q m : ℕ) → e ≡ E.Comma p → q ≡ plusOf p 1 → m ≡ n + 1 → n < length t → Counting t first m q
+    pub counting-more : (p q m : ℕ) → e ≡ E.Comma p → q ≡ sumTo greatest p 1 → m ≡ n + 1 → n < length t → Counting t first m q
     counting-more p q m f j i h = record {
       low = omega arith;
       so = λ l.
           let c = k .so l in
           let w : EndWithin t from (E.Comma p) = rw f at (g .within l) in
-          let u : q ≡ p + 1 = j ∙ plus-sum p 1 (omega (arith, w .1)) in
+          let u : q ≡ p + 1 = j ∙ sum-fits p 1 (omega (arith, w .1)) in
           record {
             cut = c .cut ++ argument from p ∷ [];
             size = omega (arith, append-length (c .cut) (argument from p), c .size);
@@ -262,14 +264,14 @@ module _ (t : List ℕ) (first n from : ℕ) (k : Counting t first n from) where
     }
 
 -- ---- the list behind a name
-pub list-some : (t : List ℕ) (p q b z : ℕ) (r : Listing) → q ≡ pastBlanks t p → b ≡ getD t (q + 0) 0 → b ≡ 40 → z ≡ plusOf q 1 → ListingIs t z (cutFrom t z) r
+pub list-some : (t : List ℕ) (p q b z : ℕ) (r : Listing) → q ≡ pastBlanks t p → b ≡ getD t (q + 0) 0 → b ≡ 40 → z ≡ sumTo greatest q 1 → ListingIs t z (cutFrom t z) r
     → ListingIs t (pastBlanks t p + 1) (listAt t p) r
 unfolding pastBlanks listAt cutFrom
 list-some t p q b z r e f g i h = record {
   is = λ l.
       let v : getD t q 0 ≡ 40 = rw add-zero at (sym f ∙ g) in
       let n : q < length t = inside t q (λ y. let a : _≡_ {A = ℕ} 40 0 = sym v ∙ y in omega arith) in
-      let u : z ≡ q + 1 = i ∙ plus-sum q 1 (omega arith) in
+      let u : z ≡ q + 1 = i ∙ sum-fits q 1 (omega arith) in
       let x : listAt t p ≡ cutOn (length t) t 0 (q + 1) [] (q + 1) = rw (← e, v) in
       let y : cutOn (suc (length t)) t 0 (q + 1) [] (q + 1) ≡ cutOn (length t) t 0 (q + 1) [] (q + 1) = cut-enough (suc (length t)) (length t) t 0 (q + 1) [] (q + 1) (omega arith) (omega arith) in
       let v₂ : listingFor z (cutFrom t z) ≡ listingFor (q + 1) (cutFrom t (q + 1)) = ap (λ (n : ℕ). listingFor n (cutFrom t n)) u in

@@ -27,11 +27,13 @@ use Rattle.names.specs.declared.Name.{Name}
 use Rattle.names.specs.declared.Found.{Found}
 use Rattle.names.specs.declared.Found.the-variants.{Known, Unknown}
 use Rattle.names.specs.Table.{nameIn, activityOf, identifiersFrom, foundFor}
+use Rattle.sums.specs.Numbers.{greatest, sumTo}
+use Rattle.sums.proofs.Laws.{sum-fits}
 use Rattle.outcomes.specs.declared.Src.{Src}
 use Rattle.outcomes.specs.declared.Active.{Active}
 use Rattle.outcomes.specs.declared.Active.the-variants.{NotActive, IsActive}
-use Rattle.outcomes.specs.Texts.{plusOf, roomOf, stretchOf, activeFor, activitiesFrom, ActiveIs, isName, ActiveHere}
-use Rattle.outcomes.proofs.Sources.{plus-sum, stretch-length, room-work, room-body}
+use Rattle.outcomes.specs.Texts.{roomOf, stretchOf, activeFor, activitiesFrom, ActiveIs, isName, ActiveHere}
+use Rattle.outcomes.proofs.Sources.{stretch-length, room-work, room-body}
 
 pub never : (A : Type 0) → _≡_ {A = ℕ} 0 1 → A
 never A e = absurd (omega arith)
@@ -109,7 +111,7 @@ module _ (d names : List ℕ) (n : ℕ) (t : List ℕ) (x : Src) (p : ℕ) (y : 
   pub token-plain : (b : Bool) → b ≡ isName (y .kind) → b ≡ false → ActiveHere d names n t x p y NotActive
   token-plain b e f = record { is = λ B k w h g. sym (not-active (T.pieceAt here p .piece) B (rw (g) at (sym e ∙ f))) }
 
-  token-named : (b : Bool) (from m : ℕ) (r : Active) → b ≡ isName (y .kind) → b ≡ true → from ≡ plusOf (x .from) p → m ≡ y .to - p → ActiveIs d names n (part m from t) r
+  token-named : (b : Bool) (from m : ℕ) (r : Active) → b ≡ isName (y .kind) → b ≡ true → from ≡ sumTo greatest (x .from) p → m ≡ y .to - p → ActiveIs d names n (part m from t) r
       → ActiveHere d names n t x p y r
   unfolding stretchOf
   token-named b from m r e f i j a = record {
@@ -119,7 +121,7 @@ module _ (d names : List ℕ) (n : ℕ) (t : List ℕ) (x : Src) (p : ℕ) (y : 
         let top : y .to ≡ T.pieceAt here p .to = ap (λ (z : Piece). z .to) g in
         let up : y .to ≤ x .to - x .from = omega (arith, past .within, stretch-length t (x .from) (x .to)) in
         let lower : p < y .to = omega (arith, past .above) in
-        let u : from ≡ x .from + p = i ∙ plus-sum (x .from) p (omega (arith, w .short)) in
+        let u : from ≡ x .from + p = i ∙ sum-fits (x .from) p (omega (arith, w .short)) in
         let v : part (y .to - p) p here ≡ part m from t = part-of-part (y .to - p) p (x .to - x .from) (x .from) t (omega arith) ∙ rw (u, j) in
         a .is B k ∙ sym (ap (λ (z : T.Cut). D.activeIn (z .piece) B) q ∙ rw (kind-name (y .kind) (sym e ∙ f), v));
   }
@@ -127,10 +129,10 @@ module _ (d names : List ℕ) (n : ℕ) (t : List ℕ) (x : Src) (p : ℕ) (y : 
 pub here-plain : (d names : List ℕ) (n : ℕ) (t : List ℕ) (x : Src) (p : ℕ) (y : Piece) (b : Bool) → b ≡ isName (y .kind) → b ≡ false → ActiveHere d names n t x p y NotActive
 here-plain d names n t x p y b e f = token-plain d names n t x p y b e f
 
-pub here-work : (d names : List ℕ) (n : ℕ) (s w : List ℕ) (x : Src) (p : ℕ) (y : Piece) (b : Bool) (from m : ℕ) (r : Active) → b ≡ isName (y .kind) → b ≡ true → from ≡ plusOf (x .from) p → m ≡ y .to - p
+pub here-work : (d names : List ℕ) (n : ℕ) (s w : List ℕ) (x : Src) (p : ℕ) (y : Piece) (b : Bool) (from m : ℕ) (r : Active) → b ≡ isName (y .kind) → b ≡ true → from ≡ sumTo greatest (x .from) p → m ≡ y .to - p
     → x .«in_work» ≡ true → ActiveIs d names n (part m from w) r → ActiveHere d names n (roomOf s w x) x p y r
 here-work d names n s w x p y b from m r e f i j c a = rw (← room-work s w x c) (token-named d names n w x p y b from m r e f i j a)
 
-pub here-body : (d names : List ℕ) (n : ℕ) (s w : List ℕ) (x : Src) (p : ℕ) (y : Piece) (b : Bool) (from m : ℕ) (r : Active) → b ≡ isName (y .kind) → b ≡ true → from ≡ plusOf (x .from) p → m ≡ y .to - p
+pub here-body : (d names : List ℕ) (n : ℕ) (s w : List ℕ) (x : Src) (p : ℕ) (y : Piece) (b : Bool) (from m : ℕ) (r : Active) → b ≡ isName (y .kind) → b ≡ true → from ≡ sumTo greatest (x .from) p → m ≡ y .to - p
     → x .«in_work» ≡ false → ActiveIs d names n (part m from s) r → ActiveHere d names n (roomOf s w x) x p y r
 here-body d names n s w x p y b from m r e f i j c a = rw (← room-body s w x c) (token-named d names n s x p y b from m r e f i j a)

@@ -23,14 +23,15 @@ use Rattle.operators.specs.declared.Given.the-variants.{Gives, Fails}
 use Rattle.operators.specs.Stands as O
 use Rattle.operators.specs.Stands.{topOf, valueIn, givenIn, sizeFor, stacked, Made, MovedDown, MovedUp}
 use Rattle.operators.proofs.Room.{top-in, below-over}
+use Rattle.sums.specs.Numbers.{greatest, sumTo}
+use Rattle.sums.proofs.Laws.{sum-fits, sum-out}
 use Rattle.outcomes.specs.declared.Src.{Src}
 use Rattle.outcomes.specs.declared.Dest.{Dest}
 use Rattle.outcomes.specs.declared.Scanned.{Scanned}
 use Rattle.outcomes.specs.declared.Scanned.the-variants as S
 use Rattle.outcomes.specs.declared.Replaced.the-variants as R
-use Rattle.outcomes.specs.Texts.{plusOf}
 use Rattle.outcomes.specs.Places.{intoOf, afterOf, waitingOf, bytesAt, workPut, textPut, Puts, upToOf, copiedFor, Copied, charactersAt, charactersOf, TextIs, settledIn, Settled}
-use Rattle.outcomes.proofs.Sources.{plus-sum, plus-in, plus-first, plus-second, room-work, room-body}
+use Rattle.outcomes.proofs.Sources.{room-work, room-body}
 use Rattle.outcomes.proofs.Naming.{never}
 
 -- ---- what may be put
@@ -55,21 +56,17 @@ pub may-text : (d : Dest) (u k n : ℕ) → k ≤ d .room → n ≤ d .room - k 
 unfolding intoOf
 may-text d u k n l h e = rw e (sym (le-leb (k + n) (d .room) (omega arith)))
 
-sum-test : (u k n : ℕ) → leb (u + plusOf k n) 65536 ≡ leb (u + (k + n)) 65536
-sum-test u k n = by (leb (k + n) 4294967295) refl
+sum-test : (u k n : ℕ) → leb (u + sumTo greatest k n) 65536 ≡ leb (u + (k + n)) 65536
+sum-test u k n = by (leb (k + n) greatest) refl
   where
-    most : 4294967295 < k + n → (a b : Bool) → leb k 4294967295 ≡ a → leb n 4294967295 ≡ b → 65536 < plusOf k n
-    most h true true e f = let z : k + n ≡ plusOf k n = plus-in k n (leb-true k 4294967295 e) (leb-true n 4294967295 f) in omega arith
-    most h true false e f = let z : 4294967295 ≡ plusOf k n = plus-second k n (leb-true k 4294967295 e) (leb-false n 4294967295 f) in omega arith
-    most h false b e f = let z : 4294967295 ≡ plusOf k n = plus-first k n (leb-false k 4294967295 e) in omega arith
-
-    by : (b : Bool) → leb (k + n) 4294967295 ≡ b → leb (u + plusOf k n) 65536 ≡ leb (u + (k + n)) 65536
-    by true e = rw (plus-sum k n (leb-true (k + n) 4294967295 e))
+    by : (b : Bool) → leb (k + n) greatest ≡ b → leb (u + sumTo greatest k n) 65536 ≡ leb (u + (k + n)) 65536
+    by true e = rw (sum-fits k n (leb-true (k + n) greatest e))
     by false e =
-        let h : 4294967295 < k + n = leb-false (k + n) 4294967295 e in
-        lt-leb (u + plusOf k n) 65536 (omega (arith, most h (leb k 4294967295) (leb n 4294967295) refl refl)) ∙ sym (lt-leb (u + (k + n)) 65536 (omega arith))
+        let h : greatest < k + n = leb-false (k + n) greatest e in
+        let z : greatest ≡ sumTo greatest k n = sum-out greatest k n h in
+        lt-leb (u + sumTo greatest k n) 65536 (omega (arith, z)) ∙ sym (lt-leb (u + (k + n)) 65536 (omega (arith, h)))
 
-pub may-work : (d : Dest) (u k n z : ℕ) (r : Bool) → k ≤ d .room → n ≤ d .room - k → d .«to_work» ≡ true → z ≡ plusOf k n → r ≡ leb (u + z) 65536 → r ≡ D.fits (intoOf d) u k n
+pub may-work : (d : Dest) (u k n z : ℕ) (r : Bool) → k ≤ d .room → n ≤ d .room - k → d .«to_work» ≡ true → z ≡ sumTo greatest k n → r ≡ leb (u + z) 65536 → r ≡ D.fits (intoOf d) u k n
 unfolding intoOf
 may-work d u k n z r l h e f g = g ∙ rw f (sum-test u k n ∙ sym (rw (e, le-leb (k + n) (d .room) (omega arith))))
 
@@ -81,7 +78,7 @@ pub full-text : (d : Dest) → d .«to_work» ≡ false → RoomFull ≡ D.full 
 unfolding intoOf
 full-text d e = rw e
 
-pub after-is : (d : Dest) (k a b : ℕ) → a ≡ plusOf (d .at) k → b ≡ d .room - k → record { «to_work» = d .«to_work»; at = a; room = b } ≡ afterOf d k
+pub after-is : (d : Dest) (k a b : ℕ) → a ≡ sumTo greatest (d .at) k → b ≡ d .room - k → record { «to_work» = d .«to_work»; at = a; room = b } ≡ afterOf d k
 after-is d k a b e f = rw (e, f)
 
 pub waiting-work : (d : Dest) (u k r : ℕ) → d .«to_work» ≡ true → r ≡ topOf u k → r ≡ waitingOf d u k
@@ -93,7 +90,7 @@ unfolding waitingOf
 waiting-text d u k e = rw e
 
 -- ---- what was put
-module _ (s w t : List ℕ) (x : Src) (p n : ℕ) (d : Dest) (u k from : ℕ) (f : from ≡ plusOf (x .from) p) where
+module _ (s w t : List ℕ) (x : Src) (p n : ℕ) (d : Dest) (u k from : ℕ) (f : from ≡ sumTo greatest (x .from) p) where
   bytes-work : x .«in_work» ≡ true → part n from w ≡ bytesAt s w x p n
   unfolding bytesAt
   bytes-work e = rw (f, ← room-work s w x e)
@@ -110,11 +107,11 @@ module _ (s w t : List ℕ) (x : Src) (p n : ℕ) (d : Dest) (u k from : ℕ) (f
   unfolding workPut textPut
   put-up w′ top e g h m = record { work = λ l. m ∙ rw (e, h, bytes-body g); text = rw e }
 
-  pub put-out : (t′ : List ℕ) (at : ℕ) → d .«to_work» ≡ false → x .«in_work» ≡ true → at ≡ plusOf (d .at) k → t′ ≡ over t at (part n from w) → Puts s w t x p n d u k w t′
+  pub put-out : (t′ : List ℕ) (at : ℕ) → d .«to_work» ≡ false → x .«in_work» ≡ true → at ≡ sumTo greatest (d .at) k → t′ ≡ over t at (part n from w) → Puts s w t x p n d u k w t′
   unfolding workPut textPut
   put-out t′ at e g h m = record { work = λ l. rw e; text = m ∙ rw (e, h, bytes-work g) }
 
-  pub put-across : (t′ : List ℕ) (at : ℕ) → d .«to_work» ≡ false → x .«in_work» ≡ false → at ≡ plusOf (d .at) k → t′ ≡ over t at (part n from s) → Puts s w t x p n d u k w t′
+  pub put-across : (t′ : List ℕ) (at : ℕ) → d .«to_work» ≡ false → x .«in_work» ≡ false → at ≡ sumTo greatest (d .at) k → t′ ≡ over t at (part n from s) → Puts s w t x p n d u k w t′
   unfolding workPut textPut
   put-across t′ at e g h m = record { work = λ l. rw e; text = m ∙ rw (e, h, bytes-body g) }
 

@@ -1,11 +1,10 @@
--- Sums of places, and the token at a place of a stretch.
+-- The token at a place of a stretch.
 -- Assumes nothing.
-use mathlib.Core.Path.{_≡_, refl, sym, ap, _∙_}
+use mathlib.Core.Path.{_≡_, refl, ap, _∙_}
 use mathlib.Core.Bool.{true, false}
 use mathlib.Core.List.{List, _∷_}
 use Prim.Native.Nat.{ℕ, zero, suc, _+_, _-_, _<_, _≤_}
 use native.Mathlib.Omega.{arith}
-use borrow.Author.Tests.{le-leb, lt-leb}
 use lib.ListN.{length, getD, take, drop}
 use lib.Seq.{drop-cons}
 use Rattle.definition.specs.Lists.{part}
@@ -13,24 +12,9 @@ use Rattle.definition.proofs.Parts.{length-part}
 use Rattle.definition.specs.Tokens as T
 use Rattle.tokens.specs.declared.Piece.{Piece}
 use Rattle.tokens.specs.Answer.{pieceFor, Cuts}
+use Rattle.sums.specs.Numbers.{greatest, sumTo}
 use Rattle.outcomes.specs.declared.Src.{Src}
-use Rattle.outcomes.specs.Texts.{plusOf, roomOf, stretchOf, PieceIn, partOf}
-
--- ---- sums
-pub plus-in : (a b : ℕ) → a ≤ 4294967295 → b ≤ 4294967295 → a + b ≡ plusOf a b
-unfolding plusOf
-plus-in a b h k = rw (le-leb a 4294967295 h, le-leb b 4294967295 k)
-
-pub plus-second : (a b : ℕ) → a ≤ 4294967295 → 4294967295 < b → 4294967295 ≡ plusOf a b
-unfolding plusOf
-plus-second a b h k = rw (le-leb a 4294967295 h, lt-leb b 4294967295 k)
-
-pub plus-first : (a b : ℕ) → 4294967295 < a → 4294967295 ≡ plusOf a b
-unfolding plusOf
-plus-first a b h = rw (lt-leb a 4294967295 h)
-
-pub plus-sum : (a b : ℕ) → a + b ≤ 4294967295 → plusOf a b ≡ a + b
-plus-sum a b h = sym (plus-in a b (omega arith) (omega arith))
+use Rattle.outcomes.specs.Texts.{roomOf, stretchOf, PieceIn, partOf}
 
 -- ---- a stretch
 pub part-is : (n from : ℕ) (t : List ℕ) → from + n ≤ length t → take n (drop from t) ≡ part n from t
@@ -74,5 +58,5 @@ piece-work s w x p r e h = rw (← room-work s w x e) h
 pub piece-body : (s w : List ℕ) (x : Src) (p : ℕ) (r : Piece) → x .«in_work» ≡ false → PieceIn s (x .from) (x .to) p r → PieceIn (roomOf s w x) (x .from) (x .to) p r
 piece-body s w x p r e h = rw (← room-body s w x e) h
 
-pub part-of-is : (x : Src) (from to a b : ℕ) → a ≡ plusOf (x .from) from → b ≡ plusOf (x .from) to → record { «in_work» = x .«in_work»; from = a; to = b } ≡ partOf x from to
+pub part-of-is : (x : Src) (from to a b : ℕ) → a ≡ sumTo greatest (x .from) from → b ≡ sumTo greatest (x .from) to → record { «in_work» = x .«in_work»; from = a; to = b } ≡ partOf x from to
 part-of-is x from to a b e f = rw (e, f)

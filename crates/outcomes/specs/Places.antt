@@ -14,19 +14,20 @@ use Rattle.definition.specs.declared.Why.the-variants.{TooLong}
 use Rattle.meter.specs.declared.Meter.{Meter}
 use Rattle.operators.specs.declared.Given.{Given}
 use Rattle.operators.specs.Stands.{topOf, givenIn}
+use Rattle.sums.specs.Numbers.{greatest, sumTo}
 use Rattle.outcomes.specs.declared.Src.{Src}
 use Rattle.outcomes.specs.declared.Dest.{Dest}
 use Rattle.outcomes.specs.declared.Scanned.{Scanned}
 use Rattle.outcomes.specs.declared.Scanned.the-variants as S
 use Rattle.outcomes.specs.declared.Replaced.{Replaced}
 use Rattle.outcomes.specs.declared.Replaced.the-variants as R
-use Rattle.outcomes.specs.Texts.{plusOf, roomOf}
+use Rattle.outcomes.specs.Texts.{roomOf}
 
 unfoldable pub intoOf : Dest → D.Into
 intoOf d = cond (d .«to_work») (D.toWork (d .room)) (D.toText (d .room))
 
 abbrev pub afterOf : Dest → ℕ → Dest
-afterOf d k = record { «to_work» = d .«to_work»; at = plusOf (d .at) k; room = d .room - k }
+afterOf d k = record { «to_work» = d .«to_work»; at = sumTo greatest (d .at) k; room = d .room - k }
 
 unfoldable pub waitingOf : Dest → ℕ → ℕ → ℕ
 waitingOf d u k = cond (d .«to_work») (topOf u k) u
@@ -41,18 +42,18 @@ outIn d t w u k = cond (d .«to_work») (part k u w) (part k (d .at) t)
 -- ---- bytes behind an outcome of k bytes
 -- the n bytes of a source from p on
 unfoldable pub bytesAt : List ℕ → List ℕ → Src → ℕ → ℕ → List ℕ
-bytesAt s w x p n = part n (plusOf (x .from) p) (roomOf s w x)
+bytesAt s w x p n = part n (sumTo greatest (x .from) p) (roomOf s w x)
 
 -- the rooms with bytes behind an outcome of k bytes
 unfoldable pub workPut : Dest → ℕ → ℕ → List ℕ → List ℕ → List ℕ
 workPut d u k bs w = cond (d .«to_work») (over w (topOf u k) bs) w
 
 unfoldable pub textPut : Dest → ℕ → List ℕ → List ℕ → List ℕ
-textPut d k bs t = cond (d .«to_work») t (over t (plusOf (d .at) k) bs)
+textPut d k bs t = cond (d .«to_work») t (over t (sumTo greatest (d .at) k) bs)
 
 -- a source in the work room lies below what is put there
 pub record Puts (s w t : List ℕ) (x : Src) (p n : ℕ) (d : Dest) (u k : ℕ) (w′ t′ : List ℕ) : Type 0 where
-  pub work : (x .«in_work» ≡ true → plusOf (x .from) p ≤ topOf u k) → w′ ≡ workPut d u k (bytesAt s w x p n) w
+  pub work : (x .«in_work» ≡ true → sumTo greatest (x .from) p ≤ topOf u k) → w′ ≡ workPut d u k (bytesAt s w x p n) w
   pub text : t′ ≡ textPut d k (bytesAt s w x p n) t
 
 abbrev pub upToOf : Scanned → ℕ → Replaced

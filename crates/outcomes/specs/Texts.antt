@@ -1,9 +1,8 @@
 -- THE TEXT THAT IS SCANNED: a stretch of a body or of the work room. And the names in it that are active.
-use Prim.Native.Nat.{ℕ, zero, suc, _+_, _-_, _<_, _≤_}
+use Prim.Native.Nat.{ℕ, zero, suc, _-_, _<_, _≤_}
 use mathlib.Core.Bool.{Bool, true, false, cond}
 use mathlib.Core.Path.{_≡_}
 use mathlib.Core.List.{List, [], _∷_}
-use lib.Dec.{leb}
 use Rattle.definition.specs.Limits.{textBytes}
 use lib.ListN.{length}
 use Rattle.definition.specs.Lists.{part}
@@ -16,13 +15,10 @@ use Rattle.tokens.specs.declared.PieceKind.{PieceKind}
 use Rattle.tokens.specs.declared.PieceKind.the-variants as K
 use Rattle.tokens.specs.Answer.{pieceFor}
 use Rattle.names.specs.Table.{nameIn, activityOf, identifiersFrom}
+use Rattle.sums.specs.Numbers.{greatest, sumTo}
 use Rattle.outcomes.specs.declared.Src.{Src}
 use Rattle.outcomes.specs.declared.Active.{Active}
 use Rattle.outcomes.specs.declared.Active.the-variants.{NotActive, IsActive}
-
--- a sum, or the most
-unfoldable pub plusOf : ℕ → ℕ → ℕ
-plusOf a b = cond (leb a textBytes) (cond (leb b textBytes) (a + b) textBytes) textBytes
 
 -- the room that a source lies in: s is a body, w the work room
 unfoldable pub roomOf : List ℕ → List ℕ → Src → List ℕ
@@ -46,7 +42,7 @@ pub record PieceIn (t : List ℕ) (from to p : ℕ) (r : Piece) : Type 0 where
   pub is : Within t from to → p < to - from → r ≡ pieceFor (T.pieceAt (stretchOf t from to) p)
 
 abbrev pub partOf : Src → ℕ → ℕ → Src
-partOf x from to = record { «in_work» = x .«in_work»; from = plusOf (x .from) from; to = plusOf (x .from) to }
+partOf x from to = record { «in_work» = x .«in_work»; from = sumTo greatest (x .from) from; to = sumTo greatest (x .from) to }
 
 -- ---- active names
 abbrev pub activeFor : Active → D.Active

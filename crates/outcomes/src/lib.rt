@@ -2,7 +2,7 @@
 // room is read and written at once; the names in it that are active; where outcomes go; and argument lists.
 ghost use mathlib.Core.Path.{_≡_};
 ghost use mathlib.Core.Bool.{_&&_};
-ghost use Prim.Native.Nat.{_+_, _-_};
+ghost use Prim.Native.Nat.{_+_};
 ghost use lib.Dec.{eqb};
 ghost use Rattle.definition.specs.Lists.{part};
 ghost use Rattle.definition.specs.Scan as D;
@@ -10,7 +10,8 @@ ghost use Rattle.definition.specs.Values.{fixedText};
 ghost use Rattle.names.specs.Table.{activityOf};
 ghost use Rattle.operators.specs.Stands.{givenIn};
 ghost use Rattle.store.specs.Cells.{cellIn, slot, half};
-ghost use Rattle.outcomes.specs.Texts.{plusOf, roomOf, PieceIn, activeFor, ActiveIs, isName, ActiveHere, partOf};
+ghost use Rattle.sums.specs.Numbers.{greatest, sumTo};
+ghost use Rattle.outcomes.specs.Texts.{roomOf, PieceIn, activeFor, ActiveIs, isName, ActiveHere, partOf};
 ghost use Rattle.outcomes.specs.Places.{intoOf, afterOf, waitingOf, intoWork, Puts, upToOf, Copied, Settled, TextIs};
 ghost use Rattle.outcomes.specs.Copies.{isRescanned, CopiedValue, heldBy, CopiedFrom};
 ghost use Rattle.outcomes.specs.Arguments.{pastBlanks, cutFrom, EndIs, ListingIs, ListIn, endPlace, EndIn};
@@ -18,7 +19,6 @@ use chars::is_blank;
 use definition::ValueType;
 use definition::Why;
 use fixed::Fixed;
-use limits::Filling;
 use meter::Meter;
 use names::Activity;
 use names::Address;
@@ -41,6 +41,8 @@ use store::Number;
 use store::characters_at;
 use store::copy_characters;
 use store::number_at;
+use sums::less;
+use sums::sum;
 use tokens::Piece;
 use tokens::PieceKind;
 use tokens::piece_at;
@@ -59,28 +61,6 @@ pub struct Dest {
     pub to_work: bool,
     pub at: usize,
     pub room: usize,
-}
-
-// Sums of places and lengths in rooms, which stay far below what a usize holds.
-pub fn plus(a: usize, b: usize) -> usize
-    ensures { λ r. ⌜ r ≡ plusOf a b ⌝ }
-{
-    if a <= Filling::TEXT {
-        if b <= Filling::TEXT {
-            return a + b;
-        }
-        return Filling::TEXT;
-    }
-    Filling::TEXT
-}
-
-pub fn span(from: usize, to: usize) -> usize
-    ensures { λ r. ⌜ r ≡ to - from ⌝ }
-{
-    if to < from {
-        return 0;
-    }
-    to - from
 }
 
 // ---- the text that is scanned
@@ -169,8 +149,8 @@ pub fn active_in(
 {
     let kind = y.kind;
     if is_name(kind) {
-        let from = plus(x.from, p);
-        let n = span(p, y.to);
+        let from = sum(x.from, p);
+        let n = less(y.to, p);
         if x.in_work {
             return active_name(deck, work, names, count, from, n);
         }
@@ -192,7 +172,7 @@ fn may_put(d: Dest, u: usize, k: usize, n: usize) -> bool
         return false;
     }
     if d.to_work {
-        return fits(u, plus(k, n));
+        return fits(u, sum(k, n));
     }
     true
 }
@@ -213,8 +193,8 @@ pub fn after(d: Dest, k: usize) -> Dest
 {
     Dest {
         to_work: d.to_work,
-        at: plus(d.at, k),
-        room: span(k, d.room),
+        at: sum(d.at, k),
+        room: less(d.room, k),
     }
 }
 
@@ -242,7 +222,7 @@ fn put_bytes(
 )
     ensures { λ _. ⌜ Puts (now (s .entry)) (now (work .entry)) (now (text .entry)) x p n d u k (now (work .exit)) (now (text .exit)) ⌝ }
 {
-    let from = plus(x.from, p);
+    let from = sum(x.from, p);
     if d.to_work {
         if x.in_work {
             move_up(work, from, n, above(u, k));
@@ -252,10 +232,10 @@ fn put_bytes(
         return;
     }
     if x.in_work {
-        copy(work, from, n, text, plus(d.at, k));
+        copy(work, from, n, text, sum(d.at, k));
         return;
     }
-    copy(s, from, n, text, plus(d.at, k));
+    copy(s, from, n, text, sum(d.at, k));
 }
 
 // An outcome so far, or a refusal; and the steps.
@@ -294,7 +274,7 @@ pub fn copy_token(
 ) -> Replaced
     ensures { λ r. ⌜ Copied (now (s .entry)) (now (work .entry)) (now (text .entry)) x p q d u k m (now (work .exit)) (now (text .exit)) r ⌝ }
 {
-    let n = span(p, q);
+    let n = less(q, p);
     if may_put(d, u, k, n) {
         put_bytes(s, work, text, x, p, n, d, u, k);
         return Replaced::Good(n, q, m);
@@ -312,9 +292,9 @@ enum Ending {
 }
 
 pub fn place_after(p: usize) -> usize
-    ensures { λ r. ⌜ r ≡ plusOf p 1 ⌝ }
+    ensures { λ r. ⌜ r ≡ sumTo greatest p 1 ⌝ }
 {
-    plus(p, 1)
+    sum(p, 1)
 }
 
 // "cut at outer commas": the end of the argument that begins at a place.
@@ -331,7 +311,7 @@ fn argument_end(t: &[u8], from: usize) -> Ending
         }
         let b = t[p];
         if b == b'(' {
-            open = plus(open, 1);
+            open = sum(open, 1);
             p = place_after(p);
         } else if b == b')' {
             if open < 1 {
@@ -471,8 +451,8 @@ pub fn part_of(x: Src, from: usize, to: usize) -> Src
 {
     Src {
         in_work: x.in_work,
-        from: plus(x.from, from),
-        to: plus(x.from, to),
+        from: sum(x.from, from),
+        to: sum(x.from, to),
     }
 }
 

@@ -14,25 +14,16 @@ use Rattle.definition.specs.Room.{over, zeros}
 use Rattle.definition.specs.Events.{Event, blank, copied, replaced, bytesIn, textOf, Line, line, goesOn, joins, longer, lineOnto, linesOf, lineBytes, listBytes}
 use Rattle.definition.proofs.Rooms.{length-over, over-nil, over-next-at, over-again}
 use Rattle.definition.proofs.Parts.{length-part}
+use Rattle.sums.specs.Numbers.{greatest, sumTo}
+use Rattle.sums.proofs.Laws.{sum-in}
 use Rattle.output.specs.declared.Newest.{Newest}
 use Rattle.output.specs.declared.Out.{Out}
 use Rattle.output.specs.declared.Put.{Put}
 use Rattle.output.specs.declared.Put.the-variants.{Done, Full}
 use Rattle.output.specs.Shows.{top, lineIn, growsFrom, Fine, Shows, taken, fits, More, Answers, Puts, PutsFine, EndsFine, Begins}
-use Rattle.output.specs.Line.{greatest, sumTo, lineAt, PutsLine, At, Wrote, Writes}
+use Rattle.output.specs.Line.{lineAt, PutsLine, At, Wrote, Writes}
 
--- ---- numbers that stop at the most
-sum-in : (most a b : ℕ) → a + b ≤ most → a + b ≡ sumTo most a b
-unfolding sumTo
-sum-in most a b h = rw (le-leb (a + b) most h)
-
-pub sum-is : (most a b : ℕ) → a < suc most → b ≤ most - a → a + b ≡ sumTo most a b
-sum-is most a b h g = sum-in most a b (omega (arith, h, g))
-
-pub sum-most : (most a b : ℕ) → most - a < b → most ≡ sumTo most a b
-unfolding sumTo
-sum-most most a b h = rw (lt-leb (a + b) most (omega (arith, h)))
-
+-- ---- the place of a line
 pub at-in : (k : ℕ) → k ≤ greatest / 12 → 12 * k ≡ lineAt k
 unfolding lineAt
 at-in k h = rw (le-leb k (greatest / 12) h)

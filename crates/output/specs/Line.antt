@@ -1,4 +1,4 @@
--- Writing one line: numbers that stop at the most, and what is ensured of a line and a cursor that lie in the rooms.
+-- Writing one line: what is ensured of a line and a cursor that lie in the rooms.
 use Prim.Native.Nat.{ℕ, _+_, _*_, _-_, _/_, _≤_}
 use mathlib.Core.Path.{_≡_}
 use mathlib.Core.Bool.{cond}
@@ -7,17 +7,10 @@ use lib.Dec.{leb}
 use lib.ListN.{length}
 use Rattle.definition.specs.Room.{over}
 use Rattle.definition.specs.Events.{lineBytes}
+use Rattle.sums.specs.Numbers.{greatest}
 use Rattle.output.specs.declared.Newest.{Newest}
 use Rattle.output.specs.declared.Out.{Out}
 use Rattle.output.specs.Shows.{lineIn}
-
--- the greatest number of 64 bits
-abbrev pub greatest : ℕ
-greatest = 18446744073709551615
-
--- a sum that stops at the most
-unfoldable pub sumTo : ℕ → ℕ → ℕ → ℕ
-sumTo most a b = cond (leb (a + b) most) (a + b) most
 
 -- the place of line k, or the greatest number
 unfoldable pub lineAt : ℕ → ℕ

@@ -1,6 +1,5 @@
 // The text room and the list room: what is put out goes into both, if both have room.
 ghost use mathlib.Core.Path.{_≡_};
-ghost use Prim.Native.Nat.{_-_};
 ghost use lib.ListN.{length};
 ghost use lib.Dec.{leb};
 ghost use mathlib.Core.Bool.{cond};
@@ -8,10 +7,13 @@ ghost use Rattle.definition.specs.Limits.{textBytes};
 ghost use Rattle.definition.specs.Lists.{part};
 ghost use Rattle.definition.specs.Events.{blank, copied};
 ghost use Rattle.output.specs.Shows.{lineIn, growsFrom, PutsFine, EndsFine, Begins};
-ghost use Rattle.output.specs.Line.{greatest, sumTo, lineAt, PutsLine, Writes};
+ghost use Rattle.output.specs.Line.{lineAt, PutsLine, Writes};
 use rooms::copy;
 use rooms::put_byte;
 use rooms::put_u32;
+use sums::less;
+use sums::sum;
+use sums::sum32;
 
 // The newest line of the list; kind 0 where there is none.
 pub struct Newest {
@@ -64,30 +66,6 @@ impl Out {
             },
         }
     }
-}
-
-// A difference that stops at 0.
-fn less(a: usize, b: usize) -> usize
-    ensures { λ r. ⌜ r ≡ a - b ⌝ }
-{
-    if a < b { 0 } else { a - b }
-}
-
-// A sum that stops at the most.
-fn sum(a: usize, b: usize) -> usize
-    ensures { λ r. ⌜ r ≡ sumTo greatest a b ⌝ }
-{
-    if b <= usize::MAX - a {
-        a + b
-    } else {
-        usize::MAX
-    }
-}
-
-fn sum32(a: u32, b: u32) -> u32
-    ensures { λ r. ⌜ r ≡ sumTo 4294967295 a b ⌝ }
-{
-    if b <= u32::MAX - a { a + b } else { u32::MAX }
 }
 
 // The place of line k in the list, or the most.

@@ -2,14 +2,14 @@
 //
 // Each argument is a member, the first the main program: NAME=path, or a path alone, whose base name up to its first
 // dot, in capitals, is the name. Where no deck can be made, one line on standard error says why and nothing is written.
-ghost use mathlib.Core.Path.{_≡_};
-ghost use Prim.Native.Nat.{_+_, _*_, _≤_};
+ghost use Prim.Native.Nat.{_≤_};
 ghost use lib.ListN.{length};
 use chars::is_alphameric;
 use chars::is_letter;
 use deck::Contents;
 use deck::Deck;
 use deck::Found;
+use deck::line_place;
 use libc::STDERR_FILENO;
 use libc::STDOUT_FILENO;
 use rooms::byte;
@@ -50,13 +50,6 @@ fn refuse(what: &[u8], why: &[u8]) {
 fn refuse_for_system(what: &[u8]) {
     io::write_all(STDERR_FILENO, b"pack: ");
     os::fail(what);
-}
-
-// Where line k of the contents stands.
-fn line_place(k: u16) -> usize
-    ensures { λ r. ⌜ r ≡ 2 + 16 * k ⌝ }
-{
-    2 + 16 * (k as usize)
 }
 
 // Where the path begins: behind the first `=` if no `/` stands before it, so that a path may hold a `=` too.

@@ -13,6 +13,7 @@ use rooms::copy;
 use rooms::get_u32;
 use rooms::number32;
 use rooms::put_byte;
+use rooms::wide32;
 
 // As many digits as a number can have, and bytes as a line of the list has.
 const DIGITS: usize = 10;
@@ -103,12 +104,6 @@ fn letter_of(kind: u8) -> u8
     b'V'
 }
 
-fn wide(b: u8) -> u32
-    ensures { λ r. ⌜ r ≡ b ⌝ }
-{
-    b as u32
-}
-
 // Line k of the list.
 fn put_line(page: &mut [u8], at: usize, list: &[u8], k: u32) -> usize
     requires { ⌜ at + 35 ≤ far ⌝ }
@@ -117,7 +112,7 @@ fn put_line(page: &mut [u8], at: usize, list: &[u8], k: u32) -> usize
     let p = LINE * (k as usize);
     let a = put(page, at, letter_of(byte(list, p, 0)));
     let rest = [
-        wide(byte(list, p, 1)),
+        wide32(byte(list, p, 1)),
         get_u32(list, p + 4),
         get_u32(list, p + 8),
     ];

@@ -18,7 +18,8 @@ use Rattle.rows.specs.declared.Stretch.{Stretch}
 use Rattle.rows.specs.declared.Statement.{Statement}
 use Rattle.rows.specs.declared.Row.{Row}
 use Rattle.rows.specs.Tabled.{kindOf}
-use Rattle.rows.specs.Table.{linkNumber, stretchNumbers, numbersOf, statementIn, typeIn, rowIn}
+use Rattle.rows.specs.Table.{linkNumber, stretchNumbers, numbersOf, statementIn, rowIn}
+use Rattle.types.specs.Kept.{typeIn}
 use Rattle.rows.proofs.Laws.{kept, Links, row-back, row-other}
 use Rattle.statements.specs.Clauses as Cl
 use Rattle.statements.specs.Again.{statementAt}

@@ -44,7 +44,6 @@ use openings::end_of;
 use openings::first_in;
 use openings::is_end;
 use openings::is_in_body;
-use openings::is_inside;
 use openings::keyword_here;
 use openings::label_at;
 use openings::label_meaning;
@@ -59,7 +58,6 @@ use openings::pop;
 use openings::push;
 use openings::role_in;
 use openings::scope_out;
-use openings::span;
 use openings::top;
 use openings::top_kind;
 use rows::Link;
@@ -77,6 +75,7 @@ use statements::Keyword;
 use statements::Opens;
 use statements::Read;
 use statements::declare_clause;
+use statements::is_inside;
 use statements::plain_clause;
 use statements::procedure_clause;
 use tokens::Ending;
@@ -86,6 +85,7 @@ use tokens::is_word;
 use tokens::is_word_kind;
 use tokens::text_end;
 use tokens::token_at;
+use tokens::width;
 
 // ---- what has been read
 
@@ -513,7 +513,7 @@ fn by_token(
 {
     let kind = t.kind;
     if is_word_kind(kind) {
-        if span(t) <= limits::Name::LONGEST {
+        if width(t) <= limits::Name::LONGEST {
             return by_word(deck, s, rows, names, st, k, t, from, p, labels);
         }
         return stop(st, Why::OverLimit, t.from);

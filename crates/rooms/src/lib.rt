@@ -145,7 +145,7 @@ fn wide16(b: u8) -> u16
     b as u16
 }
 
-fn wide32(b: u8) -> u32
+pub fn wide32(b: u8) -> u32
     ensures { λ r. ⌜ r ≡ b ⌝ }
 {
     b as u32

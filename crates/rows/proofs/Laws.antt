@@ -12,7 +12,8 @@ use lib.ListN.{length, getD}
 use Rattle.definition.specs.Room.{over}
 use Rattle.definition.proofs.Rooms.{over-next-at, getD-over-at, getD-over-low, getD-over-high}
 use Rattle.definition.specs.declared.ValueType.{ValueType}
-use Rattle.definition.specs.declared.ValueType.the-variants.{FixedType, CharacterType}
+use Rattle.types.specs.Kept.{typeIn}
+use Rattle.types.proofs.Laws.{type-back}
 use Rattle.rows.specs.declared.Statement.{Statement}
 use Rattle.rows.specs.declared.Statement.the-variants.{Null, Declare, Procedure, Assign, Conditional, Group, Iterated, Goto, Include, Activate, Deactivate, Return}
 use Rattle.rows.specs.declared.Role.{Role}
@@ -21,7 +22,7 @@ use Rattle.rows.specs.declared.Link.{Link}
 use Rattle.rows.specs.declared.Link.the-variants.{To}
 use Rattle.rows.specs.declared.Stretch.{Stretch}
 use Rattle.rows.specs.declared.Row.{Row}
-use Rattle.rows.specs.Table.{statementNumber, roleNumber, typeNumber, linkNumber, stretchNumbers, numbersOf, statementIn, roleIn, typeIn, linkIn, stretchIn, rowIn}
+use Rattle.rows.specs.Table.{statementNumber, roleNumber, linkNumber, stretchNumbers, numbersOf, statementIn, roleIn, linkIn, stretchIn, rowIn}
 
 -- ---- one number
 pub no-statement : (k : ℕ) → (k ≡ 1 → ⊥) → (k ≡ 2 → ⊥) → (k ≡ 3 → ⊥) → (k ≡ 4 → ⊥) → (k ≡ 5 → ⊥) → (k ≡ 6 → ⊥) → (k ≡ 7 → ⊥) → (k ≡ 8 → ⊥) → (k ≡ 9 → ⊥) → (k ≡ 10 → ⊥) → (k ≡ 11 → ⊥) → Null ≡ statementIn k
@@ -93,10 +94,6 @@ role-back : (x : Role) → roleIn (roleNumber x) ≡ x
 role-back Listed = refl
 role-back ThenPart = refl
 role-back ElsePart = refl
-
-type-back : (t : ValueType) → typeIn (typeNumber t) ≡ t
-type-back FixedType = refl
-type-back CharacterType = refl
 
 -- a link that a number keeps
 abbrev pub Kept : Link → Type 0

@@ -4,8 +4,7 @@ use mathlib.Core.Bool.{cond}
 use mathlib.Core.List.{List, [], _∷_}
 use lib.Dec.{eqb, ltb}
 use lib.ListN.{getD}
-use Rattle.definition.specs.declared.ValueType.{ValueType}
-use Rattle.definition.specs.declared.ValueType.the-variants.{FixedType, CharacterType}
+use Rattle.types.specs.Kept.{typeNumber, typeIn}
 use Rattle.rows.specs.declared.Statement.{Statement}
 use Rattle.rows.specs.declared.Statement.the-variants.{Null, Declare, Procedure, Assign, Conditional, Group, Iterated, Goto, Include, Activate, Deactivate, Return}
 use Rattle.rows.specs.declared.Role.{Role}
@@ -35,10 +34,6 @@ roleNumber Listed = 0
 roleNumber ThenPart = 1
 roleNumber ElsePart = 2
 
-abbrev pub typeNumber : ValueType → ℕ
-typeNumber FixedType = 0
-typeNumber CharacterType = 1
-
 -- one more than the row's number: 0 is no row, and so is a row that no u16 holds one more of
 abbrev pub linkNumber : Link → ℕ
 linkNumber Nowhere = 0
@@ -58,9 +53,6 @@ statementIn k = cond (eqb k 1) Declare (cond (eqb k 2) Procedure (cond (eqb k 3)
 
 abbrev pub roleIn : ℕ → Role
 roleIn k = cond (eqb k 0) Listed (cond (eqb k 1) ThenPart ElsePart)
-
-abbrev pub typeIn : ℕ → ValueType
-typeIn k = cond (eqb k 0) FixedType CharacterType
 
 abbrev pub linkIn : ℕ → Link
 linkIn k = cond (eqb k 0) Nowhere (To (k - 1))

@@ -10,6 +10,8 @@ ghost use Rattle.rows.specs.declared.Link.the-variants as Link;
 use definition::ValueType;
 use rooms::number16;
 use rooms::put_number16;
+use types::type_in;
+use types::type_number;
 
 // The statements of 000, 3.2.1.
 pub enum Statement {
@@ -144,24 +146,6 @@ fn link_in(k: u16) -> Link
         return Link::Nowhere;
     }
     Link::To(k - 1)
-}
-
-fn type_number(t: ValueType) -> u16
-    ensures { λ r. ⌜ r ≡ T.typeNumber t ⌝ }
-{
-    match t {
-        ValueType::FixedType => 0,
-        ValueType::CharacterType => 1,
-    }
-}
-
-fn type_in(k: u16) -> ValueType
-    ensures { λ r. ⌜ r ≡ T.typeIn k ⌝ }
-{
-    if k == 0 {
-        return ValueType::FixedType;
-    }
-    ValueType::CharacterType
 }
 
 // Where the record of row n begins in the table.
@@ -304,7 +288,8 @@ pub fn no_starts() -> Starts
     Starts { at: [0; 32] }
 }
 
-fn start_of(x: Starts, member: u16) -> u16
+// The row where a member starts.
+pub fn start_of(x: Starts, member: u16) -> u16
     ensures { λ r. ⌜ r ≡ P.startIn x member ⌝ }
 {
     let k = member as usize;

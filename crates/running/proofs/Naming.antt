@@ -5,7 +5,7 @@ use mathlib.Core.Bool.{Bool, true, false, cond, _&&_}
 use mathlib.Core.List.{List, [], _∷_}
 use Prim.Native.Nat.{ℕ, zero, suc, _+_, _-_, _<_, _≤_}
 use native.Mathlib.Omega.{arith}
-use borrow.Author.Tests.{leb-true, le-leb}
+use borrow.Author.Tests.{leb-true}
 use lib.Dec.{leb}
 use lib.ListN.{length, take, drop}
 use Rattle.definition.specs.Lists.{part}
@@ -29,7 +29,6 @@ use Rattle.deck.specs.declared.Found.the-variants as Fo
 use Rattle.deck.specs.Answer.{bodyIn, foundFor}
 use Rattle.tokens.specs.declared.Lexeme.{Lexeme}
 use Rattle.tokens.specs.Answer.{Lexed, isSignIn}
-use Rattle.outcomes.specs.Texts.{plusOf}
 use Rattle.callees.specs.Shown.{worldIn}
 use Rattle.callees.proofs.Listing.{told}
 use Rattle.names.specs.declared.Label.{Label}
@@ -55,6 +54,8 @@ use Rattle.stepping.specs.declared.Ended.{Ended}
 use Rattle.stepping.specs.declared.Ended.the-variants as En
 use Rattle.stepping.specs.Stage.{Stage, partHere}
 use Rattle.stepping.specs.Steps.{EndNow}
+use Rattle.sums.specs.Numbers.{greatest, sumTo}
+use Rattle.sums.proofs.Laws.{sum-fits}
 use Rattle.running.specs.declared.Left.{Left}
 use Rattle.running.specs.Included.{enterRun, foundRun, endOn, includeOn}
 use Rattle.running.specs.Members.{hereAt, Since, EndsAs, Running, FoundIs, IncludeOneIs, IncludeAllIs, EnterIs}
@@ -84,24 +85,24 @@ deck-small d h =
     leb-true (length d) 65536 (and-left a b (and-left (a && b) c (and-left (a && b && c) e (and-left (a && b && c && e) f (and-left (a && b && c && e && f) g
     (and-left (a && b && c && e && f && g) (Deck.follow (Deck.linePlace (count d)) (lines d) (length d)) h))))))
 
-name-there : (d : List ℕ) (m from to : ℕ) → isSound d ≡ true → m < count d → to ≤ length (bodyIn d m) → part (to - from) (plusOf (lineAt d m .offset) from) d ≡ part (to - from) from (bodyIn d m)
-unfolding plusOf bodyOf
+name-there : (d : List ℕ) (m from to : ℕ) → isSound d ≡ true → m < count d → to ≤ length (bodyIn d m) → part (to - from) (sumTo greatest (lineAt d m .offset) from) d ≡ part (to - from) from (bodyIn d m)
+unfolding bodyOf
 name-there d m from to sound line h = by (to - from) refl
   where
-    by : (n : ℕ) → to - from ≡ n → part n (plusOf (lineAt d m .offset) from) d ≡ part n from (bodyIn d m)
+    by : (n : ℕ) → to - from ≡ n → part n (sumTo greatest (lineAt d m .offset) from) d ≡ part n from (bodyIn d m)
     by zero e = refl
     by (suc n) e =
         let b : Lined d m = lined d sound m line in
         let there : lineAt d m .offset + lineAt d m .size ≤ length d = body-there d m (omega (arith, e, h)) in
         let size : length (bodyIn d m) ≡ lineAt d m .size = ap (λ (s : List ℕ). length s) (b .same) ∙ length-part (lineAt d m .size) (lineAt d m .offset) d in
         let small : length d ≤ 65536 = deck-small d sound in
-        rw (le-leb (lineAt d m .offset) 4294967295 (omega (arith, there, small)), le-leb from 4294967295 (omega (arith, e, h, b .short)))
+        rw (sum-fits (lineAt d m .offset) from (omega (arith, there, small, e, h, size)))
         (sym (part-of-part (suc n) from (lineAt d m .size) (lineAt d m .offset) d (omega (arith, e, h, size))) ∙ ap (λ (s : List ℕ). part (suc n) from s) (sym (b .same)))
 
-pub member-found : (d : List ℕ) (m : ℕ) (t : Lexeme) (base p n : ℕ) (r : Found) → base ≡ lineAt d m .offset → p ≡ plusOf base (t .from) → n ≡ t .to - t .from → r ≡ foundFor (find (part n p d) 0 (lines d)) → FoundIs d m t r
+pub member-found : (d : List ℕ) (m : ℕ) (t : Lexeme) (base p n : ℕ) (r : Found) → base ≡ lineAt d m .offset → p ≡ sumTo greatest base (t .from) → n ≡ t .to - t .from → r ≡ foundFor (find (part n p d) 0 (lines d)) → FoundIs d m t r
 member-found d m t base p n r e f q k = record {
   is = λ sound line h. k ∙ ap (λ (x : List ℕ). foundFor (find x 0 (lines d)))
-      (ap (λ (i : ℕ). part i p d) q ∙ ap (λ (i : ℕ). part (t .to - t .from) i d) (f ∙ ap (λ (i : ℕ). plusOf i (t .from)) e) ∙ name-there d m (t .from) (t .to) sound line h);
+      (ap (λ (i : ℕ). part i p d) q ∙ ap (λ (i : ℕ). part (t .to - t .from) i d) (f ∙ ap (λ (i : ℕ). sumTo greatest i (t .from)) e) ∙ name-there d m (t .from) (t .to) sound line h);
 }
 
 -- ---- ONE NAME: 14, 15, then the member

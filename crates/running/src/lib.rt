@@ -19,8 +19,6 @@ use leaving::none_below;
 use leaving::with_below;
 use limits::Levels;
 use meter::Meter;
-use outcomes::plus;
-use outcomes::span;
 use output::Out;
 use reading::Source;
 use reading::read_member;
@@ -29,6 +27,7 @@ use rows::Starts;
 use rows::no_starts;
 use rows::part_place;
 use rows::row_at;
+use rows::start_of;
 use rows::with_start;
 use stepping::Ended;
 use stepping::Settled;
@@ -43,6 +42,7 @@ use stepping::settle;
 use stepping::statement;
 use stepping::went_to;
 use stepping::with_step;
+use sums::sum;
 use texts::Here;
 use texts::Progress;
 use texts::Ran;
@@ -52,6 +52,7 @@ use texts::with_meter;
 use tokens::Lexeme;
 use tokens::is_sign;
 use tokens::token_at;
+use tokens::width;
 
 // ---- where members stand
 
@@ -109,23 +110,11 @@ fn entered(here: Here, n: u16) -> Here
     }
 }
 
-// The row where the member that runs starts.
-fn start_here(here: Here) -> u16
-    ensures { λ r. ⌜ r ≡ startIn (here .starts) (here .member) ⌝ }
-{
-    let k = here.member as usize;
-    let starts = here.starts;
-    if k < 32 {
-        return starts.at[k];
-    }
-    0
-}
-
 // Back in the member, when others were entered. Where it was one of them, its rows are still where they were, too.
 fn resumed(here: Here, starts: Starts) -> Here
     ensures { λ r. ⌜ StartedAt here starts (startIn (here .starts) (here .member)) r ⌝ }
 {
-    entered(since(here, starts), start_here(here))
+    entered(since(here, starts), start_of(here.starts, here.member))
 }
 
 // What an INCLUDE gives: it is passed, or a GOTO came out of a member.
@@ -193,7 +182,7 @@ fn member_named(deck: &[u8], here: u16, t: Lexeme) -> deck::Found
     ensures { λ r. ⌜ FoundIs (now (deck .entry)) here t r ⌝ }
 {
     let base = deck::offset(deck, here) as usize;
-    deck::find(deck, plus(base, t.from), span(t.from, t.to))
+    deck::find(deck, sum(base, t.from), width(t))
 }
 
 fn stopped(g: Progress, why: Why, member: u16, place: usize) -> Ended

@@ -46,13 +46,14 @@ use Rattle.outcomes.specs.declared.Src.{Src}
 use Rattle.outcomes.specs.declared.Dest.{Dest}
 use Rattle.outcomes.specs.declared.Scanned.{Scanned}
 use Rattle.outcomes.specs.declared.Scanned.the-variants as S
-use Rattle.outcomes.specs.Texts.{plusOf, roomOf, stretchOf, textOf, Within, partOf}
+use Rattle.outcomes.specs.Texts.{roomOf, stretchOf, textOf, Within, partOf}
 use Rattle.outcomes.specs.Places.{intoOf, intoWork, outIn, meterOf}
 use Rattle.outcomes.specs.Arguments.{cutFrom, argument, Ends, EndIn}
-use Rattle.outcomes.proofs.Sources.{plus-sum}
 use Rattle.operands.specs.declared.Scene.{Scene}
 use Rattle.operands.specs.declared.Evaluated.{Evaluated}
 use Rattle.operands.specs.declared.Evaluated.the-variants as E
+use Rattle.sums.specs.Numbers.{greatest, sumTo}
+use Rattle.sums.proofs.Laws.{sum-fits}
 use Rattle.scanning.specs.declared.Outcome.the-variants as O
 use Rattle.operands.specs.Answer.{resIn}
 use Rattle.evaluating.specs.Cycle.{CalleeShown}
@@ -250,8 +251,8 @@ part-text : (s w : List ℕ) (x : Src) (from to : ℕ) → Within (roomOf s w x)
 unfolding textOf stretchOf roomOf
 part-text s w x from to k h l =
     let z : length (part (x .to - x .from) (x .from) (cond (x .«in_work») w s)) ≡ x .to - x .from = length-part (x .to - x .from) (x .from) (cond (x .«in_work») w s) in
-    let a : plusOf (x .from) from ≡ x .from + from = plus-sum (x .from) from (omega (arith, k .short)) in
-    let b : plusOf (x .from) to ≡ x .from + to = plus-sum (x .from) to (omega (arith, k .short)) in
+    let a : sumTo greatest (x .from) from ≡ x .from + from = sum-fits (x .from) from (omega (arith, k .short)) in
+    let b : sumTo greatest (x .from) to ≡ x .from + to = sum-fits (x .from) to (omega (arith, k .short)) in
     let d : x .from + to - (x .from + from) ≡ to - from = omega arith in
     rw (a, b, d) (sym (part-of-part (to - from) from (x .to - x .from) (x .from) (cond (x .«in_work») w s) (omega arith)))
 
@@ -259,8 +260,8 @@ part-sourced : (s w : List ℕ) (x : Src) (from to u v : ℕ) → Sourced s w x 
 unfolding roomOf
 part-sourced s w x from to u v k g h l =
     let z : length (textOf s w x) ≡ x .to - x .from = text-length s w x in
-    let a : plusOf (x .from) from ≡ x .from + from = plus-sum (x .from) from (omega (arith, k .within .short)) in
-    let b : plusOf (x .from) to ≡ x .from + to = plus-sum (x .from) to (omega (arith, k .within .short)) in
+    let a : sumTo greatest (x .from) from ≡ x .from + from = sum-fits (x .from) from (omega (arith, k .within .short)) in
+    let b : sumTo greatest (x .from) to ≡ x .from + to = sum-fits (x .from) to (omega (arith, k .within .short)) in
     record { within = record { order = omega arith; within = omega (arith, k .within .within); short = omega (arith, k .within .short) }; below = λ e. omega (arith, k .below e) }
 
 -- ---- scanned, then converted: one bind
@@ -471,12 +472,12 @@ module _ (deck s rows names c₀ l₀ h₀ w₀ t₀ : List ℕ) (x : Src) (firs
       top-fits : top + sizeFor val ≤ 65536
       top-fits = one-fits top ty w₂ val t t₁ one
 
-      more-by : (top₂ from₂ at₂ i₂ : ℕ) → top₂ ≡ topOf top (sizeFor val) → from₂ ≡ plusOf to 1 → at₂ ≡ nextFor pa at → i₂ ≡ plusOf i 1
+      more-by : (top₂ from₂ at₂ i₂ : ℕ) → top₂ ≡ topOf top (sizeFor val) → from₂ ≡ sumTo greatest to 1 → at₂ ≡ nextFor pa at → i₂ ≡ sumTo greatest i 1
           → Rest deck s rows names c₀ l₀ h₀ w₀ t₀ x first u n sc m₀ (z .place) (z .list) (z .count) B ps xs q held₂ from₂ at₂ top₂ k i₂ (turns - 1) c₁ l₁ h₁ w₂ t₁
       more-by top₂ from₂ at₂ i₂ it fi ia ii =
           let jt : top₂ ≡ top + sizeFor val = it ∙ top-in top (sizeFor val) top-fits in
-          let jf : from₂ ≡ to + 1 = fi ∙ plus-sum to 1 (omega (arith, head .within, text-length s w₀ x, so .within .short)) in
-          let ji : i₂ ≡ i + 1 = ii ∙ plus-sum i 1 (omega (arith, i-low)) in
+          let jf : from₂ ≡ to + 1 = fi ∙ sum-fits to 1 (omega (arith, head .within, text-length s w₀ x, so .within .short)) in
+          let ji : i₂ ≡ i + 1 = ii ∙ sum-fits i 1 (omega (arith, i-low)) in
           let rl : length (r .rest) ≡ suc (length (head .others)) = ap (λ (y : List Ev.Parameter). length y) (head .rest-is) in
           let al : length (r .args) ≡ suc (length (head .arguments)) = ap (λ (y : List Argument). length y) (head .args-is) in
           let ts : top₂ ≡ top + Val.sizeOf (valueIn w₂ top val) = omega (arith, size-is w₂ top val) in
@@ -509,7 +510,7 @@ module _ (deck s rows names c₀ l₀ h₀ w₀ t₀ : List ℕ) (x : Src) (firs
   pub arguing-failed : (y : Why) (k : Meter) → v ≡ E.Failed y k → TakenIs deck s rows names c₀ l₀ h₀ w₀ t₀ x first z u n sc m₀ c₁ l₁ h₁ w₂ t₁ held (O.Bad y k)
   arguing-failed y k e = record { is = λ B o g so b cs xs q sz ct. failed-by B o g so (b .parameters) xs q (rest-of deck s rows names c₀ l₀ h₀ w₀ t₀ x first u n sc m₀ z held from at top m i turns c l h w t ar B o g so b cs xs q sz ct) y k e }
 
-  pub arguing-more : (val : Value) (d : ℕ) (k : Meter) (held₂ : Held) (sz top₂ from₂ at₂ i₂ : ℕ) → v ≡ E.Is val d k → HeldWith held i val held₂ → sz ≡ sizeFor val → top₂ ≡ topOf top sz → from₂ ≡ plusOf to 1 → at₂ ≡ nextFor pa at → i₂ ≡ plusOf i 1
+  pub arguing-more : (val : Value) (d : ℕ) (k : Meter) (held₂ : Held) (sz top₂ from₂ at₂ i₂ : ℕ) → v ≡ E.Is val d k → HeldWith held i val held₂ → sz ≡ sizeFor val → top₂ ≡ topOf top sz → from₂ ≡ sumTo greatest to 1 → at₂ ≡ nextFor pa at → i₂ ≡ sumTo greatest i 1
       → length c₁ ≡ length c → length l₁ ≡ length l → length h₁ ≡ length h → length w₁ ≡ length w → length t₁ ≡ length t
       → Arguing deck s rows names c₀ l₀ h₀ w₀ t₀ x first u n sc m₀ (z .place) (z .list) (z .count) held₂ from₂ at₂ top₂ k i₂ (turns - 1) c₁ l₁ h₁ w₂ t₁
   arguing-more val d k held₂ sz top₂ from₂ at₂ i₂ e hw is it fi ia ii d₁ d₂ d₃ d₄ d₅ = record {

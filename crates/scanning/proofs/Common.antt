@@ -23,10 +23,12 @@ use Rattle.outcomes.specs.declared.Scanned.{Scanned}
 use Rattle.outcomes.specs.declared.Scanned.the-variants as S
 use Rattle.outcomes.specs.declared.Replaced.{Replaced}
 use Rattle.outcomes.specs.declared.Replaced.the-variants as R
-use Rattle.outcomes.specs.Texts.{plusOf, roomOf, stretchOf, textOf}
+use Rattle.outcomes.specs.Texts.{roomOf, stretchOf, textOf}
 use Rattle.outcomes.specs.Places.{intoOf, afterOf, waitingOf, upToOf, outIn}
-use Rattle.outcomes.proofs.Sources.{plus-sum, stretch-length}
+use Rattle.outcomes.proofs.Sources.{stretch-length}
 use Rattle.operands.specs.declared.Scene.{Scene}
+use Rattle.sums.specs.Numbers.{greatest, sumTo}
+use Rattle.sums.proofs.Laws.{sum-fits}
 use Rattle.scanning.specs.Cycle.{Sourced, Aims, Stage, textWith, Put, Left, Came, Gone}
 
 pub never : (A : Type 0) → _≡_ {A = ℕ} 0 1 → A
@@ -71,13 +73,13 @@ stage-on deck rows names c l h w u x m t o B c′ l′ h′ w′ v m′ t′ o�
 pub aims-same : (t t′ : List ℕ) (o : Dest) → Aims t o → length t′ ≡ length t → Aims t′ o
 aims-same t t′ o a e = record { room = λ f. omega (arith, a .room f); short = λ f. a .short f }
 
-after-at : (t : List ℕ) (o : Dest) (k : ℕ) → Aims t o → k ≤ o .room → o .«to_work» ≡ false → plusOf (o .at) k ≡ o .at + k
-after-at t o k a h f = plus-sum (o .at) k (omega (arith, a .short f))
+after-at : (t : List ℕ) (o : Dest) (k : ℕ) → Aims t o → k ≤ o .room → o .«to_work» ≡ false → sumTo greatest (o .at) k ≡ o .at + k
+after-at t o k a h f = sum-fits (o .at) k (omega (arith, a .short f))
 
 pub aims-after : (t : List ℕ) (o : Dest) (k : ℕ) → Aims t o → k ≤ o .room → Aims t (afterOf o k)
 aims-after t o k a h = record {
-  room = λ f. let e : plusOf (o .at) k ≡ o .at + k = after-at t o k a h f in omega (arith, a .room f);
-  short = λ f. let e : plusOf (o .at) k ≡ o .at + k = after-at t o k a h f in omega (arith, a .short f);
+  room = λ f. let e : sumTo greatest (o .at) k ≡ o .at + k = after-at t o k a h f in omega (arith, a .room f);
+  short = λ f. let e : sumTo greatest (o .at) k ≡ o .at + k = after-at t o k a h f in omega (arith, a .short f);
 }
 
 pub into-after : (o : Dest) (k : ℕ) → D.after (intoOf o) k ≡ intoOf (afterOf o k)
@@ -147,7 +149,7 @@ put-none B o u w t h = record {
 -- an outcome behind an outcome
 module _ (B : World) (o : Dest) (u : ℕ) (t₀ w t w′ t′ : List ℕ) (k j : ℕ) (a : Aims t o) (p : Put B o u t₀ w t k)
     (q : Put B (afterOf o k) (waitingOf o u k) t w′ t′ j) (below : take (waitingOf o u k) w′ ≡ take (waitingOf o u k) w) where
-  at-is : o .«to_work» ≡ false → plusOf (o .at) k ≡ o .at + k
+  at-is : o .«to_work» ≡ false → sumTo greatest (o .at) k ≡ o .at + k
   at-is e = after-at t o k a (p .room) e
 
   text-is : o .«to_work» ≡ false → t′ ≡ over t (o .at + k) (part j (o .at + k) t′)

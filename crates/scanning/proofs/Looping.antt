@@ -27,10 +27,11 @@ use Rattle.outcomes.specs.declared.Dest.{Dest}
 use Rattle.outcomes.specs.declared.Scanned.the-variants as S
 use Rattle.outcomes.specs.declared.Replaced.{Replaced}
 use Rattle.outcomes.specs.declared.Replaced.the-variants as R
-use Rattle.outcomes.specs.Texts.{plusOf, textOf}
+use Rattle.outcomes.specs.Texts.{textOf}
 use Rattle.outcomes.specs.Places.{intoOf, afterOf, waitingOf, outIn}
-use Rattle.outcomes.proofs.Sources.{plus-in, plus-sum}
 use Rattle.operands.specs.declared.Scene.{Scene}
+use Rattle.sums.specs.Numbers.{greatest, sumTo}
+use Rattle.sums.proofs.Laws.{sum-fits}
 use Rattle.scanning.specs.Cycle.{Sourced, Aims, Stage, Put, Left, Came, Gone, scannerIn, replacerIn, Scans, tokenBy, tokenAt, TokenIs}
 use Rattle.scanning.proofs.Common.{bool-has, source-same, source-still, text-length, stage-on, aims-same, wait-low, wait-work, out-length, out-none, put-none, out-next, put-next, left-same, came-bad}
 
@@ -78,7 +79,7 @@ pub record Scanning (deck s rows names c₀ l₀ h₀ w₀ t₀ : List ℕ) (x :
   pub long : length t ≡ length t₀
   pub so : (B : World) → Stage deck rows names c₀ l₀ h₀ w₀ u sc m₀ t₀ o B → Sourced s w₀ x u → Going s c₀ l₀ h₀ w₀ t₀ x o u n sc m₀ B turns k p m c l h w t
 
-pub scanning-start : (deck s rows names c l h w t : List ℕ) (x : Src) (o : Dest) (u n : ℕ) (sc : Scene) (m : Meter) (size turns : ℕ) → size ≡ x .to - x .from → turns ≡ plusOf size 1
+pub scanning-start : (deck s rows names c l h w t : List ℕ) (x : Src) (o : Dest) (u n : ℕ) (sc : Scene) (m : Meter) (size turns : ℕ) → size ≡ x .to - x .from → turns ≡ sumTo greatest size 1
     → Scanning deck s rows names c l h w t x o u n sc m turns 0 0 m c l h w t
 unfolding scannerIn replacerIn
 scanning-start deck s rows names c l h w t x o u n sc m size turns e f = record {
@@ -89,7 +90,7 @@ scanning-start deck s rows names c l h w t x o u n sc m size turns e f = record 
   long = refl;
   so = λ B g k. record {
     same =
-        let j : turns ≡ suc (length (textOf s w x)) = f ∙ sym (plus-in size 1 (omega (arith, k .within .short)) (omega arith)) ∙ add-one size ∙ ap suc (e ∙ sym (text-length s w x)) in
+        let j : turns ≡ suc (length (textOf s w x)) = f ∙ sum-fits size 1 (omega (arith, k .within .short)) ∙ add-one size ∙ ap suc (e ∙ sym (text-length s w x)) in
         rw (out-none o t w u, j);
     put = put-none B o u w t (g .shows .taken);
     left = left-same deck rows names c l h w u sc m t o B g;
@@ -161,12 +162,12 @@ module _ (deck s rows names c₀ l₀ h₀ w₀ t₀ : List ℕ) (x : Src) (o : 
           let z = gone-is c′ l′ h′ w′ t′ (R.Bad b m′) tk in
           came-bad B o u w₀ t₀ c′ l′ h′ w′ t′ b m′ all (rw (← z .is) at (paid-is j (turns - 1) (omega arith))) (left-on c′ l′ h′ w′ t′ m′ (z .left))
 
-      sum-is : (c′ l′ h′ w′ t′ : List ℕ) (j k′ : ℕ) → Put B (afterOf o k) (waitingOf o u k) t w′ t′ j → k′ ≡ plusOf k j → k′ ≡ k + j
-      sum-is c′ l′ h′ w′ t′ j k′ z v = v ∙ plus-sum k j (bool-has _ (o .«to_work»)
+      sum-is : (c′ l′ h′ w′ t′ : List ℕ) (j k′ : ℕ) → Put B (afterOf o k) (waitingOf o u k) t w′ t′ j → k′ ≡ sumTo greatest k j → k′ ≡ k + j
+      sum-is c′ l′ h′ w′ t′ j k′ z v = v ∙ sum-fits k j (bool-has _ (o .«to_work»)
           (λ a. omega (arith, z .fits a, wait-work o u k a (now-is .put .fits a)))
           (λ a. omega (arith, z .room, now-is .put .room, g .aims .short a)))
 
-      good-on : (c′ l′ h′ w′ t′ : List ℕ) (j k′ p′ : ℕ) (m′ : Meter) → TokenIs deck s rows names c l h w t x p k o u n sc (r .meter) c′ l′ h′ w′ t′ (R.Good j p′ m′) → r .paid ≡ true → k′ ≡ plusOf k j
+      good-on : (c′ l′ h′ w′ t′ : List ℕ) (j k′ p′ : ℕ) (m′ : Meter) → TokenIs deck s rows names c l h w t x p k o u n sc (r .meter) c′ l′ h′ w′ t′ (R.Good j p′ m′) → r .paid ≡ true → k′ ≡ sumTo greatest k j
           → Going s c₀ l₀ h₀ w₀ t₀ x o u n sc m₀ B (turns - 1) k′ p′ m′ c′ l′ h′ w′ t′
       good-on c′ l′ h′ w′ t′ j k′ p′ m′ tk a b =
           let z = gone-is c′ l′ h′ w′ t′ (R.Good j p′ m′) tk in
@@ -190,7 +191,7 @@ module _ (deck s rows names c₀ l₀ h₀ w₀ t₀ : List ℕ) (x : Src) (o : 
       pub scanning-bad : (b : Why) (m′ : Meter) → y ≡ R.Bad b m′ → Scans deck s rows names c₀ l₀ h₀ w₀ t₀ x o u n sc m₀ c′ l′ h′ w′ t′ (S.Bad b m′)
       scanning-bad b m′ j = record { is = λ B g q. bad-on B g q c′ l′ h′ w′ t′ b m′ (rw j at tk) paid }
 
-      pub scanning-more : (j k′ p′ : ℕ) (m′ : Meter) → y ≡ R.Good j p′ m′ → k′ ≡ plusOf k j → length c′ ≡ length c → length l′ ≡ length l → length h′ ≡ length h → length w′ ≡ length w → length t′ ≡ length t
+      pub scanning-more : (j k′ p′ : ℕ) (m′ : Meter) → y ≡ R.Good j p′ m′ → k′ ≡ sumTo greatest k j → length c′ ≡ length c → length l′ ≡ length l → length h′ ≡ length h → length w′ ≡ length w → length t′ ≡ length t
           → Scanning deck s rows names c₀ l₀ h₀ w₀ t₀ x o u n sc m₀ (turns - 1) k′ p′ m′ c′ l′ h′ w′ t′
       scanning-more j k′ p′ m′ v b d₁ d₂ d₃ d₄ d₅ = record {
         cells = d₁ ∙ i .cells;

@@ -35,10 +35,12 @@ use Rattle.outcomes.specs.declared.Active.{Active}
 use Rattle.outcomes.specs.declared.Active.the-variants.{NotActive, IsActive}
 use Rattle.outcomes.specs.declared.Replaced.{Replaced}
 use Rattle.outcomes.specs.declared.Replaced.the-variants as R
-use Rattle.outcomes.specs.Texts.{plusOf, roomOf, stretchOf, textOf, PieceIn, Awake, activeFor, ActiveHere}
+use Rattle.outcomes.specs.Texts.{roomOf, stretchOf, textOf, PieceIn, Awake, activeFor, ActiveHere}
 use Rattle.outcomes.specs.Places.{intoOf, afterOf, waitingOf, bytesAt, workPut, textPut, Puts, copiedFor, Copied, outIn}
-use Rattle.outcomes.proofs.Sources.{plus-sum, stretch-length}
+use Rattle.outcomes.proofs.Sources.{stretch-length}
 use Rattle.operands.specs.declared.Scene.{Scene}
+use Rattle.sums.specs.Numbers.{greatest, sumTo}
+use Rattle.sums.proofs.Laws.{sum-fits}
 use Rattle.scanning.specs.Cycle.{Sourced, Aims, Stage, Put, Gone, replacerIn, isOn, tokenBy, tokenAt, TokenIs, ReplaceIs}
 use Rattle.scanning.proofs.Common.{never, source-still, stage-on, aims-after, into-after, waiting-is, wait-work, wait-low, wait-top, bool-has, out-work, out-text, with-work, with-text, gone-bad}
 
@@ -129,8 +131,8 @@ module _ (B : World) (o : Dest) (u k n : ℕ) (w t w′ t′ bs : List ℕ) (siz
   top-is : o .«to_work» ≡ true → topOf u k ≡ u + k
   top-is e = top-in u k (omega (arith, fits-work o u k n f e))
 
-  at-is : o .«to_work» ≡ false → plusOf (o .at) k ≡ o .at + k
-  at-is e = plus-sum (o .at) k (omega (arith, a .short e, fits-room o u k n f))
+  at-is : o .«to_work» ≡ false → sumTo greatest (o .at) k ≡ o .at + k
+  at-is e = sum-fits (o .at) k (omega (arith, a .short e, fits-room o u k n f))
 
   work-is : o .«to_work» ≡ true → w′ ≡ over w (u + k) bs
   unfolding workPut
@@ -203,7 +205,7 @@ module _ (deck s rows names c l h w t : List ℕ) (x : Src) (p k : ℕ) (o : Des
 
     bytes-are : bytesAt s w x p (y .to - p) ≡ part (y .to - p) p text
     unfolding bytesAt textOf stretchOf
-    bytes-are = rw (plus-sum (x .from) p (omega (arith, so .within .short))) (sym (part-of-part (y .to - p) p (x .to - x .from) (x .from) (roomOf s w x) (omega (arith, past-place .0, past-place .1))))
+    bytes-are = rw (sum-fits (x .from) p (omega (arith, so .within .short))) (sym (part-of-part (y .to - p) p (x .to - x .from) (x .from) (roomOf s w x) (omega (arith, past-place .0, past-place .1))))
 
     token-is : (z : D.Active) → D.activeIn (pieceAt text p .piece) world ≡ z → tokenAt (replacerIn sc n) (intoOf o) text k u p world ≡ tokenBy z (replacerIn sc n) (intoOf o) text k u p (y .to) world
     unfolding tokenAt
@@ -217,7 +219,7 @@ module _ (deck s rows names c l h w t : List ℕ) (x : Src) (p k : ℕ) (o : Des
         let i : r ≡ R.Good (y .to - p) (y .to) m = cp .is ∙ rw f in
         let pt : Puts s w t x p (y .to - p) o u k w′ t′ = cp .put f in
         let bs : List ℕ = part (y .to - p) p text in
-        let low : x .«in_work» ≡ true → plusOf (x .from) p ≤ topOf u k = λ v. omega (arith, plus-sum (x .from) p (omega (arith, so .within .short)), top-low u k (g .shows .taken), so .below v) in
+        let low : x .«in_work» ≡ true → sumTo greatest (x .from) p ≤ topOf u k = λ v. omega (arith, sum-fits (x .from) p (omega (arith, so .within .short)), top-low u k (g .shows .taken), so .below v) in
         let wp : w′ ≡ workPut o u k bs w = pt .work low ∙ ap (λ (z : List ℕ). workPut o u k z w) bytes-are in
         let tp : t′ ≡ textPut o k bs t = pt .text ∙ ap (λ (z : List ℕ). textPut o k z t) bytes-are in
         let sz : length bs ≡ y .to - p = length-part (y .to - p) p text in

@@ -45,11 +45,11 @@ use outcomes::list_of;
 use outcomes::part_of;
 use outcomes::piece_of;
 use outcomes::place_after;
-use outcomes::plus;
 use outcomes::settled;
-use outcomes::span;
 use outcomes::up_to;
 use outcomes::waiting;
+use sums::less;
+use sums::sum;
 
 // The arguments that wait, or a refusal; and the steps.
 struct Taken {
@@ -237,7 +237,7 @@ fn scan_arguments(
                 };
             }
         }
-        i = plus(i, 1);
+        i = sum(i, 1);
     }
     Taken {
         held,
@@ -554,12 +554,12 @@ fn scan(
 ) -> Scanned
     ensures { λ r. ⌜ Scans (now (deck .entry)) (now (s .entry)) (now (rows .entry)) (now (names .entry)) (now (cells .entry)) (now (low .entry)) (now (high .entry)) (now (work .entry)) (now (text .entry)) x d u n c m0 (now (cells .exit)) (now (low .exit)) (now (high .exit)) (now (work .exit)) (now (text .exit)) r ⌝ }
 {
-    let size = span(x.from, x.to);
+    let size = less(x.to, x.from);
     let mut k: usize = 0;
     let mut p: usize = 0;
     let mut m = m0;
     // each token has a byte at least, and one more turn finds the end
-    let mut turns = plus(size, 1);
+    let mut turns = sum(size, 1);
     while 0 < turns {
         turns -= 1;
         if size <= p {
@@ -591,7 +591,7 @@ fn scan(
         );
         match y {
             Replaced::Good(more, q, now) => {
-                k = plus(k, more);
+                k = sum(k, more);
                 p = q;
                 m = now;
             }

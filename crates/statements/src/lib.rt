@@ -2,7 +2,6 @@
 ghost use mathlib.Core.Path.{_≡_};
 ghost use mathlib.Core.Bool.{_||_, true, false};
 ghost use mathlib.Core.List.{_∷_, []};
-ghost use Prim.Native.Nat.{_-_};
 ghost use lib.ListN.{length};
 ghost use Rattle.definition.specs.Text.{bytesOf};
 ghost use Rattle.definition.specs.Expressions.{nameAt};
@@ -19,6 +18,7 @@ use entering::Meaning;
 use entering::Spelling;
 use entering::Tally;
 use entering::declare;
+use entering::length_of;
 use entering::with_second;
 use expressions::Expected;
 use expressions::NamedAt;
@@ -33,6 +33,7 @@ use tokens::Lexeme;
 use tokens::is_sign;
 use tokens::is_word;
 use tokens::token_at;
+use tokens::width;
 
 // The words that begin statements.
 pub enum Keyword {
@@ -282,7 +283,7 @@ fn list_item(s: &[u8], at: usize, is_activate: bool) -> Expected
 }
 
 // The place past NORESCAN or RESCAN, if one of them stands there.
-fn past_rescan(s: &[u8], at: usize) -> usize
+pub fn past_rescan(s: &[u8], at: usize) -> usize
     ensures { λ r. ⌜ r ≡ C.rescanPast (now (s .entry)) at ⌝ }
 {
     let t = token_at(s, at);
@@ -456,7 +457,7 @@ enum Attribute {
     Missing,
 }
 
-fn is_inside(owner: Owner) -> bool
+pub fn is_inside(owner: Owner) -> bool
     ensures { λ r. ⌜ r ≡ C.isInside owner ⌝ }
 {
     match owner {
@@ -569,20 +570,11 @@ pub fn declare_clause(
 
 // ---- PROCEDURE
 
-fn span(from: usize, to: usize) -> usize
-    ensures { λ r. ⌜ r ≡ to - from ⌝ }
-{
-    if to < from {
-        return 0;
-    }
-    to - from
-}
-
 fn is_spelled_as(s: &[u8], t: Lexeme, x: Spelling) -> bool
     ensures { λ r. ⌜ r ≡ C.spelledAs (now (s .entry)) (x .from) (x .to) (t .from) (t .to) ⌝ }
 {
-    let n = span(x.from, x.to);
-    if span(t.from, t.to) == n {
+    let n = length_of(x);
+    if width(t) == n {
         return is_same(s, t.from, s, x.from, n);
     }
     false

@@ -20,9 +20,10 @@ use Rattle.rows.specs.declared.Starts.{Starts}
 use Rattle.rows.specs.declared.Stretch.{Stretch}
 use Rattle.callees.specs.Shown.{worldIn}
 use Rattle.outcomes.specs.declared.Src.{Src}
-use Rattle.outcomes.specs.Texts.{plusOf, textOf}
-use Rattle.outcomes.proofs.Sources.{plus-in}
+use Rattle.outcomes.specs.Texts.{textOf}
 use Rattle.scanning.proofs.Common.{text-length}
+use Rattle.sums.specs.Numbers.{greatest, sumTo}
+use Rattle.sums.proofs.Laws.{sum-fits}
 use Rattle.texts.specs.declared.Progress.{Progress}
 use Rattle.texts.specs.declared.Here.{Here}
 use Rattle.texts.specs.declared.Stop.{Stop}
@@ -72,7 +73,7 @@ pub record Texting (deck s rows names c₀ l₀ h₀ w₀ t₀ ls₀ : List ℕ)
   pub list : length ls ≡ length ls₀
   pub so : (B : World) → Onstage deck rows names c₀ l₀ h₀ w₀ t₀ ls₀ (here .starts) g₀ B → Lies s (x .from) (x .to) → x .«in_work» ≡ false → here .member < 32 → Along deck s rows names c₀ l₀ h₀ w₀ x here g₀ B turns p g c l h w t ls
 
-pub texting-start : (deck s rows names c l h w t ls : List ℕ) (x : Src) (here : Here) (g : Progress) (size turns : ℕ) → size ≡ x .to - x .from → turns ≡ plusOf size 1 → Texting deck s rows names c l h w t ls x here g turns 0 g c l h w t ls
+pub texting-start : (deck s rows names c l h w t ls : List ℕ) (x : Src) (here : Here) (g : Progress) (size turns : ℕ) → size ≡ x .to - x .from → turns ≡ sumTo greatest size 1 → Texting deck s rows names c l h w t ls x here g turns 0 g c l h w t ls
 texting-start deck s rows names c l h w t ls x here g size turns e f = record {
   cells = refl;
   low = refl;
@@ -85,7 +86,7 @@ texting-start deck s rows names c l h w t ls x here g size turns e f = record {
     stage = st;
     goes = goes-none B;
     same =
-        let j : turns ≡ suc (x .to - x .from) = f ∙ sym (plus-in size 1 (omega (arith, e, li .within, li .short)) (omega arith)) ∙ add-one size ∙ ap suc e in
+        let j : turns ≡ suc (x .to - x .from) = f ∙ sum-fits size 1 (omega (arith, e, li .within, li .short)) ∙ add-one size ∙ ap suc e in
         ap (λ (k : ℕ). textOn (here .member) (x .from) (textOf s w x) k 0 (worldIn B c l h (g .meter .used))) j;
     tabled = refl;
     named = refl;

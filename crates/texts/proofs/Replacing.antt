@@ -31,11 +31,12 @@ use Rattle.outcomes.specs.declared.Src.{Src}
 use Rattle.outcomes.specs.declared.Dest.{Dest}
 use Rattle.outcomes.specs.declared.Replaced.{Replaced}
 use Rattle.outcomes.specs.declared.Replaced.the-variants as Rd
-use Rattle.outcomes.specs.Texts.{plusOf, textOf}
+use Rattle.outcomes.specs.Texts.{textOf}
 use Rattle.outcomes.specs.Places.{intoOf, outIn}
-use Rattle.outcomes.proofs.Sources.{plus-sum}
 use Rattle.scanning.specs.Cycle.{Stage, replacedIn, ReplacedPut, meterIn, Left, Gone, replacerIn, isOn, ReplaceIs}
 use Rattle.scanning.proofs.Common.{with-text, out-length}
+use Rattle.sums.specs.Numbers.{greatest, sumTo}
+use Rattle.sums.proofs.Laws.{sum-fits}
 use Rattle.texts.specs.declared.Progress.{Progress}
 use Rattle.texts.specs.declared.Here.{Here}
 use Rattle.texts.specs.declared.Ran.{Ran}
@@ -71,12 +72,12 @@ replacer-is : (sc : Scene) (o : Dest) (n : ℕ) (t : List ℕ) (q a : ℕ) (y : 
 unfolding replacerIn intoOf
 replacer-is sc o n t q a y room v e f i = rw f (ap (λ (k : Call). D.replacer k n t q a y (D.toText (o .room)) 0 v) (runs-out sc e) ∙ ap (λ (k : ℕ). D.replacer callOut n t q a y (D.toText k) 0 v) i)
 
-module _ (deck s rows names c l h w t ls : List ℕ) (x : Src) (p to a : ℕ) (y : Activity) (here : Here) (g : Progress) (place : ℕ) (pl : place ≡ plusOf (x .from) p) where
+module _ (deck s rows names c l h w t ls : List ℕ) (x : Src) (p to a : ℕ) (y : Activity) (here : Here) (g : Progress) (place : ℕ) (pl : place ≡ sumTo greatest (x .from) p) where
   abbrev dest : Dest
   dest = record { «to_work» = false; at = g .out .text; room = g .out .room }
 
   place-is : Lies s (x .from) (x .to) → p < x .to - x .from → place ≡ x .from + p
-  place-is k lt = pl ∙ plus-sum (x .from) p (omega (arith, k .within, k .short))
+  place-is k lt = pl ∙ sum-fits (x .from) p (omega (arith, k .within, k .short))
 
   pub replacing-full : (b : Ran) (r : Passed) → g .out .free < 1 → b ≡ badAt g RoomFull (here .member) place → r ≡ passFor b to → ReplacingIs deck s rows names c l h w t ls x p to a y here g c l h w t ls r
   replacing-full b r f e i = record {

@@ -34,11 +34,13 @@ use Rattle.callees.specs.Shown.{worldIn}
 use Rattle.outcomes.specs.declared.Src.{Src}
 use Rattle.outcomes.specs.declared.Active.{Active}
 use Rattle.outcomes.specs.declared.Active.the-variants.{NotActive, IsActive}
-use Rattle.outcomes.specs.Texts.{plusOf, roomOf, stretchOf, textOf, PieceIn, activeFor, Awake, ActiveHere}
-use Rattle.outcomes.proofs.Sources.{plus-sum, stretch-length}
+use Rattle.outcomes.specs.Texts.{roomOf, stretchOf, textOf, PieceIn, activeFor, Awake, ActiveHere}
+use Rattle.outcomes.proofs.Sources.{stretch-length}
 use Rattle.scanning.specs.Cycle.{isOn}
 use Rattle.scanning.proofs.Tokens.{Awakened, awakened}
 use Rattle.scanning.proofs.Looping.{charge-paid, charge-none}
+use Rattle.sums.specs.Numbers.{greatest, sumTo}
+use Rattle.sums.proofs.Laws.{sum-fits}
 use Rattle.texts.specs.declared.Progress.{Progress}
 use Rattle.texts.specs.declared.Here.{Here}
 use Rattle.texts.specs.declared.Ran.{Ran}
@@ -79,12 +81,12 @@ module _ (deck rows names c l h w t ls : List ℕ) (starts : Starts) (g : Progre
   passed-meter m (Ps.Good q k) R x = record { world = x .world; stage = x .stage; goes = x .goes; is = x .is; tabled = x .tabled; named = x .named }
   passed-meter m (Ps.Bad y k) R x = x
 
-module _ (deck s rows names c l h w t ls : List ℕ) (x : Src) (p : ℕ) (here : Here) (g₀ g : Progress) (place : ℕ) (pl : place ≡ plusOf (x .from) p) (paid : Charged) (ch : Charges (g₀ .meter) paid) (gi : g ≡ withMeter g₀ (paid .meter)) where
+module _ (deck s rows names c l h w t ls : List ℕ) (x : Src) (p : ℕ) (here : Here) (g₀ g : Progress) (place : ℕ) (pl : place ≡ sumTo greatest (x .from) p) (paid : Charged) (ch : Charges (g₀ .meter) paid) (gi : g ≡ withMeter g₀ (paid .meter)) where
   abbrev text : List ℕ
   text = textOf s w x
 
   place-is : Lies s (x .from) (x .to) → p < x .to - x .from → place ≡ x .from + p
-  place-is k lt = pl ∙ plus-sum (x .from) p (omega (arith, k .within, k .short))
+  place-is k lt = pl ∙ sum-fits (x .from) p (omega (arith, k .within, k .short))
 
   module _ (B : World) (st : Onstage deck rows names c l h w t ls (here .starts) g₀ B) where
     none-is : paid .paid ≡ false → turnHere (here .member) (x .from) text p (worldIn B c l h (g₀ .meter .used)) ≡ bad (stop (here .member) (x .from + p) NoStep) (paid .meter .used)
@@ -137,8 +139,8 @@ module _ (deck s rows names c l h w t ls : List ℕ) (x : Src) (p : ℕ) (here :
       turn-is : (z : D.Active) → D.activeIn (pieceAt text p .piece) world ≡ z → turnHere (here .member) (x .from) text p (worldIn B c l h (g₀ .meter .used)) ≡ placed (stop (here .member) (x .from + p)) (tokenHere z (here .member) (x .from + p) text p (y .to) pass world)
       turn-is z e = paid-is B st f ∙ rw (e, to-is)
 
-      end-is : (to : ℕ) → to ≡ plusOf (x .from) (y .to) → to ≡ x .from + y .to
-      end-is to e = e ∙ plus-sum (x .from) (y .to) (omega (arith, past-place .1, li .within, li .short))
+      end-is : (to : ℕ) → to ≡ sumTo greatest (x .from) (y .to) → to ≡ x .from + y .to
+      end-is to e = e ∙ sum-fits (x .from) (y .to) (omega (arith, past-place .1, li .within, li .short))
 
       bytes-are : part (x .from + y .to - (x .from + p)) (x .from + p) s ≡ part (y .to - p) p text
       bytes-are =
@@ -152,7 +154,7 @@ module _ (deck s rows names c l h w t ls : List ℕ) (x : Src) (p : ℕ) (here :
       unfolding copyHere
       copied-is = refl
 
-      copied-on : (to : ℕ) (t′ ls′ : List ℕ) (b : Ran) (r : Passed) → act ≡ NotActive → to ≡ plusOf (x .from) (y .to) → here .member < 32 → PutIs (copied (here .member) place (part (to - place) place s)) t ls g (here .member) place t′ ls′ b → r ≡ passFor b (y .to)
+      copied-on : (to : ℕ) (t′ ls′ : List ℕ) (b : Ran) (r : Passed) → act ≡ NotActive → to ≡ sumTo greatest (x .from) (y .to) → here .member < 32 → PutIs (copied (here .member) place (part (to - place) place s)) t ls g (here .member) place t′ ls′ b → r ≡ passFor b (y .to)
           → PassedAs deck rows names (here .starts) g₀ B c l h w t′ ls′ r (turnHere (here .member) (x .from) text p (worldIn B c l h (g₀ .meter .used)))
       copied-on to t′ ls′ b r e i mm pt j =
           let g₁ : Progress = withMeter g₀ (paid .meter) in
@@ -176,7 +178,7 @@ module _ (deck s rows names c l h w t ls : List ℕ) (x : Src) (p : ℕ) (here :
           rw (turn-is (D.active (a .0) (activityOf v)) i)
           (passed-meter deck rows names c′ l′ h′ w′ t′ ls′ (here .starts) g₀ B (paid .meter) r _ (k .is B (stage-now B st) li wk lt mm low (on-is v (aw .on)) pass))
 
-    pub turn-copied : (to : ℕ) (t′ ls′ : List ℕ) (b : Ran) (r : Passed) → act ≡ NotActive → to ≡ plusOf (x .from) (y .to) → PutIs (copied (here .member) place (part (to - place) place s)) t ls g (here .member) place t′ ls′ b → r ≡ passFor b (y .to)
+    pub turn-copied : (to : ℕ) (t′ ls′ : List ℕ) (b : Ran) (r : Passed) → act ≡ NotActive → to ≡ sumTo greatest (x .from) (y .to) → PutIs (copied (here .member) place (part (to - place) place s)) t ls g (here .member) place t′ ls′ b → r ≡ passFor b (y .to)
         → TokenIs deck s rows names c l h w t ls x p here g₀ c l h w t′ ls′ r
     turn-copied to t′ ls′ b r e i pt j = record { is = λ B st li wk lt mm. copied-on B st li wk lt to t′ ls′ b r e i mm pt j }
 

@@ -19,8 +19,6 @@ use outcomes::Replaced;
 use outcomes::Src;
 use outcomes::active_in;
 use outcomes::piece_of;
-use outcomes::plus;
-use outcomes::span;
 use output::Out;
 use output::Put;
 use output::put_blank;
@@ -29,6 +27,8 @@ use output::put_replaced;
 use rows::Starts;
 use rows::Stretch;
 use scanning::replace;
+use sums::less;
+use sums::sum;
 
 // What a run changes beside the rooms: the steps, what was put out, the rows and names that there are.
 pub struct Progress {
@@ -114,7 +114,7 @@ fn place32(p: usize) -> u32
     (p % 65_536) as u32
 }
 
-fn size32(n: usize) -> u32
+pub fn size32(n: usize) -> u32
     ensures { λ r. ⌜ r ≡ n % 4294967296 ⌝ }
 {
     (n % 4_294_967_296) as u32
@@ -151,7 +151,7 @@ fn token_out(
     ensures { λ r. ⌜ PutIs (copied member from (part (to - from) from (now (s .entry)))) (now (text .entry)) (now (list .entry)) g member from (now (text .exit)) (now (list .exit)) r ⌝ }
 {
     let o = g.out;
-    let n = place32(span(from, to));
+    let n = place32(less(to, from));
     let p = put_copied(s, from, n, text, list, o, member8(member), place32(from));
     put_result(g, p, member, from)
 }
@@ -237,7 +237,7 @@ fn replace_here(
     ensures { λ r. ⌜ ReplacingIs (now (deck .entry)) (now (s .entry)) (now (rows .entry)) (now (names .entry)) (now (cells .entry)) (now (low .entry)) (now (high .entry)) (now (work .entry)) (now (text .entry)) (now (list .entry)) x p to (a .0) act here g (now (cells .exit)) (now (low .exit)) (now (high .exit)) (now (work .exit)) (now (text .exit)) (now (list .exit)) r ⌝ }
 {
     let o = g.out;
-    let place = plus(x.from, p);
+    let place = sum(x.from, p);
     if o.free < 1 {
         return pass_to(bad(g, Why::RoomFull, here.member, place), to);
     }
@@ -289,7 +289,7 @@ fn token_here(
 ) -> Passed
     ensures { λ r. ⌜ TokenIs (now (deck .entry)) (now (s .entry)) (now (rows .entry)) (now (names .entry)) (now (cells .entry)) (now (low .entry)) (now (high .entry)) (now (work .entry)) (now (text .entry)) (now (list .entry)) x p here g0 (now (cells .exit)) (now (low .exit)) (now (high .exit)) (now (work .exit)) (now (text .exit)) (now (list .exit)) r ⌝ }
 {
-    let place = plus(x.from, p);
+    let place = sum(x.from, p);
     let before = g0.meter;
     let paid = before.charged();
     let m = paid.meter;
@@ -301,7 +301,7 @@ fn token_here(
     let active = active_in(deck, s, work, names, g.names, x, p, y);
     match active {
         Active::NotActive => {
-            let r = token_out(s, text, list, g, here.member, place, plus(x.from, y.to));
+            let r = token_out(s, text, list, g, here.member, place, sum(x.from, y.to));
             pass_to(r, y.to)
         }
         Active::IsActive(a, act) => {
@@ -346,11 +346,11 @@ fn text_on(
 ) -> Ran
     ensures { λ r. ⌜ TokensAre (now (deck .entry)) (now (s .entry)) (now (rows .entry)) (now (names .entry)) (now (cells .entry)) (now (low .entry)) (now (high .entry)) (now (work .entry)) (now (text .entry)) (now (list .entry)) x here g0 (now (cells .exit)) (now (low .exit)) (now (high .exit)) (now (work .exit)) (now (text .exit)) (now (list .exit)) r ⌝ }
 {
-    let size = span(x.from, x.to);
+    let size = less(x.to, x.from);
     let mut p: usize = 0;
     let mut g = g0;
     // each token has a byte at least, and one more turn finds the end
-    let mut turns = plus(size, 1);
+    let mut turns = sum(size, 1);
     while 0 < turns {
         turns -= 1;
         if size <= p {

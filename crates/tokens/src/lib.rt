@@ -17,6 +17,7 @@ use definition::Class;
 use rooms::byte;
 use rooms::is_same;
 use rooms::put_byte;
+use sums::less;
 
 pub enum Kind {
     Word,
@@ -349,21 +350,18 @@ pub fn token_at(s: &[u8], e: usize) -> Lexeme
     }
 }
 
-// How many bytes lie between two places.
-fn distance(from: usize, to: usize) -> usize
-    ensures { λ r. ⌜ r ≡ to - from ⌝ }
+// How many bytes a token has.
+pub fn width(t: Lexeme) -> usize
+    ensures { λ r. ⌜ r ≡ t .to - t .from ⌝ }
 {
-    if to < from {
-        return 0;
-    }
-    to - from
+    less(t.to, t.from)
 }
 
 // Whether a lexeme has just the bytes of w.
 fn is_spelled(s: &[u8], l: Lexeme, w: &[u8]) -> bool
     ensures { λ r. ⌜ r ≡ same (spelling (now (s .entry)) l) (now (w .entry)) ⌝ }
 {
-    let n = distance(l.from, l.to);
+    let n = width(l);
     if n == w.len() {
         return is_same(s, l.from, w, 0, n);
     }

@@ -420,7 +420,7 @@ pub fn put_fixed(x: Fixed, room: &mut [u8], at: usize) -> usize
 
 // ---- bit operations
 
-fn bit_of(t: bool) -> u8
+pub fn bit_of(t: bool) -> u8
     ensures { λ r. ⌜ r ≡ bitOf t ⌝ }
 {
     if t {

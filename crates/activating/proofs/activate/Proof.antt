@@ -8,11 +8,11 @@ use Rattle.activating.proofs.is_active_kind.Reads as is-active-kind-rea
 use Rattle.names.proofs.find.Reads as find-reads
 use Rattle.names.proofs.name_at.Reads as name-at-reads
 use Rattle.names.proofs.put_name.Reads as put-name-reads
-use Rattle.operands.proofs.span.Reads as span-reads
+use Rattle.tokens.proofs.width.Reads as width-reads
 use Rattle.activating.proofs.Tables.{name-unknown, name-wrong, name-right}
 
-span-requires : tie.Need-span-requires
-span-requires c κs = search needs
+width-requires : tie.Need-width-requires
+width-requires c κs = search needs
 
 find-requires : tie.Need-find-requires
 find-requires c κs = search needs
@@ -54,7 +54,7 @@ pub activate-spec : {M : Type 1} → statement M
 activate-spec =
     tie.close
     (tie.spec
-    span-requires
+    width-requires
     find-requires
     enum-told
     enum-known-found

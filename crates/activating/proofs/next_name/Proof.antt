@@ -6,7 +6,7 @@ use Rattle.activating.proofs.next_name.Reads as reads
 use Rattle.activating.proofs.next_name.Lts as lts
 use Rattle.activating.proofs.behind_comma.Reads as behind-comma-reads
 use Rattle.activating.proofs.next_declared.Reads as next-declared-reads
-use Rattle.activating.proofs.past_rescan.Reads as past-rescan-reads
+use Rattle.statements.proofs.past_rescan.Reads as past-rescan-reads
 use Rattle.activating.proofs.Walks.{next-plain, next-rescan, next-attribute}
 
 enum-told : tie.Need-enum-told

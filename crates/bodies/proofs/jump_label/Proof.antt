@@ -6,11 +6,11 @@ use Rattle.bodies.proofs.jump_label.Reads as reads
 use Rattle.bodies.proofs.jump_label.Lts as lts
 use Rattle.bodies.proofs.label_of.Reads as label-of-reads
 use Rattle.names.proofs.find.Reads as find-reads
-use Rattle.operands.proofs.span.Reads as span-reads
+use Rattle.tokens.proofs.width.Reads as width-reads
 use Rattle.bodies.proofs.Jumping.{local-known, global-known, neither-known}
 
-span-requires : tie.Need-span-requires
-span-requires c κs = search needs
+width-requires : tie.Need-width-requires
+width-requires c κs = search needs
 
 find-requires : tie.Need-find-requires
 find-requires c κs = search needs
@@ -24,8 +24,8 @@ label-of-requires c κs = search needs
 enum-told : tie.Need-enum-told
 enum-told c = search needs
 
-span-requires-2 : tie.Need-span-requires-2
-span-requires-2 c κs = search needs
+width-requires-2 : tie.Need-width-requires-2
+width-requires-2 c κs = search needs
 
 find-requires-2 : tie.Need-find-requires-2
 find-requires-2 c κs = search needs
@@ -52,12 +52,12 @@ pub jump-label-spec : {M : Type 1} → statement M
 jump-label-spec =
     tie.close
     (tie.spec
-    span-requires
+    width-requires
     find-requires
     enum-known-local
     label-of-requires
     enum-told
-    span-requires-2
+    width-requires-2
     find-requires-2
     enum-known-global
     label-of-requires-2

@@ -5,14 +5,14 @@ use Rattle.callees.proofs.meant_by.Tie as tie
 use Rattle.callees.proofs.meant_by.Reads as reads
 use Rattle.callees.proofs.meant_by.Lts as lts
 use Rattle.callees.proofs.is_substr.Reads as is-substr-reads
-use Rattle.callees.proofs.span.Reads as span-reads
+use Rattle.sums.proofs.less.Reads as less-reads
 use Rattle.callees.proofs.substr_or.Reads as substr-or-reads
 use Rattle.names.proofs.name_at.Reads as name-at-reads
 use Rattle.names.proofs.seen_from.Reads as seen-from-reads
 use Rattle.callees.proofs.Naming.{by-unknown, by-variable, by-entry, by-label, by-builtin}
 
-span-requires : tie.Need-span-requires
-span-requires c κs = search needs
+less-requires : tie.Need-less-requires
+less-requires c κs = search needs
 
 seen-from-requires : tie.Need-seen-from-requires
 seen-from-requires c κs = search needs
@@ -69,7 +69,7 @@ pub meant-by-spec : {M : Type 1} → statement M
 meant-by-spec =
     tie.close
     (tie.spec
-    span-requires
+    less-requires
     seen-from-requires
     enum-told
     is-substr-requires

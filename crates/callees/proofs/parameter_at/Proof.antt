@@ -4,7 +4,7 @@ use Rattle.callees.proofs.parameter_at.Statement.{statement}
 use Rattle.callees.proofs.parameter_at.Tie as tie
 use Rattle.callees.proofs.parameter_at.Reads as reads
 use Rattle.callees.proofs.parameter_at.Lts as lts
-use Rattle.callees.proofs.span.Reads as span-reads
+use Rattle.tokens.proofs.width.Reads as width-reads
 use Rattle.names.proofs.find.Reads as find-reads
 use Rattle.names.proofs.name_at.Reads as name-at-reads
 use Rattle.tokens.proofs.token_at.Reads as token-at-reads
@@ -13,8 +13,8 @@ use Rattle.callees.proofs.Naming.{parameter-unknown, parameter-variable
 token-at-requires : tie.Need-token-at-requires
 token-at-requires c κs = search needs
 
-span-requires : tie.Need-span-requires
-span-requires c κs = search needs
+width-requires : tie.Need-width-requires
+width-requires c κs = search needs
 
 find-requires : tie.Need-find-requires
 find-requires c κs = search needs
@@ -63,7 +63,7 @@ parameter-at-spec =
     tie.close
     (tie.spec
     token-at-requires
-    span-requires
+    width-requires
     find-requires
     enum-told
     enum-known-found

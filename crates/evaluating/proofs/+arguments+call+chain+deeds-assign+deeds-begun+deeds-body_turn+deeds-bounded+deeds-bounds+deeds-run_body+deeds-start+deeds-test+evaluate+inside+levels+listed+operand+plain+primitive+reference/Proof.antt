@@ -100,7 +100,6 @@ use Rattle.operands.proofs.count_arguments.Reads as count-arguments-reads
 use Rattle.operands.proofs.first_kept.Reads as first-kept-reads
 use Rattle.operands.proofs.first_parameter.Reads as first-parameter-reads
 use Rattle.operands.proofs.integer_value.Reads as integer-value-reads
-use Rattle.operands.proofs.one_more.Reads as one-more-reads
 use Rattle.operands.proofs.plain_value.Reads as plain-value-reads
 use Rattle.operands.proofs.prefixes_done.Reads as prefixes-done-reads
 use Rattle.operands.proofs.string_value.Reads as string-value-reads
@@ -114,6 +113,7 @@ use Rattle.operators.proofs.above.Reads as above-reads
 use Rattle.operators.proofs.size_of.Reads as size-of-reads
 use Rattle.rows.proofs.part_of.Reads as part-of-reads
 use Rattle.rows.proofs.row_at.Reads as row-at-reads
+use Rattle.sums.proofs.sum.Reads as sum-reads
 use Rattle.tokens.proofs.is_sign.Reads as is-sign-reads
 use Rattle.tokens.proofs.token_at.Reads as token-at-reads
 use Rattle.evaluating.proofs.+arguments+call+chain+deeds-assign+deeds-begun+deeds-body_turn+deeds-bounded+deeds-bounds+deeds-run_body+deeds-start+deeds-test+evaluate+inside+levels+listed+operand+plain+primitive+reference.{
@@ -397,8 +397,8 @@ arguments-nothing-held-requires : (t : ℕ) → arguments-lts.Need-nothing-held-
   above-reads.Learnt,
   token-at-reads.Asked,
   token-at-reads.Learnt,
-  one-more-reads.Asked,
-  one-more-reads.Learnt,
+  sum-reads.Asked,
+  sum-reads.Learnt,
 ) (arguments-at t) arguments.Post arguments-Inv-loop arguments-μ-loop
 arguments-nothing-held-requires t c κs = search needs
 
@@ -425,8 +425,8 @@ arguments-first-parameter-requires : (t : ℕ) → arguments-lts.Need-first-para
   above-reads.Learnt,
   token-at-reads.Asked,
   token-at-reads.Learnt,
-  one-more-reads.Asked,
-  one-more-reads.Learnt,
+  sum-reads.Asked,
+  sum-reads.Learnt,
 ) (arguments-at t) arguments.Post arguments-Inv-loop arguments-μ-loop
 arguments-first-parameter-requires t c κs = search needs
 
@@ -453,8 +453,8 @@ arguments-wanted-count-requires : (t : ℕ) → arguments-lts.Need-wanted-count-
   above-reads.Learnt,
   token-at-reads.Asked,
   token-at-reads.Learnt,
-  one-more-reads.Asked,
-  one-more-reads.Learnt,
+  sum-reads.Asked,
+  sum-reads.Learnt,
 ) (arguments-at t) arguments.Post arguments-Inv-loop arguments-μ-loop
 arguments-wanted-count-requires t c κs = search needs
 
@@ -481,8 +481,8 @@ arguments-loop-holds : (t : ℕ) → arguments-lts.Need-loop-holds (
   above-reads.Learnt,
   token-at-reads.Asked,
   token-at-reads.Learnt,
-  one-more-reads.Asked,
-  one-more-reads.Learnt,
+  sum-reads.Asked,
+  sum-reads.Learnt,
 ) (arguments-at t) arguments.Post arguments-Inv-loop arguments-μ-loop
 arguments-loop-holds t c = search (needs, taking-start)
 
@@ -509,8 +509,8 @@ arguments-sub-turns : (t : ℕ) → arguments-lts.Need-sub-turns (
   above-reads.Learnt,
   token-at-reads.Asked,
   token-at-reads.Learnt,
-  one-more-reads.Asked,
-  one-more-reads.Learnt,
+  sum-reads.Asked,
+  sum-reads.Learnt,
 ) (arguments-at t) arguments.Post arguments-Inv-loop arguments-μ-loop
 arguments-sub-turns t c = search needs
 
@@ -537,8 +537,8 @@ arguments-wish-for-requires : (t : ℕ) → arguments-lts.Need-wish-for-requires
   above-reads.Learnt,
   token-at-reads.Asked,
   token-at-reads.Learnt,
-  one-more-reads.Asked,
-  one-more-reads.Learnt,
+  sum-reads.Asked,
+  sum-reads.Learnt,
 ) (arguments-at t) arguments.Post arguments-Inv-loop arguments-μ-loop
 arguments-wish-for-requires t c κs = search needs
 
@@ -565,8 +565,8 @@ arguments-inside-requires : (t : ℕ) → arguments-lts.Need-inside-requires (
   above-reads.Learnt,
   token-at-reads.Asked,
   token-at-reads.Learnt,
-  one-more-reads.Asked,
-  one-more-reads.Learnt,
+  sum-reads.Asked,
+  sum-reads.Learnt,
 ) (arguments-at t) arguments.Post arguments-Inv-loop arguments-μ-loop
 arguments-inside-requires t c κs = search needs
 
@@ -593,8 +593,8 @@ arguments-with-wish-requires : (t : ℕ) → arguments-lts.Need-with-wish-requir
   above-reads.Learnt,
   token-at-reads.Asked,
   token-at-reads.Learnt,
-  one-more-reads.Asked,
-  one-more-reads.Learnt,
+  sum-reads.Asked,
+  sum-reads.Learnt,
 ) (arguments-at t) arguments.Post arguments-Inv-loop arguments-μ-loop
 arguments-with-wish-requires t c κs = search needs
 
@@ -621,8 +621,8 @@ arguments-enum-known-y : (t : ℕ) → arguments-lts.Need-enum-known-y (
   above-reads.Learnt,
   token-at-reads.Asked,
   token-at-reads.Learnt,
-  one-more-reads.Asked,
-  one-more-reads.Learnt,
+  sum-reads.Asked,
+  sum-reads.Learnt,
 ) (arguments-at t) arguments.Post arguments-Inv-loop arguments-μ-loop
 arguments-enum-known-y t c = search needs
 
@@ -649,8 +649,8 @@ arguments-with-held-requires : (t : ℕ) → arguments-lts.Need-with-held-requir
   above-reads.Learnt,
   token-at-reads.Asked,
   token-at-reads.Learnt,
-  one-more-reads.Asked,
-  one-more-reads.Learnt,
+  sum-reads.Asked,
+  sum-reads.Learnt,
 ) (arguments-at t) arguments.Post arguments-Inv-loop arguments-μ-loop
 arguments-with-held-requires t c κs = search needs
 
@@ -677,8 +677,8 @@ arguments-first-kept-requires : (t : ℕ) → arguments-lts.Need-first-kept-requ
   above-reads.Learnt,
   token-at-reads.Asked,
   token-at-reads.Learnt,
-  one-more-reads.Asked,
-  one-more-reads.Learnt,
+  sum-reads.Asked,
+  sum-reads.Learnt,
 ) (arguments-at t) arguments.Post arguments-Inv-loop arguments-μ-loop
 arguments-first-kept-requires t c κs = search needs
 
@@ -705,8 +705,8 @@ arguments-size-of-requires : (t : ℕ) → arguments-lts.Need-size-of-requires (
   above-reads.Learnt,
   token-at-reads.Asked,
   token-at-reads.Learnt,
-  one-more-reads.Asked,
-  one-more-reads.Learnt,
+  sum-reads.Asked,
+  sum-reads.Learnt,
 ) (arguments-at t) arguments.Post arguments-Inv-loop arguments-μ-loop
 arguments-size-of-requires t c κs = search needs
 
@@ -733,8 +733,8 @@ arguments-above-requires : (t : ℕ) → arguments-lts.Need-above-requires (
   above-reads.Learnt,
   token-at-reads.Asked,
   token-at-reads.Learnt,
-  one-more-reads.Asked,
-  one-more-reads.Learnt,
+  sum-reads.Asked,
+  sum-reads.Learnt,
 ) (arguments-at t) arguments.Post arguments-Inv-loop arguments-μ-loop
 arguments-above-requires t c κs = search needs
 
@@ -761,8 +761,8 @@ arguments-token-at-requires : (t : ℕ) → arguments-lts.Need-token-at-requires
   above-reads.Learnt,
   token-at-reads.Asked,
   token-at-reads.Learnt,
-  one-more-reads.Asked,
-  one-more-reads.Learnt,
+  sum-reads.Asked,
+  sum-reads.Learnt,
 ) (arguments-at t) arguments.Post arguments-Inv-loop arguments-μ-loop
 arguments-token-at-requires t c κs = search needs
 
@@ -789,8 +789,8 @@ arguments-enum-known-y-2 : (t : ℕ) → arguments-lts.Need-enum-known-y-2 (
   above-reads.Learnt,
   token-at-reads.Asked,
   token-at-reads.Learnt,
-  one-more-reads.Asked,
-  one-more-reads.Learnt,
+  sum-reads.Asked,
+  sum-reads.Learnt,
 ) (arguments-at t) arguments.Post arguments-Inv-loop arguments-μ-loop
 arguments-enum-known-y-2 t c = search needs
 
@@ -817,8 +817,8 @@ arguments-same-length : (t : ℕ) → arguments-lts.Need-same-length (
   above-reads.Learnt,
   token-at-reads.Asked,
   token-at-reads.Learnt,
-  one-more-reads.Asked,
-  one-more-reads.Learnt,
+  sum-reads.Asked,
+  sum-reads.Learnt,
 ) (arguments-at t) arguments.Post arguments-Inv-loop arguments-μ-loop
 arguments-same-length t c = (c .before .before .before .before .before .before .before .before .before .before .before .before .before .before .before .inside .kept .1 .1 .1 .1 .0) ∙ (c .before .before .before .before .before .before .before .before .before .before .before .before .before .before .before .before .before .before .before .before .before .before .loop .inv .cells-size)
 
@@ -845,8 +845,8 @@ arguments-same-length-2 : (t : ℕ) → arguments-lts.Need-same-length-2 (
   above-reads.Learnt,
   token-at-reads.Asked,
   token-at-reads.Learnt,
-  one-more-reads.Asked,
-  one-more-reads.Learnt,
+  sum-reads.Asked,
+  sum-reads.Learnt,
 ) (arguments-at t) arguments.Post arguments-Inv-loop arguments-μ-loop
 arguments-same-length-2 t c = (c .before .before .before .before .before .before .before .before .before .before .before .before .before .before .before .inside .kept .1 .1 .1 .1 .1 .0) ∙ (c .before .before .before .before .before .before .before .before .before .before .before .before .before .before .before .before .before .before .before .before .before .before .loop .inv .low-size)
 
@@ -873,8 +873,8 @@ arguments-same-length-3 : (t : ℕ) → arguments-lts.Need-same-length-3 (
   above-reads.Learnt,
   token-at-reads.Asked,
   token-at-reads.Learnt,
-  one-more-reads.Asked,
-  one-more-reads.Learnt,
+  sum-reads.Asked,
+  sum-reads.Learnt,
 ) (arguments-at t) arguments.Post arguments-Inv-loop arguments-μ-loop
 arguments-same-length-3 t c = (c .before .before .before .before .before .before .before .before .before .before .before .before .before .before .before .inside .kept .1 .1 .1 .1 .1 .1 .0) ∙ (c .before .before .before .before .before .before .before .before .before .before .before .before .before .before .before .before .before .before .before .before .before .before .loop .inv .high-size)
 
@@ -901,8 +901,8 @@ arguments-same-length-4 : (t : ℕ) → arguments-lts.Need-same-length-4 (
   above-reads.Learnt,
   token-at-reads.Asked,
   token-at-reads.Learnt,
-  one-more-reads.Asked,
-  one-more-reads.Learnt,
+  sum-reads.Asked,
+  sum-reads.Learnt,
 ) (arguments-at t) arguments.Post arguments-Inv-loop arguments-μ-loop
 arguments-same-length-4 t c = (c .before .before .before .before .before .with-wish .kept .0) ∙ (c .before .before .before .before .before .before .before .before .before .before .before .before .before .before .before .inside .kept .1 .1 .1 .1 .1 .1 .1 .0) ∙ (c .before .before .before .before .before .before .before .before .before .before .before .before .before .before .before .before .before .before .before .before .before .before .loop .inv .work-size)
 
@@ -929,12 +929,12 @@ arguments-returns : (t : ℕ) → arguments-lts.Need-returns (
   above-reads.Learnt,
   token-at-reads.Asked,
   token-at-reads.Learnt,
-  one-more-reads.Asked,
-  one-more-reads.Learnt,
+  sum-reads.Asked,
+  sum-reads.Learnt,
 ) (arguments-at t) arguments.Post arguments-Inv-loop arguments-μ-loop
 arguments-returns t c = taking-failed _ _ _ _ _ _ _ _ _ _ _ _ _ _ _ _ _ _ _ _ _ _ _ _ _ _ (c .before .before .before .before .before .before .before .before .before .before .before .before .before .before .before .before .before .before .before .before .before .before .loop .inv) (c .before .before .before .before .before .before .before .before .before .before .before .before .before .before .before .before .before .before .before .before .before .loop-test .taken) _ (c .before .before .before .before .before .before .before .before .before .before .before .before .before .before .before .before .before .before .before .before .wish-for .ensures) _ _ _ _ (c .before .before .before .before .before .before .before .before .before .before .before .before .before .before .before .inside .kept .1 .1 .1 .1 .1 .1 .1 .0) _ (c .before .before .before .before .before .before .before .before .before .before .before .before .before .before .before .inside .ensures) _ _ (c .before .before .before .before .before .with-wish .ensures) _ _ (c .before .y2 .given .1)
 
-arguments-one-more-requires : (t : ℕ) → arguments-lts.Need-one-more-requires (
+arguments-sum-requires : (t : ℕ) → arguments-lts.Need-sum-requires (
   nothing-held-reads.Asked,
   nothing-held-reads.Learnt,
   first-parameter-reads.Asked,
@@ -957,10 +957,10 @@ arguments-one-more-requires : (t : ℕ) → arguments-lts.Need-one-more-requires
   above-reads.Learnt,
   token-at-reads.Asked,
   token-at-reads.Learnt,
-  one-more-reads.Asked,
-  one-more-reads.Learnt,
+  sum-reads.Asked,
+  sum-reads.Learnt,
 ) (arguments-at t) arguments.Post arguments-Inv-loop arguments-μ-loop
-arguments-one-more-requires t c κs = search needs
+arguments-sum-requires t c κs = search needs
 
 arguments-loop-less : (t : ℕ) → arguments-lts.Need-loop-less (
   nothing-held-reads.Asked,
@@ -985,8 +985,8 @@ arguments-loop-less : (t : ℕ) → arguments-lts.Need-loop-less (
   above-reads.Learnt,
   token-at-reads.Asked,
   token-at-reads.Learnt,
-  one-more-reads.Asked,
-  one-more-reads.Learnt,
+  sum-reads.Asked,
+  sum-reads.Learnt,
 ) (arguments-at t) arguments.Post arguments-Inv-loop arguments-μ-loop
 arguments-loop-less t c = omega (arith, (c .before .before .before .before .before .before .before .before .before .before .before .before .before .before .before .before .before .before .before .before .before .before .before .before .before .before .before .loop-test .taken))
 
@@ -1013,10 +1013,10 @@ arguments-loop-again : (t : ℕ) → arguments-lts.Need-loop-again (
   above-reads.Learnt,
   token-at-reads.Asked,
   token-at-reads.Learnt,
-  one-more-reads.Asked,
-  one-more-reads.Learnt,
+  sum-reads.Asked,
+  sum-reads.Learnt,
 ) (arguments-at t) arguments.Post arguments-Inv-loop arguments-μ-loop
-arguments-loop-again t c = taking-more _ _ _ _ _ _ _ _ _ _ _ _ _ _ _ _ _ _ _ _ _ _ _ _ _ _ (c .before .before .before .before .before .before .before .before .before .before .before .before .before .before .before .before .before .before .before .before .before .before .before .before .before .before .before .before .loop .inv) (c .before .before .before .before .before .before .before .before .before .before .before .before .before .before .before .before .before .before .before .before .before .before .before .before .before .before .before .loop-test .taken) _ (c .before .before .before .before .before .before .before .before .before .before .before .before .before .before .before .before .before .before .before .before .before .before .before .before .before .before .wish-for .ensures) _ _ _ _ (c .before .before .before .before .before .before .before .before .before .before .before .before .before .before .before .before .before .before .before .before .before .inside .kept .1 .1 .1 .1 .1 .1 .1 .0) _ (c .before .before .before .before .before .before .before .before .before .before .before .before .before .before .before .before .before .before .before .before .before .inside .ensures) _ _ (c .before .before .before .before .before .before .before .before .before .before .before .with-wish .ensures) _ _ _ (c .before .before .before .before .before .before .before .y .given .1) _ (c .before .before .before .before .before .with-held .ensures) _ (c .before .before .before .before .first-kept .ensures) _ _ (c .before .before .before .size-of .ensures) (c .before .before .above .ensures) _ (c .before .token-at .ensures) _ (c .one-more .ensures) (c .before .before .before .before .before .before .before .before .before .before .before .with-wish .kept .0) (c .before .before .before .before .before .before .before .before .before .before .before .before .before .before .before .before .before .before .before .before .before .inside .kept .1 .1 .1 .1 .0) (c .before .before .before .before .before .before .before .before .before .before .before .before .before .before .before .before .before .before .before .before .before .inside .kept .1 .1 .1 .1 .1 .0) (c .before .before .before .before .before .before .before .before .before .before .before .before .before .before .before .before .before .before .before .before .before .inside .kept .1 .1 .1 .1 .1 .1 .0)
+arguments-loop-again t c = taking-more _ _ _ _ _ _ _ _ _ _ _ _ _ _ _ _ _ _ _ _ _ _ _ _ _ _ (c .before .before .before .before .before .before .before .before .before .before .before .before .before .before .before .before .before .before .before .before .before .before .before .before .before .before .before .before .loop .inv) (c .before .before .before .before .before .before .before .before .before .before .before .before .before .before .before .before .before .before .before .before .before .before .before .before .before .before .before .loop-test .taken) _ (c .before .before .before .before .before .before .before .before .before .before .before .before .before .before .before .before .before .before .before .before .before .before .before .before .before .before .wish-for .ensures) _ _ _ _ (c .before .before .before .before .before .before .before .before .before .before .before .before .before .before .before .before .before .before .before .before .before .inside .kept .1 .1 .1 .1 .1 .1 .1 .0) _ (c .before .before .before .before .before .before .before .before .before .before .before .before .before .before .before .before .before .before .before .before .before .inside .ensures) _ _ (c .before .before .before .before .before .before .before .before .before .before .before .with-wish .ensures) _ _ _ (c .before .before .before .before .before .before .before .y .given .1) _ (c .before .before .before .before .before .with-held .ensures) _ (c .before .before .before .before .first-kept .ensures) _ _ (c .before .before .before .size-of .ensures) (c .before .before .above .ensures) _ (c .before .token-at .ensures) _ (c .sum .ensures) (c .before .before .before .before .before .before .before .before .before .before .before .with-wish .kept .0) (c .before .before .before .before .before .before .before .before .before .before .before .before .before .before .before .before .before .before .before .before .before .inside .kept .1 .1 .1 .1 .0) (c .before .before .before .before .before .before .before .before .before .before .before .before .before .before .before .before .before .before .before .before .before .inside .kept .1 .1 .1 .1 .1 .0) (c .before .before .before .before .before .before .before .before .before .before .before .before .before .before .before .before .before .before .before .before .before .inside .kept .1 .1 .1 .1 .1 .1 .0)
 
 arguments-same-length-5 : (t : ℕ) → arguments-lts.Need-same-length-5 (
   nothing-held-reads.Asked,
@@ -1041,8 +1041,8 @@ arguments-same-length-5 : (t : ℕ) → arguments-lts.Need-same-length-5 (
   above-reads.Learnt,
   token-at-reads.Asked,
   token-at-reads.Learnt,
-  one-more-reads.Asked,
-  one-more-reads.Learnt,
+  sum-reads.Asked,
+  sum-reads.Learnt,
 ) (arguments-at t) arguments.Post arguments-Inv-loop arguments-μ-loop
 arguments-same-length-5 t c = (c .before .loop .inv .cells-size)
 
@@ -1069,8 +1069,8 @@ arguments-same-length-6 : (t : ℕ) → arguments-lts.Need-same-length-6 (
   above-reads.Learnt,
   token-at-reads.Asked,
   token-at-reads.Learnt,
-  one-more-reads.Asked,
-  one-more-reads.Learnt,
+  sum-reads.Asked,
+  sum-reads.Learnt,
 ) (arguments-at t) arguments.Post arguments-Inv-loop arguments-μ-loop
 arguments-same-length-6 t c = (c .before .loop .inv .low-size)
 
@@ -1097,8 +1097,8 @@ arguments-same-length-7 : (t : ℕ) → arguments-lts.Need-same-length-7 (
   above-reads.Learnt,
   token-at-reads.Asked,
   token-at-reads.Learnt,
-  one-more-reads.Asked,
-  one-more-reads.Learnt,
+  sum-reads.Asked,
+  sum-reads.Learnt,
 ) (arguments-at t) arguments.Post arguments-Inv-loop arguments-μ-loop
 arguments-same-length-7 t c = (c .before .loop .inv .high-size)
 
@@ -1125,8 +1125,8 @@ arguments-same-length-8 : (t : ℕ) → arguments-lts.Need-same-length-8 (
   above-reads.Learnt,
   token-at-reads.Asked,
   token-at-reads.Learnt,
-  one-more-reads.Asked,
-  one-more-reads.Learnt,
+  sum-reads.Asked,
+  sum-reads.Learnt,
 ) (arguments-at t) arguments.Post arguments-Inv-loop arguments-μ-loop
 arguments-same-length-8 t c = (c .before .loop .inv .work-size)
 
@@ -1153,8 +1153,8 @@ arguments-returns-2 : (t : ℕ) → arguments-lts.Need-returns-2 (
   above-reads.Learnt,
   token-at-reads.Asked,
   token-at-reads.Learnt,
-  one-more-reads.Asked,
-  one-more-reads.Learnt,
+  sum-reads.Asked,
+  sum-reads.Learnt,
 ) (arguments-at t) arguments.Post arguments-Inv-loop arguments-μ-loop
 arguments-returns-2 t c = search (taking-end, (c .before .loop .inv), (c .loop-test .left))
 
@@ -7122,8 +7122,8 @@ pub +arguments+call+chain+deeds·assign+deeds·begun+deeds·body-turn+deeds·bou
       above-reads.Learnt,
       token-at-reads.Asked,
       token-at-reads.Learnt,
-      one-more-reads.Asked,
-      one-more-reads.Learnt,
+      sum-reads.Asked,
+      sum-reads.Learnt,
     )
     (arguments-at t)
     arguments.Post
@@ -7149,7 +7149,7 @@ pub +arguments+call+chain+deeds·assign+deeds·begun+deeds·body-turn+deeds·bou
     (arguments-same-length-3 t)
     (arguments-same-length-4 t)
     (arguments-returns t)
-    (arguments-one-more-requires t)
+    (arguments-sum-requires t)
     (arguments-loop-less t)
     (arguments-loop-again t)
     (arguments-same-length-5 t)

@@ -7,15 +7,15 @@ use Rattle.leaving.proofs.jump_from.Lts as lts
 use Rattle.leaving.proofs.jump_label.Reads as jump-label-reads
 use Rattle.names.proofs.find.Reads as find-reads
 use Rattle.names.proofs.name_at.Reads as name-at-reads
-use Rattle.operands.proofs.span.Reads as span-reads
+use Rattle.tokens.proofs.width.Reads as width-reads
 use Rattle.tokens.proofs.token_at.Reads as token-at-reads
 use Rattle.leaving.proofs.Leaving.{from-unknown, from-label, from-variable, from-entry, from-builtin}
 
 token-at-requires : tie.Need-token-at-requires
 token-at-requires c κs = search needs
 
-span-requires : tie.Need-span-requires
-span-requires c κs = search needs
+width-requires : tie.Need-width-requires
+width-requires c κs = search needs
 
 find-requires : tie.Need-find-requires
 find-requires c κs = search needs
@@ -64,7 +64,7 @@ jump-from-spec =
     tie.close
     (tie.spec
     token-at-requires
-    span-requires
+    width-requires
     find-requires
     enum-told
     enum-known-found

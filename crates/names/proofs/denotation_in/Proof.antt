@@ -5,7 +5,7 @@ use Rattle.names.proofs.denotation_in.Tie as tie
 use Rattle.names.proofs.denotation_in.Reads as reads
 use Rattle.names.proofs.denotation_in.Lts as lts
 use Rattle.names.proofs.body_in.Reads as body-in-reads
-use Rattle.names.proofs.type_in.Reads as type-in-reads
+use Rattle.types.proofs.type_in.Reads as type-in-reads
 use borrow.Author.Tests.{eq-eqb, ne-eqb}
 
 type-in-requires : tie.Need-type-in-requires

@@ -8,7 +8,7 @@ use Rattle.names.proofs.flag.Reads as flag-reads
 use Rattle.names.proofs.put3.Reads as put3-reads
 use Rattle.names.proofs.put_body.Reads as put-body-reads
 use Rattle.names.proofs.put_tag.Reads as put-tag-reads
-use Rattle.names.proofs.type_number.Reads as type-number-reads
+use Rattle.types.proofs.type_number.Reads as type-number-reads
 use denote.Ref.{now}
 use mathlib.Core.List.{_∷_, []}
 use Rattle.names.specs.Table.{denotationNumbers, bodyNumbers}

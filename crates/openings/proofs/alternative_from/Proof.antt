@@ -5,7 +5,7 @@ use Rattle.openings.proofs.alternative_from.Tie as tie
 use Rattle.openings.proofs.alternative_from.Reads as reads
 use Rattle.openings.proofs.alternative_from.Lts as lts
 use Rattle.openings.proofs.begins.Reads as begins-reads
-use Rattle.openings.proofs.is_inside.Reads as is-inside-reads
+use Rattle.statements.proofs.is_inside.Reads as is-inside-reads
 use Rattle.tokens.proofs.is_sign.Reads as is-sign-reads
 use Rattle.openings.proofs.Ends.{from-first, from-wrong, from-percent, from-none}
 

@@ -5,7 +5,7 @@ use Rattle.openings.proofs.else_at.Tie as tie
 use Rattle.openings.proofs.else_at.Reads as reads
 use Rattle.openings.proofs.else_at.Lts as lts
 use Rattle.openings.proofs.else_word.Reads as else-word-reads
-use Rattle.openings.proofs.is_inside.Reads as is-inside-reads
+use Rattle.statements.proofs.is_inside.Reads as is-inside-reads
 use Rattle.tokens.proofs.is_sign.Reads as is-sign-reads
 use Rattle.tokens.proofs.token_at.Reads as token-at-reads
 use Rattle.openings.proofs.Laws.{else-inside, else-percent, else-none}

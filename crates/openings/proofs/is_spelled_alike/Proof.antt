@@ -4,16 +4,16 @@ use Rattle.openings.proofs.is_spelled_alike.Statement.{statement}
 use Rattle.openings.proofs.is_spelled_alike.Tie as tie
 use Rattle.openings.proofs.is_spelled_alike.Reads as reads
 use Rattle.openings.proofs.is_spelled_alike.Lts as lts
-use Rattle.openings.proofs.length_of.Reads as length-of-reads
-use Rattle.openings.proofs.span.Reads as span-reads
+use Rattle.sums.proofs.less.Reads as less-reads
+use Rattle.tokens.proofs.width.Reads as width-reads
 use Rattle.rooms.proofs.is_same.Reads as is-same-reads
 use Rattle.openings.proofs.Labelling.{spelled-so, spelled-not}
 
-length-of-requires : tie.Need-length-of-requires
-length-of-requires c κs = search needs
+less-requires : tie.Need-less-requires
+less-requires c κs = search needs
 
-span-requires : tie.Need-span-requires
-span-requires c κs = search needs
+width-requires : tie.Need-width-requires
+width-requires c κs = search needs
 
 is-same-requires : tie.Need-is-same-requires
 is-same-requires c κs = search needs
@@ -26,4 +26,4 @@ returns-2 c = search spelled-not
 
 pub is-spelled-alike-spec : {M : Type 1} → statement M
 is-spelled-alike-spec =
-    tie.close (tie.spec length-of-requires span-requires is-same-requires returns returns-2)
+    tie.close (tie.spec less-requires width-requires is-same-requires returns returns-2)

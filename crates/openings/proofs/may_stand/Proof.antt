@@ -4,7 +4,7 @@ use Rattle.openings.proofs.may_stand.Statement.{statement}
 use Rattle.openings.proofs.may_stand.Tie as tie
 use Rattle.openings.proofs.may_stand.Reads as reads
 use Rattle.openings.proofs.may_stand.Lts as lts
-use Rattle.openings.proofs.is_inside.Reads as is-inside-reads
+use Rattle.statements.proofs.is_inside.Reads as is-inside-reads
 use Rattle.openings.proofs.is_list.Reads as is-list-reads
 use Rattle.openings.proofs.Words.{stands-procedure}
 

@@ -4,12 +4,12 @@ use Rattle.operands.proofs.integer_value.Statement.{statement}
 use Rattle.operands.proofs.integer_value.Tie as tie
 use Rattle.operands.proofs.integer_value.Reads as reads
 use Rattle.operands.proofs.integer_value.Lts as lts
-use Rattle.operands.proofs.span.Reads as span-reads
+use Rattle.tokens.proofs.width.Reads as width-reads
 use Rattle.values.proofs.constant_number.Reads as constant-number-reads
 use Rattle.operands.proofs.Leaves.{integer-some, integer-wrong, integer-large}
 
-span-requires : tie.Need-span-requires
-span-requires c κs = search needs
+width-requires : tie.Need-width-requires
+width-requires c κs = search needs
 
 constant-number-requires : tie.Need-constant-number-requires
 constant-number-requires c κs = search needs
@@ -36,7 +36,7 @@ pub integer-value-spec : {M : Type 1} → statement M
 integer-value-spec =
     tie.close
     (tie.spec
-    span-requires
+    width-requires
     constant-number-requires
     enum-known-x
     enum-told

@@ -4,7 +4,7 @@ use Rattle.operators.proofs.comparing.Statement.{statement}
 use Rattle.operators.proofs.comparing.Tie as tie
 use Rattle.operators.proofs.comparing.Reads as reads
 use Rattle.operators.proofs.comparing.Lts as lts
-use Rattle.operators.proofs.bit.Reads as bit-reads
+use Rattle.values.proofs.bit_of.Reads as bit-of-reads
 use Rattle.operators.proofs.compared.Reads as compared-reads
 use Rattle.operators.proofs.fits.Reads as fits-reads
 use Rattle.rooms.proofs.put_byte.Reads as put-byte-reads
@@ -23,8 +23,8 @@ fits-requires c κs = search needs
 is-wanted-requires : tie.Need-is-wanted-requires
 is-wanted-requires c κs = search needs
 
-bit-requires : tie.Need-bit-requires
-bit-requires c κs = search needs
+bit-of-requires : tie.Need-bit-of-requires
+bit-of-requires c κs = search needs
 
 put-byte-requires : tie.Need-put-byte-requires
 put-byte-requires c κs = search needs
@@ -58,7 +58,7 @@ comparing-spec =
     enum-known-o
     fits-requires
     is-wanted-requires
-    bit-requires
+    bit-of-requires
     put-byte-requires
     same-length
     returns

@@ -6,18 +6,18 @@ use Rattle.outcomes.proofs.active_in.Reads as reads
 use Rattle.outcomes.proofs.active_in.Lts as lts
 use Rattle.outcomes.proofs.active_name.Reads as active-name-reads
 use Rattle.outcomes.proofs.is_name.Reads as is-name-reads
-use Rattle.outcomes.proofs.plus.Reads as plus-reads
-use Rattle.outcomes.proofs.span.Reads as span-reads
+use Rattle.sums.proofs.sum.Reads as sum-reads
+use Rattle.sums.proofs.less.Reads as less-reads
 use Rattle.outcomes.proofs.Naming.{here-work, here-body, here-plain}
 
 is-name-requires : tie.Need-is-name-requires
 is-name-requires c κs = search needs
 
-plus-requires : tie.Need-plus-requires
-plus-requires c κs = search needs
+sum-requires : tie.Need-sum-requires
+sum-requires c κs = search needs
 
-span-requires : tie.Need-span-requires
-span-requires c κs = search needs
+less-requires : tie.Need-less-requires
+less-requires c κs = search needs
 
 active-name-requires : tie.Need-active-name-requires
 active-name-requires c κs = search needs
@@ -39,8 +39,8 @@ active-in-spec =
     tie.close
     (tie.spec
     is-name-requires
-    plus-requires
-    span-requires
+    sum-requires
+    less-requires
     active-name-requires
     returns
     active-name-requires-2

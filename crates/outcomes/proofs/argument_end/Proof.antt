@@ -6,7 +6,7 @@ use Rattle.outcomes.proofs.argument_end.Reads as reads
 use Rattle.outcomes.proofs.argument_end.Lts as lts
 use Rattle.outcomes.proofs.is_outer_comma.Reads as is-outer-comma-reads
 use Rattle.outcomes.proofs.place_after.Reads as place-after-reads
-use Rattle.outcomes.proofs.plus.Reads as plus-reads
+use Rattle.sums.proofs.sum.Reads as sum-reads
 use Rattle.tokens.proofs.piece_at.Reads as piece-at-reads
 use Prim.Native.Nat.{_≤_}
 use Rattle.outcomes.proofs.Cutting.{Ending′, ending-start, ending-past, ending-none, ending-close, ending-comma, ending-opened, ending-closed, ending-piece}
@@ -29,8 +29,8 @@ returns c = search ending-past
 shared-slice-read-b : tie.Need-shared-slice-read-b Inv-loop μ-loop
 shared-slice-read-b c = search needs
 
-plus-requires : tie.Need-plus-requires Inv-loop μ-loop
-plus-requires c κs = search needs
+sum-requires : tie.Need-sum-requires Inv-loop μ-loop
+sum-requires c κs = search needs
 
 place-after-requires : tie.Need-place-after-requires Inv-loop μ-loop
 place-after-requires c κs = search needs
@@ -81,7 +81,7 @@ argument-end-spec =
     sub-turns
     returns
     shared-slice-read-b
-    plus-requires
+    sum-requires
     place-after-requires
     loop-less
     loop-again

@@ -7,11 +7,11 @@ use Rattle.outcomes.proofs.copy_token.Lts as lts
 use Rattle.outcomes.proofs.full.Reads as full-reads
 use Rattle.outcomes.proofs.may_put.Reads as may-put-reads
 use Rattle.outcomes.proofs.put_bytes.Reads as put-bytes-reads
-use Rattle.outcomes.proofs.span.Reads as span-reads
+use Rattle.sums.proofs.less.Reads as less-reads
 use Rattle.outcomes.proofs.Putting.{token-copied, token-full}
 
-span-requires : tie.Need-span-requires
-span-requires c κs = search needs
+less-requires : tie.Need-less-requires
+less-requires c κs = search needs
 
 may-put-requires : tie.Need-may-put-requires
 may-put-requires c κs = search needs
@@ -38,7 +38,7 @@ pub copy-token-spec : {M : Type 1} → statement M
 copy-token-spec =
     tie.close
     (tie.spec
-    span-requires
+    less-requires
     may-put-requires
     put-bytes-requires
     same-length

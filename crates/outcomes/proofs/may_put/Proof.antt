@@ -5,7 +5,7 @@ use Rattle.outcomes.proofs.may_put.Tie as tie
 use Rattle.outcomes.proofs.may_put.Reads as reads
 use Rattle.outcomes.proofs.may_put.Lts as lts
 use Rattle.operators.proofs.fits.Reads as fits-reads
-use Rattle.outcomes.proofs.plus.Reads as plus-reads
+use Rattle.sums.proofs.sum.Reads as sum-reads
 use Rattle.outcomes.proofs.Putting.{may-past, may-over, may-work, may-text}
 
 returns : tie.Need-returns
@@ -14,8 +14,8 @@ returns c = search may-past
 returns-2 : tie.Need-returns-2
 returns-2 c = search may-over
 
-plus-requires : tie.Need-plus-requires
-plus-requires c κs = search needs
+sum-requires : tie.Need-sum-requires
+sum-requires c κs = search needs
 
 fits-requires : tie.Need-fits-requires
 fits-requires c κs = search needs
@@ -28,4 +28,4 @@ returns-4 c = search may-text
 
 pub may-put-spec : {M : Type 1} → statement M
 may-put-spec =
-    tie.close (tie.spec returns returns-2 plus-requires fits-requires returns-3 returns-4)
+    tie.close (tie.spec returns returns-2 sum-requires fits-requires returns-3 returns-4)

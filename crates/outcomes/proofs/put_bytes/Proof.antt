@@ -6,12 +6,12 @@ use Rattle.outcomes.proofs.put_bytes.Reads as reads
 use Rattle.outcomes.proofs.put_bytes.Lts as lts
 use Rattle.operators.proofs.above.Reads as above-reads
 use Rattle.operators.proofs.move_up.Reads as move-up-reads
-use Rattle.outcomes.proofs.plus.Reads as plus-reads
+use Rattle.sums.proofs.sum.Reads as sum-reads
 use Rattle.rooms.proofs.copy.Reads as copy-reads
 use Rattle.outcomes.proofs.Putting.{put-moved, put-up, put-out, put-across}
 
-plus-requires : tie.Need-plus-requires
-plus-requires c κs = search needs
+sum-requires : tie.Need-sum-requires
+sum-requires c κs = search needs
 
 above-requires : tie.Need-above-requires
 above-requires c κs = search needs
@@ -37,8 +37,8 @@ same-length-2 c = search needs
 returns-2 : tie.Need-returns-2
 returns-2 c = search put-up
 
-plus-requires-2 : tie.Need-plus-requires-2
-plus-requires-2 c κs = search needs
+sum-requires-2 : tie.Need-sum-requires-2
+sum-requires-2 c κs = search needs
 
 copy-requires-2 : tie.Need-copy-requires-2
 copy-requires-2 c κs = search needs
@@ -52,8 +52,8 @@ same-length-4 c = search needs
 returns-3 : tie.Need-returns-3
 returns-3 c = search put-out
 
-plus-requires-3 : tie.Need-plus-requires-3
-plus-requires-3 c κs = search needs
+sum-requires-3 : tie.Need-sum-requires-3
+sum-requires-3 c κs = search needs
 
 copy-requires-3 : tie.Need-copy-requires-3
 copy-requires-3 c κs = search needs
@@ -68,7 +68,7 @@ pub put-bytes-spec : {M : Type 1} → statement M
 put-bytes-spec =
     tie.close
     (tie.spec
-    plus-requires
+    sum-requires
     above-requires
     move-up-requires
     same-length
@@ -77,12 +77,12 @@ put-bytes-spec =
     copy-requires
     same-length-2
     returns-2
-    plus-requires-2
+    sum-requires-2
     copy-requires-2
     same-length-3
     same-length-4
     returns-3
-    plus-requires-3
+    sum-requires-3
     copy-requires-3
     same-length-5
     returns-4)

@@ -5,8 +5,8 @@ use Rattle.output.proofs.put_copied.Tie as tie
 use Rattle.output.proofs.put_copied.Reads as reads
 use Rattle.output.proofs.put_copied.Lts as lts
 use Rattle.output.proofs.grows_from.Reads as grows-from-reads
-use Rattle.output.proofs.less.Reads as less-reads
-use Rattle.output.proofs.sum32.Reads as sum32-reads
+use Rattle.sums.proofs.less.Reads as less-reads
+use Rattle.sums.proofs.sum32.Reads as sum32-reads
 use Rattle.output.proofs.with_line.Reads as with-line-reads
 use Rattle.rooms.proofs.copy.Reads as copy-reads
 use denote.Ref.{now}

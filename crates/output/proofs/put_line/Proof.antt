@@ -4,7 +4,7 @@ use Rattle.output.proofs.put_line.Statement.{statement}
 use Rattle.output.proofs.put_line.Tie as tie
 use Rattle.output.proofs.put_line.Reads as reads
 use Rattle.output.proofs.put_line.Lts as lts
-use Rattle.output.proofs.sum.Reads as sum-reads
+use Rattle.sums.proofs.sum.Reads as sum-reads
 use Rattle.rooms.proofs.put_byte.Reads as put-byte-reads
 use Rattle.rooms.proofs.put_u32.Reads as put-u32-reads
 use Rattle.output.proofs.Laws.{line-put}

@@ -4,10 +4,10 @@ use Rattle.output.proofs.with_line.Statement.{statement}
 use Rattle.output.proofs.with_line.Tie as tie
 use Rattle.output.proofs.with_line.Reads as reads
 use Rattle.output.proofs.with_line.Lts as lts
-use Rattle.output.proofs.less.Reads as less-reads
+use Rattle.sums.proofs.less.Reads as less-reads
 use Rattle.output.proofs.line_at.Reads as line-at-reads
 use Rattle.output.proofs.put_line.Reads as put-line-reads
-use Rattle.output.proofs.sum.Reads as sum-reads
+use Rattle.sums.proofs.sum.Reads as sum-reads
 use Rattle.output.proofs.Laws.{line-written}
 
 line-at-requires : tie.Need-line-at-requires

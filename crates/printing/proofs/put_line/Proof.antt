@@ -7,7 +7,7 @@ use Rattle.printing.proofs.put_line.Lts as lts
 use Rattle.printing.proofs.letter_of.Reads as letter-of-reads
 use Rattle.printing.proofs.put.Reads as put-reads
 use Rattle.printing.proofs.put_rest.Reads as put-rest-reads
-use Rattle.printing.proofs.wide.Reads as wide-reads
+use Rattle.rooms.proofs.wide32.Reads as wide32-reads
 use Rattle.rooms.proofs.byte.Reads as byte-reads
 use Rattle.rooms.proofs.get_u32.Reads as get-u32-reads
 use Rattle.printing.proofs.Laws.{line-put}
@@ -27,8 +27,8 @@ put-requires c κs = search needs
 byte-requires-2 : tie.Need-byte-requires-2
 byte-requires-2 c κs = search needs
 
-wide-requires : tie.Need-wide-requires
-wide-requires c κs = search needs
+wide32-requires : tie.Need-wide32-requires
+wide32-requires c κs = search needs
 
 add-get-u32 : tie.Need-add-get-u32
 add-get-u32 c = search needs
@@ -63,7 +63,7 @@ put-line-spec =
     letter-of-requires
     put-requires
     byte-requires-2
-    wide-requires
+    wide32-requires
     add-get-u32
     get-u32-requires
     add-get-u32-2

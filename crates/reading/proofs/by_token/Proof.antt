@@ -5,7 +5,7 @@ use Rattle.reading.proofs.by_token.Tie as tie
 use Rattle.reading.proofs.by_token.Reads as reads
 use Rattle.reading.proofs.by_token.Lts as lts
 use Rattle.openings.proofs.null_clause.Reads as null-clause-reads
-use Rattle.openings.proofs.span.Reads as span-reads
+use Rattle.tokens.proofs.width.Reads as width-reads
 use Rattle.reading.proofs.by_word.Reads as by-word-reads
 use Rattle.reading.proofs.stop.Reads as stop-reads
 use Rattle.reading.proofs.taken.Reads as taken-reads
@@ -16,8 +16,8 @@ use Rattle.reading.proofs.Tokening.{token-by-word, token-too-long, toke
 is-word-kind-requires : tie.Need-is-word-kind-requires
 is-word-kind-requires c κs = search needs
 
-span-requires : tie.Need-span-requires
-span-requires c κs = search needs
+width-requires : tie.Need-width-requires
+width-requires c κs = search needs
 
 by-word-requires : tie.Need-by-word-requires
 by-word-requires c κs = search needs
@@ -66,7 +66,7 @@ by-token-spec =
     tie.close
     (tie.spec
     is-word-kind-requires
-    span-requires
+    width-requires
     by-word-requires
     same-length
     same-length-2

@@ -5,7 +5,7 @@ use Rattle.reading.proofs.by_word.Tie as tie
 use Rattle.reading.proofs.by_word.Reads as reads
 use Rattle.reading.proofs.by_word.Lts as lts
 use Rattle.openings.proofs.depth.Reads as depth-reads
-use Rattle.openings.proofs.is_inside.Reads as is-inside-reads
+use Rattle.statements.proofs.is_inside.Reads as is-inside-reads
 use Rattle.openings.proofs.other_clause.Reads as other-clause-reads
 use Rattle.reading.proofs.after_declaring.Reads as after-declaring-reads
 use Rattle.reading.proofs.stop.Reads as stop-reads

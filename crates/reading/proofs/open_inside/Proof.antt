@@ -4,7 +4,7 @@ use Rattle.reading.proofs.open_inside.Statement.{statement}
 use Rattle.reading.proofs.open_inside.Tie as tie
 use Rattle.reading.proofs.open_inside.Reads as reads
 use Rattle.reading.proofs.open_inside.Lts as lts
-use Rattle.openings.proofs.is_inside.Reads as is-inside-reads
+use Rattle.statements.proofs.is_inside.Reads as is-inside-reads
 use Rattle.openings.proofs.opening.Reads as opening-reads
 use Rattle.openings.proofs.push.Reads as push-reads
 use Rattle.reading.proofs.complete.Reads as complete-reads

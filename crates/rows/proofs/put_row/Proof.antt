@@ -10,7 +10,7 @@ use Rattle.rows.proofs.put_stretch.Reads as put-stretch-reads
 use Rattle.rows.proofs.record_place.Reads as record-place-reads
 use Rattle.rows.proofs.role_number.Reads as role-number-reads
 use Rattle.rows.proofs.statement_number.Reads as statement-number-reads
-use Rattle.rows.proofs.type_number.Reads as type-number-reads
+use Rattle.types.proofs.type_number.Reads as type-number-reads
 use denote.Ref.{now}
 use Rattle.rows.proofs.Laws.{whole}
 

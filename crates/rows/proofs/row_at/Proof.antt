@@ -9,7 +9,7 @@ use Rattle.rows.proofs.link_in.Reads as link-in-reads
 use Rattle.rows.proofs.record_place.Reads as record-place-reads
 use Rattle.rows.proofs.role_in.Reads as role-in-reads
 use Rattle.rows.proofs.statement_in.Reads as statement-in-reads
-use Rattle.rows.proofs.type_in.Reads as type-in-reads
+use Rattle.types.proofs.type_in.Reads as type-in-reads
 use denote.Ref.{now}
 use Rattle.rows.proofs.Laws.{row-is}
 

@@ -6,8 +6,8 @@ use Rattle.running.proofs.member_named.Reads as reads
 use Rattle.running.proofs.member_named.Lts as lts
 use Rattle.deck.proofs.find.Reads as find-reads
 use Rattle.deck.proofs.offset.Reads as offset-reads
-use Rattle.outcomes.proofs.plus.Reads as plus-reads
-use Rattle.outcomes.proofs.span.Reads as span-reads
+use Rattle.sums.proofs.sum.Reads as sum-reads
+use Rattle.tokens.proofs.width.Reads as width-reads
 use Rattle.running.proofs.Naming.{member-found}
 
 offset-requires : tie.Need-offset-requires
@@ -16,11 +16,11 @@ offset-requires c κs = search needs
 cast-base : tie.Need-cast-base
 cast-base c = search needs
 
-plus-requires : tie.Need-plus-requires
-plus-requires c κs = search needs
+sum-requires : tie.Need-sum-requires
+sum-requires c κs = search needs
 
-span-requires : tie.Need-span-requires
-span-requires c κs = search needs
+width-requires : tie.Need-width-requires
+width-requires c κs = search needs
 
 find-requires : tie.Need-find-requires
 find-requires c κs = search needs
@@ -31,4 +31,4 @@ returns c = search member-found
 pub member-named-spec : {M : Type 1} → statement M
 member-named-spec =
     tie.close
-    (tie.spec offset-requires cast-base plus-requires span-requires find-requires returns)
+    (tie.spec offset-requires cast-base sum-requires width-requires find-requires returns)

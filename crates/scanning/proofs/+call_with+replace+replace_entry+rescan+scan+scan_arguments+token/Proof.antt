@@ -48,11 +48,11 @@ use Rattle.outcomes.proofs.list_of.Reads as list-of-reads
 use Rattle.outcomes.proofs.part_of.Reads as part-of-reads
 use Rattle.outcomes.proofs.piece_of.Reads as piece-of-reads
 use Rattle.outcomes.proofs.place_after.Reads as place-after-reads
-use Rattle.outcomes.proofs.plus.Reads as plus-reads
 use Rattle.outcomes.proofs.settled.Reads as settled-reads
-use Rattle.outcomes.proofs.span.Reads as span-reads
 use Rattle.outcomes.proofs.up_to.Reads as up-to-reads
 use Rattle.outcomes.proofs.waiting.Reads as waiting-reads
+use Rattle.sums.proofs.less.Reads as less-reads
+use Rattle.sums.proofs.sum.Reads as sum-reads
 use Rattle.scanning.proofs.converted.Reads as converted-reads
 use Rattle.scanning.proofs.meter_of.Reads as meter-of-reads
 use Rattle.scanning.proofs.next_of.Reads as next-of-reads
@@ -1819,47 +1819,47 @@ scan-Inv-loop deck s rows names cells₀ low₀ high₀ work₀ text₀ x d u n 
 abbrev scan-μ-loop : scan-lts.MeasureT-loop
 scan-μ-loop deck s rows names cells₀ low₀ high₀ work₀ text₀ x d u n c size k₀ p₀ m₀ turns₀ cells low high work text k p m turns = turns
 
-scan-span-requires : (t : ℕ) → scan-lts.Need-span-requires (
-  span-reads.Asked,
-  span-reads.Learnt,
-  plus-reads.Asked,
-  plus-reads.Learnt,
+scan-less-requires : (t : ℕ) → scan-lts.Need-less-requires (
+  less-reads.Asked,
+  less-reads.Learnt,
+  sum-reads.Asked,
+  sum-reads.Learnt,
   charged-reads.Asked,
   charged-reads.Learnt,
   token-below t,
   token.Post,
 ) (scan-at t) scan.Post scan-Inv-loop scan-μ-loop
-scan-span-requires t c κs = search needs
+scan-less-requires t c κs = search needs
 
-scan-plus-requires : (t : ℕ) → scan-lts.Need-plus-requires (
-  span-reads.Asked,
-  span-reads.Learnt,
-  plus-reads.Asked,
-  plus-reads.Learnt,
+scan-sum-requires : (t : ℕ) → scan-lts.Need-sum-requires (
+  less-reads.Asked,
+  less-reads.Learnt,
+  sum-reads.Asked,
+  sum-reads.Learnt,
   charged-reads.Asked,
   charged-reads.Learnt,
   token-below t,
   token.Post,
 ) (scan-at t) scan.Post scan-Inv-loop scan-μ-loop
-scan-plus-requires t c κs = search needs
+scan-sum-requires t c κs = search needs
 
 scan-loop-holds : (t : ℕ) → scan-lts.Need-loop-holds (
-  span-reads.Asked,
-  span-reads.Learnt,
-  plus-reads.Asked,
-  plus-reads.Learnt,
+  less-reads.Asked,
+  less-reads.Learnt,
+  sum-reads.Asked,
+  sum-reads.Learnt,
   charged-reads.Asked,
   charged-reads.Learnt,
   token-below t,
   token.Post,
 ) (scan-at t) scan.Post scan-Inv-loop scan-μ-loop
-scan-loop-holds t c = scanning-start _ _ _ _ _ _ _ _ _ _ _ _ _ _ _ _ _ (c .before .span .ensures) (c .plus .ensures)
+scan-loop-holds t c = scanning-start _ _ _ _ _ _ _ _ _ _ _ _ _ _ _ _ _ (c .before .less .ensures) (c .sum .ensures)
 
 scan-sub-turns : (t : ℕ) → scan-lts.Need-sub-turns (
-  span-reads.Asked,
-  span-reads.Learnt,
-  plus-reads.Asked,
-  plus-reads.Learnt,
+  less-reads.Asked,
+  less-reads.Learnt,
+  sum-reads.Asked,
+  sum-reads.Learnt,
   charged-reads.Asked,
   charged-reads.Learnt,
   token-below t,
@@ -1868,10 +1868,10 @@ scan-sub-turns : (t : ℕ) → scan-lts.Need-sub-turns (
 scan-sub-turns t c = search needs
 
 scan-same-length : (t : ℕ) → scan-lts.Need-same-length (
-  span-reads.Asked,
-  span-reads.Learnt,
-  plus-reads.Asked,
-  plus-reads.Learnt,
+  less-reads.Asked,
+  less-reads.Learnt,
+  sum-reads.Asked,
+  sum-reads.Learnt,
   charged-reads.Asked,
   charged-reads.Learnt,
   token-below t,
@@ -1880,10 +1880,10 @@ scan-same-length : (t : ℕ) → scan-lts.Need-same-length (
 scan-same-length t c = (c .before .before .loop .inv .cells)
 
 scan-same-length-2 : (t : ℕ) → scan-lts.Need-same-length-2 (
-  span-reads.Asked,
-  span-reads.Learnt,
-  plus-reads.Asked,
-  plus-reads.Learnt,
+  less-reads.Asked,
+  less-reads.Learnt,
+  sum-reads.Asked,
+  sum-reads.Learnt,
   charged-reads.Asked,
   charged-reads.Learnt,
   token-below t,
@@ -1892,10 +1892,10 @@ scan-same-length-2 : (t : ℕ) → scan-lts.Need-same-length-2 (
 scan-same-length-2 t c = (c .before .before .loop .inv .low)
 
 scan-same-length-3 : (t : ℕ) → scan-lts.Need-same-length-3 (
-  span-reads.Asked,
-  span-reads.Learnt,
-  plus-reads.Asked,
-  plus-reads.Learnt,
+  less-reads.Asked,
+  less-reads.Learnt,
+  sum-reads.Asked,
+  sum-reads.Learnt,
   charged-reads.Asked,
   charged-reads.Learnt,
   token-below t,
@@ -1904,10 +1904,10 @@ scan-same-length-3 : (t : ℕ) → scan-lts.Need-same-length-3 (
 scan-same-length-3 t c = (c .before .before .loop .inv .high)
 
 scan-same-length-4 : (t : ℕ) → scan-lts.Need-same-length-4 (
-  span-reads.Asked,
-  span-reads.Learnt,
-  plus-reads.Asked,
-  plus-reads.Learnt,
+  less-reads.Asked,
+  less-reads.Learnt,
+  sum-reads.Asked,
+  sum-reads.Learnt,
   charged-reads.Asked,
   charged-reads.Learnt,
   token-below t,
@@ -1916,10 +1916,10 @@ scan-same-length-4 : (t : ℕ) → scan-lts.Need-same-length-4 (
 scan-same-length-4 t c = (c .before .before .loop .inv .work)
 
 scan-same-length-5 : (t : ℕ) → scan-lts.Need-same-length-5 (
-  span-reads.Asked,
-  span-reads.Learnt,
-  plus-reads.Asked,
-  plus-reads.Learnt,
+  less-reads.Asked,
+  less-reads.Learnt,
+  sum-reads.Asked,
+  sum-reads.Learnt,
   charged-reads.Asked,
   charged-reads.Learnt,
   token-below t,
@@ -1928,22 +1928,22 @@ scan-same-length-5 : (t : ℕ) → scan-lts.Need-same-length-5 (
 scan-same-length-5 t c = (c .before .before .loop .inv .long)
 
 scan-returns : (t : ℕ) → scan-lts.Need-returns (
-  span-reads.Asked,
-  span-reads.Learnt,
-  plus-reads.Asked,
-  plus-reads.Learnt,
+  less-reads.Asked,
+  less-reads.Learnt,
+  sum-reads.Asked,
+  sum-reads.Learnt,
   charged-reads.Asked,
   charged-reads.Learnt,
   token-below t,
   token.Post,
 ) (scan-at t) scan.Post scan-Inv-loop scan-μ-loop
-scan-returns t c = scanning-end _ _ _ _ _ _ _ _ _ _ _ _ _ _ _ _ _ _ _ _ _ _ _ _ (c .before .before .loop .inv) _ (c .before .before .before .before .span .ensures) (c .if1 .taken)
+scan-returns t c = scanning-end _ _ _ _ _ _ _ _ _ _ _ _ _ _ _ _ _ _ _ _ _ _ _ _ (c .before .before .loop .inv) _ (c .before .before .before .before .less .ensures) (c .if1 .taken)
 
 scan-charged-requires : (t : ℕ) → scan-lts.Need-charged-requires (
-  span-reads.Asked,
-  span-reads.Learnt,
-  plus-reads.Asked,
-  plus-reads.Learnt,
+  less-reads.Asked,
+  less-reads.Learnt,
+  sum-reads.Asked,
+  sum-reads.Learnt,
   charged-reads.Asked,
   charged-reads.Learnt,
   token-below t,
@@ -1952,10 +1952,10 @@ scan-charged-requires : (t : ℕ) → scan-lts.Need-charged-requires (
 scan-charged-requires t c κs = search needs
 
 scan-same-length-6 : (t : ℕ) → scan-lts.Need-same-length-6 (
-  span-reads.Asked,
-  span-reads.Learnt,
-  plus-reads.Asked,
-  plus-reads.Learnt,
+  less-reads.Asked,
+  less-reads.Learnt,
+  sum-reads.Asked,
+  sum-reads.Learnt,
   charged-reads.Asked,
   charged-reads.Learnt,
   token-below t,
@@ -1964,10 +1964,10 @@ scan-same-length-6 : (t : ℕ) → scan-lts.Need-same-length-6 (
 scan-same-length-6 t c = (c .before .before .before .before .before .before .loop .inv .cells)
 
 scan-same-length-7 : (t : ℕ) → scan-lts.Need-same-length-7 (
-  span-reads.Asked,
-  span-reads.Learnt,
-  plus-reads.Asked,
-  plus-reads.Learnt,
+  less-reads.Asked,
+  less-reads.Learnt,
+  sum-reads.Asked,
+  sum-reads.Learnt,
   charged-reads.Asked,
   charged-reads.Learnt,
   token-below t,
@@ -1976,10 +1976,10 @@ scan-same-length-7 : (t : ℕ) → scan-lts.Need-same-length-7 (
 scan-same-length-7 t c = (c .before .before .before .before .before .before .loop .inv .low)
 
 scan-same-length-8 : (t : ℕ) → scan-lts.Need-same-length-8 (
-  span-reads.Asked,
-  span-reads.Learnt,
-  plus-reads.Asked,
-  plus-reads.Learnt,
+  less-reads.Asked,
+  less-reads.Learnt,
+  sum-reads.Asked,
+  sum-reads.Learnt,
   charged-reads.Asked,
   charged-reads.Learnt,
   token-below t,
@@ -1988,10 +1988,10 @@ scan-same-length-8 : (t : ℕ) → scan-lts.Need-same-length-8 (
 scan-same-length-8 t c = (c .before .before .before .before .before .before .loop .inv .high)
 
 scan-same-length-9 : (t : ℕ) → scan-lts.Need-same-length-9 (
-  span-reads.Asked,
-  span-reads.Learnt,
-  plus-reads.Asked,
-  plus-reads.Learnt,
+  less-reads.Asked,
+  less-reads.Learnt,
+  sum-reads.Asked,
+  sum-reads.Learnt,
   charged-reads.Asked,
   charged-reads.Learnt,
   token-below t,
@@ -2000,10 +2000,10 @@ scan-same-length-9 : (t : ℕ) → scan-lts.Need-same-length-9 (
 scan-same-length-9 t c = (c .before .before .before .before .before .before .loop .inv .work)
 
 scan-same-length-10 : (t : ℕ) → scan-lts.Need-same-length-10 (
-  span-reads.Asked,
-  span-reads.Learnt,
-  plus-reads.Asked,
-  plus-reads.Learnt,
+  less-reads.Asked,
+  less-reads.Learnt,
+  sum-reads.Asked,
+  sum-reads.Learnt,
   charged-reads.Asked,
   charged-reads.Learnt,
   token-below t,
@@ -2012,22 +2012,22 @@ scan-same-length-10 : (t : ℕ) → scan-lts.Need-same-length-10 (
 scan-same-length-10 t c = (c .before .before .before .before .before .before .loop .inv .long)
 
 scan-returns-2 : (t : ℕ) → scan-lts.Need-returns-2 (
-  span-reads.Asked,
-  span-reads.Learnt,
-  plus-reads.Asked,
-  plus-reads.Learnt,
+  less-reads.Asked,
+  less-reads.Learnt,
+  sum-reads.Asked,
+  sum-reads.Learnt,
   charged-reads.Asked,
   charged-reads.Learnt,
   token-below t,
   token.Post,
 ) (scan-at t) scan.Post scan-Inv-loop scan-μ-loop
-scan-returns-2 t c = scanning-none _ _ _ _ _ _ _ _ _ _ _ _ _ _ _ _ _ _ _ _ _ _ _ _ (c .before .before .before .before .before .before .loop .inv) _ (c .before .before .before .before .before .before .before .before .span .ensures) (c .before .before .before .before .if1 .left) (c .before .before .before .before .before .loop-test .taken) _ (c .before .before .before .charged .ensures) (not-true _ (c .if2 .taken))
+scan-returns-2 t c = scanning-none _ _ _ _ _ _ _ _ _ _ _ _ _ _ _ _ _ _ _ _ _ _ _ _ (c .before .before .before .before .before .before .loop .inv) _ (c .before .before .before .before .before .before .before .before .less .ensures) (c .before .before .before .before .if1 .left) (c .before .before .before .before .before .loop-test .taken) _ (c .before .before .before .charged .ensures) (not-true _ (c .if2 .taken))
 
 scan-token-requires : (t : ℕ) → scan-lts.Need-token-requires (
-  span-reads.Asked,
-  span-reads.Learnt,
-  plus-reads.Asked,
-  plus-reads.Learnt,
+  less-reads.Asked,
+  less-reads.Learnt,
+  sum-reads.Asked,
+  sum-reads.Learnt,
   charged-reads.Asked,
   charged-reads.Learnt,
   token-below t,
@@ -2036,10 +2036,10 @@ scan-token-requires : (t : ℕ) → scan-lts.Need-token-requires (
 scan-token-requires t c κs = search needs
 
 scan-enum-known-y : (t : ℕ) → scan-lts.Need-enum-known-y (
-  span-reads.Asked,
-  span-reads.Learnt,
-  plus-reads.Asked,
-  plus-reads.Learnt,
+  less-reads.Asked,
+  less-reads.Learnt,
+  sum-reads.Asked,
+  sum-reads.Learnt,
   charged-reads.Asked,
   charged-reads.Learnt,
   token-below t,
@@ -2047,23 +2047,23 @@ scan-enum-known-y : (t : ℕ) → scan-lts.Need-enum-known-y (
 ) (scan-at t) scan.Post scan-Inv-loop scan-μ-loop
 scan-enum-known-y t c = search needs
 
-scan-plus-requires-2 : (t : ℕ) → scan-lts.Need-plus-requires-2 (
-  span-reads.Asked,
-  span-reads.Learnt,
-  plus-reads.Asked,
-  plus-reads.Learnt,
+scan-sum-requires-2 : (t : ℕ) → scan-lts.Need-sum-requires-2 (
+  less-reads.Asked,
+  less-reads.Learnt,
+  sum-reads.Asked,
+  sum-reads.Learnt,
   charged-reads.Asked,
   charged-reads.Learnt,
   token-below t,
   token.Post,
 ) (scan-at t) scan.Post scan-Inv-loop scan-μ-loop
-scan-plus-requires-2 t c κs = search needs
+scan-sum-requires-2 t c κs = search needs
 
 scan-loop-less : (t : ℕ) → scan-lts.Need-loop-less (
-  span-reads.Asked,
-  span-reads.Learnt,
-  plus-reads.Asked,
-  plus-reads.Learnt,
+  less-reads.Asked,
+  less-reads.Learnt,
+  sum-reads.Asked,
+  sum-reads.Learnt,
   charged-reads.Asked,
   charged-reads.Learnt,
   token-below t,
@@ -2072,22 +2072,22 @@ scan-loop-less : (t : ℕ) → scan-lts.Need-loop-less (
 scan-loop-less t c = omega (arith, (c .before .before .before .before .before .before .before .before .before .before .before .before .before .before .before .before .before .before .before .before .before .before .before .before .before .loop-test .taken))
 
 scan-loop-again : (t : ℕ) → scan-lts.Need-loop-again (
-  span-reads.Asked,
-  span-reads.Learnt,
-  plus-reads.Asked,
-  plus-reads.Learnt,
+  less-reads.Asked,
+  less-reads.Learnt,
+  sum-reads.Asked,
+  sum-reads.Learnt,
   charged-reads.Asked,
   charged-reads.Learnt,
   token-below t,
   token.Post,
 ) (scan-at t) scan.Post scan-Inv-loop scan-μ-loop
-scan-loop-again t c = scanning-more _ _ _ _ _ _ _ _ _ _ _ _ _ _ _ _ _ _ _ _ _ _ _ _ (c .before .before .before .before .before .before .before .before .before .before .before .before .before .before .before .before .before .before .before .before .before .before .before .before .before .before .loop .inv) _ (c .before .before .before .before .before .before .before .before .before .before .before .before .before .before .before .before .before .before .before .before .before .before .before .before .before .before .before .before .span .ensures) (c .before .before .before .before .before .before .before .before .before .before .before .before .before .before .before .before .before .before .before .before .before .before .before .before .if1 .left) (c .before .before .before .before .before .before .before .before .before .before .before .before .before .before .before .before .before .before .before .before .before .before .before .before .before .loop-test .taken) _ (c .before .before .before .before .before .before .before .before .before .before .before .before .before .before .before .before .before .before .before .before .before .before .before .charged .ensures) _ _ _ _ _ _ (c .before .before .before .before .before .before .before .before .before .before .before .before .before .before .token .ensures) (not-false _ (c .before .before .before .before .before .before .before .before .before .before .before .before .before .before .before .before .before .before .before .before .if2 .left)) _ _ _ _ (c .before .before .y .given .1) (c .plus2 .ensures) (c .before .before .before .before .before .before .before .before .before .before .before .before .before .before .token .kept .1 .1 .1 .1 .0) (c .before .before .before .before .before .before .before .before .before .before .before .before .before .before .token .kept .1 .1 .1 .1 .1 .0) (c .before .before .before .before .before .before .before .before .before .before .before .before .before .before .token .kept .1 .1 .1 .1 .1 .1 .0) (c .before .before .before .before .before .before .before .before .before .before .before .before .before .before .token .kept .1 .1 .1 .1 .1 .1 .1 .0) (c .before .before .before .before .before .before .before .before .before .before .before .before .before .before .token .kept .1 .1 .1 .1 .1 .1 .1 .1 .0)
+scan-loop-again t c = scanning-more _ _ _ _ _ _ _ _ _ _ _ _ _ _ _ _ _ _ _ _ _ _ _ _ (c .before .before .before .before .before .before .before .before .before .before .before .before .before .before .before .before .before .before .before .before .before .before .before .before .before .before .loop .inv) _ (c .before .before .before .before .before .before .before .before .before .before .before .before .before .before .before .before .before .before .before .before .before .before .before .before .before .before .before .before .less .ensures) (c .before .before .before .before .before .before .before .before .before .before .before .before .before .before .before .before .before .before .before .before .before .before .before .before .if1 .left) (c .before .before .before .before .before .before .before .before .before .before .before .before .before .before .before .before .before .before .before .before .before .before .before .before .before .loop-test .taken) _ (c .before .before .before .before .before .before .before .before .before .before .before .before .before .before .before .before .before .before .before .before .before .before .before .charged .ensures) _ _ _ _ _ _ (c .before .before .before .before .before .before .before .before .before .before .before .before .before .before .token .ensures) (not-false _ (c .before .before .before .before .before .before .before .before .before .before .before .before .before .before .before .before .before .before .before .before .if2 .left)) _ _ _ _ (c .before .before .y .given .1) (c .sum2 .ensures) (c .before .before .before .before .before .before .before .before .before .before .before .before .before .before .token .kept .1 .1 .1 .1 .0) (c .before .before .before .before .before .before .before .before .before .before .before .before .before .before .token .kept .1 .1 .1 .1 .1 .0) (c .before .before .before .before .before .before .before .before .before .before .before .before .before .before .token .kept .1 .1 .1 .1 .1 .1 .0) (c .before .before .before .before .before .before .before .before .before .before .before .before .before .before .token .kept .1 .1 .1 .1 .1 .1 .1 .0) (c .before .before .before .before .before .before .before .before .before .before .before .before .before .before .token .kept .1 .1 .1 .1 .1 .1 .1 .1 .0)
 
 scan-enum-known-y-2 : (t : ℕ) → scan-lts.Need-enum-known-y-2 (
-  span-reads.Asked,
-  span-reads.Learnt,
-  plus-reads.Asked,
-  plus-reads.Learnt,
+  less-reads.Asked,
+  less-reads.Learnt,
+  sum-reads.Asked,
+  sum-reads.Learnt,
   charged-reads.Asked,
   charged-reads.Learnt,
   token-below t,
@@ -2096,10 +2096,10 @@ scan-enum-known-y-2 : (t : ℕ) → scan-lts.Need-enum-known-y-2 (
 scan-enum-known-y-2 t c = search needs
 
 scan-same-length-11 : (t : ℕ) → scan-lts.Need-same-length-11 (
-  span-reads.Asked,
-  span-reads.Learnt,
-  plus-reads.Asked,
-  plus-reads.Learnt,
+  less-reads.Asked,
+  less-reads.Learnt,
+  sum-reads.Asked,
+  sum-reads.Learnt,
   charged-reads.Asked,
   charged-reads.Learnt,
   token-below t,
@@ -2108,10 +2108,10 @@ scan-same-length-11 : (t : ℕ) → scan-lts.Need-same-length-11 (
 scan-same-length-11 t c = (c .before .before .before .before .before .before .before .before .before .before .before .before .before .token .kept .1 .1 .1 .1 .0) ∙ (c .before .before .before .before .before .before .before .before .before .before .before .before .before .before .before .before .before .before .before .before .before .before .before .before .before .loop .inv .cells)
 
 scan-same-length-12 : (t : ℕ) → scan-lts.Need-same-length-12 (
-  span-reads.Asked,
-  span-reads.Learnt,
-  plus-reads.Asked,
-  plus-reads.Learnt,
+  less-reads.Asked,
+  less-reads.Learnt,
+  sum-reads.Asked,
+  sum-reads.Learnt,
   charged-reads.Asked,
   charged-reads.Learnt,
   token-below t,
@@ -2120,10 +2120,10 @@ scan-same-length-12 : (t : ℕ) → scan-lts.Need-same-length-12 (
 scan-same-length-12 t c = (c .before .before .before .before .before .before .before .before .before .before .before .before .before .token .kept .1 .1 .1 .1 .1 .0) ∙ (c .before .before .before .before .before .before .before .before .before .before .before .before .before .before .before .before .before .before .before .before .before .before .before .before .before .loop .inv .low)
 
 scan-same-length-13 : (t : ℕ) → scan-lts.Need-same-length-13 (
-  span-reads.Asked,
-  span-reads.Learnt,
-  plus-reads.Asked,
-  plus-reads.Learnt,
+  less-reads.Asked,
+  less-reads.Learnt,
+  sum-reads.Asked,
+  sum-reads.Learnt,
   charged-reads.Asked,
   charged-reads.Learnt,
   token-below t,
@@ -2132,10 +2132,10 @@ scan-same-length-13 : (t : ℕ) → scan-lts.Need-same-length-13 (
 scan-same-length-13 t c = (c .before .before .before .before .before .before .before .before .before .before .before .before .before .token .kept .1 .1 .1 .1 .1 .1 .0) ∙ (c .before .before .before .before .before .before .before .before .before .before .before .before .before .before .before .before .before .before .before .before .before .before .before .before .before .loop .inv .high)
 
 scan-same-length-14 : (t : ℕ) → scan-lts.Need-same-length-14 (
-  span-reads.Asked,
-  span-reads.Learnt,
-  plus-reads.Asked,
-  plus-reads.Learnt,
+  less-reads.Asked,
+  less-reads.Learnt,
+  sum-reads.Asked,
+  sum-reads.Learnt,
   charged-reads.Asked,
   charged-reads.Learnt,
   token-below t,
@@ -2144,10 +2144,10 @@ scan-same-length-14 : (t : ℕ) → scan-lts.Need-same-length-14 (
 scan-same-length-14 t c = (c .before .before .before .before .before .before .before .before .before .before .before .before .before .token .kept .1 .1 .1 .1 .1 .1 .1 .0) ∙ (c .before .before .before .before .before .before .before .before .before .before .before .before .before .before .before .before .before .before .before .before .before .before .before .before .before .loop .inv .work)
 
 scan-same-length-15 : (t : ℕ) → scan-lts.Need-same-length-15 (
-  span-reads.Asked,
-  span-reads.Learnt,
-  plus-reads.Asked,
-  plus-reads.Learnt,
+  less-reads.Asked,
+  less-reads.Learnt,
+  sum-reads.Asked,
+  sum-reads.Learnt,
   charged-reads.Asked,
   charged-reads.Learnt,
   token-below t,
@@ -2156,22 +2156,22 @@ scan-same-length-15 : (t : ℕ) → scan-lts.Need-same-length-15 (
 scan-same-length-15 t c = (c .before .before .before .before .before .before .before .before .before .before .before .before .before .token .kept .1 .1 .1 .1 .1 .1 .1 .1 .0) ∙ (c .before .before .before .before .before .before .before .before .before .before .before .before .before .before .before .before .before .before .before .before .before .before .before .before .before .loop .inv .long)
 
 scan-returns-3 : (t : ℕ) → scan-lts.Need-returns-3 (
-  span-reads.Asked,
-  span-reads.Learnt,
-  plus-reads.Asked,
-  plus-reads.Learnt,
+  less-reads.Asked,
+  less-reads.Learnt,
+  sum-reads.Asked,
+  sum-reads.Learnt,
   charged-reads.Asked,
   charged-reads.Learnt,
   token-below t,
   token.Post,
 ) (scan-at t) scan.Post scan-Inv-loop scan-μ-loop
-scan-returns-3 t c = scanning-bad _ _ _ _ _ _ _ _ _ _ _ _ _ _ _ _ _ _ _ _ _ _ _ _ (c .before .before .before .before .before .before .before .before .before .before .before .before .before .before .before .before .before .before .before .before .before .before .before .before .before .loop .inv) _ (c .before .before .before .before .before .before .before .before .before .before .before .before .before .before .before .before .before .before .before .before .before .before .before .before .before .before .before .span .ensures) (c .before .before .before .before .before .before .before .before .before .before .before .before .before .before .before .before .before .before .before .before .before .before .before .if1 .left) (c .before .before .before .before .before .before .before .before .before .before .before .before .before .before .before .before .before .before .before .before .before .before .before .before .loop-test .taken) _ (c .before .before .before .before .before .before .before .before .before .before .before .before .before .before .before .before .before .before .before .before .before .before .charged .ensures) _ _ _ _ _ _ (c .before .before .before .before .before .before .before .before .before .before .before .before .before .token .ensures) (not-false _ (c .before .before .before .before .before .before .before .before .before .before .before .before .before .before .before .before .before .before .before .if2 .left)) _ _ (c .before .y2 .given .1)
+scan-returns-3 t c = scanning-bad _ _ _ _ _ _ _ _ _ _ _ _ _ _ _ _ _ _ _ _ _ _ _ _ (c .before .before .before .before .before .before .before .before .before .before .before .before .before .before .before .before .before .before .before .before .before .before .before .before .before .loop .inv) _ (c .before .before .before .before .before .before .before .before .before .before .before .before .before .before .before .before .before .before .before .before .before .before .before .before .before .before .before .less .ensures) (c .before .before .before .before .before .before .before .before .before .before .before .before .before .before .before .before .before .before .before .before .before .before .before .if1 .left) (c .before .before .before .before .before .before .before .before .before .before .before .before .before .before .before .before .before .before .before .before .before .before .before .before .loop-test .taken) _ (c .before .before .before .before .before .before .before .before .before .before .before .before .before .before .before .before .before .before .before .before .before .before .charged .ensures) _ _ _ _ _ _ (c .before .before .before .before .before .before .before .before .before .before .before .before .before .token .ensures) (not-false _ (c .before .before .before .before .before .before .before .before .before .before .before .before .before .before .before .before .before .before .before .if2 .left)) _ _ (c .before .y2 .given .1)
 
 scan-same-length-16 : (t : ℕ) → scan-lts.Need-same-length-16 (
-  span-reads.Asked,
-  span-reads.Learnt,
-  plus-reads.Asked,
-  plus-reads.Learnt,
+  less-reads.Asked,
+  less-reads.Learnt,
+  sum-reads.Asked,
+  sum-reads.Learnt,
   charged-reads.Asked,
   charged-reads.Learnt,
   token-below t,
@@ -2180,10 +2180,10 @@ scan-same-length-16 : (t : ℕ) → scan-lts.Need-same-length-16 (
 scan-same-length-16 t c = (c .before .loop .inv .cells)
 
 scan-same-length-17 : (t : ℕ) → scan-lts.Need-same-length-17 (
-  span-reads.Asked,
-  span-reads.Learnt,
-  plus-reads.Asked,
-  plus-reads.Learnt,
+  less-reads.Asked,
+  less-reads.Learnt,
+  sum-reads.Asked,
+  sum-reads.Learnt,
   charged-reads.Asked,
   charged-reads.Learnt,
   token-below t,
@@ -2192,10 +2192,10 @@ scan-same-length-17 : (t : ℕ) → scan-lts.Need-same-length-17 (
 scan-same-length-17 t c = (c .before .loop .inv .low)
 
 scan-same-length-18 : (t : ℕ) → scan-lts.Need-same-length-18 (
-  span-reads.Asked,
-  span-reads.Learnt,
-  plus-reads.Asked,
-  plus-reads.Learnt,
+  less-reads.Asked,
+  less-reads.Learnt,
+  sum-reads.Asked,
+  sum-reads.Learnt,
   charged-reads.Asked,
   charged-reads.Learnt,
   token-below t,
@@ -2204,10 +2204,10 @@ scan-same-length-18 : (t : ℕ) → scan-lts.Need-same-length-18 (
 scan-same-length-18 t c = (c .before .loop .inv .high)
 
 scan-same-length-19 : (t : ℕ) → scan-lts.Need-same-length-19 (
-  span-reads.Asked,
-  span-reads.Learnt,
-  plus-reads.Asked,
-  plus-reads.Learnt,
+  less-reads.Asked,
+  less-reads.Learnt,
+  sum-reads.Asked,
+  sum-reads.Learnt,
   charged-reads.Asked,
   charged-reads.Learnt,
   token-below t,
@@ -2216,10 +2216,10 @@ scan-same-length-19 : (t : ℕ) → scan-lts.Need-same-length-19 (
 scan-same-length-19 t c = (c .before .loop .inv .work)
 
 scan-same-length-20 : (t : ℕ) → scan-lts.Need-same-length-20 (
-  span-reads.Asked,
-  span-reads.Learnt,
-  plus-reads.Asked,
-  plus-reads.Learnt,
+  less-reads.Asked,
+  less-reads.Learnt,
+  sum-reads.Asked,
+  sum-reads.Learnt,
   charged-reads.Asked,
   charged-reads.Learnt,
   token-below t,
@@ -2228,10 +2228,10 @@ scan-same-length-20 : (t : ℕ) → scan-lts.Need-same-length-20 (
 scan-same-length-20 t c = (c .before .loop .inv .long)
 
 scan-returns-4 : (t : ℕ) → scan-lts.Need-returns-4 (
-  span-reads.Asked,
-  span-reads.Learnt,
-  plus-reads.Asked,
-  plus-reads.Learnt,
+  less-reads.Asked,
+  less-reads.Learnt,
+  sum-reads.Asked,
+  sum-reads.Learnt,
   charged-reads.Asked,
   charged-reads.Learnt,
   token-below t,
@@ -2274,8 +2274,8 @@ scan-arguments-nothing-held-requires : (t : ℕ) → scan-arguments-lts.Need-not
   above-reads.Learnt,
   place-after-reads.Asked,
   place-after-reads.Learnt,
-  plus-reads.Asked,
-  plus-reads.Learnt,
+  sum-reads.Asked,
+  sum-reads.Learnt,
 ) (scan-arguments-at t) scan-arguments.Post scan-arguments-Inv-loop scan-arguments-μ-loop
 scan-arguments-nothing-held-requires t c κs = search needs
 
@@ -2308,8 +2308,8 @@ scan-arguments-loop-holds : (t : ℕ) → scan-arguments-lts.Need-loop-holds (
   above-reads.Learnt,
   place-after-reads.Asked,
   place-after-reads.Learnt,
-  plus-reads.Asked,
-  plus-reads.Learnt,
+  sum-reads.Asked,
+  sum-reads.Learnt,
 ) (scan-arguments-at t) scan-arguments.Post scan-arguments-Inv-loop scan-arguments-μ-loop
 scan-arguments-loop-holds t c = arguing-start _ _ _ _ _ _ _ _ _ _ _ _ _ _ _ _ _ _ _ (c .nothing-held .ensures)
 
@@ -2342,8 +2342,8 @@ scan-arguments-sub-turns : (t : ℕ) → scan-arguments-lts.Need-sub-turns (
   above-reads.Learnt,
   place-after-reads.Asked,
   place-after-reads.Learnt,
-  plus-reads.Asked,
-  plus-reads.Learnt,
+  sum-reads.Asked,
+  sum-reads.Learnt,
 ) (scan-arguments-at t) scan-arguments.Post scan-arguments-Inv-loop scan-arguments-μ-loop
 scan-arguments-sub-turns t c = search needs
 
@@ -2376,8 +2376,8 @@ scan-arguments-body-requires : (t : ℕ) → scan-arguments-lts.Need-body-requir
   above-reads.Learnt,
   place-after-reads.Asked,
   place-after-reads.Learnt,
-  plus-reads.Asked,
-  plus-reads.Learnt,
+  sum-reads.Asked,
+  sum-reads.Learnt,
 ) (scan-arguments-at t) scan-arguments.Post scan-arguments-Inv-loop scan-arguments-μ-loop
 scan-arguments-body-requires t c κs = search needs
 
@@ -2410,8 +2410,8 @@ scan-arguments-parameter-at-requires : (t : ℕ) → scan-arguments-lts.Need-par
   above-reads.Learnt,
   place-after-reads.Asked,
   place-after-reads.Learnt,
-  plus-reads.Asked,
-  plus-reads.Learnt,
+  sum-reads.Asked,
+  sum-reads.Learnt,
 ) (scan-arguments-at t) scan-arguments.Post scan-arguments-Inv-loop scan-arguments-μ-loop
 scan-arguments-parameter-at-requires t c κs = search needs
 
@@ -2444,8 +2444,8 @@ scan-arguments-next-of-requires : (t : ℕ) → scan-arguments-lts.Need-next-of-
   above-reads.Learnt,
   place-after-reads.Asked,
   place-after-reads.Learnt,
-  plus-reads.Asked,
-  plus-reads.Learnt,
+  sum-reads.Asked,
+  sum-reads.Learnt,
 ) (scan-arguments-at t) scan-arguments.Post scan-arguments-Inv-loop scan-arguments-μ-loop
 scan-arguments-next-of-requires t c κs = search needs
 
@@ -2478,8 +2478,8 @@ scan-arguments-end-of-requires : (t : ℕ) → scan-arguments-lts.Need-end-of-re
   above-reads.Learnt,
   place-after-reads.Asked,
   place-after-reads.Learnt,
-  plus-reads.Asked,
-  plus-reads.Learnt,
+  sum-reads.Asked,
+  sum-reads.Learnt,
 ) (scan-arguments-at t) scan-arguments.Post scan-arguments-Inv-loop scan-arguments-μ-loop
 scan-arguments-end-of-requires t c κs = search needs
 
@@ -2512,8 +2512,8 @@ scan-arguments-part-of-requires : (t : ℕ) → scan-arguments-lts.Need-part-of-
   above-reads.Learnt,
   place-after-reads.Asked,
   place-after-reads.Learnt,
-  plus-reads.Asked,
-  plus-reads.Learnt,
+  sum-reads.Asked,
+  sum-reads.Learnt,
 ) (scan-arguments-at t) scan-arguments.Post scan-arguments-Inv-loop scan-arguments-μ-loop
 scan-arguments-part-of-requires t c κs = search needs
 
@@ -2546,8 +2546,8 @@ scan-arguments-into-work-requires : (t : ℕ) → scan-arguments-lts.Need-into-w
   above-reads.Learnt,
   place-after-reads.Asked,
   place-after-reads.Learnt,
-  plus-reads.Asked,
-  plus-reads.Learnt,
+  sum-reads.Asked,
+  sum-reads.Learnt,
 ) (scan-arguments-at t) scan-arguments.Post scan-arguments-Inv-loop scan-arguments-μ-loop
 scan-arguments-into-work-requires t c κs = search needs
 
@@ -2580,8 +2580,8 @@ scan-arguments-scan-requires : (t : ℕ) → scan-arguments-lts.Need-scan-requir
   above-reads.Learnt,
   place-after-reads.Asked,
   place-after-reads.Learnt,
-  plus-reads.Asked,
-  plus-reads.Learnt,
+  sum-reads.Asked,
+  sum-reads.Learnt,
 ) (scan-arguments-at t) scan-arguments.Post scan-arguments-Inv-loop scan-arguments-μ-loop
 scan-arguments-scan-requires t c κs = omega (arith, (c .before .before .before .before .before .before .before .before .before .before .before .before .before .before .before .before .before .before .before .before .before .before .before .before .before .pre))
 
@@ -2614,8 +2614,8 @@ scan-arguments-type-of-requires : (t : ℕ) → scan-arguments-lts.Need-type-of-
   above-reads.Learnt,
   place-after-reads.Asked,
   place-after-reads.Learnt,
-  plus-reads.Asked,
-  plus-reads.Learnt,
+  sum-reads.Asked,
+  sum-reads.Learnt,
 ) (scan-arguments-at t) scan-arguments.Post scan-arguments-Inv-loop scan-arguments-μ-loop
 scan-arguments-type-of-requires t c κs = search needs
 
@@ -2648,8 +2648,8 @@ scan-arguments-converted-requires : (t : ℕ) → scan-arguments-lts.Need-conver
   above-reads.Learnt,
   place-after-reads.Asked,
   place-after-reads.Learnt,
-  plus-reads.Asked,
-  plus-reads.Learnt,
+  sum-reads.Asked,
+  sum-reads.Learnt,
 ) (scan-arguments-at t) scan-arguments.Post scan-arguments-Inv-loop scan-arguments-μ-loop
 scan-arguments-converted-requires t c κs = search needs
 
@@ -2682,8 +2682,8 @@ scan-arguments-enum-known-v : (t : ℕ) → scan-arguments-lts.Need-enum-known-v
   above-reads.Learnt,
   place-after-reads.Asked,
   place-after-reads.Learnt,
-  plus-reads.Asked,
-  plus-reads.Learnt,
+  sum-reads.Asked,
+  sum-reads.Learnt,
 ) (scan-arguments-at t) scan-arguments.Post scan-arguments-Inv-loop scan-arguments-μ-loop
 scan-arguments-enum-known-v t c = search needs
 
@@ -2716,8 +2716,8 @@ scan-arguments-with-held-requires : (t : ℕ) → scan-arguments-lts.Need-with-h
   above-reads.Learnt,
   place-after-reads.Asked,
   place-after-reads.Learnt,
-  plus-reads.Asked,
-  plus-reads.Learnt,
+  sum-reads.Asked,
+  sum-reads.Learnt,
 ) (scan-arguments-at t) scan-arguments.Post scan-arguments-Inv-loop scan-arguments-μ-loop
 scan-arguments-with-held-requires t c κs = search needs
 
@@ -2750,8 +2750,8 @@ scan-arguments-size-of-requires : (t : ℕ) → scan-arguments-lts.Need-size-of-
   above-reads.Learnt,
   place-after-reads.Asked,
   place-after-reads.Learnt,
-  plus-reads.Asked,
-  plus-reads.Learnt,
+  sum-reads.Asked,
+  sum-reads.Learnt,
 ) (scan-arguments-at t) scan-arguments.Post scan-arguments-Inv-loop scan-arguments-μ-loop
 scan-arguments-size-of-requires t c κs = search needs
 
@@ -2784,8 +2784,8 @@ scan-arguments-above-requires : (t : ℕ) → scan-arguments-lts.Need-above-requ
   above-reads.Learnt,
   place-after-reads.Asked,
   place-after-reads.Learnt,
-  plus-reads.Asked,
-  plus-reads.Learnt,
+  sum-reads.Asked,
+  sum-reads.Learnt,
 ) (scan-arguments-at t) scan-arguments.Post scan-arguments-Inv-loop scan-arguments-μ-loop
 scan-arguments-above-requires t c κs = search needs
 
@@ -2818,8 +2818,8 @@ scan-arguments-place-after-requires : (t : ℕ) → scan-arguments-lts.Need-plac
   above-reads.Learnt,
   place-after-reads.Asked,
   place-after-reads.Learnt,
-  plus-reads.Asked,
-  plus-reads.Learnt,
+  sum-reads.Asked,
+  sum-reads.Learnt,
 ) (scan-arguments-at t) scan-arguments.Post scan-arguments-Inv-loop scan-arguments-μ-loop
 scan-arguments-place-after-requires t c κs = search needs
 
@@ -2852,8 +2852,8 @@ scan-arguments-enum-known-v-2 : (t : ℕ) → scan-arguments-lts.Need-enum-known
   above-reads.Learnt,
   place-after-reads.Asked,
   place-after-reads.Learnt,
-  plus-reads.Asked,
-  plus-reads.Learnt,
+  sum-reads.Asked,
+  sum-reads.Learnt,
 ) (scan-arguments-at t) scan-arguments.Post scan-arguments-Inv-loop scan-arguments-μ-loop
 scan-arguments-enum-known-v-2 t c = search needs
 
@@ -2886,8 +2886,8 @@ scan-arguments-same-length : (t : ℕ) → scan-arguments-lts.Need-same-length (
   above-reads.Learnt,
   place-after-reads.Asked,
   place-after-reads.Learnt,
-  plus-reads.Asked,
-  plus-reads.Learnt,
+  sum-reads.Asked,
+  sum-reads.Learnt,
 ) (scan-arguments-at t) scan-arguments.Post scan-arguments-Inv-loop scan-arguments-μ-loop
 scan-arguments-same-length t c = (c .before .before .before .before .before .before .before .before .before .before .before .before .before .before .before .before .before .before .scan .kept .1 .1 .1 .1 .0) ∙ (c .before .before .before .before .before .before .before .before .before .before .before .before .before .before .before .before .before .before .before .before .before .before .before .before .before .before .before .before .before .before .before .before .loop .inv .cells)
 
@@ -2920,8 +2920,8 @@ scan-arguments-same-length-2 : (t : ℕ) → scan-arguments-lts.Need-same-length
   above-reads.Learnt,
   place-after-reads.Asked,
   place-after-reads.Learnt,
-  plus-reads.Asked,
-  plus-reads.Learnt,
+  sum-reads.Asked,
+  sum-reads.Learnt,
 ) (scan-arguments-at t) scan-arguments.Post scan-arguments-Inv-loop scan-arguments-μ-loop
 scan-arguments-same-length-2 t c = (c .before .before .before .before .before .before .before .before .before .before .before .before .before .before .before .before .before .before .scan .kept .1 .1 .1 .1 .1 .0) ∙ (c .before .before .before .before .before .before .before .before .before .before .before .before .before .before .before .before .before .before .before .before .before .before .before .before .before .before .before .before .before .before .before .before .loop .inv .low)
 
@@ -2954,8 +2954,8 @@ scan-arguments-same-length-3 : (t : ℕ) → scan-arguments-lts.Need-same-length
   above-reads.Learnt,
   place-after-reads.Asked,
   place-after-reads.Learnt,
-  plus-reads.Asked,
-  plus-reads.Learnt,
+  sum-reads.Asked,
+  sum-reads.Learnt,
 ) (scan-arguments-at t) scan-arguments.Post scan-arguments-Inv-loop scan-arguments-μ-loop
 scan-arguments-same-length-3 t c = (c .before .before .before .before .before .before .before .before .before .before .before .before .before .before .before .before .before .before .scan .kept .1 .1 .1 .1 .1 .1 .0) ∙ (c .before .before .before .before .before .before .before .before .before .before .before .before .before .before .before .before .before .before .before .before .before .before .before .before .before .before .before .before .before .before .before .before .loop .inv .high)
 
@@ -2988,8 +2988,8 @@ scan-arguments-same-length-4 : (t : ℕ) → scan-arguments-lts.Need-same-length
   above-reads.Learnt,
   place-after-reads.Asked,
   place-after-reads.Learnt,
-  plus-reads.Asked,
-  plus-reads.Learnt,
+  sum-reads.Asked,
+  sum-reads.Learnt,
 ) (scan-arguments-at t) scan-arguments.Post scan-arguments-Inv-loop scan-arguments-μ-loop
 scan-arguments-same-length-4 t c = (c .before .before .before .before .before .converted .kept .0) ∙ (c .before .before .before .before .before .before .before .before .before .before .before .before .before .before .before .before .before .before .scan .kept .1 .1 .1 .1 .1 .1 .1 .0) ∙ (c .before .before .before .before .before .before .before .before .before .before .before .before .before .before .before .before .before .before .before .before .before .before .before .before .before .before .before .before .before .before .before .before .loop .inv .work)
 
@@ -3022,8 +3022,8 @@ scan-arguments-same-length-5 : (t : ℕ) → scan-arguments-lts.Need-same-length
   above-reads.Learnt,
   place-after-reads.Asked,
   place-after-reads.Learnt,
-  plus-reads.Asked,
-  plus-reads.Learnt,
+  sum-reads.Asked,
+  sum-reads.Learnt,
 ) (scan-arguments-at t) scan-arguments.Post scan-arguments-Inv-loop scan-arguments-μ-loop
 scan-arguments-same-length-5 t c = (c .before .before .before .before .before .before .before .before .before .before .before .before .before .before .before .before .before .before .scan .kept .1 .1 .1 .1 .1 .1 .1 .1 .0) ∙ (c .before .before .before .before .before .before .before .before .before .before .before .before .before .before .before .before .before .before .before .before .before .before .before .before .before .before .before .before .before .before .before .before .loop .inv .long)
 
@@ -3056,12 +3056,12 @@ scan-arguments-returns : (t : ℕ) → scan-arguments-lts.Need-returns (
   above-reads.Learnt,
   place-after-reads.Asked,
   place-after-reads.Learnt,
-  plus-reads.Asked,
-  plus-reads.Learnt,
+  sum-reads.Asked,
+  sum-reads.Learnt,
 ) (scan-arguments-at t) scan-arguments.Post scan-arguments-Inv-loop scan-arguments-μ-loop
 scan-arguments-returns t c = arguing-failed _ _ _ _ _ _ _ _ _ _ _ _ _ _ _ _ _ _ _ _ _ _ _ _ _ _ _ _ (c .before .before .before .before .before .before .before .before .before .before .before .before .before .before .before .before .before .before .before .before .before .before .before .before .before .before .before .before .before .before .before .before .loop .inv) (c .before .before .before .before .before .before .before .before .before .before .before .before .before .before .before .before .before .before .before .before .before .before .before .before .before .before .before .before .before .before .before .loop-test .taken) _ (c .before .before .before .before .before .before .before .before .before .before .before .before .before .before .before .before .before .before .before .before .before .before .before .before .before .before .before .before .before .before .body .ensures) _ (c .before .before .before .before .before .before .before .before .before .before .before .before .before .before .before .before .before .before .before .before .before .before .before .before .before .before .before .before .before .parameter-at .ensures) _ (c .before .before .before .before .before .before .before .before .before .before .before .before .before .before .before .before .before .before .before .before .before .before .before .before .before .before .end-of .ensures) _ (c .before .before .before .before .before .before .before .before .before .before .before .before .before .before .before .before .before .before .before .before .part-of .ensures) _ (c .before .before .before .before .before .before .before .before .before .before .before .before .before .before .before .before .before .before .before .into-work .ensures) _ _ _ _ _ _ (c .before .before .before .before .before .before .before .before .before .before .before .before .before .before .before .before .before .before .scan .ensures) _ (c .before .before .before .before .before .before .type-of .ensures) _ _ (c .before .before .before .before .before .converted .ensures) (c .before .before .before .before .before .converted .kept .0) _ _ (c .before .v2 .given .1)
 
-scan-arguments-plus-requires : (t : ℕ) → scan-arguments-lts.Need-plus-requires (
+scan-arguments-sum-requires : (t : ℕ) → scan-arguments-lts.Need-sum-requires (
   nothing-held-reads.Asked,
   nothing-held-reads.Learnt,
   body-reads.Asked,
@@ -3090,10 +3090,10 @@ scan-arguments-plus-requires : (t : ℕ) → scan-arguments-lts.Need-plus-requir
   above-reads.Learnt,
   place-after-reads.Asked,
   place-after-reads.Learnt,
-  plus-reads.Asked,
-  plus-reads.Learnt,
+  sum-reads.Asked,
+  sum-reads.Learnt,
 ) (scan-arguments-at t) scan-arguments.Post scan-arguments-Inv-loop scan-arguments-μ-loop
-scan-arguments-plus-requires t c κs = search needs
+scan-arguments-sum-requires t c κs = search needs
 
 scan-arguments-loop-less : (t : ℕ) → scan-arguments-lts.Need-loop-less (
   nothing-held-reads.Asked,
@@ -3124,8 +3124,8 @@ scan-arguments-loop-less : (t : ℕ) → scan-arguments-lts.Need-loop-less (
   above-reads.Learnt,
   place-after-reads.Asked,
   place-after-reads.Learnt,
-  plus-reads.Asked,
-  plus-reads.Learnt,
+  sum-reads.Asked,
+  sum-reads.Learnt,
 ) (scan-arguments-at t) scan-arguments.Post scan-arguments-Inv-loop scan-arguments-μ-loop
 scan-arguments-loop-less t c = omega (arith, (c .before .before .before .before .before .before .before .before .before .before .before .before .before .before .before .before .before .before .before .before .before .before .before .before .before .before .before .before .before .before .before .before .before .before .before .before .loop-test .taken))
 
@@ -3158,10 +3158,10 @@ scan-arguments-loop-again : (t : ℕ) → scan-arguments-lts.Need-loop-again (
   above-reads.Learnt,
   place-after-reads.Asked,
   place-after-reads.Learnt,
-  plus-reads.Asked,
-  plus-reads.Learnt,
+  sum-reads.Asked,
+  sum-reads.Learnt,
 ) (scan-arguments-at t) scan-arguments.Post scan-arguments-Inv-loop scan-arguments-μ-loop
-scan-arguments-loop-again t c = arguing-more _ _ _ _ _ _ _ _ _ _ _ _ _ _ _ _ _ _ _ _ _ _ _ _ _ _ _ _ (c .before .before .before .before .before .before .before .before .before .before .before .before .before .before .before .before .before .before .before .before .before .before .before .before .before .before .before .before .before .before .before .before .before .before .before .before .before .loop .inv) (c .before .before .before .before .before .before .before .before .before .before .before .before .before .before .before .before .before .before .before .before .before .before .before .before .before .before .before .before .before .before .before .before .before .before .before .before .loop-test .taken) _ (c .before .before .before .before .before .before .before .before .before .before .before .before .before .before .before .before .before .before .before .before .before .before .before .before .before .before .before .before .before .before .before .before .before .before .before .body .ensures) _ (c .before .before .before .before .before .before .before .before .before .before .before .before .before .before .before .before .before .before .before .before .before .before .before .before .before .before .before .before .before .before .before .before .before .before .parameter-at .ensures) _ (c .before .before .before .before .before .before .before .before .before .before .before .before .before .before .before .before .before .before .before .before .before .before .before .before .before .before .before .before .before .before .before .end-of .ensures) _ (c .before .before .before .before .before .before .before .before .before .before .before .before .before .before .before .before .before .before .before .before .before .before .before .before .before .part-of .ensures) _ (c .before .before .before .before .before .before .before .before .before .before .before .before .before .before .before .before .before .before .before .before .before .before .before .before .into-work .ensures) _ _ _ _ _ _ (c .before .before .before .before .before .before .before .before .before .before .before .before .before .before .before .before .before .before .before .before .before .before .before .scan .ensures) _ (c .before .before .before .before .before .before .before .before .before .before .before .type-of .ensures) _ _ (c .before .before .before .before .before .before .before .before .before .before .converted .ensures) (c .before .before .before .before .before .before .before .before .before .before .converted .kept .0) _ _ _ _ _ _ _ _ _ (c .before .before .before .before .before .before .v .given .1) (c .before .before .before .before .with-held .ensures) (c .before .before .before .size-of .ensures) (c .before .before .above .ensures) (c .before .place-after .ensures) (c .before .before .before .before .before .before .before .before .before .before .before .before .before .before .before .before .before .before .before .before .before .before .before .before .before .before .before .before .before .before .before .before .before .next-of .ensures) (c .plus .ensures) (c .before .before .before .before .before .before .before .before .before .before .before .before .before .before .before .before .before .before .before .before .before .before .before .scan .kept .1 .1 .1 .1 .0) (c .before .before .before .before .before .before .before .before .before .before .before .before .before .before .before .before .before .before .before .before .before .before .before .scan .kept .1 .1 .1 .1 .1 .0) (c .before .before .before .before .before .before .before .before .before .before .before .before .before .before .before .before .before .before .before .before .before .before .before .scan .kept .1 .1 .1 .1 .1 .1 .0) (c .before .before .before .before .before .before .before .before .before .before .before .before .before .before .before .before .before .before .before .before .before .before .before .scan .kept .1 .1 .1 .1 .1 .1 .1 .0) (c .before .before .before .before .before .before .before .before .before .before .before .before .before .before .before .before .before .before .before .before .before .before .before .scan .kept .1 .1 .1 .1 .1 .1 .1 .1 .0)
+scan-arguments-loop-again t c = arguing-more _ _ _ _ _ _ _ _ _ _ _ _ _ _ _ _ _ _ _ _ _ _ _ _ _ _ _ _ (c .before .before .before .before .before .before .before .before .before .before .before .before .before .before .before .before .before .before .before .before .before .before .before .before .before .before .before .before .before .before .before .before .before .before .before .before .before .loop .inv) (c .before .before .before .before .before .before .before .before .before .before .before .before .before .before .before .before .before .before .before .before .before .before .before .before .before .before .before .before .before .before .before .before .before .before .before .before .loop-test .taken) _ (c .before .before .before .before .before .before .before .before .before .before .before .before .before .before .before .before .before .before .before .before .before .before .before .before .before .before .before .before .before .before .before .before .before .before .before .body .ensures) _ (c .before .before .before .before .before .before .before .before .before .before .before .before .before .before .before .before .before .before .before .before .before .before .before .before .before .before .before .before .before .before .before .before .before .before .parameter-at .ensures) _ (c .before .before .before .before .before .before .before .before .before .before .before .before .before .before .before .before .before .before .before .before .before .before .before .before .before .before .before .before .before .before .before .end-of .ensures) _ (c .before .before .before .before .before .before .before .before .before .before .before .before .before .before .before .before .before .before .before .before .before .before .before .before .before .part-of .ensures) _ (c .before .before .before .before .before .before .before .before .before .before .before .before .before .before .before .before .before .before .before .before .before .before .before .before .into-work .ensures) _ _ _ _ _ _ (c .before .before .before .before .before .before .before .before .before .before .before .before .before .before .before .before .before .before .before .before .before .before .before .scan .ensures) _ (c .before .before .before .before .before .before .before .before .before .before .before .type-of .ensures) _ _ (c .before .before .before .before .before .before .before .before .before .before .converted .ensures) (c .before .before .before .before .before .before .before .before .before .before .converted .kept .0) _ _ _ _ _ _ _ _ _ (c .before .before .before .before .before .before .v .given .1) (c .before .before .before .before .with-held .ensures) (c .before .before .before .size-of .ensures) (c .before .before .above .ensures) (c .before .place-after .ensures) (c .before .before .before .before .before .before .before .before .before .before .before .before .before .before .before .before .before .before .before .before .before .before .before .before .before .before .before .before .before .before .before .before .before .next-of .ensures) (c .sum .ensures) (c .before .before .before .before .before .before .before .before .before .before .before .before .before .before .before .before .before .before .before .before .before .before .before .scan .kept .1 .1 .1 .1 .0) (c .before .before .before .before .before .before .before .before .before .before .before .before .before .before .before .before .before .before .before .before .before .before .before .scan .kept .1 .1 .1 .1 .1 .0) (c .before .before .before .before .before .before .before .before .before .before .before .before .before .before .before .before .before .before .before .before .before .before .before .scan .kept .1 .1 .1 .1 .1 .1 .0) (c .before .before .before .before .before .before .before .before .before .before .before .before .before .before .before .before .before .before .before .before .before .before .before .scan .kept .1 .1 .1 .1 .1 .1 .1 .0) (c .before .before .before .before .before .before .before .before .before .before .before .before .before .before .before .before .before .before .before .before .before .before .before .scan .kept .1 .1 .1 .1 .1 .1 .1 .1 .0)
 
 scan-arguments-same-length-6 : (t : ℕ) → scan-arguments-lts.Need-same-length-6 (
   nothing-held-reads.Asked,
@@ -3192,8 +3192,8 @@ scan-arguments-same-length-6 : (t : ℕ) → scan-arguments-lts.Need-same-length
   above-reads.Learnt,
   place-after-reads.Asked,
   place-after-reads.Learnt,
-  plus-reads.Asked,
-  plus-reads.Learnt,
+  sum-reads.Asked,
+  sum-reads.Learnt,
 ) (scan-arguments-at t) scan-arguments.Post scan-arguments-Inv-loop scan-arguments-μ-loop
 scan-arguments-same-length-6 t c = (c .before .loop .inv .cells)
 
@@ -3226,8 +3226,8 @@ scan-arguments-same-length-7 : (t : ℕ) → scan-arguments-lts.Need-same-length
   above-reads.Learnt,
   place-after-reads.Asked,
   place-after-reads.Learnt,
-  plus-reads.Asked,
-  plus-reads.Learnt,
+  sum-reads.Asked,
+  sum-reads.Learnt,
 ) (scan-arguments-at t) scan-arguments.Post scan-arguments-Inv-loop scan-arguments-μ-loop
 scan-arguments-same-length-7 t c = (c .before .loop .inv .low)
 
@@ -3260,8 +3260,8 @@ scan-arguments-same-length-8 : (t : ℕ) → scan-arguments-lts.Need-same-length
   above-reads.Learnt,
   place-after-reads.Asked,
   place-after-reads.Learnt,
-  plus-reads.Asked,
-  plus-reads.Learnt,
+  sum-reads.Asked,
+  sum-reads.Learnt,
 ) (scan-arguments-at t) scan-arguments.Post scan-arguments-Inv-loop scan-arguments-μ-loop
 scan-arguments-same-length-8 t c = (c .before .loop .inv .high)
 
@@ -3294,8 +3294,8 @@ scan-arguments-same-length-9 : (t : ℕ) → scan-arguments-lts.Need-same-length
   above-reads.Learnt,
   place-after-reads.Asked,
   place-after-reads.Learnt,
-  plus-reads.Asked,
-  plus-reads.Learnt,
+  sum-reads.Asked,
+  sum-reads.Learnt,
 ) (scan-arguments-at t) scan-arguments.Post scan-arguments-Inv-loop scan-arguments-μ-loop
 scan-arguments-same-length-9 t c = (c .before .loop .inv .work)
 
@@ -3328,8 +3328,8 @@ scan-arguments-same-length-10 : (t : ℕ) → scan-arguments-lts.Need-same-lengt
   above-reads.Learnt,
   place-after-reads.Asked,
   place-after-reads.Learnt,
-  plus-reads.Asked,
-  plus-reads.Learnt,
+  sum-reads.Asked,
+  sum-reads.Learnt,
 ) (scan-arguments-at t) scan-arguments.Post scan-arguments-Inv-loop scan-arguments-μ-loop
 scan-arguments-same-length-10 t c = (c .before .loop .inv .long)
 
@@ -3362,8 +3362,8 @@ scan-arguments-returns-2 : (t : ℕ) → scan-arguments-lts.Need-returns-2 (
   above-reads.Learnt,
   place-after-reads.Asked,
   place-after-reads.Learnt,
-  plus-reads.Asked,
-  plus-reads.Learnt,
+  sum-reads.Asked,
+  sum-reads.Learnt,
 ) (scan-arguments-at t) scan-arguments.Post scan-arguments-Inv-loop scan-arguments-μ-loop
 scan-arguments-returns-2 t c = arguing-done _ _ _ _ _ _ _ _ _ _ _ _ _ _ _ _ _ _ _ _ _ _ _ _ _ _ _ _ (c .before .loop .inv) (c .loop-test .left)
 
@@ -3815,10 +3815,10 @@ pub +call-with+replace+replace-entry+rescan+scan+scan-arguments+token-spec :
     (rescan-same-length-6 t)
     (rescan-returns-2 t))
     (λ t. scan-lts.spec (
-      span-reads.Asked,
-      span-reads.Learnt,
-      plus-reads.Asked,
-      plus-reads.Learnt,
+      less-reads.Asked,
+      less-reads.Learnt,
+      sum-reads.Asked,
+      sum-reads.Learnt,
       charged-reads.Asked,
       charged-reads.Learnt,
       token-below t,
@@ -3828,8 +3828,8 @@ pub +call-with+replace+replace-entry+rescan+scan+scan-arguments+token-spec :
     scan.Post
     scan-Inv-loop
     scan-μ-loop
-    (scan-span-requires t)
-    (scan-plus-requires t)
+    (scan-less-requires t)
+    (scan-sum-requires t)
     (scan-loop-holds t)
     (scan-sub-turns t)
     (scan-same-length t)
@@ -3847,7 +3847,7 @@ pub +call-with+replace+replace-entry+rescan+scan+scan-arguments+token-spec :
     (scan-returns-2 t)
     (scan-token-requires t)
     (scan-enum-known-y t)
-    (scan-plus-requires-2 t)
+    (scan-sum-requires-2 t)
     (scan-loop-less t)
     (scan-loop-again t)
     (scan-enum-known-y-2 t)
@@ -3892,8 +3892,8 @@ pub +call-with+replace+replace-entry+rescan+scan+scan-arguments+token-spec :
       above-reads.Learnt,
       place-after-reads.Asked,
       place-after-reads.Learnt,
-      plus-reads.Asked,
-      plus-reads.Learnt,
+      sum-reads.Asked,
+      sum-reads.Learnt,
     )
     (scan-arguments-at t)
     scan-arguments.Post
@@ -3923,7 +3923,7 @@ pub +call-with+replace+replace-entry+rescan+scan+scan-arguments+token-spec :
     (scan-arguments-same-length-4 t)
     (scan-arguments-same-length-5 t)
     (scan-arguments-returns t)
-    (scan-arguments-plus-requires t)
+    (scan-arguments-sum-requires t)
     (scan-arguments-loop-less t)
     (scan-arguments-loop-again t)
     (scan-arguments-same-length-6 t)

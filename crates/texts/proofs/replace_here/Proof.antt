@@ -4,7 +4,7 @@ use Rattle.texts.proofs.replace_here.Statement.{statement}
 use Rattle.texts.proofs.replace_here.Tie as tie
 use Rattle.texts.proofs.replace_here.Reads as reads
 use Rattle.texts.proofs.replace_here.Lts as lts
-use Rattle.outcomes.proofs.plus.Reads as plus-reads
+use Rattle.sums.proofs.sum.Reads as sum-reads
 use Rattle.scanning.proofs.replace.Reads as replace-reads
 use Rattle.texts.proofs.bad.Reads as bad-reads
 use Rattle.texts.proofs.pass_to.Reads as pass-to-reads
@@ -12,8 +12,8 @@ use Rattle.texts.proofs.replacement_out.Reads as replacement-out-reads
 use Rattle.texts.proofs.scene.Reads as scene-reads
 use Rattle.texts.proofs.Replacing.{replacing-full, replacing-done}
 
-plus-requires : tie.Need-plus-requires
-plus-requires c κs = search needs
+sum-requires : tie.Need-sum-requires
+sum-requires c κs = search needs
 
 bad-requires : tie.Need-bad-requires
 bad-requires c κs = search needs
@@ -22,7 +22,7 @@ pass-to-requires : tie.Need-pass-to-requires
 pass-to-requires c κs = search needs
 
 returns : tie.Need-returns
-returns c = replacing-full _ _ _ _ _ _ _ _ _ _ _ _ _ _ _ _ _ _ (c .before .before .before .before .plus .ensures) _ _ (c .before .before .if1 .taken) (c .before .bad .ensures) (c .pass-to .ensures)
+returns c = replacing-full _ _ _ _ _ _ _ _ _ _ _ _ _ _ _ _ _ _ (c .before .before .before .before .sum .ensures) _ _ (c .before .before .if1 .taken) (c .before .bad .ensures) (c .pass-to .ensures)
 
 scene-requires : tie.Need-scene-requires
 scene-requires c κs = search needs
@@ -52,13 +52,13 @@ same-length-6 : tie.Need-same-length-6
 same-length-6 c = search needs
 
 returns-2 : tie.Need-returns-2
-returns-2 c = replacing-done _ _ _ _ _ _ _ _ _ _ _ _ _ _ _ _ _ _ (c .before .before .before .before .before .before .before .before .before .before .before .before .before .before .before .before .before .before .before .before .before .before .before .before .before .plus .ensures) _ _ _ _ _ _ _ _ _ (c .before .before .before .before .before .before .before .before .before .before .before .before .before .before .before .before .before .before .before .before .before .before .before .if1 .left) (c .before .before .before .before .before .before .before .before .before .before .before .before .before .before .before .before .scene .ensures) (c .before .before .before .before .before .before .before .before .before .before .before .before .before .before .before .replace .ensures) (c .before .before .replacement-out .ensures)
+returns-2 c = replacing-done _ _ _ _ _ _ _ _ _ _ _ _ _ _ _ _ _ _ (c .before .before .before .before .before .before .before .before .before .before .before .before .before .before .before .before .before .before .before .before .before .before .before .before .before .sum .ensures) _ _ _ _ _ _ _ _ _ (c .before .before .before .before .before .before .before .before .before .before .before .before .before .before .before .before .before .before .before .before .before .before .before .if1 .left) (c .before .before .before .before .before .before .before .before .before .before .before .before .before .before .before .before .scene .ensures) (c .before .before .before .before .before .before .before .before .before .before .before .before .before .before .before .replace .ensures) (c .before .before .replacement-out .ensures)
 
 pub replace-here-spec : {M : Type 1} → statement M
 replace-here-spec =
     tie.close
     (tie.spec
-    plus-requires
+    sum-requires
     bad-requires
     pass-to-requires
     returns

@@ -4,8 +4,8 @@ use Rattle.texts.proofs.text_on.Statement.{statement}
 use Rattle.texts.proofs.text_on.Tie as tie
 use Rattle.texts.proofs.text_on.Reads as reads
 use Rattle.texts.proofs.text_on.Lts as lts
-use Rattle.outcomes.proofs.plus.Reads as plus-reads
-use Rattle.outcomes.proofs.span.Reads as span-reads
+use Rattle.sums.proofs.sum.Reads as sum-reads
+use Rattle.sums.proofs.less.Reads as less-reads
 use Rattle.texts.proofs.token_here.Reads as token-here-reads
 use mathlib.Core.Path.{_∙_}
 use native.Mathlib.Omega.{arith}
@@ -17,14 +17,14 @@ Inv-loop deck s rows names cells₀ low₀ high₀ work₀ text₀ list₀ x her
 abbrev μ-loop : tie.MeasureT-loop
 μ-loop deck s rows names cells₀ low₀ high₀ work₀ text₀ list₀ x here size p₀ g₀ turns₀ cells low high work text list p g turns = turns
 
-span-requires : tie.Need-span-requires Inv-loop μ-loop
-span-requires c κs = search needs
+less-requires : tie.Need-less-requires Inv-loop μ-loop
+less-requires c κs = search needs
 
-plus-requires : tie.Need-plus-requires Inv-loop μ-loop
-plus-requires c κs = search needs
+sum-requires : tie.Need-sum-requires Inv-loop μ-loop
+sum-requires c κs = search needs
 
 loop-holds : tie.Need-loop-holds Inv-loop μ-loop
-loop-holds c = texting-start _ _ _ _ _ _ _ _ _ _ _ _ _ _ _ (c .before .span .ensures) (c .plus .ensures)
+loop-holds c = texting-start _ _ _ _ _ _ _ _ _ _ _ _ _ _ _ (c .before .less .ensures) (c .sum .ensures)
 
 sub-turns : tie.Need-sub-turns Inv-loop μ-loop
 sub-turns c = search needs
@@ -48,7 +48,7 @@ same-length-6 : tie.Need-same-length-6 Inv-loop μ-loop
 same-length-6 c = (c .before .before .loop .inv .list)
 
 returns : tie.Need-returns Inv-loop μ-loop
-returns c = texting-end _ _ _ _ _ _ _ _ _ _ _ _ _ _ _ _ _ _ _ _ _ _ (c .before .before .loop .inv) _ (c .before .before .before .before .span .ensures) (c .if1 .taken)
+returns c = texting-end _ _ _ _ _ _ _ _ _ _ _ _ _ _ _ _ _ _ _ _ _ _ (c .before .before .loop .inv) _ (c .before .before .before .before .less .ensures) (c .if1 .taken)
 
 token-here-requires : tie.Need-token-here-requires Inv-loop μ-loop
 token-here-requires c κs = search needs
@@ -60,7 +60,7 @@ loop-less : tie.Need-loop-less Inv-loop μ-loop
 loop-less c = omega (arith, (c .before .before .before .before .before .before .before .before .before .before .before .before .before .before .before .before .before .before .before .before .before .before .before .loop-test .taken))
 
 loop-again : tie.Need-loop-again Inv-loop μ-loop
-loop-again c = texting-more _ _ _ _ _ _ _ _ _ _ _ _ _ _ _ _ _ _ _ _ _ _ (c .before .before .before .before .before .before .before .before .before .before .before .before .before .before .before .before .before .before .before .before .before .before .before .before .loop .inv) _ (c .before .before .before .before .before .before .before .before .before .before .before .before .before .before .before .before .before .before .before .before .before .before .before .before .before .before .span .ensures) (c .before .before .before .before .before .before .before .before .before .before .before .before .before .before .before .before .before .before .before .before .before .before .if1 .left) (c .before .before .before .before .before .before .before .before .before .before .before .before .before .before .before .before .before .before .before .before .before .before .before .loop-test .taken) _ _ _ _ _ _ _ (c .before .before .before .before .before .before .before .before .before .before .before .before .before .before .before .token-here .ensures) _ _ (c .before .t .given .1) (c .before .before .before .before .before .before .before .before .before .before .before .before .before .before .before .token-here .kept .1 .1 .1 .1 .0) (c .before .before .before .before .before .before .before .before .before .before .before .before .before .before .before .token-here .kept .1 .1 .1 .1 .1 .0) (c .before .before .before .before .before .before .before .before .before .before .before .before .before .before .before .token-here .kept .1 .1 .1 .1 .1 .1 .0) (c .before .before .before .before .before .before .before .before .before .before .before .before .before .before .before .token-here .kept .1 .1 .1 .1 .1 .1 .1 .0) (c .before .before .before .before .before .before .before .before .before .before .before .before .before .before .before .token-here .kept .1 .1 .1 .1 .1 .1 .1 .1 .0) (c .before .before .before .before .before .before .before .before .before .before .before .before .before .before .before .token-here .kept .1 .1 .1 .1 .1 .1 .1 .1 .1 .0)
+loop-again c = texting-more _ _ _ _ _ _ _ _ _ _ _ _ _ _ _ _ _ _ _ _ _ _ (c .before .before .before .before .before .before .before .before .before .before .before .before .before .before .before .before .before .before .before .before .before .before .before .before .loop .inv) _ (c .before .before .before .before .before .before .before .before .before .before .before .before .before .before .before .before .before .before .before .before .before .before .before .before .before .before .less .ensures) (c .before .before .before .before .before .before .before .before .before .before .before .before .before .before .before .before .before .before .before .before .before .before .if1 .left) (c .before .before .before .before .before .before .before .before .before .before .before .before .before .before .before .before .before .before .before .before .before .before .before .loop-test .taken) _ _ _ _ _ _ _ (c .before .before .before .before .before .before .before .before .before .before .before .before .before .before .before .token-here .ensures) _ _ (c .before .t .given .1) (c .before .before .before .before .before .before .before .before .before .before .before .before .before .before .before .token-here .kept .1 .1 .1 .1 .0) (c .before .before .before .before .before .before .before .before .before .before .before .before .before .before .before .token-here .kept .1 .1 .1 .1 .1 .0) (c .before .before .before .before .before .before .before .before .before .before .before .before .before .before .before .token-here .kept .1 .1 .1 .1 .1 .1 .0) (c .before .before .before .before .before .before .before .before .before .before .before .before .before .before .before .token-here .kept .1 .1 .1 .1 .1 .1 .1 .0) (c .before .before .before .before .before .before .before .before .before .before .before .before .before .before .before .token-here .kept .1 .1 .1 .1 .1 .1 .1 .1 .0) (c .before .before .before .before .before .before .before .before .before .before .before .before .before .before .before .token-here .kept .1 .1 .1 .1 .1 .1 .1 .1 .1 .0)
 
 enum-known-t-2 : tie.Need-enum-known-t-2 Inv-loop μ-loop
 enum-known-t-2 c = search needs
@@ -84,7 +84,7 @@ same-length-12 : tie.Need-same-length-12 Inv-loop μ-loop
 same-length-12 c = (c .before .before .before .before .before .before .before .before .before .before .before .before .before .before .before .token-here .kept .1 .1 .1 .1 .1 .1 .1 .1 .1 .0) ∙ (c .before .before .before .before .before .before .before .before .before .before .before .before .before .before .before .before .before .before .before .before .before .before .before .before .loop .inv .list)
 
 returns-2 : tie.Need-returns-2 Inv-loop μ-loop
-returns-2 c = texting-bad _ _ _ _ _ _ _ _ _ _ _ _ _ _ _ _ _ _ _ _ _ _ (c .before .before .before .before .before .before .before .before .before .before .before .before .before .before .before .before .before .before .before .before .before .before .before .before .loop .inv) _ (c .before .before .before .before .before .before .before .before .before .before .before .before .before .before .before .before .before .before .before .before .before .before .before .before .before .before .span .ensures) (c .before .before .before .before .before .before .before .before .before .before .before .before .before .before .before .before .before .before .before .before .before .before .if1 .left) (c .before .before .before .before .before .before .before .before .before .before .before .before .before .before .before .before .before .before .before .before .before .before .before .loop-test .taken) _ _ _ _ _ _ _ (c .before .before .before .before .before .before .before .before .before .before .before .before .before .before .before .token-here .ensures) _ _ (c .before .t2 .given .1)
+returns-2 c = texting-bad _ _ _ _ _ _ _ _ _ _ _ _ _ _ _ _ _ _ _ _ _ _ (c .before .before .before .before .before .before .before .before .before .before .before .before .before .before .before .before .before .before .before .before .before .before .before .before .loop .inv) _ (c .before .before .before .before .before .before .before .before .before .before .before .before .before .before .before .before .before .before .before .before .before .before .before .before .before .before .less .ensures) (c .before .before .before .before .before .before .before .before .before .before .before .before .before .before .before .before .before .before .before .before .before .before .if1 .left) (c .before .before .before .before .before .before .before .before .before .before .before .before .before .before .before .before .before .before .before .before .before .before .before .loop-test .taken) _ _ _ _ _ _ _ (c .before .before .before .before .before .before .before .before .before .before .before .before .before .before .before .token-here .ensures) _ _ (c .before .t2 .given .1)
 
 same-length-13 : tie.Need-same-length-13 Inv-loop μ-loop
 same-length-13 c = (c .before .loop .inv .cells)
@@ -113,8 +113,8 @@ text-on-spec =
     (tie.spec
     Inv-loop
     μ-loop
-    span-requires
-    plus-requires
+    less-requires
+    sum-requires
     loop-holds
     sub-turns
     same-length

@@ -1,9 +1,9 @@
 -- By the test.
 use borrow.Author.Needs.{needs}
-use Rattle.names.proofs.type_in.Statement.{statement}
-use Rattle.names.proofs.type_in.Tie as tie
-use Rattle.names.proofs.type_in.Reads as reads
-use Rattle.names.proofs.type_in.Lts as lts
+use Rattle.types.proofs.type_in.Statement.{statement}
+use Rattle.types.proofs.type_in.Tie as tie
+use Rattle.types.proofs.type_in.Reads as reads
+use Rattle.types.proofs.type_in.Lts as lts
 use borrow.Author.Tests.{eq-eqb, ne-eqb}
 
 returns : tie.Need-returns

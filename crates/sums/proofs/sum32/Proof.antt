@@ -1,10 +1,10 @@
 -- By the test against what is left.
 use borrow.Author.Needs.{needs}
-use Rattle.output.proofs.sum32.Statement.{statement}
-use Rattle.output.proofs.sum32.Tie as tie
-use Rattle.output.proofs.sum32.Reads as reads
-use Rattle.output.proofs.sum32.Lts as lts
-use Rattle.output.proofs.Laws.{sum-is, sum-most}
+use Rattle.sums.proofs.sum32.Statement.{statement}
+use Rattle.sums.proofs.sum32.Tie as tie
+use Rattle.sums.proofs.sum32.Reads as reads
+use Rattle.sums.proofs.sum32.Lts as lts
+use Rattle.sums.proofs.Laws.{sum-is, sum-most}
 
 sub-if1 : tie.Need-sub-if1
 sub-if1 c = search needs

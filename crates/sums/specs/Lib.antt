@@ -1,0 +1,2 @@
+-- What the contracts of `sums` cite.
+pub mod Numbers

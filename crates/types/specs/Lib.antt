@@ -1,0 +1,2 @@
+-- What the contracts of `types` cite.
+pub mod Kept
