@@ -6,6 +6,7 @@ import struct
 import subprocess
 import sys
 
+PLAIN = 0  # the flags of a deck that is not card images
 TEXT_ROOM, LIST_ROOM, STEPS = 65_536, 49_152, 1_000_000
 MOST_RATIO = 1.3
 ROUNDS = 7  # the best of so many counts
@@ -15,10 +16,10 @@ MOST_COPIES = 20_000
 
 
 def record(main):
-    """A record of a deck with one member."""
+    """A record of a plain deck with one member."""
     body = main.encode()
     deck = struct.pack("<H8sII", 1, b"MAIN    ", 18, len(body)) + body
-    return struct.pack("<IIII", TEXT_ROOM, LIST_ROOM, STEPS, len(deck)) + deck
+    return struct.pack("<IIIII", PLAIN, TEXT_ROOM, LIST_ROOM, STEPS, len(deck)) + deck
 
 
 EMPTY = record("")

@@ -16,15 +16,20 @@ extern "C" {
 #define MUHAREGODEN_LOW 65536u
 #define MUHAREGODEN_HIGH 65536u
 #define MUHAREGODEN_WORK 65536u
+#define MUHAREGODEN_JOINED 65536u
+
+/* What the bodies of a deck are. Any other number is taken as cards. */
+#define MUHAREGODEN_PLAIN 0u    /* source as it stands */
+#define MUHAREGODEN_CARDS 1u    /* records of 80 bytes without line ends, source in columns 2 to 72 */
 
 /* The bytes of one line of the list: kind, member, two zeros, offset (4), length (4), numbers little-endian. */
 #define MUHAREGODEN_LINE 12u
 
 /* What stands in numbers[], in this order. */
 enum muharegoden_number {
-    MUHAREGODEN_NUMBER,     /* 0: finished; 1 to 19: refused */
+    MUHAREGODEN_NUMBER,     /* 0: finished; 1 to 20: refused */
     MUHAREGODEN_MEMBER,     /* where it was refused: the member, */
-    MUHAREGODEN_OFFSET,     /* and the place in its body */
+    MUHAREGODEN_OFFSET,     /* and the place in its body as given */
     MUHAREGODEN_STEPS,      /* steps charged */
     MUHAREGODEN_TEXT_SIZE,  /* bytes of text */
     MUHAREGODEN_LINES,      /* lines of the list */
@@ -35,9 +40,10 @@ enum muharegoden_number {
  * Expands a deck. Every length is a count of elements, and any is allowed: any bytes of any length are a deck, and
  * a working room that is too short is refused with number 2. The call always returns.
  *
+ * cards     says whether the deck is plain (0) or its bodies are card images.
  * text      gets the text: numbers[MUHAREGODEN_TEXT_SIZE] bytes, and zeros from there to its end.
  * list      gets the lines: numbers[MUHAREGODEN_LINES] of MUHAREGODEN_LINE bytes, and zeros from there to its end.
- * rows, names, cells, low, high, work
+ * rows, names, cells, low, high, work, joined
  *           are working rooms. What they hold before does not matter; afterwards they are zero, whatever their length.
  * steps     is how many steps may be charged.
  * numbers   gets the six numbers, or as many as it has room for; what lies behind them stays.
@@ -50,6 +56,7 @@ enum muharegoden_number {
  * There is no global state and no allocation: calls may run at the same time, in any threads, if no room is shared.
  */
 void muharegoden_expand(
+    uint32_t cards,
     const uint8_t *deck, size_t deck_size,
     uint8_t *text, size_t text_size,
     uint8_t *list, size_t list_size,
@@ -59,6 +66,7 @@ void muharegoden_expand(
     uint8_t *low, size_t low_size,
     uint8_t *high, size_t high_size,
     uint8_t *work, size_t work_size,
+    uint8_t *joined, size_t joined_size,
     uint32_t steps,
     uint32_t *numbers, size_t numbers_size);
 

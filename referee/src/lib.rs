@@ -3,6 +3,7 @@
 //! It says for a deck what the expander must say, and is written apart from it.
 
 mod bytes;
+pub mod cards;
 pub mod cases;
 pub mod deck;
 pub mod generate;
@@ -18,6 +19,7 @@ mod tokens;
 mod tree;
 mod values;
 
+use crate::cards::{Body, Layout};
 use crate::refusal::{Place, Refusal};
 use crate::run::Run;
 
@@ -34,12 +36,35 @@ pub struct Answer {
     pub lines: Vec<Line>,
 }
 
-/// Expands a deck with rooms of these sizes and at most so many steps.
-pub fn expand(deck: &[u8], rooms: Rooms, steps: u32) -> Answer {
-    let Some(members) = deck::open(deck) else {
-        return refused(Refusal::Deck, Place::default(), 0);
+/// A member of a deck with its body as 01 reads it.
+struct Joined<'d> {
+    name: &'d [u8],
+    body: Body,
+}
+
+/// The members of a deck, or its refusal: 1, then 20 for the first body that is
+/// not laid out so, included or not.
+fn members_of<'d>(deck: &'d [u8], layout: Layout) -> Result<Vec<Joined<'d>>, Answer> {
+    let malformed = || refused(Refusal::Deck, Place::default(), 0);
+    let members = deck::open(deck).ok_or_else(malformed)?;
+    let broken = members.iter().position(|one| !layout.takes(one.body));
+    if let Some(member) = broken {
+        return Err(refused(Refusal::Cards, Place { member, offset: 0 }, 0));
+    }
+    let joined = |member: &deck::Member<'d>| Joined {
+        name: member.name,
+        body: Body::new(layout, member.body),
     };
-    let mut run = Run::new(members, rooms, steps);
+    Ok(members.iter().map(joined).collect())
+}
+
+/// Expands a deck with rooms of these sizes and at most so many steps.
+pub fn expand(deck: &[u8], layout: Layout, rooms: Rooms, steps: u32) -> Answer {
+    let members = match members_of(deck, layout) {
+        Ok(members) => members,
+        Err(refusal) => return refusal,
+    };
+    let mut run = Run::new(&members, rooms, steps);
     match run.main() {
         Ok(()) => Answer {
             steps: run.meter.used(),
@@ -47,7 +72,7 @@ pub fn expand(deck: &[u8], rooms: Rooms, steps: u32) -> Answer {
             lines: run.output.lines,
             ..Answer::default()
         },
-        Err(refusal) => refused(refusal, run.place, run.meter.used()),
+        Err(refusal) => refused(refusal, run.as_given(run.place), run.meter.used()),
     }
 }
 
@@ -59,8 +84,9 @@ pub(crate) struct Used {
 }
 
 /// Expands a deck only to see what that takes.
-pub(crate) fn used(deck: &[u8], rooms: Rooms, steps: u32) -> Used {
-    let mut run = Run::new(deck::open(deck).unwrap_or_default(), rooms, steps);
+pub(crate) fn used(deck: &[u8], layout: Layout, rooms: Rooms, steps: u32) -> Used {
+    let members = members_of(deck, layout).unwrap_or_default();
+    let mut run = Run::new(&members, rooms, steps);
     // How it ends does not matter here.
     let _ = run.main();
     Used {

@@ -32,6 +32,12 @@ pub struct Line {
 impl Line {
     /// What a line takes of the list room.
     pub const BYTES: usize = 12;
+
+    /// Whether this is a stretch whose next byte stands there.
+    fn goes_on_at(&self, place: Place) -> bool {
+        let next = self.place.offset + self.length;
+        self.kind == LineKind::Copied && self.place.member == place.member && next == place.offset
+    }
 }
 
 /// Sizes of the rooms for text and list, in bytes.
@@ -67,11 +73,10 @@ impl Output {
         self.append(b" ")
     }
 
-    /// A token copied from the program text at `place`; it goes on the stretch
-    /// before it if nothing stands between.
+    /// Bytes copied from the program text at `place`; they go on the stretch before
+    /// them if nothing stands between, neither in the text nor in the source.
     pub fn copy(&mut self, place: Place, bytes: &[u8]) -> Outcome<()> {
-        let extends = matches!(self.lines.last(), Some(line) if line.kind == LineKind::Copied);
-        if !extends {
+        if !self.lines.last().is_some_and(|line| line.goes_on_at(place)) {
             self.new_line(LineKind::Copied, place)?;
         }
         self.append(bytes)

@@ -2,18 +2,23 @@
 
 use std::io::{self, Read, Write};
 
+use crate::cards::Layout;
 use crate::{expand, Answer, Rooms};
 
-/// A deck with the sizes of its rooms and its limit of steps.
+/// A deck with its layout, the sizes of its rooms and its limit of steps.
 #[derive(Clone, Debug, PartialEq, Eq)]
 pub struct Record {
+    pub layout: Layout,
     pub rooms: Rooms,
     pub steps: u32,
     pub deck: Vec<u8>,
 }
 
-/// The four numbers before the deck.
-const HEADER_BYTES: usize = 16;
+/// The five numbers before the deck.
+const HEADER_BYTES: usize = 20;
+
+/// The flag of a deck whose bodies are card images.
+const CARDS: u32 = 1;
 
 impl Record {
     /// Reads the next record; none at the end of the input. A record that is
@@ -26,6 +31,7 @@ impl Record {
         }
         let mut numbers = header.chunks_exact(4).map(little_endian);
         let mut next = || numbers.next().ok_or_else(cut_short);
+        let layout = layout_of(next()?)?;
         let rooms = Rooms {
             text: next()?,
             list: next()?,
@@ -37,20 +43,26 @@ impl Record {
         if deck.len() < length {
             return Err(cut_short());
         }
-        Ok(Some(Record { rooms, steps, deck }))
+        Ok(Some(Record {
+            layout,
+            rooms,
+            steps,
+            deck,
+        }))
     }
 
     /// Writes the record as [`Record::read`] reads it.
     pub fn write(&self, output: &mut impl Write) -> io::Result<()> {
         let length = u32::try_from(self.deck.len()).map_err(io::Error::other)?;
-        for number in [self.rooms.text, self.rooms.list, self.steps, length] {
+        let (text, list) = (self.rooms.text, self.rooms.list);
+        for number in [flags_of(self.layout), text, list, self.steps, length] {
             output.write_all(&number.to_le_bytes())?;
         }
         output.write_all(&self.deck)
     }
 
     pub fn expand(&self) -> Answer {
-        expand(&self.deck, self.rooms, self.steps)
+        expand(&self.deck, self.layout, self.rooms, self.steps)
     }
 }
 
@@ -59,6 +71,22 @@ impl Record {
 fn take_up_to(input: &mut impl Read, most: usize, into: &mut Vec<u8>) -> io::Result<usize> {
     let most = u64::try_from(most).unwrap_or(u64::MAX);
     input.by_ref().take(most).read_to_end(into)
+}
+
+/// A flag that has no meaning is an error, so that none is passed over.
+fn layout_of(flags: u32) -> io::Result<Layout> {
+    match flags {
+        0 => Ok(Layout::Plain),
+        CARDS => Ok(Layout::Cards),
+        _ => Err(io::Error::other("a record has flags that are not known")),
+    }
+}
+
+fn flags_of(layout: Layout) -> u32 {
+    match layout {
+        Layout::Plain => 0,
+        Layout::Cards => CARDS,
+    }
 }
 
 fn little_endian(bytes: &[u8]) -> u32 {

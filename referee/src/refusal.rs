@@ -22,6 +22,8 @@ pub enum Refusal {
     Room = 17,
     Steps = 18,
     Substr = 19,
+    /// A body of cards that is no multiple of 80 (request C-11).
+    Cards = 20,
 }
 
 impl Refusal {
@@ -34,7 +36,8 @@ impl Refusal {
 /// Outcome of anything that the run may refuse; the run itself keeps the place.
 pub type Outcome<T> = Result<T, Refusal>;
 
-/// A member and an offset from the start of its body.
+/// A member and an offset from the start of its body: while the deck runs, of
+/// what 01 calls the body; in the answer, of the body as given.
 #[derive(Clone, Copy, Debug, Default, PartialEq, Eq)]
 pub struct Place {
     pub member: usize,

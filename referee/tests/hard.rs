@@ -20,7 +20,7 @@ fn hard(argument: &str) -> Vec<u8> {
 #[test]
 fn every_hard_deck_has_the_number_it_is_made_for() {
     let names = String::from_utf8(hard("--names")).expect("names");
-    assert!(names.lines().count() > 80, "number of decks");
+    assert!(names.lines().count() > 100, "number of decks");
     for line in names.lines() {
         let (name, number) = line.split_once(' ').expect("a name and a number");
         let record = Record::read(&mut hard(name).as_slice()).expect("a record");

@@ -3,6 +3,7 @@
 use std::io::Write;
 use std::process::{Command, Output, Stdio};
 
+use referee::cards::Layout;
 use referee::record::Record;
 use referee::stack::with_large_stack;
 use referee::{Answer, Rooms};
@@ -27,6 +28,7 @@ fn deck(bodies: &[Vec<u8>]) -> Vec<u8> {
 
 fn record(bodies: &[Vec<u8>]) -> Record {
     Record {
+        layout: Layout::Plain,
         rooms: Rooms {
             text: u32::MAX,
             list: u32::MAX,
@@ -142,6 +144,25 @@ fn run_program(input: &[u8]) -> Output {
 }
 
 #[test]
+fn the_program_says_if_flags_are_not_known() {
+    let mut input = Vec::new();
+    record(&[b"A".to_vec()]).write(&mut input).expect("bytes");
+    for flags in [2, 3, 0x0100_0000] {
+        let mut wrong = input.clone();
+        wrong.splice(..4, u32::to_le_bytes(flags));
+        let output = run_program(&wrong);
+        assert_eq!(output.stdout, b"");
+        assert_eq!(output.status.code(), Some(1));
+    }
+    let (cards, body) = (1_u32.to_le_bytes(), [b'A'; 80].to_vec());
+    let mut input = Vec::new();
+    record(&[body]).write(&mut input).expect("bytes");
+    input.splice(..4, cards);
+    let lines = b"0 0 0 1 72 2\nB 0 1 1\nC 0 1 71\n A";
+    assert!(run_program(&input).stdout.starts_with(lines));
+}
+
+#[test]
 fn the_program_answers_all_records_and_says_if_one_is_cut() {
     let mut input = Vec::new();
     record(&[b"A".to_vec()]).write(&mut input).expect("bytes");
@@ -150,7 +171,7 @@ fn the_program_answers_all_records_and_says_if_one_is_cut() {
     let expected = b"0 0 0 1 2 2\nB 0 0 1\nC 0 0 1\n A\n3 0 1 0 0 0\n\n";
     assert_eq!(whole.stdout, expected);
     assert_eq!(whole.status.code(), Some(0));
-    for kept in [1, 15, 16, 20] {
+    for kept in [1, 19, 20, 24] {
         let mut longer = input.clone();
         longer.extend(&input[..kept]);
         let cut = run_program(&longer);

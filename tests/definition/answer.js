@@ -1,14 +1,18 @@
 // node answer.js DEFINITION: answers records as the referee does, by the definition that translate.py has written.
-// It reads records from standard input until it ends: text room, list room, steps and deck length (four bytes each,
-// little-endian), then the deck. For each it prints the six numbers, the lines of the origin list, the text and a line feed.
+// It reads records from standard input until it ends: flags (1 if the bodies are card images, else 0), text room, list
+// room, steps and deck length (four bytes each, little-endian), then the deck. For each it prints the six numbers, the
+// lines of the origin list, the text and a line feed.
 'use strict';
 const fs = require('fs');
 const path = require('path');
 const { Worker, isMainThread, workerData } = require('worker_threads');
 
-// What is taken from the definition: the expansion of a deck, and what the program prints of it.
-const EXPANSION = 'Expansion.expansion';
+// What is taken from the definition: the expansion of a deck, the layout by its number, and what the program prints.
+const EXPANSION = 'Expansion.expansionOf';
+const LAYOUT = 'Cards.layoutFor';
 const PRINTED = 'Printed.printed';
+// The bytes of a record before its deck.
+const HEADER = 20;
 // The definition goes as deep as a deck is long in a few places.
 const STACK_MEGABYTES = 512;
 
@@ -30,15 +34,17 @@ function write(bytes) {
 
 function answerAll(definition, input) {
   const expansion = taken(definition, EXPANSION);
+  const layoutFor = taken(definition, LAYOUT);
   const printed = taken(definition, PRINTED);
   for (let at = 0; at < input.length; ) {
-    if (at + 16 > input.length) throw new Error('a record is cut short');
-    const [textRoom, listRoom, steps, size] = [0, 4, 8, 12].map((k) => input.readUInt32LE(at + k));
-    const deck = input.subarray(at + 16, at + 16 + size);
+    if (at + HEADER > input.length) throw new Error('a record is cut short');
+    const [flags, textRoom, listRoom, steps, size] = [0, 4, 8, 12, 16].map((k) => input.readUInt32LE(at + k));
+    const deck = input.subarray(at + HEADER, at + HEADER + size);
     if (deck.length < size) throw new Error('a record is cut short');
-    const answer = expansion(true, definition.listOf([...deck]), textRoom, listRoom, steps);
+    if (flags > 1) throw new Error('a record has flags that mean nothing');
+    const answer = expansion(layoutFor(flags), true, definition.listOf([...deck]), textRoom, listRoom, steps);
     write(Buffer.from(definition.itemsOf(printed(answer))));
-    at += 16 + size;
+    at += HEADER + size;
   }
 }
 

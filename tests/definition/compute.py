@@ -1,6 +1,6 @@
 #!/usr/bin/env python3
 # compute.py [--most BYTES] [--least BYTES] [--steps MOST] [--batch N] [--names REGEX] [--cases FOLDER] [--keep FOLDER]: has the checker compute the definition's expansion of the cases.
-# For every case of tests/cases whose deck has at most BYTES bytes (120) it states 'the expansion of this deck, with these rooms
+# For every case of tests/cases whose deck is plain and has at most BYTES bytes (120) it states 'the expansion of this deck, with these rooms
 # and steps, is this answer', and has the checker prove it by computing (`refl`). The crates it makes stand in a temporary folder.
 # Another folder may hold records.bin and answers.txt of its own, as the referee's generator and the referee write them.
 import argparse
@@ -18,6 +18,7 @@ ROOT = os.path.dirname(os.path.dirname(os.path.dirname(os.path.abspath(__file__)
 CASES = os.path.join(ROOT, 'tests', 'cases')
 SPECS = os.path.join(ROOT, 'crates', 'definition', 'specs')
 KINDS = {'B': 1, 'C': 2, 'V': 3}
+PLAIN = 0  # the flags of a deck that is not card images
 
 
 def read_cases(folder=CASES):
@@ -28,9 +29,9 @@ def read_cases(folder=CASES):
     at = shown = 0
     cases = []
     while at < len(records):
-        text_room, list_room, steps, size = struct.unpack_from('<IIII', records, at)
-        deck = records[at + 16:at + 16 + size]
-        at += 16 + size
+        flags, text_room, list_room, steps, size = struct.unpack_from('<IIIII', records, at)
+        deck = records[at + 20:at + 20 + size]
+        at += 20 + size
         end = answers.index(b'\n', shown)
         six = [int(n) for n in answers[shown:end].split()]
         shown = end + 1
@@ -43,7 +44,7 @@ def read_cases(folder=CASES):
         text = answers[shown:shown + six[4]]
         shown += six[4] + 1
         name = names[len(cases)] if names else 'record %d' % len(cases)
-        cases.append((name, text_room, list_room, steps, deck, six, lines, text))
+        cases.append((name, text_room, list_room, steps, deck, six, lines, text, flags))
     return cases
 
 
@@ -65,7 +66,7 @@ def listed(numbers):
 
 
 def statement(k, case):
-    name, text_room, list_room, steps, deck, six, lines, text = case
+    name, text_room, list_room, steps, deck, six, lines, text, _ = case
     rows = ' ∷ '.join(['line %d %d %d %d' % tuple(l) for l in reversed(lines)] + ['[]'])
     return f'''
 -- {name}
@@ -136,7 +137,7 @@ def main():
     options.add_argument('--keep', default='')
     o = options.parse_args()
     cases = [(k, c) for k, c in enumerate(read_cases(o.cases))
-             if o.least <= len(c[4]) <= o.most and c[5][3] <= o.steps and re.search(o.names, c[0])]
+             if c[8] == PLAIN and o.least <= len(c[4]) <= o.most and c[5][3] <= o.steps and re.search(o.names, c[0])]
     batches = [cases[i:i + o.batch] for i in range(0, len(cases), o.batch)]
     folder = o.keep or tempfile.mkdtemp()
     start = time.time()

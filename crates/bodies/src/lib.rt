@@ -1,5 +1,6 @@
 // What the statements of a body do with what was evaluated, and where control goes behind them. `u` is the bytes of the unfinished
 // values that wait in the work room.
+// Parts: statements that evaluate, the numbers of DO, another test of a group, where control goes, GOTO.
 ghost use mathlib.Core.Path.{_≡_};
 ghost use mathlib.Core.Bool.{cond};
 ghost use Prim.Native.Nat.{_+_};

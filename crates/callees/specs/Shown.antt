@@ -6,6 +6,7 @@ use mathlib.Core.List.{List, [], _∷_}
 use lib.ListN.{length, getD}
 use Rattle.definition.specs.declared.ValueType.{ValueType}
 use Rattle.definition.specs.declared.ValueType.the-variants.{FixedType, CharacterType}
+use Rattle.definition.specs.declared.Layout.the-variants.{Plain}
 use Rattle.definition.specs.Fixed.{inRange}
 use mathlib.Core.Bool.{true}
 use Rattle.definition.specs.World as W
@@ -22,7 +23,7 @@ denotationsFrom t a (suc n) = denotationOf (nameIn t a .denotation) ∷ denotati
 
 -- the world of which only the names are known: deck d, table t, n records
 unfoldable pub namesWorld : List ℕ → List ℕ → ℕ → World
-namesWorld d t n = W.withTables (identifiersFrom d t 0 n) (denotationsFrom t 0 n) [] [] (W.newWorld 0 0 0)
+namesWorld d t n = W.withTables (identifiersFrom d t 0 n) (denotationsFrom t 0 n) [] [] (W.newWorld Plain 0 0 0)
 
 -- the names of the world B are those of the table
 pub record Named (d t : List ℕ) (n : ℕ) (B : World) : Type 0 where

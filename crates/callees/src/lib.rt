@@ -1,5 +1,6 @@
 // What a name means in an expression, and what a call needs to know of its procedure: its parameters, the arguments that wait for
 // it, and which procedures are running.
+// Parts: what a name means, procedures that run, parameters, arguments that wait, values of variables.
 ghost use mathlib.Core.Path.{_≡_};
 ghost use mathlib.Core.Bool.{cond, not, _&&_};
 ghost use lib.Dec.{eqb};

@@ -1,7 +1,8 @@
-// Answers for many decks: each record has the bytes of the text room, of the list room, the steps and the deck's length, four
-// bytes each, and then the deck. What is printed for each is what the program prints.
+// Answers for many decks: each record has its flags (1 if the bodies are card images, else 0), the bytes of the text room, of the list
+// room, the steps and the deck's length, four bytes each, and then the deck. What is printed for each is what the program prints.
 ghost use Prim.Native.Nat.{_≤_};
 ghost use lib.ListN.{length};
+use definition::Layout;
 use expander::expand;
 use printing::put_answer;
 use printing::used;
@@ -27,7 +28,14 @@ fn read_deck(deck: &mut [u8], n: usize) -> bool
     io::read_full(libc::STDIN_FILENO, &mut deck[0..n]) == n
 }
 
-// The answer for a deck with the rooms and steps of a record's head: whether it was written.
+fn layout_of(flags: u32) -> Layout {
+    if flags == 0 {
+        return Layout::Plain;
+    }
+    Layout::Cards
+}
+
+// The answer for a deck with the layout, the rooms and the steps of a record's head: whether it was written.
 fn answer_deck(
     head: &[u8],
     deck: &[u8],
@@ -39,12 +47,15 @@ fn answer_deck(
     low: &mut [u8],
     high: &mut [u8],
     work: &mut [u8],
+    joined: &mut [u8],
     page: &mut [u8],
 ) -> bool {
-    let t = least(number(head, 0), text.len());
-    let l = least(number(head, 4), list.len());
-    let steps = get_u32(head, 8);
+    let layout = layout_of(get_u32(head, 0));
+    let t = least(number(head, 4), text.len());
+    let l = least(number(head, 8), list.len());
+    let steps = get_u32(head, 12);
     let x = expand(
+        layout,
         deck,
         &mut text[0..t],
         &mut list[0..l],
@@ -54,6 +65,7 @@ fn answer_deck(
         low,
         high,
         work,
+        joined,
         steps,
     );
     let numbers = [x.number, x.member, x.offset, x.steps, x.text, x.lines];
@@ -61,7 +73,7 @@ fn answer_deck(
     io::write_all(libc::STDOUT_FILENO, used(page, size))
 }
 
-// One record: whether there was one.
+// One record: whether there was one. One with other flags is none, as one that is cut short.
 fn answer_in(
     deck: &mut [u8],
     text: &mut [u8],
@@ -72,13 +84,17 @@ fn answer_in(
     low: &mut [u8],
     high: &mut [u8],
     work: &mut [u8],
+    joined: &mut [u8],
     page: &mut [u8],
 ) -> bool {
-    let mut head = [0u8; 16];
-    if io::read_full(libc::STDIN_FILENO, &mut head) < 16 {
+    let mut head = [0u8; 20];
+    if io::read_full(libc::STDIN_FILENO, &mut head) < 20 {
         return false;
     }
-    let n = least(number(&head, 12), deck.len());
+    if 1 < get_u32(&head, 0) {
+        return false;
+    }
+    let n = least(number(&head, 16), deck.len());
     if read_deck(deck, n) {
         return answer_deck(
             &head,
@@ -91,6 +107,7 @@ fn answer_in(
             low,
             high,
             work,
+            joined,
             page,
         );
     }
@@ -108,6 +125,7 @@ fn answer_one() -> bool {
     let mut low = [0u8; 65_536];
     let mut high = [0u8; 65_536];
     let mut work = [0u8; 65_536];
+    let mut joined = [0u8; 65_536];
     let mut page = [0u8; 262_144];
     answer_in(
         &mut deck,
@@ -119,6 +137,7 @@ fn answer_one() -> bool {
         &mut low,
         &mut high,
         &mut work,
+        &mut joined,
         &mut page,
     )
 }

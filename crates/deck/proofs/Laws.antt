@@ -99,13 +99,13 @@ module _ (d : List ℕ) (at b : ℕ) (t : Bool) (e : b ≡ getD d (at + 0) 0) (f
   no-letter g = rw (← begins, g)
 
 -- ---- lines
-lines-next : (d : List ℕ) (n k : ℕ) → k < n → linesFrom d k (n - k) ≡ lineAt d k ∷ linesFrom d (k + 1) (n - (k + 1))
+pub lines-next : (d : List ℕ) (n k : ℕ) → k < n → linesFrom d k (n - k) ≡ lineAt d k ∷ linesFrom d (k + 1) (n - (k + 1))
 unfolding linesFrom
 lines-next d n k h =
     let e : n - k ≡ suc (n - (k + 1)) = omega arith in
     rw (e, add-one)
 
-lines-none : (d : List ℕ) (n k : ℕ) → n ≤ k → linesFrom d k (n - k) ≡ []
+pub lines-none : (d : List ℕ) (n k : ℕ) → n ≤ k → linesFrom d k (n - k) ≡ []
 unfolding linesFrom
 lines-none d n k h = let e : n - k ≡ 0 = omega arith in rw e
 

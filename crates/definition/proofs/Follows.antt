@@ -22,6 +22,9 @@ use Rattle.definition.specs.Values as Values
 use Rattle.definition.specs.Values.{Value, characters, Answer, gives, fails, convert, sizeOf}
 use Rattle.definition.specs.World as W
 use Rattle.definition.specs.World.{Owner, Denotation, variableOf, entryOf, labelAt, builtinName, Address, address, unknown, Cell, Activity, inactive, rescanned, copiedOnly, Pass, World, Res, good, bad, bind, placed, ask, withUsed, charge, seenFrom, valueAt, store, Body, addressOf, orGlobal, rowOf, rowsOf}
+use Rattle.definition.specs.Events.{Event}
+use Rattle.definition.specs.Cards.{Layout}
+use Rattle.definition.proofs.Views.{takenBy, FullEvents}
 use Rattle.definition.specs.Evaluate as Evaluate
 use Rattle.definition.specs.Evaluate.{Parameter, Meant, aVariable, anEntry, theSubstr, noSuch, meant, meantAt, Callee, callee, parameters, parameterAt, listedIn, Wish, wishes, substrWishes, count, Call, put, readCell, plainName, listedName, evaluate}
 use Rattle.definition.specs.Flow.{isOnce, Jump, toRow, toEnd, away, Deed, passed, gave, jumps, Next, begin, again, noNext, End, ran, returned, went, Frame, Machine, Turn, on, ended, endIn, nextIn, upFrom, behindAs, behindOn, leadOut, firstIn, endOf, behind, onward, alternativeOf, inRow, into, targetAs, targetAt, assigned, truth, number, bounded, bounds, startAs, startIn, startAt, frameOf, numberAt, stepped, follow, done, chosen, statement, turn, continued, runOn, mayGo}
@@ -30,19 +33,34 @@ use Rattle.definition.specs.Lists.{part}
 use Rattle.definition.specs.Tokens.{Piece, name, plain, unclosed, pieceAt}
 use Rattle.definition.specs.Scan.{Into, toText, toWork, fits, full, after, waiting, Scanner, outcome, Argument, Arguments, listUpTo, noList, listAt, scanArguments, Replacer, upTo, callWith, withList, replaceEntry, replaceCell, replaceAs, Active, notActive, active, activeAt, activeName, activeIn, token, scanOn, scanWith, replacer}
 
--- `Short` are the refusals after which nothing is said of the second run. Either those for want of steps and room are
--- among them, or the second world has no more than the first
-pub data Spare (a b c : ℕ) (Short : Why → Type 0) : Type 0 where
+-- the lines that the second world has more, by the events so far, where the deck of the second run may have another layout:
+-- what the first run takes more for an event
+pub record Extra : Type 0 where
+  pub lines : Layout → List Event → ℕ
+  pub layout : Layout → Layout
+  pub balance : (y : Layout) (e : Event) (es : List Event) → FullEvents (e ∷ []) → lines y (e ∷ es) + takenBy (layout y) e es ≡ lines y es + takenBy y e es
+
+-- so many more at each time, in the same layout
+abbrev pub extra : ℕ → Extra
+extra c = record { lines = λ y es. c; layout = λ y. y; balance = λ y e es _. refl }
+
+abbrev pub none-extra : Extra
+none-extra = extra 0
+
+-- `Short` are the refusals after which nothing is said of the second run. Those for want of steps and room are among
+-- them, or the second world has no more than the first
+pub data Spare (a b : ℕ) (c : Extra) (Short : Why → Type 0) : Type 0 where
   more-left : Short noStep → Short roomFull → Spare a b c Short
-  no-more : a ≡ 0 → b ≡ 0 → c ≡ 0 → Spare a b c Short
+  more-room : a ≡ 0 → Short roomFull → Spare a b c Short
+  no-more : a ≡ 0 → b ≡ 0 → c ≡ none-extra → Spare a b c Short
 
 pub data Same {E : Type 0} : E → E → Type 0 where
   same : {e : E} → Same e e
 
-module _ (a b c : ℕ) (gs : List Pass) (Short : Why → Type 0) (spare : Spare a b c Short) where
-  -- a world with a more steps, b more bytes and c more lines left, and with more in its ghost
+module _ (a b : ℕ) (c : Extra) (gs : List Pass) (Short : Why → Type 0) (spare : Spare a b c Short) where
+  -- a world with a more steps, b more bytes and the lines of c more left, and with more in its ghost
   abbrev pub grow : World → World
-  grow w = record { identifiers = w .identifiers; denotations = w .denotations; values = w .values; activities = w .activities; members = w .members; sentences = w .sentences; limit = w .limit + a; used = w .used; events = w .events; textLeft = w .textLeft + b; linesLeft = w .linesLeft + c; passes = w .passes ++ gs }
+  grow w = record { identifiers = w .identifiers; denotations = w .denotations; values = w .values; activities = w .activities; members = w .members; sentences = w .sentences; limit = w .limit + a; used = w .used; layout = c .layout (w .layout); events = w .events; textLeft = w .textLeft + b; linesLeft = w .linesLeft + c .lines (w .layout) (w .events); passes = w .passes ++ gs }
 
   -- what the second run gives, by what the first gives
   pub data Follows {E F A : Type 0} (Alike : E → F → Type 0) (Lacks : E → Type 0) : Res E A → Res F A → Type 0 where
@@ -70,6 +88,11 @@ module _ (a b c : ℕ) (gs : List Pass) (Short : Why → Type 0) (spare : Spare 
   when-follows true f g h k i j = i
   when-follows false f g h k i j = j
 
+  -- the same, where what is chosen may be used
+  pub when-follows-by : {E F A : Type 0} {Alike : E → F → Type 0} {Lacks : E → Type 0} (t : Bool) (f g : Unit {0} → Res E A) (h k : Unit {0} → Res F A) → (t ≡ true → Follows Alike Lacks (f tt) (h tt)) → (t ≡ false → Follows Alike Lacks (g tt) (k tt)) → Follows Alike Lacks (when t f g) (when t h k)
+  when-follows-by true f g h k i j = i refl
+  when-follows-by false f g h k i j = j refl
+
   pub ask-follows : {A : Type 0} (x : Answer A) (w : World) → Fol (ask x w) (ask x (grow w))
   ask-follows (gives x) w = goes
   ask-follows (fails e) w = halt
@@ -83,6 +106,7 @@ module _ (a b c : ℕ) (gs : List Pass) (Short : Why → Type 0) (spare : Spare 
       go : Spare a b c Short → (t : Bool) → ltb (w .used) (w .limit) ≡ t → Fol (when t (λ _. good (tt {0}) (withUsed (cond t (w .used + 1) (w .used)) w)) (λ _. bad noStep (w .used))) (when (ltb (w .used) (w .limit + a)) (λ _. good (tt {0}) (withUsed (cond (ltb (w .used) (w .limit + a)) (w .used + 1) (w .used)) (grow w))) (λ _. bad noStep (w .used)))
       go x true e = rw (lt-ltb (w .used) (w .limit + a) (omega (arith, ltb-true (w .used) (w .limit) e))) goes
       go (more-left s r) false e = lacks s
+      go (more-room p r) false e = rw (le-ltb (w .used) (w .limit + a) (omega (arith, ltb-false (w .used) (w .limit) e))) halt
       go (no-more p q r) false e = rw (le-ltb (w .used) (w .limit + a) (omega (arith, ltb-false (w .used) (w .limit) e))) halt
 
   -- ---- expressions, where `run` follows
@@ -398,6 +422,9 @@ module _ (a b c : ℕ) (gs : List Pass) (Short : Why → Type 0) (spare : Spare 
       where
         go : Spare a b c Short → Ties (runOn M (w .limit - w .used) x fs w) (runOn N (w .limit + a - w .used) x fs (grow w))
         go (more-left s r) = runOn-less s (w .limit - w .used) (w .limit + a - w .used) (omega arith) x fs w
+        go (more-room p r) =
+            let e : w .limit + a - w .used ≡ w .limit - w .used = omega arith in
+            rw e (runOn-even (w .limit - w .used) x fs w)
         go (no-more p q r) =
             let e : w .limit + a - w .used ≡ w .limit - w .used = omega arith in
             rw e (runOn-even (w .limit - w .used) x fs w)

@@ -1,13 +1,13 @@
 -- Two runs in step: program text and members.
 -- Assumes nothing.
-use Prim.Native.Nat.{ℕ, zero, suc, _+_, _-_, _≤_}
+use Prim.Native.Nat.{ℕ, zero, suc, _+_, _-_, _≤_, _<_}
 use native.Mathlib.Omega.{arith}
 use mathlib.Core.Bool.{Bool, true, false, cond, _&&_, false≢true}
 use mathlib.Core.List.{List, [], _∷_}
-use mathlib.Core.Path.{_≡_, refl}
+use mathlib.Core.Path.{_≡_, refl, ap, _∙_}
 use lib.Dec.{leb, eqb}
 use lib.ListN.{length}
-use borrow.Author.Tests.{leb-true, le-leb}
+use borrow.Author.Tests.{leb-true, leb-false, le-leb}
 use Rattle.definition.specs.Choice.{when}
 use Rattle.definition.specs.Limits.{runningProcedures, replacementLevels}
 use Rattle.definition.specs.Refusal.{Why, roomFull, declaredTwice}
@@ -22,13 +22,16 @@ use Rattle.definition.specs.Tokens.{pieceAt}
 use Rattle.definition.specs.Scan.{toText, Active, notActive, active, activeIn}
 use Rattle.definition.specs.Names as Names
 use Rattle.definition.specs.Names.{New, new, listing, Joint, joint, twice, jointOf, Declaring, fine, second, setDenotation, declaredAt, declareOne, declareAll, isListed, newOf, identifierOf, faultOf, withMember, Entering, entered, unreadable, enteredAs, enter}
-use Rattle.definition.specs.Events.{Event, blank, copied, replaced, bytesIn, joins}
+use Rattle.definition.specs.Events.{Event, blank, copied, replaced, bytesIn}
 use Rattle.definition.specs.Reading.{readMember}
 use Rattle.definition.specs.Deck as Deck
 use Rattle.definition.specs.Run.{Stop, stop, bodyOf, putOut, copyHere, replaceHere, tokenHere, passOf, textOn, textOut, activated, activateAt, activateAll, activations, jumpAway, jumpLabel, jumpBy, jumpFrom, Inner, Level, noLevel, level, cameOut, includeEntered, includeAt, includeAll, actAs, memberMachine, runSource, runMember}
 use Rattle.definition.proofs.Keeping.{Awake, AllAwake, awake-in, and-left, and-right, Laws, Leaves, leaves, calls-leaves, replacer-leaves}
 use Rattle.definition.proofs.Members.{still-begun, still}
-use Rattle.definition.proofs.Follows.{Spare, more-left, no-more, Same, same, grow, Follows, goes, halts, lacks, Fol, halt, bind-follows, placed-follows, when-follows, charge-follows, calls-follows, evaluate-follows, runOn-follows, lead-follows, Wider, text, even, replacer-follows, active-same}
+use Rattle.definition.proofs.Views.{takenBy, FullEvents}
+use Rattle.definition.proofs.Parts.{length-part}
+use Rattle.definition.proofs.Ends.{pieceAt-past}
+use Rattle.definition.proofs.Follows.{Extra, none-extra, Spare, more-left, more-room, no-more, Same, same, grow, Follows, goes, halts, lacks, Fol, halt, bind-follows, placed-follows, when-follows, when-follows-by, charge-follows, calls-follows, evaluate-follows, runOn-follows, lead-follows, Wider, text, even, replacer-follows, active-same}
 
 -- a machine with other deeds
 abbrev pub acting : {E : Type 0} → (ℕ → World → Res E Deed) → Machine E → Machine E
@@ -38,7 +41,7 @@ both-true : (x y : Bool) → x ≡ true → y ≡ true → (x && y) ≡ true
 both-true true y h k = k
 both-true false y h k = absurd (false≢true h)
 
-module _ (a b c : ℕ) (gs : List Pass) (Short : Why → Type 0) (spare : Spare a b c Short) where
+module _ (a b : ℕ) (c : Extra) (gs : List Pass) (Short : Why → Type 0) (spare : Spare a b c Short) where
   abbrev pub G : World → World
   G = grow a b c gs Short spare
 
@@ -63,20 +66,24 @@ module _ (a b c : ℕ) (gs : List Pass) (Short : Why → Type 0) (spare : Spare 
   pub at-place : {A : Type 0} (m p : ℕ) {r s : Res Why A} → F r s → T (placed (stop m p) r) (placed (stop m p) s)
   at-place m p h = placed-follows a b c gs Short spare (stop m p) (stop m p) (λ e. same) (λ e i. i) h
 
-  -- ---- an event that goes out
-  event-grown : (e : Event) (g : Pass) (n : ℕ) (w : World) → n ≤ w .linesLeft → length (bytesIn e) ≤ w .textLeft → withEvent e g n (G w) ≡ G (withEvent e g n w)
-  event-grown e g n w h k =
+  -- ---- an event that goes out, with the lines that it takes in the layout of each world
+  abbrev taking : Event → World → ℕ
+  taking e w = takenBy (w .layout) e (w .events)
+
+  event-grown : (e : Event) (g : Pass) (w : World) → FullEvents (e ∷ []) → taking e w ≤ w .linesLeft → length (bytesIn e) ≤ w .textLeft → withEvent e g (taking e (G w)) (G w) ≡ G (withEvent e g (taking e w) w)
+  event-grown e g w f h k =
       let p : w .textLeft + b - length (bytesIn e) ≡ w .textLeft - length (bytesIn e) + b = omega arith in
-      let q : w .linesLeft + c - n ≡ w .linesLeft - n + c = omega arith in
+      let q : w .linesLeft + c .lines (w .layout) (w .events) - taking e (G w) ≡ w .linesLeft - taking e w + c .lines (w .layout) (e ∷ w .events) = omega (arith, c .balance (w .layout) e (w .events) f) in
       rw (p, q)
 
   -- a test that the rooms hold: it holds in the second world too, or the first run ends for want of room, or both fail
-  room-follows : {A : Type 0} (s t : Bool) (f g : Unit {0} → Res Why A) (u : ℕ) → (s ≡ true → t ≡ true) → (b ≡ 0 → c ≡ 0 → t ≡ s) → (s ≡ true → F (f tt) (g tt)) → F (when s f (λ _. bad roomFull u)) (when t g (λ _. bad roomFull u))
+  room-follows : {A : Type 0} (s t : Bool) (f g : Unit {0} → Res Why A) (u : ℕ) → (s ≡ true → t ≡ true) → (b ≡ 0 → c ≡ none-extra → t ≡ s) → (s ≡ true → F (f tt) (g tt)) → F (when s f (λ _. bad roomFull u)) (when t g (λ _. bad roomFull u))
   room-follows true t f g u h k e = rw (h refl) (e refl)
   room-follows false t f g u h k e = go spare
     where
       go : Spare a b c Short → F (bad roomFull u) (when t g (λ _. bad roomFull u))
       go (more-left s r) = lacks r
+      go (more-room p r) = lacks r
       go (no-more p q r) = rw (k q r) (halt a b c gs Short spare)
 
   leb-more : (n m k : ℕ) → leb n m ≡ true → leb n (m + k) ≡ true
@@ -85,55 +92,62 @@ module _ (a b c : ℕ) (gs : List Pass) (Short : Why → Type 0) (spare : Spare 
   leb-same : (n m k : ℕ) → k ≡ 0 → leb n (m + k) ≡ leb n m
   leb-same n m k e = let z : m + k ≡ m = omega arith in rw z
 
-  put-out : (e : Event) (g : Pass) (n : ℕ) (w : World) → F (putOut e g n w) (putOut e g n (G w))
+  lines-more : (e : Event) (w : World) → FullEvents (e ∷ []) → leb (taking e w) (w .linesLeft) ≡ true → leb (taking e (G w)) (G w .linesLeft) ≡ true
+  lines-more e w f h = le-leb (taking e (G w)) (G w .linesLeft) (omega (arith, leb-true (taking e w) (w .linesLeft) h, c .balance (w .layout) e (w .events) f))
+
+  lines-same : (e : Event) (w : World) → c ≡ none-extra → leb (taking e (G w)) (G w .linesLeft) ≡ leb (taking e w) (w .linesLeft)
+  lines-same e w q = ap (λ (z : Extra). leb (takenBy (z .layout (w .layout)) e (w .events)) (w .linesLeft + z .lines (w .layout) (w .events))) q ∙ leb-same (taking e w) (w .linesLeft) 0 refl
+
+  put-out : (e : Event) (g : Pass) (w : World) → FullEvents (e ∷ []) → F (putOut e g (taking e w) w) (putOut e g (taking e (G w)) (G w))
   unfolding putOut
-  put-out e g n w =
-      let l : Bool = leb n (w .linesLeft) in
+  put-out e g w f =
+      let l : Bool = leb (taking e w) (w .linesLeft) in
       let t : Bool = leb (length (bytesIn e)) (w .textLeft) in
       room-follows (l && t) _ _ _ (w .used)
-      (λ h. both-true _ _ (leb-more n (w .linesLeft) c (and-left l t h)) (leb-more (length (bytesIn e)) (w .textLeft) b (and-right l t h)))
-      (λ p q. rw (leb-same n (w .linesLeft) c q, leb-same (length (bytesIn e)) (w .textLeft) b p))
-      (λ h. goes-by (withEvent e g n (G w)) (event-grown e g n w (leb-true n (w .linesLeft) (and-left l t h)) (leb-true (length (bytesIn e)) (w .textLeft) (and-right l t h))))
+      (λ h. both-true _ _ (lines-more e w f (and-left l t h)) (leb-more (length (bytesIn e)) (w .textLeft) b (and-right l t h)))
+      (λ p q. rw (lines-same e w q, leb-same (length (bytesIn e)) (w .textLeft) b p))
+      (λ h. goes-by (withEvent e g (taking e (G w)) (G w)) (event-grown e g w f (leb-true (taking e w) (w .linesLeft) (and-left l t h)) (leb-true (length (bytesIn e)) (w .textLeft) (and-right l t h))))
 
-  copy-here : (m place : ℕ) (l : List ℕ) (g : Pass) (w : World) → F (copyHere m place l g w) (copyHere m place l g (G w))
+  copy-here : (m place : ℕ) (l : List ℕ) (g : Pass) (w : World) → 1 ≤ length l → F (copyHere m place l g w) (copyHere m place l g (G w))
   unfolding copyHere
-  copy-here m place l g w = put-out (copied m place l) g (cond (joins (w .events) m place) 0 1) w
+  copy-here m place l g w f = put-out (copied m place l) g w (f, tt)
 
   wide : (w : World) → Wider a b c gs Short spare (toText (w .textLeft)) (toText (w .textLeft + b))
   wide w = go spare
     where
       go : Spare a b c Short → Wider a b c gs Short spare (toText (w .textLeft)) (toText (w .textLeft + b))
       go (more-left s r) = text {r = w .textLeft} {s = w .textLeft + b} r (omega arith)
+      go (more-room p r) = text {r = w .textLeft} {s = w .textLeft + b} r (omega arith)
       go (no-more p q r) = let z : w .textLeft + b ≡ w .textLeft = omega arith in rw z (even)
 
   replace-here : (m place : ℕ) (t : List ℕ) (q x : ℕ) (y : Activity) → Awake y → (g : List ℕ → ℕ → Pass) (w : World) → F (replaceHere m place t q x y g w) (replaceHere m place t q x y g (G w))
   unfolding replaceHere
   replace-here m place t q x y awake g w =
-      room-follows (leb 1 (w .linesLeft)) _ _ _ (w .used) (leb-more 1 (w .linesLeft) c) (λ i j. leb-same 1 (w .linesLeft) c j)
+      room-follows (leb 1 (w .linesLeft)) _ _ _ (w .used) (leb-more 1 (w .linesLeft) (c .lines (w .layout) (w .events))) (λ i j. lines-same (replaced m place []) w j)
       λ h. bind-also (still w) _ _ (replacer-follows a b c gs Short spare callOut (calls-follows a b c gs Short spare runningProcedures []) replacementLevels t q x y _ _ 0 w (wide w))
       (replacer-leaves (still w) callOut (calls-leaves (still w) runningProcedures []) replacementLevels t q x y (toText (w .textLeft)) 0 w awake (still-begun w))
-      λ r v k l. goes-by (withEvent (replaced m place (r .bytes)) (g (r .bytes) (r .to)) 1 (G v)) (event-grown (replaced m place (r .bytes)) (g (r .bytes) (r .to)) 1 v (omega (arith, leb-true 1 (w .linesLeft) h, l .linesLeft)) (omega (arith, k, l .textLeft)))
+      λ r v k l. goes-by (withEvent (replaced m place (r .bytes)) (g (r .bytes) (r .to)) 1 (G v)) (event-grown (replaced m place (r .bytes)) (g (r .bytes) (r .to)) v tt (omega (arith, leb-true 1 (w .linesLeft) h, l .linesLeft)) (omega (arith, k, l .textLeft)))
 
-  token-here : (x : Active) → AllAwake x → (m place : ℕ) (t : List ℕ) (p q : ℕ) (g : List ℕ → ℕ → Pass) (w : World) → F (tokenHere x m place t p q g w) (tokenHere x m place t p q g (G w))
-  token-here notActive k m place t p q g w = bind-follows a b c gs Short spare _ _ (copy-here m place (part (q - p) p t) (g (part (q - p) p t) q) w) λ _ v. goes
-  token-here (active x y) k m place t p q g w = replace-here m place t q x y k g w
+  token-here : (x : Active) → AllAwake x → (m place : ℕ) (t : List ℕ) (p q : ℕ) (g : List ℕ → ℕ → Pass) (w : World) → p < q → F (tokenHere x m place t p q g w) (tokenHere x m place t p q g (G w))
+  token-here notActive k m place t p q g w h = bind-follows a b c gs Short spare _ _ (copy-here m place (part (q - p) p t) (g (part (q - p) p t) q) w (omega (arith, length-part (q - p) p t))) λ _ v. goes
+  token-here (active x y) k m place t p q g w h = replace-here m place t q x y k g w
 
-  turn-here : (m from : ℕ) (t : List ℕ) (p : ℕ) (v : World) → F (tokenHere (activeIn (pieceAt t p .piece) v) m (from + p) t p (pieceAt t p .to) (λ l q. passOf m (from + p) (pieceAt t p .piece) v l (from + q)) v) (tokenHere (activeIn (pieceAt t p .piece) (G v)) m (from + p) t p (pieceAt t p .to) (λ l q. passOf m (from + p) (pieceAt t p .piece) (G v) l (from + q)) (G v))
-  turn-here m from t p v =
+  turn-here : (m from : ℕ) (t : List ℕ) (p : ℕ) (v : World) → p < pieceAt t p .to → F (tokenHere (activeIn (pieceAt t p .piece) v) m (from + p) t p (pieceAt t p .to) (λ l q. passOf m (from + p) (pieceAt t p .piece) v l (from + q)) v) (tokenHere (activeIn (pieceAt t p .piece) (G v)) m (from + p) t p (pieceAt t p .to) (λ l q. passOf m (from + p) (pieceAt t p .piece) (G v) l (from + q)) (G v))
+  turn-here m from t p v h =
       rw (active-same a b c gs Short spare (pieceAt t p .piece) v)
-      (token-here (activeIn (pieceAt t p .piece) v) (awake-in (pieceAt t p .piece) v) m (from + p) t p (pieceAt t p .to) (λ l q. passOf m (from + p) (pieceAt t p .piece) v l (from + q)) v)
+      (token-here (activeIn (pieceAt t p .piece) v) (awake-in (pieceAt t p .piece) v) m (from + p) t p (pieceAt t p .to) (λ l q. passOf m (from + p) (pieceAt t p .piece) v l (from + q)) v h)
 
   text-follows : (m from : ℕ) (t : List ℕ) (f p : ℕ) (w : World) → T (textOn m from t f p w) (textOn m from t f p (G w))
   unfolding textOn
   text-follows m from t zero p w = goes
   text-follows m from t (suc f) p w =
-      when-follows a b c gs Short spare (leb (length t) p) _ _ _ _ goes
-      (bind-follows a b c gs Short spare _ _ (at-place m (from + p) (bind-follows a b c gs Short spare _ _ (charge-follows a b c gs Short spare w) λ _ v. turn-here m from t p v))
-      λ q x. text-follows m from t f q x)
+      when-follows-by a b c gs Short spare (leb (length t) p) _ _ _ _ (λ _. goes)
+      λ e. bind-follows a b c gs Short spare _ _ (at-place m (from + p) (bind-follows a b c gs Short spare _ _ (charge-follows a b c gs Short spare w) λ _ v. turn-here m from t p v (pieceAt-past t p (leb-false (length t) p e) .above)))
+      λ q x. text-follows m from t f q x
 
   pub text-out : (m : ℕ) (s : List ℕ) (x : Stretch) (w : World) → T (textOut m s x w) (textOut m s x (G w))
   unfolding textOut
-  text-out m s x w = bind-follows a b c gs Short spare _ _ (at-place m (x .from) (put-out (blank m (x .from)) (W.began m x) 1 w)) λ _ v. text-follows m (x .from) _ _ 0 v
+  text-out m s x w = bind-follows a b c gs Short spare _ _ (at-place m (x .from) (put-out (blank m (x .from)) (W.began m x) w tt)) λ _ v. text-follows m (x .from) _ _ 0 v
 
   -- ---- names
   activated-follows : (d : Denotation) (x : Activity) (y : ℕ) (w : World) → F (activated d x y w) (activated d x y (G w))

@@ -124,6 +124,7 @@ awake-in unclosed w = tt
 pub record Alike (v w : World) : Type 0 where
   pub limit : v .limit ≡ w .limit
   pub used : v .used ≡ w .used
+  pub layout : v .layout ≡ w .layout
   pub events : v .events ≡ w .events
   pub textLeft : v .textLeft ≡ w .textLeft
   pub linesLeft : v .linesLeft ≡ w .linesLeft
@@ -165,7 +166,7 @@ valueless left charged changed = record {
   charged = charged;
   changed = λ v w h k _. changed v w h k;
   named = λ v w h k _. changed v w h k;
-  stored = λ a x w _ h. changed (store a x w) w h (record { limit = refl; used = refl; events = refl; textLeft = refl; linesLeft = refl; passes = refl });
+  stored = λ a x w _ h. changed (store a x w) w h (record { limit = refl; used = refl; layout = refl; events = refl; textLeft = refl; linesLeft = refl; passes = refl });
   cells = λ a w h. any-cell (valueAt a w);
   constants = λ ds. any-given (constant ds);
   strings = λ l. any-given (limited (characters l));
@@ -614,7 +615,7 @@ module _ {Sound : World → Type 0} {Of : Value → Type 0} {Left : ℕ → Type
     unreadable-any : {e : Why} {p : ℕ} → SoundEntering (unreadable e p)
 
   declared-at : (x : Address) (i : Identifier) (d : Denotation) (p : ℕ) {w : World} → Sound w → SoundDeclaring (declaredAt x i d p w)
-  declared-at unknown i d p {w} h = fine-sound (laws .named (addName i d w) w h (record { limit = refl; used = refl; events = refl; textLeft = refl; linesLeft = refl; passes = refl }) refl)
+  declared-at unknown i d p {w} h = fine-sound (laws .named (addName i d w) w h (record { limit = refl; used = refl; layout = refl; events = refl; textLeft = refl; linesLeft = refl; passes = refl }) refl)
   declared-at (address a) i d p {w} h = go (jointOf (W.denotation a w) d)
     where
       go : (j : Joint) → SoundDeclaring (elim j [ joint e ↦ fine (setDenotation a e w) | twice ↦ second p ])

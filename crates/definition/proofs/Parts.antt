@@ -4,7 +4,7 @@ use mathlib.Core.Path.{_≡_, refl, ap, _∙_}
 use mathlib.Core.Bool.{Bool, true, false, _&&_}
 use mathlib.Core.List.{List, [], _∷_, _++_}
 use Prim.Native.Nat.{ℕ, zero, suc, _+_, _*_, _/_, _^_, _<_, _≤_}
-use native.Mathlib.Nat.{not-suc-le-zero, add-zero, suc-add, add-suc, div-add-mod, pow-succ', pow-zero}
+use native.Mathlib.Nat.{not-suc-le-zero, add-zero, zero-add, suc-add, add-suc, div-add-mod, pow-succ', pow-zero}
 use native.Mathlib.Numerals.{add-one}
 use native.Mathlib.Omega.{arith}
 use lib.Dec.{eqb}
@@ -16,7 +16,7 @@ length-part zero at s = refl
 length-part (suc n) at s = ap suc (length-part n (suc at) s)
 
 -- a part of a part
-getD-part : (k p a : ℕ) (s : List ℕ) → p < k → getD (part k a s) p 0 ≡ getD s (a + p) 0
+pub getD-part : (k p a : ℕ) (s : List ℕ) → p < k → getD (part k a s) p 0 ≡ getD s (a + p) 0
 getD-part zero p a s h = absurd (not-suc-le-zero h)
 getD-part (suc k) zero a s h = rw add-zero
 getD-part (suc k) (suc p) a s h = getD-part k p (suc a) s (omega arith) ∙ rw (suc-add, add-suc)
@@ -24,6 +24,11 @@ getD-part (suc k) (suc p) a s h = getD-part k p (suc a) s (omega arith) ∙ rw (
 pub part-of-part : (n p k a : ℕ) (s : List ℕ) → p + n ≤ k → part n p (part k a s) ≡ part n (a + p) s
 part-of-part zero p k a s h = refl
 part-of-part (suc n) p k a s h = rw (getD-part k p a s (omega arith), part-of-part n (suc p) k a s (omega arith), add-suc)
+
+-- two parts, one behind the other
+pub part-append : (n m at : ℕ) (s : List ℕ) → part (n + m) at s ≡ part n at s ++ part m (at + n) s
+part-append zero m at s = rw (zero-add, add-zero)
+part-append (suc n) m at s = rw (suc-add, add-suc) (ap (λ (t : List ℕ). getD s at 0 ∷ t) (part-append n m (suc at) s ∙ rw suc-add))
 
 -- one byte more
 part-last : (j at : ℕ) (s : List ℕ) → part (suc j) at s ≡ part j at s ++ (getD s (at + j) 0 ∷ [])

@@ -6,19 +6,19 @@ use mathlib.Core.Bool.{Bool}
 use mathlib.Core.List.{List, []}
 use mathlib.Core.Path.{_≡_, refl, _∙_}
 use Rattle.definition.specs.Limits.{includeLevels}
-use Rattle.definition.specs.Deck.{isSound}
 use Rattle.definition.specs.Reading.{readMember}
 use Rattle.definition.specs.Expressions.{Tree}
 use Rattle.definition.specs.Program.{Statement, Row}
 use Rattle.definition.specs.Values.{Value}
 use Rattle.definition.specs.World.{Owner, procedureAt, World, Res, good, bad, addressOf, rowOf}
-use Rattle.definition.specs.Names.{Entering}
+use Rattle.definition.specs.Names.{Entering, enter}
 use Rattle.definition.specs.Evaluate.{Callee, evaluate}
 use Rattle.definition.specs.Flow.{Frame, End, ran, returned, went, statement}
 use Rattle.definition.specs.Calls.{Place, bodyMachine, calls}
 use Rattle.definition.specs.Run.{Stop, bodyOf}
-use Rattle.definition.specs.Expansion.{Expansion, result, runMain, mainWorld, expansion}
-use Rattle.definition.proofs.Choices.{when-has}
+use Rattle.definition.specs.Cards.{Layout, plain, cards}
+use Rattle.definition.specs.Expansion.{Expansion, result, runMain, worldFor, expansionOf}
+use Rattle.definition.proofs.Expanding.{ranDeck, ranIn, toldAs, each-way}
 use Rattle.definition.proofs.Keeping.{Any, any-all, Laws, valueless, Leaves, leaves, stops, passes, evaluate-leaves, statement-leaves, act-leaves, jump-in, calls-leaves, SoundEntering, entered-sound, unreadable-any, enter-leaves}
 use Rattle.definition.proofs.Members.{text-out, member-leaves}
 
@@ -79,11 +79,18 @@ main-fits : (limit : ℕ) {e : Entering} (d : List ℕ) → SoundEntering (thrif
 main-fits limit d unreadable-any = omega arith
 main-fits limit d (entered-sound {w} h) = rw result-used (spent-by 0 limit (member-leaves (thrift 0 limit) d (text-out (thrift 0 limit) d λ e _ n v _ k. record { same = k .same; spent = k .spent }) includeLevels 0 [] w h) .1)
 
-pub expansion-fits : (roomy : Bool) (d : List ℕ) (textRoom listRoom steps : ℕ) → expansion roomy d textRoom listRoom steps .steps ≤ steps
-unfolding expansion
-expansion-fits roomy d textRoom listRoom steps =
-    let w : World = mainWorld textRoom listRoom steps in
-    let h : Kept 0 steps w = record { same = refl; spent = omega arith } in
-    when-has (λ (x : Expansion). x .steps ≤ steps) (isSound d) _ _
-    (λ _. when-has (λ (x : Expansion). x .steps ≤ steps) roomy _ _ (λ _. main-fits steps d (enter-leaves (thrift 0 steps) 0 (readMember (bodyOf d 0)) h)) λ _. omega arith)
-    λ _. omega arith
+run-fits : (y : Layout) (d : List ℕ) (textRoom listRoom steps : ℕ) → ranIn y d textRoom listRoom steps .steps ≤ steps
+run-fits y d textRoom listRoom steps =
+    let h : Kept 0 steps (worldFor y textRoom listRoom steps) = record { same = refl; spent = omega arith } in
+    main-fits steps d (enter-leaves (thrift 0 steps) 0 (readMember (bodyOf d 0)) h)
+
+told-steps : (y : Layout) (d : List ℕ) (x : Expansion) → toldAs y d x .steps ≡ x .steps
+told-steps plain d x = refl
+told-steps cards d x = refl
+
+-- plain or cards
+pub expansion-fits : (y : Layout) (roomy : Bool) (d : List ℕ) (textRoom listRoom steps : ℕ) → expansionOf y roomy d textRoom listRoom steps .steps ≤ steps
+expansion-fits y roomy d textRoom listRoom steps =
+    let e : List ℕ = ranDeck y d in
+    each-way (λ (x : Expansion). x .steps ≤ steps) y roomy d textRoom listRoom steps (λ _. omega arith) (λ _ _ _. omega arith) (λ _ _ _. omega arith)
+    λ _ _ _. omega (arith, run-fits y e textRoom listRoom steps, told-steps y e (ranIn y e textRoom listRoom steps))

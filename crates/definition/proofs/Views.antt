@@ -2,22 +2,25 @@
 -- Assumes nothing.
 use Prim.Native.Nat.{ℕ, _+_, _≤_}
 use native.Mathlib.Omega.{arith}
-use mathlib.Core.Bool.{Bool, true, false, cond}
+use mathlib.Core.Bool.{Bool, true, false, cond, _&&_, false≢true}
 use mathlib.Core.List.{List, [], _∷_}
-use mathlib.Core.Path.{_≡_, refl}
+use mathlib.Core.Path.{_≡_, refl, _∙_}
+use lib.Dec.{eqb}
 use lib.ListN.{length, length-append}
+use borrow.Author.Tests.{eqb-true}
 use Rattle.definition.specs.Events.{Event, blank, copied, replaced, textOf, Line, line, goesOn, joins, longer, linesOf}
+use Rattle.definition.specs.Cards.{Layout, plain, takes, taking}
 
 abbrev pub sizes : List Line → ℕ
 sizes [] = 0
 sizes (l ∷ ls) = sizes ls + l .size
 
 -- ---- where there are events there is a line, so that a token that goes on has a line to make longer
-abbrev HasLine : List Line → Type 0
+abbrev pub HasLine : List Line → Type 0
 HasLine [] = ⊥
 HasLine (l ∷ ls) = Unit {0}
 
-longer-has : (n : ℕ) (ls : List Line) → HasLine ls → HasLine (longer n ls)
+pub longer-has : (n : ℕ) (ls : List Line) → HasLine ls → HasLine (longer n ls)
 longer-has n [] h = h
 longer-has n (l ∷ ls) h = tt
 
@@ -40,7 +43,7 @@ covered (blank m p ∷ es) = tt
 covered (copied m p l ∷ es) = copied-has m p (length l) es (covered es)
 covered (replaced m p l ∷ es) = tt
 
-longer-sizes : (n : ℕ) (ls : List Line) → HasLine ls → sizes (longer n ls) ≡ sizes ls + n
+pub longer-sizes : (n : ℕ) (ls : List Line) → HasLine ls → sizes (longer n ls) ≡ sizes ls + n
 longer-sizes n [] h = absurd h
 longer-sizes n (l ∷ ls) h = omega arith
 
@@ -61,17 +64,15 @@ sizes-add-up (copied m p l ∷ es) = simp length-append (omega (arith, copied-si
 sizes-add-up (replaced m p l ∷ es) = simp length-append (omega (arith, sizes-add-up es))
 
 -- ---- the lines that an event takes
-abbrev pub takenBy : Event → List Event → ℕ
-takenBy (blank m p) es = 1
-takenBy (copied m p l) es = cond (joins es m p) 0 1
-takenBy (replaced m p l) es = 1
+abbrev pub takenBy : Layout → Event → List Event → ℕ
+takenBy y e es = taking y e es
 
-longer-length : (n : ℕ) (ls : List Line) → length (longer n ls) ≡ length ls
+pub longer-length : (n : ℕ) (ls : List Line) → length (longer n ls) ≡ length ls
 longer-length n [] = refl
 longer-length n (l ∷ ls) = refl
 
-pub lines-taken : (e : Event) (es : List Event) → length (linesOf (e ∷ es)) ≡ length (linesOf es) + takenBy e es
-unfolding linesOf
+pub lines-taken : (e : Event) (es : List Event) → length (linesOf (e ∷ es)) ≡ length (linesOf es) + takenBy plain e es
+unfolding linesOf takes
 lines-taken (blank m p) es = omega arith
 lines-taken (copied m p l) es = go (joins es m p)
   where
@@ -91,7 +92,7 @@ abbrev pub FullLines : List Line → Type 0
 FullLines [] = Unit {0}
 FullLines (l ∷ ls) = (l .kind ≡ 2 → 1 ≤ l .size) × FullLines ls
 
-longer-full : (n : ℕ) (ls : List Line) → 1 ≤ n → FullLines ls → FullLines (longer n ls)
+pub longer-full : (n : ℕ) (ls : List Line) → 1 ≤ n → FullLines ls → FullLines (longer n ls)
 longer-full n [] h f = tt
 longer-full n (l ∷ ls) h f = (λ _. omega arith, f .1)
 
@@ -105,3 +106,40 @@ no-stretch-empty (copied m p l ∷ es) h = go (joins es m p) (no-stretch-empty e
     go : (t : Bool) → FullLines (linesOf es) → FullLines (cond t (longer (length l) (linesOf es)) (line 2 m p (length l) ∷ linesOf es))
     go true f = longer-full (length l) (linesOf es) (h .0) f
     go false f = (λ _. h .0, f)
+
+-- ---- what the newest line says of the newest event
+abbrev pub Newest : List Event → List Line → Type 0
+Newest [] [] = Unit {0}
+Newest [] (a ∷ ls) = ⊥
+Newest (e ∷ es) [] = ⊥
+Newest (blank m p ∷ es) (a ∷ ls) = a .kind ≡ 1
+Newest (copied m p l ∷ es) (a ∷ ls) = (a .kind ≡ 2) × (a .member ≡ m) × (a .offset + a .size ≡ p + length l)
+Newest (replaced m p l ∷ es) (a ∷ ls) = a .kind ≡ 3
+
+pub and-true : (a b : Bool) → (a && b) ≡ true → (a ≡ true) × (b ≡ true)
+and-true true true h = (refl, refl)
+and-true true false h = absurd (false≢true h)
+and-true false b h = absurd (false≢true h)
+
+-- the newest line is that of the newest event
+grown-line : (m p : ℕ) (l : List ℕ) (es : List Event) (ls : List Line) → joins es m p ≡ true → Newest es ls → Newest (copied m p l ∷ es) (longer (length l) ls)
+unfolding goesOn
+grown-line m p l [] [] j h = absurd (false≢true j)
+grown-line m p l [] (a ∷ ls) j h = absurd (false≢true j)
+grown-line m p l (e ∷ es) [] j h = absurd h
+grown-line m p l (blank n q ∷ es) (a ∷ ls) j h = absurd (false≢true j)
+grown-line m p l (replaced n q x ∷ es) (a ∷ ls) j h = absurd (false≢true j)
+grown-line m p l (copied n q x ∷ es) (a ∷ ls) j h =
+    let i : (eqb n m ≡ true) × (eqb (q + length x) p ≡ true) = and-true (eqb n m) (eqb (q + length x) p) j in
+    (h .0, h .1 ∙ eqb-true n m (i .0), omega (arith, h .2, eqb-true (q + length x) p (i .1)))
+
+pub newest-line : (es : List Event) → Newest es (linesOf es)
+unfolding linesOf
+newest-line [] = tt
+newest-line (blank m p ∷ es) = refl
+newest-line (replaced m p l ∷ es) = refl
+newest-line (copied m p l ∷ es) = go (joins es m p) refl (newest-line es)
+  where
+    go : (t : Bool) → joins es m p ≡ t → Newest es (linesOf es) → Newest (copied m p l ∷ es) (cond t (longer (length l) (linesOf es)) (line 2 m p (length l) ∷ linesOf es))
+    go true e h = grown-line m p l es (linesOf es) e h
+    go false e h = (refl, refl, refl)

@@ -4,19 +4,21 @@
 use Prim.Native.Nat.{ℕ, _/_}
 use mathlib.Core.Bool.{Bool, cond}
 use mathlib.Core.List.{List, []}
-use lib.Dec.{leb}
+use lib.Dec.{leb, eqb}
 use lib.ListN.{length}
 use Rattle.definition.specs.Choice.{when}
 use Rattle.definition.specs.Limits.{includeLevels, textBytes, originLineBytes}
-use Rattle.definition.specs.Refusal.{Why, malformedDeck, shortRoom, numberOf}
+use Rattle.definition.specs.Refusal.{Why, malformedDeck, shortRoom, unevenBody, numberOf}
 use Rattle.definition.specs.Room.{over, zeros}
+use Rattle.definition.specs.Deck as Deck
 use Rattle.definition.specs.Deck.{isSound}
 use Rattle.definition.specs.Reading.{readMember}
 use Rattle.definition.specs.Events.{Line, textOf, linesOf, listBytes}
+use Rattle.definition.specs.Cards.{Layout, plain, cards, uneven, joined, given, asGiven}
 use Rattle.definition.specs.World.{World, newWorld, Res, good, bad}
 use Rattle.definition.specs.Names.{Entering, entered, unreadable, enter}
 use Rattle.definition.specs.Flow.{End, ran, returned, went}
-use Rattle.definition.specs.Run.{Stop, bodyOf, runMember}
+use Rattle.definition.specs.Run.{Stop, lineOf, bodyOf, runMember}
 
 -- the numbers, the text, and the lines newest first
 pub record Expansion : Type 0 where
@@ -57,16 +59,50 @@ runMain (entered w) d = result (runMember includeLevels d 0 [] w)
 abbrev pub capped : ℕ → ℕ
 capped n = cond (leb n textBytes) n textBytes
 
-abbrev pub mainWorld : ℕ → ℕ → ℕ → World
-mainWorld textRoom listRoom steps = newWorld steps (capped textRoom) (listRoom / originLineBytes)
+abbrev pub worldFor : Layout → ℕ → ℕ → ℕ → World
+worldFor layout textRoom listRoom steps = newWorld layout steps (capped textRoom) (listRoom / originLineBytes)
 
--- THE EXPANSION of the deck d; `roomy` says whether the working rooms are long enough
+abbrev pub mainWorld : ℕ → ℕ → ℕ → World
+mainWorld textRoom listRoom steps = worldFor plain textRoom listRoom steps
+
+-- THE EXPANSION of the plain deck d; `roomy` says whether the working rooms are long enough
 unfoldable pub expansion : Bool → List ℕ → ℕ → ℕ → ℕ → Expansion
 expansion roomy d textRoom listRoom steps =
     when (isSound d)
     (λ _. when roomy
     (λ _. runMain (enter 0 (readMember (bodyOf d 0)) (mainWorld textRoom listRoom steps)) d)
     (λ _. refusal shortRoom 0 0 0))
+    (λ _. refusal malformedDeck 0 0 0)
+
+-- ---- 02, C-11: the expansion of the joined deck d, told by the places of the deck as given
+abbrev pub sizeIn : List ℕ → ℕ → ℕ
+sizeIn d m = lineOf d m .size
+
+abbrev pub told : List ℕ → Expansion → Expansion
+told d x = record {
+  number = x .number;
+  member = x .member;
+  offset = cond (eqb (x .number) 0) 0 (given (sizeIn d (x .member)) (x .offset));
+  steps = x .steps;
+  text = x .text;
+  lines = asGiven (sizeIn d) (x .lines);
+}
+
+abbrev pub runCards : List ℕ → ℕ → ℕ → ℕ → Expansion
+runCards d textRoom listRoom steps =
+    told d (runMain (enter 0 (readMember (bodyOf d 0)) (worldFor cards textRoom listRoom steps)) d)
+
+-- "Refusals: 20, .. after 1 and before 2, place the first such member at offset 0"
+abbrev pub cardsIn : Deck.Found → Bool → List ℕ → ℕ → ℕ → ℕ → Expansion
+cardsIn (Deck.line k) roomy d textRoom listRoom steps = refusal unevenBody k 0 0
+cardsIn Deck.none roomy d textRoom listRoom steps =
+    when roomy (λ _. runCards (joined d) textRoom listRoom steps) (λ _. refusal shortRoom 0 0 0)
+
+-- THE EXPANSION of the deck d: "The caller says whether a deck is plain or cards"
+unfoldable pub expansionOf : Layout → Bool → List ℕ → ℕ → ℕ → ℕ → Expansion
+expansionOf plain roomy d textRoom listRoom steps = expansion roomy d textRoom listRoom steps
+expansionOf cards roomy d textRoom listRoom steps =
+    when (isSound d) (λ _. cardsIn (uneven 0 (Deck.lines d)) roomy d textRoom listRoom steps)
     (λ _. refusal malformedDeck 0 0 0)
 
 -- "Past the reported ends both rooms are zero."

@@ -16,6 +16,7 @@ pub mod Statements
 pub mod Reading
 pub mod Values
 pub mod Events
+pub mod Cards
 pub mod World
 pub mod Names
 pub mod Evaluate

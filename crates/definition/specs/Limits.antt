@@ -27,6 +27,13 @@ deckLines = 32
 abbrev pub memberNameLength : ℕ
 memberNameLength = 8
 
+-- 02, C-11: "80-column records: source in 2 to 72"
+abbrev pub recordColumns : ℕ
+recordColumns = 80
+
+abbrev pub sourceColumns : ℕ
+sourceColumns = 71
+
 -- Table, 4: "over 1,024 sentences and procedure statements in a member, 2,048 in those entered"
 abbrev pub memberSentences : ℕ
 memberSentences = 1024

@@ -1,7 +1,7 @@
 -- 01, "Numbers given back": a case for each condition of the table, and its number.
 use Prim.Native.Nat.{ℕ}
 pub use Rattle.definition.specs.declared.Why.{Why}
-pub use Rattle.definition.specs.declared.Why.the-variants.{MalformedDeck as malformedDeck, ShortRoom as shortRoom, Syntax as syntax, OverLimit as overLimit, DeclaredTwice as declaredTwice, WrongName as wrongName, NoValue as noValue, NoConversion as noConversion, OutOfRange as outOfRange, ZeroDivisor as zeroDivisor, WrongArguments as wrongArguments, WronglyRun as wronglyRun, WrongGoto as wrongGoto, UnknownMember as unknownMember, TooDeep as tooDeep, TooLong as tooLong, RoomFull as roomFull, NoStep as noStep, SubstrOutside as substrOutside}
+pub use Rattle.definition.specs.declared.Why.the-variants.{MalformedDeck as malformedDeck, ShortRoom as shortRoom, Syntax as syntax, OverLimit as overLimit, DeclaredTwice as declaredTwice, WrongName as wrongName, NoValue as noValue, NoConversion as noConversion, OutOfRange as outOfRange, ZeroDivisor as zeroDivisor, WrongArguments as wrongArguments, WronglyRun as wronglyRun, WrongGoto as wrongGoto, UnknownMember as unknownMember, TooDeep as tooDeep, TooLong as tooLong, RoomFull as roomFull, NoStep as noStep, SubstrOutside as substrOutside, UnevenBody as unevenBody}
 
 abbrev pub numberOf : Why → ℕ
 numberOf malformedDeck = 1
@@ -23,3 +23,4 @@ numberOf tooLong = 16
 numberOf roomFull = 17
 numberOf noStep = 18
 numberOf substrOutside = 19
+numberOf unevenBody = 20

@@ -16,6 +16,7 @@ use Rattle.definition.specs.Tokens.{Piece, pieceAt}
 use Rattle.definition.specs.Program.{Activation, Statement, null, declare, procedure, assign, conditional, group, iterated, goto, include, activate, deactivate, return, row, Stretch, Row, Source}
 use Rattle.definition.specs.Reading.{readMember}
 use Rattle.definition.specs.Events.{Event, blank, copied, replaced, bytesIn, joins}
+use Rattle.definition.specs.Cards.{takes}
 use Rattle.definition.specs.World.{everyone, Denotation, variableOf, entryOf, labelAt, builtinName, Activity, inactive, rescanned, copiedOnly, Address, address, unknown, Pass, began, passed as passedBy, World, Res, good, bad, bind, placed, charge, addressOf, denotation, setActivity, withEvent, rowOf, rowsOf}
 use Rattle.definition.specs.Names.{Entering, entered, unreadable, enter}
 use Rattle.definition.specs.Evaluate.{evaluate}
@@ -49,7 +50,8 @@ putOut e g taken w =
 -- ---- program text: the text t of member m, which begins at `from`
 -- "A stretch takes its line at its first byte"
 unfoldable pub copyHere : ℕ → ℕ → List ℕ → Pass → World → Res Why (Unit {0})
-copyHere m place l g w = putOut (copied m place l) g (cond (joins (w .events) m place) 0 1) w
+copyHere m place l g w =
+    putOut (copied m place l) g (takes (w .layout) (joins (w .events) m place) place l) w
 
 -- "a replacement at its name"; g is its pass by its outcome and where the scan goes on
 unfoldable pub replaceHere : ℕ → ℕ → List ℕ → ℕ → ℕ → Activity → (List ℕ → ℕ → Pass) → World → Res Why ℕ

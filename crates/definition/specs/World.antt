@@ -14,6 +14,7 @@ use Rattle.definition.specs.Tokens.{Piece}
 use Rattle.definition.specs.Program.{Type′, null, nowhere, listed, Stretch, Row, Source}
 use Rattle.definition.specs.Values.{Value, Answer, gives, fails}
 use Rattle.definition.specs.Events.{Event, bytesIn}
+use Rattle.definition.specs.Cards.{Layout}
 
 -- the scope of a name: all of the program, or the procedure at a row of a member
 pub data Owner : Type 0 where
@@ -89,15 +90,16 @@ pub record World : Type 0 where
   -- the meter: the steps that there are, and those charged
   pub limit : ℕ
   pub used : ℕ
-  -- the output: the events so far, the newest first; the bytes that the text room and the lines that the list room may
-  -- still take; the ghost, which has a pass for each event
+  -- the output: what the caller says that the deck is; the events so far, the newest first; the bytes that the text room
+  -- and the lines that the list room may still take; the ghost, which has a pass for each event
+  pub layout : Layout
   pub events : List Event
   pub textLeft : ℕ
   pub linesLeft : ℕ
   pub passes : List Pass
 
-abbrev pub newWorld : ℕ → ℕ → ℕ → World
-newWorld limit text lines = record {
+abbrev pub newWorld : Layout → ℕ → ℕ → ℕ → World
+newWorld layout limit text lines = record {
   identifiers = [];
   denotations = [];
   values = [];
@@ -106,6 +108,7 @@ newWorld limit text lines = record {
   sentences = 0;
   limit = limit;
   used = 0;
+  layout = layout;
   events = [];
   textLeft = text;
   linesLeft = lines;
@@ -123,6 +126,7 @@ withTables is ds vs xs w = record {
   sentences = w .sentences;
   limit = w .limit;
   used = w .used;
+  layout = w .layout;
   events = w .events;
   textLeft = w .textLeft;
   linesLeft = w .linesLeft;
@@ -139,6 +143,7 @@ withMembers ms n w = record {
   sentences = n;
   limit = w .limit;
   used = w .used;
+  layout = w .layout;
   events = w .events;
   textLeft = w .textLeft;
   linesLeft = w .linesLeft;
@@ -155,6 +160,7 @@ withUsed u w = record {
   sentences = w .sentences;
   limit = w .limit;
   used = u;
+  layout = w .layout;
   events = w .events;
   textLeft = w .textLeft;
   linesLeft = w .linesLeft;
@@ -171,6 +177,7 @@ withOutput es text lines gs w = record {
   sentences = w .sentences;
   limit = w .limit;
   used = w .used;
+  layout = w .layout;
   events = es;
   textLeft = text;
   linesLeft = lines;

@@ -34,6 +34,13 @@ pub enum Why {
     RoomFull,
     NoStep,
     SubstrOutside,
+    UnevenBody,
+}
+
+// What the bodies of a deck are: source as it stands, or records of 80 columns.
+pub enum Layout {
+    Plain,
+    Cards,
 }
 
 // The infix operators of 000, 3.2.1, and the prefix ones.

@@ -3,7 +3,7 @@
 use mathlib.Core.Path.{_≡_, refl, sym, ap, _∙_}
 use mathlib.Core.Bool.{Bool, true, _&&_}
 use mathlib.Core.List.{List, [], _∷_, _++_, append-assoc}
-use Prim.Native.Nat.{ℕ, zero, suc, _+_, _*_, _-_, _%_, _≤_}
+use Prim.Native.Nat.{ℕ, zero, suc, _+_, _*_, _-_, _%_, _<_, _≤_}
 use native.Mathlib.Nat.{zero-add}
 use native.Mathlib.Omega.{arith}
 use borrow.Author.Tests.{leb-true, le-leb}
@@ -12,10 +12,14 @@ use lib.ListN.{length, take, drop, length-append, replicate-append-replicate}
 use lib.Seq.{take-append-seam, drop-append-seam}
 use Rattle.definition.specs.declared.Why.{Why}
 use Rattle.definition.specs.declared.Why.the-variants as W
+use Rattle.definition.specs.declared.Layout.{Layout}
+use Rattle.definition.specs.declared.Layout.the-variants.{Plain, Cards}
 use Rattle.definition.specs.Refusal.{numberOf}
 use Rattle.definition.specs.Limits.{includeLevels}
 use Rattle.definition.specs.Room.{over, zeros}
+use Rattle.definition.specs.Deck as Deck
 use Rattle.definition.specs.Deck.{isSound}
+use Rattle.definition.specs.Cards.{uneven, joined}
 use Rattle.definition.specs.Reading.{readMember}
 use Rattle.definition.specs.Events.{Line, listBytes, lineBytes}
 use Rattle.definition.specs.World.{Res, good, bad}
@@ -23,25 +27,33 @@ use Rattle.definition.specs.Names.{Entering, entered, unreadable, enter}
 use Rattle.definition.specs.Flow.{End, ran, returned, went}
 use Rattle.definition.specs.Run.{Stop, bodyOf, runMember}
 use Rattle.definition.specs.Expansion as X
-use Rattle.definition.specs.Expansion.{result, runMain, mainWorld, expansion, textRoomAfter, listRoomAfter}
-use Rattle.definition.proofs.Choices.{when-has}
+use Rattle.definition.specs.Expansion.{result, runMain, worldFor, told, expansionOf, textRoomAfter, listRoomAfter}
+use Rattle.definition.proofs.Expanding.{ranDeck, ranIn, toldAs, malformed-is, uneven-is, short-is, each-way}
 use Rattle.definition.proofs.Rooms.{over-nil}
-use Rattle.definition.proofs.Fits.{text-fits, list-fits}
+use Rattle.definition.proofs.Fits.{Fitting, fitting}
 use Rattle.definition.proofs.Thrift.{expansion-fits}
-use Rattle.definition.proofs.Refused.{refused-empty, refused-text, refused-list}
+use Rattle.definition.proofs.Refused.{Empty, refused-empty, refused-text, refused-list}
 use Rattle.printing.specs.Page.{expansionIn}
 use Rattle.printing.proofs.Answers.{rooms-hold, sixOf as sixIn}
 use Rattle.promises.specs.Origin as Origin
+use Rattle.promises.specs.Passes as Passes
+use Rattle.promises.specs.Passes.{passing}
+use Rattle.promises.specs.Unread.{withBody}
+use Rattle.promises.specs.Cards.{InRecords, rejoined}
 use Rattle.promises.proofs.Cutting.{partition}
 use Rattle.promises.proofs.Passing.{honest}
-use Rattle.promises.proofs.Growing.{more-keeps}
+use Rattle.promises.proofs.Growing.{more-keeps-in}
 use Rattle.promises.proofs.Unread.{unread}
+use Rattle.promises.proofs.Tied.{tied-unless-short}
+use Rattle.promises.proofs.Rejoined.{rejoins}
+use Rattle.promises.proofs.Edges.{as-given}
+use Rattle.promises.proofs.Bodies.{unread-cards}
 use Rattle.expander.specs.declared.Expansion.{Expansion}
 use Rattle.expander.specs.Answer.{numbersOf}
 use Rattle.expander.specs.Promise.{Working, isRoomy, answerOf, Expanded, sixOf, Told}
-use Rattle.expander.specs.Corollaries.{Call, Meets, Countable, definedFor, Numbered, Refused, Ended, ReadOff, Partitioned, Honest, Longer, Same, MoreKeeps, Alike, UnreadBody, Determined}
-use Rattle.expander.proofs.Laws.{malformed-is, short-is, all-true}
-use Rattle.stops.proofs.Stops.{one-malformed, two-short, offset-near}
+use Rattle.expander.specs.Corollaries.{Call, Meets, Countable, definedFor, readOff, Numbered, Placed, Refused, Ended, ReadOff, Partitioned, Recorded, Honest, Longer, Same, MoreKeeps, Alike, NeverIn, UnreadBody, Determined, Beside, Tied}
+use Rattle.expander.proofs.Laws.{all-true}
+use Rattle.stops.proofs.Stops.{one-malformed, twenty-uneven, two-short, place-within, offset-near}
 use Rattle.stops.proofs.Near.{lines-small}
 
 -- ---- a room of zeros with xs over its start
@@ -74,8 +86,8 @@ unfolding listBytes
 list-length [] = refl
 list-length (l ∷ ls) = length-append (listBytes ls) (lineBytes l) ∙ omega (arith, list-length ls)
 
--- ---- every number is at most 19
-most-number : (w : Why) → numberOf w ≤ 19
+-- ---- every number is at most 20
+most-number : (w : Why) → numberOf w ≤ 20
 most-number W.MalformedDeck = omega arith
 most-number W.ShortRoom = omega arith
 most-number W.Syntax = omega arith
@@ -95,9 +107,10 @@ most-number W.TooLong = omega arith
 most-number W.RoomFull = omega arith
 most-number W.NoStep = omega arith
 most-number W.SubstrOutside = omega arith
+most-number W.UnevenBody = omega arith
 
 abbrev Few : X.Expansion → Type 0
-Few x = x .number ≤ 19
+Few x = x .number ≤ 20
 
 result-few : (r : Res Stop End) → Few (result r)
 result-few (good ran w) = omega arith
@@ -109,12 +122,45 @@ main-few : (e : Entering) (d : List ℕ) → Few (runMain e d)
 main-few (unreadable e p) d = most-number e
 main-few (entered w) d = result-few (runMember includeLevels d 0 [] w)
 
-expansion-few : (roomy : Bool) (d : List ℕ) (t l steps : ℕ) → Few (expansion roomy d t l steps)
-unfolding expansion
-expansion-few roomy d t l steps =
-    when-has Few (isSound d) _ _
-    (λ _. when-has Few roomy _ _ (λ _. main-few (enter 0 (readMember (bodyOf d 0)) (mainWorld t l steps)) d) λ _. omega arith)
-    λ _. omega arith
+told-few : (y : Layout) (d : List ℕ) (x : X.Expansion) → Few x → Few (toldAs y d x)
+told-few Plain d x h = h
+told-few Cards d x h = h
+
+expansion-few : (y : Layout) (roomy : Bool) (d : List ℕ) (t l steps : ℕ) → Few (expansionOf y roomy d t l steps)
+expansion-few y roomy d t l steps =
+    let e : List ℕ = ranDeck y d in
+    each-way Few y roomy d t l steps (λ _. omega arith) (λ _ _ _. omega arith) (λ _ _ _. omega arith)
+    λ _ _ _. told-few y e (ranIn y e t l steps) (main-few (enter 0 (readMember (bodyOf e 0)) (worldFor y t l steps)) e)
+
+-- ---- demand 3 in each layout
+cut-in : (y : Layout) (roomy : Bool) (d : List ℕ) (t l steps : ℕ) → Origin.Partition d (expansionOf y roomy d t l steps)
+unfolding expansionOf
+cut-in Plain roomy d t l steps = partition d roomy t l steps
+cut-in Cards roomy d t l steps = as-given d roomy t l steps .partition
+
+records-in : (y : Layout) (roomy : Bool) (d : List ℕ) (t l steps : ℕ) → y ≡ Cards → InRecords (expansionOf y roomy d t l steps .lines)
+records-in y roomy d t l steps e = rw e (as-given d roomy t l steps .records)
+
+honest-in : (y : Layout) (roomy : Bool) (d : List ℕ) (t l steps : ℕ) → y ≡ Plain → Passes.Honest d (passing roomy d t l steps) (expansionOf y roomy d t l steps)
+unfolding expansionOf
+honest-in y roomy d t l steps e = rw e (honest d roomy t l steps)
+
+unread-in : (y : Layout) (roomy : Bool) (d : List ℕ) (k : ℕ) (b : List ℕ) (t l steps : ℕ) → isSound d ≡ true → 0 < k → k < Deck.count d → length b ≡ Deck.lineAt d k .size → NeverIn y k d t l steps
+    → expansionOf y roomy (withBody k b d) t l steps ≡ expansionOf y roomy d t l steps
+unfolding expansionOf
+unread-in Plain roomy d k b t l steps s i j f n = unread d roomy k b t l steps s i j f n
+unread-in Cards roomy d k b t l steps s i j f n = unread-cards d roomy k b t l steps s i j f n
+
+-- ---- cards and the joined deck
+tied-in : (d : List ℕ) (roomy : Bool) (t l steps : ℕ) → isSound d ≡ true → uneven 0 (Deck.lines d) ≡ Deck.none → (expansionOf Cards roomy d t l steps .number ≡ 2 → ⊥) → (expansionOf Cards roomy d t l steps .number ≡ 17 → ⊥)
+    → expansionOf Cards roomy d t l steps ≡ told (joined d) (expansionOf Plain roomy (joined d) t l steps)
+unfolding expansionOf
+tied-in d roomy t l steps s e i j = tied-unless-short d roomy t l steps s e i j
+
+rejoins-in : (d : List ℕ) (roomy : Bool) (t l steps : ℕ) → isSound d ≡ true → uneven 0 (Deck.lines d) ≡ Deck.none → (expansionOf Cards roomy d t l steps .number ≡ 17 → ⊥)
+    → rejoined (expansionOf Cards roomy d t l steps .lines) ≡ expansionOf Plain roomy (joined d) t l steps .lines
+unfolding expansionOf
+rejoins-in d roomy t l steps s e i = rejoins d roomy t l steps s e i
 
 -- ---- ONE CALL
 module _ (c : Call) (h : Meets c) where
@@ -124,38 +170,56 @@ module _ (c : Call) (h : Meets c) where
   number-is : c .answer .number ≡ defined .number
   number-is = ap (λ (r : Expansion). r .number) (h .numbers)
 
+  member-is : c .answer .member ≡ defined .member
+  member-is = ap (λ (r : Expansion). r .member) (h .numbers)
+
+  offset-is : c .answer .offset ≡ defined .offset
+  offset-is = ap (λ (r : Expansion). r .offset) (h .numbers)
+
   size-is : c .answer .text ≡ length (defined .text)
   size-is = ap (λ (r : Expansion). r .text) (h .numbers)
 
+  fits : Fitting (length (c .text)) (length (c .list)) defined
+  fits = fitting (c .layout) (isRoomy (c .working)) (c .deck) (length (c .text)) (length (c .list)) (c .steps)
+
   text-in : length (defined .text) ≤ length (c .text)
-  text-in = text-fits (isRoomy (c .working)) (c .deck) (length (c .text)) (length (c .list)) (c .steps)
+  text-in = fits .text
 
   list-in : length (listBytes (defined .lines)) ≤ length (c .list)
-  list-in = list-fits (isRoomy (c .working)) (c .deck) (length (c .text)) (length (c .list)) (c .steps)
+  list-in = fits .list
 
   count-is : Countable c → c .answer .lines ≡ length (defined .lines)
   count-is k = ap (λ (r : Expansion). r .lines) (h .numbers) ∙ omega (arith, list-in, list-length (defined .lines))
 
   pub numbered : Numbered c
-  numbered = record {
-    malformed = λ s. h .numbers ∙ ap numbersOf (malformed-is (c .deck) (length (c .text)) (length (c .list)) (c .steps) (isRoomy (c .working)) s);
-    one = λ n. one-malformed (c .deck) (length (c .text)) (length (c .list)) (c .steps) (isRoomy (c .working)) (sym number-is ∙ n);
-    short = λ s r. h .numbers ∙ ap numbersOf (short-is (c .deck) (length (c .text)) (length (c .list)) (c .steps) (isRoomy (c .working)) s r);
-    two = λ n. two-short (c .deck) (length (c .text)) (length (c .list)) (c .steps) (isRoomy (c .working)) (sym number-is ∙ n);
-    most = omega (arith, number-is, expansion-few (isRoomy (c .working)) (c .deck) (length (c .text)) (length (c .list)) (c .steps));
-    place = omega (arith, ap (λ (r : Expansion). r .offset) (h .numbers), offset-near (c .deck) (length (c .text)) (length (c .list)) (c .steps) (isRoomy (c .working)));
-    steps = omega (arith, ap (λ (r : Expansion). r .steps) (h .numbers), expansion-fits (isRoomy (c .working)) (c .deck) (length (c .text)) (length (c .list)) (c .steps));
-  }
+  numbered =
+      let roomy : Bool = isRoomy (c .working) in
+      let t : ℕ = length (c .text) in
+      let l : ℕ = length (c .list) in
+      record {
+        malformed = λ s. h .numbers ∙ ap numbersOf (malformed-is roomy (c .deck) t l (c .steps) (c .layout) s);
+        one = λ n. one-malformed (c .layout) roomy (c .deck) t l (c .steps) (sym number-is ∙ n);
+        uneven = λ k s e. h .numbers ∙ ap numbersOf (uneven-is roomy (c .deck) t l (c .steps) (c .layout) k s e);
+        twenty = λ n. rw member-is (twenty-uneven (c .layout) roomy (c .deck) t l (c .steps) (sym number-is ∙ n));
+        short = λ s e r. h .numbers ∙ ap numbersOf (short-is roomy (c .deck) t l (c .steps) (c .layout) s e r);
+        two = λ n. two-short (c .layout) roomy (c .deck) t l (c .steps) (sym number-is ∙ n);
+        most = omega (arith, number-is, expansion-few (c .layout) roomy (c .deck) t l (c .steps));
+        place = omega (arith, offset-is, offset-near (c .layout) roomy (c .deck) t l (c .steps));
+        steps = omega (arith, ap (λ (r : Expansion). r .steps) (h .numbers), expansion-fits (c .layout) roomy (c .deck) t l (c .steps));
+      }
+
+  pub placed : Placed c
+  placed s = rw (member-is, offset-is) (place-within (c .layout) (isRoomy (c .working)) (c .deck) (length (c .text)) (length (c .list)) (c .steps) s)
 
   pub refused : Refused c
   refused n =
       let z : defined .number ≡ 0 → ⊥ = λ k. n (number-is ∙ k) in
-      let e : (defined .text ≡ []) × (defined .lines ≡ []) = refused-empty (isRoomy (c .working)) (c .deck) (length (c .text)) (length (c .list)) (c .steps) z in
+      let none : Empty defined = refused-empty (c .layout) (isRoomy (c .working)) (c .deck) (length (c .text)) (length (c .list)) (c .steps) in
       record {
-        size = size-is ∙ ap length (e .0);
-        lines = ap (λ (r : Expansion). r .lines) (h .numbers) ∙ ap (λ (ls : List Line). length ls % 4294967296) (e .1);
-        text = h .text ∙ refused-text (isRoomy (c .working)) (c .deck) (length (c .text)) (length (c .list)) (c .steps) z (length (c .text));
-        list = h .list ∙ refused-list (isRoomy (c .working)) (c .deck) (length (c .text)) (length (c .list)) (c .steps) z (length (c .list));
+        size = size-is ∙ ap length (none z .0);
+        lines = ap (λ (r : Expansion). r .lines) (h .numbers) ∙ ap (λ (ls : List Line). length ls % 4294967296) (none z .1);
+        text = h .text ∙ refused-text defined none z (length (c .text));
+        list = h .list ∙ refused-list defined none z (length (c .list));
       }
 
   list-end : Countable c → 12 * c .answer .lines ≡ length (listBytes (defined .lines))
@@ -173,8 +237,8 @@ module _ (c : Call) (h : Meets c) where
   six-are : Countable c → sixOf (c .answer) ≡ sixIn defined
   six-are k = ap sixOf (h .numbers) ∙ ap (λ (n : ℕ). defined .number ∷ defined .member ∷ defined .offset ∷ defined .steps ∷ length (defined .text) ∷ n ∷ []) (sym (ap (λ (r : Expansion). r .lines) (h .numbers)) ∙ count-is k)
 
-  whole : Countable c → expansionIn (sixOf (c .answer)) (c .textAfter) (c .listAfter) ≡ defined
-  whole k = rw (six-are k, h .text, h .list) (rooms-hold defined (length (c .text)) (length (c .list)) text-in (omega (arith, list-in, list-length (defined .lines))) (lines-small (isRoomy (c .working)) (c .deck) (length (c .text)) (length (c .list)) (c .steps)))
+  whole : Countable c → readOff c ≡ defined
+  whole k = rw (six-are k, h .text, h .list) (rooms-hold defined (length (c .text)) (length (c .list)) text-in (omega (arith, list-in, list-length (defined .lines))) (lines-small (c .layout) (isRoomy (c .working)) (c .deck) (length (c .text)) (length (c .list)) (c .steps)))
 
   pub read-off : ReadOff c
   unfolding textRoomAfter expansionIn
@@ -186,32 +250,40 @@ module _ (c : Call) (h : Meets c) where
 
   pub partitioned : Countable c → Partitioned c
   partitioned k =
-      let p : Origin.Partition (c .deck) defined = partition (c .deck) (isRoomy (c .working)) (length (c .text)) (length (c .list)) (c .steps) in
+      let p : Origin.Partition (c .deck) defined = cut-in (c .layout) (isRoomy (c .working)) (c .deck) (length (c .text)) (length (c .list)) (c .steps) in
       record { cut = rw (read-off .text, read-off .lines k) (p .cut); longest = rw (read-off .lines k) (p .longest) }
 
-  pub is-honest : Countable c → Honest c
-  is-honest k =
-      let p = honest (c .deck) (isRoomy (c .working)) (length (c .text)) (length (c .list)) (c .steps) in
+  pub recorded : Countable c → Recorded c
+  recorded k e = rw (read-off .lines k) (records-in (c .layout) (isRoomy (c .working)) (c .deck) (length (c .text)) (length (c .list)) (c .steps) e)
+
+  pub is-honest : Countable c → c .layout ≡ Plain → Honest c
+  is-honest k e =
+      let p = honest-in (c .layout) (isRoomy (c .working)) (c .deck) (length (c .text)) (length (c .list)) (c .steps) e in
       record { told = rw (read-off .text, read-off .lines k) (p .told); scans = p .scans; listed = rw (read-off .lines k) (p .listed) }
 
 -- ---- TWO CALLS
-all-long : (a b c d e f : Bool) → (a ≡ true) × (b ≡ true) × (c ≡ true) × (d ≡ true) × (e ≡ true) × (f ≡ true) → (a && b && c && d && e && f) ≡ true
-all-long a b c d e f h = rw (h .0, h .1, h .2, h .3, h .4, h .5)
+all-long : (a b c d e f g : Bool) → (a ≡ true) × (b ≡ true) × (c ≡ true) × (d ≡ true) × (e ≡ true) × (f ≡ true) × (g ≡ true) → (a && b && c && d && e && f && g) ≡ true
+all-long a b c d e f g h = rw (h .0, h .1, h .2, h .3, h .4, h .5, h .6)
 
 leb-more : (k n m : ℕ) → n ≤ m → leb k n ≡ true → leb k m ≡ true
 leb-more k n m h e = le-leb k m (omega (arith, leb-true k n e))
 
 longer-roomy : (v w : Working) → Longer v w → isRoomy v ≡ true → isRoomy w ≡ true
 longer-roomy v w h e =
-    let k = all-true _ _ _ _ _ _ e in
-    all-long _ _ _ _ _ _ (
+    let k = all-true _ _ _ _ _ _ _ e in
+    all-long _ _ _ _ _ _ _ (
       leb-more 32768 _ _ (h .rows) (k .0),
       leb-more 4096 _ _ (h .names) (k .1),
       leb-more 256 _ _ (h .cells) (k .2),
       leb-more 65536 _ _ (h .low) (k .3),
       leb-more 65536 _ _ (h .high) (k .4),
       leb-more 65536 _ _ (h .work) (k .5),
+      leb-more 65536 _ _ (h .joined) (k .6),
     )
+
+-- an expansion by what it is made of
+made-of : (y z : Layout) (roomy r : Bool) (d f : List ℕ) (t u l m steps more : ℕ) → z ≡ y → r ≡ roomy → f ≡ d → u ≡ t → m ≡ l → more ≡ steps → expansionOf z r f u m more ≡ expansionOf y roomy d t l steps
+made-of y z roomy r d f t u l m steps more o a b i j n = rw (o, a, b, i, j, n)
 
 module _ (c e : Call) (h : Meets c) (k : Meets e) where
   -- the definition's expansions are the same: then the calls are
@@ -225,9 +297,9 @@ module _ (c e : Call) (h : Meets c) (k : Meets e) where
 
   pub more-kept : MoreKeeps c e
   more-kept g two full steps =
-      let other : expansion (isRoomy (e .working)) (e .deck) (length (e .text)) (length (e .list)) (e .steps) ≡ expansion (isRoomy (e .working)) (c .deck) (length (e .text)) (length (e .list)) (e .steps) = ap (λ (d : List ℕ). expansion (isRoomy (e .working)) d (length (e .text)) (length (e .list)) (e .steps)) (g .deck) in
       same-answer
-      (other ∙ more-keeps (c .deck) (isRoomy (c .working)) (isRoomy (e .working)) (length (c .text)) (length (e .text)) (length (c .list)) (length (e .list)) (c .steps) (e .steps) (longer-roomy (c .working) (e .working) (g .working)) (g .text) (g .list) (g .steps)
+      (made-of (c .layout) (e .layout) _ _ (c .deck) (e .deck) _ _ _ _ _ _ (g .layout) refl (g .deck) refl refl refl
+      ∙ more-keeps-in (c .layout) (c .deck) (isRoomy (c .working)) (isRoomy (e .working)) (length (c .text)) (length (e .text)) (length (c .list)) (length (e .list)) (c .steps) (e .steps) (longer-roomy (c .working) (e .working) (g .working)) (g .text) (g .list) (g .steps)
       (λ n. two (number-is c h ∙ n)) (λ n. full (number-is c h ∙ n)) (λ n. steps (number-is c h ∙ n)))
       (g .text) (g .list)
 
@@ -238,23 +310,37 @@ module _ (c e : Call) (h : Meets c) (k : Meets e) where
     list = k .list ∙ ap (λ (y : X.Expansion). listRoomAfter (length (e .list)) y) s ∙ ap (λ (n : ℕ). listRoomAfter n (definedFor c)) l ∙ sym (h .list);
   }
 
-  -- an expansion by what it is made of
-  made-of : (roomy r : Bool) (d f : List ℕ) (t u l m steps more : ℕ) → r ≡ roomy → f ≡ d → u ≡ t → m ≡ l → more ≡ steps → expansion r f u m more ≡ expansion roomy d t l steps
-  made-of roomy r d f t u l m steps more a b i j n = rw (a, b, i, j, n)
-
   pub unread-body : UnreadBody c e
   unread-body i b g =
       alike
-      (made-of (isRoomy (c .working)) (isRoomy (e .working)) _ (e .deck) (length (c .text)) (length (e .text)) (length (c .list)) (length (e .list)) (c .steps) (e .steps) (g .working) (g .deck) (g .text) (g .list) (g .steps)
-      ∙ unread (c .deck) (isRoomy (c .working)) i b (length (c .text)) (length (c .list)) (c .steps) (g .sound) (g .notMain) (g .line) (g .size) (g .never))
+      (made-of (c .layout) (e .layout) (isRoomy (c .working)) (isRoomy (e .working)) _ (e .deck) (length (c .text)) (length (e .text)) (length (c .list)) (length (e .list)) (c .steps) (e .steps) (g .layout) (g .working) (g .deck) (g .text) (g .list) (g .steps)
+      ∙ unread-in (c .layout) (isRoomy (c .working)) (c .deck) i b (length (c .text)) (length (c .list)) (c .steps) (g .sound) (g .notMain) (g .line) (g .size) (g .never))
       (g .text) (g .list)
 
   pub determined : Determined c e
   determined g =
       alike
-      (made-of (isRoomy (c .working)) (isRoomy (e .working)) (c .deck) (e .deck) (length (c .text)) (length (e .text)) (length (c .list)) (length (e .list)) (c .steps) (e .steps) (g .working) (g .deck) (g .text) (g .list) (g .steps))
+      (made-of (c .layout) (e .layout) (isRoomy (c .working)) (isRoomy (e .working)) (c .deck) (e .deck) (length (c .text)) (length (e .text)) (length (c .list)) (length (e .list)) (c .steps) (e .steps) (g .layout) (g .working) (g .deck) (g .text) (g .list) (g .steps))
       (g .text) (g .list)
 
+  -- the plain expansion of the joined deck
+  beside-is : Beside c e → definedFor e ≡ expansionOf Plain (isRoomy (c .working)) (joined (c .deck)) (length (c .text)) (length (c .list)) (c .steps)
+  beside-is g = made-of Plain (e .layout) (isRoomy (c .working)) (isRoomy (e .working)) (joined (c .deck)) (e .deck) (length (c .text)) (length (e .text)) (length (c .list)) (length (e .list)) (c .steps) (e .steps) (g .plain) (g .working) (g .deck) (g .text) (g .list) (g .steps)
+
+  cards-is : Beside c e → definedFor c ≡ expansionOf Cards (isRoomy (c .working)) (c .deck) (length (c .text)) (length (c .list)) (c .steps)
+  cards-is g = ap (λ (y : Layout). expansionOf y (isRoomy (c .working)) (c .deck) (length (c .text)) (length (c .list)) (c .steps)) (g .cards)
+
+  pub is-tied : Tied c e
+  is-tied g i j s v two full =
+      let roomy : Bool = isRoomy (c .working) in
+      let t : ℕ = length (c .text) in
+      let l : ℕ = length (c .list) in
+      let even : uneven 0 (Deck.lines (c .deck)) ≡ Deck.none = rw (g .cards) at v in
+      let number : expansionOf Cards roomy (c .deck) t l (c .steps) .number ≡ c .answer .number = sym (number-is c h ∙ ap (λ (x : X.Expansion). x .number) (cards-is g)) in (
+        whole c h i ∙ cards-is g ∙ tied-in (c .deck) roomy t l (c .steps) s even (λ n. two (sym number ∙ n)) (λ n. full (sym number ∙ n)) ∙ ap (told (joined (c .deck))) (sym (whole e k j ∙ beside-is g)),
+        ap rejoined (read-off c h .lines i ∙ ap (λ (x : X.Expansion). x .lines) (cards-is g)) ∙ rejoins-in (c .deck) roomy t l (c .steps) s even (λ n. full (sym number ∙ n)) ∙ sym (read-off e k .lines j ∙ ap (λ (x : X.Expansion). x .lines) (beside-is g)),
+      )
+
 -- ---- a call of `muharegoden_expand` leaves what a call of `expand` leaves, whose numbers it tells
-pub told-meets : (d t l : List ℕ) (w : Working) (steps : ℕ) (n t′ l′ : List ℕ) (w′ : Working) (n′ : List ℕ) → Told d t l w steps n t′ l′ w′ n′ → Expanded d t l w steps (numbersOf (answerOf d t l w steps)) t′ l′ w′
-told-meets d t l w steps n t′ l′ w′ n′ h = record { numbers = refl; text = h .text; list = h .list; working = h .working }
+pub told-meets : (y : Layout) (d t l : List ℕ) (w : Working) (steps : ℕ) (n t′ l′ : List ℕ) (w′ : Working) (n′ : List ℕ) → Told y d t l w steps n t′ l′ w′ n′ → Expanded y d t l w steps (numbersOf (answerOf y d t l w steps)) t′ l′ w′
+told-meets y d t l w steps n t′ l′ w′ n′ h = record { numbers = refl; text = h .text; list = h .list; working = h .working }

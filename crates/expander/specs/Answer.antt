@@ -1,13 +1,25 @@
--- The six numbers of an answer: of an expansion of the definition, and of what a run answers.
+-- The six numbers of an answer: of an expansion of the definition, of what is refused before a run, and of what a run answers.
 use Prim.Native.Nat.{ℕ, _%_}
+use mathlib.Core.Bool.{Bool, cond}
+use mathlib.Core.List.{List}
 use lib.ListN.{length}
+use Rattle.definition.specs.declared.Layout.{Layout}
 use Rattle.definition.specs.Refusal.{numberOf}
+use Rattle.definition.specs.Deck.{isSound}
+use Rattle.definition.specs.Cards.{unevenIn}
 use Rattle.definition.specs.Expansion as X
+use Rattle.definition.specs.Expansion.{sizeIn}
+use Rattle.deck.specs.declared.Found.{Found}
+use Rattle.deck.specs.declared.Found.the-variants.{Line, Nothing}
+use Rattle.deck.specs.Answer.{foundFor}
+use Rattle.origin.specs.Written.{placeAs}
 use Rattle.texts.specs.declared.Progress.{Progress}
 use Rattle.texts.specs.declared.Stop.{Stop}
 use Rattle.texts.specs.declared.Ran.{Ran}
 use Rattle.texts.specs.declared.Ran.the-variants.{Good, Bad}
 use Rattle.expander.specs.declared.Expansion.{Expansion}
+use Rattle.expander.specs.declared.Early.{Early}
+use Rattle.expander.specs.declared.Early.the-variants.{Refused, Runs}
 
 -- THE SIX NUMBERS of an expansion x. The count of lines is given modulo 2^32, the size of its number; so many lines need a list room
 -- of 48 GiB.
@@ -30,9 +42,28 @@ refusalAt n m p used = record { number = n; member = m; offset = p; steps = used
 abbrev pub bare : ℕ → Expansion
 bare n = refusalAt n 0 0 0
 
--- ---- the numbers for what a run answers, as the code makes them of its own
-abbrev pub refusedFor : Stop → Progress → Expansion
-refusedFor x g = refusalAt (numberOf (x .why)) (x .member) (x .place % 4294967296) (g .meter .used)
+-- ---- what is refused before a run: 1, and C-11's "20, .. after 1 and before 2, place the first such member at offset 0"
+abbrev pub malformedFor : Bool → Early
+malformedFor sound = cond sound Runs (Refused (bare 1))
+
+abbrev pub unevenFor : Found → Early
+unevenFor (Line k) = Refused (refusalAt 20 k 0 0)
+unevenFor Nothing = Runs
+
+abbrev pub shortFor : Bool → Early
+shortFor roomy = cond roomy Runs (Refused (bare 2))
+
+abbrev pub firstOf : Early → Early → Early
+firstOf (Refused x) b = Refused x
+firstOf Runs b = b
+
+unfoldable pub earlyFor : Layout → List ℕ → Bool → Early
+earlyFor y d roomy = firstOf (malformedFor (isSound d)) (firstOf (unevenFor (foundFor (unevenIn y d))) (shortFor roomy))
+
+-- ---- the numbers for what a run of the deck d answers, as the code makes them of its own
+abbrev pub refusedFor : Layout → List ℕ → Stop → Progress → Expansion
+refusedFor y d x g =
+    refusalAt (numberOf (x .why)) (x .member) (placeAs y (sizeIn d (x .member)) (x .place % 65536)) (g .meter .used)
 
 abbrev pub finishedFor : Progress → Expansion
 finishedFor g =
@@ -45,6 +76,6 @@ finishedFor g =
       lines = g .out .lines % 4294967296;
     }
 
-abbrev pub answerFor : Ran → Expansion
-answerFor (Good g) = finishedFor g
-answerFor (Bad x g) = refusedFor x g
+abbrev pub answerFor : Layout → List ℕ → Ran → Expansion
+answerFor y d (Good g) = finishedFor g
+answerFor y d (Bad x g) = refusedFor y d x g

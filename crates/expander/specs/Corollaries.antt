@@ -5,22 +5,31 @@ use mathlib.Core.Path.{_≡_}
 use mathlib.Core.Bool.{true, false}
 use mathlib.Core.List.{List, _++_, reverse}
 use lib.ListN.{length, take, drop}
+use Rattle.definition.specs.declared.Layout.{Layout}
+use Rattle.definition.specs.declared.Layout.the-variants.{Plain, Cards}
 use Rattle.definition.specs.Room.{zeros}
 use Rattle.definition.specs.Deck as Deck
 use Rattle.definition.specs.Deck.{isSound}
+use Rattle.definition.specs.Cards.{unevenIn, joined}
+use Rattle.definition.specs.Reading.{readMember}
 use Rattle.definition.specs.Events.{Line}
 use Rattle.definition.specs.World.{Pass}
+use Rattle.definition.specs.Names.{enter}
+use Rattle.definition.specs.Run.{bodyOf}
 use Rattle.definition.specs.Expansion as X
+use Rattle.definition.specs.Expansion.{worldFor, told}
 use Rattle.printing.specs.Page.{linesIn, expansionIn}
 use Rattle.promises.specs.Origin.{Cuts, Longest}
 use Rattle.promises.specs.Passes.{Told, Scans, outside, passing, listedPlaces, activePlaces}
-use Rattle.promises.specs.Unread.{NeverIncluded, withBody}
+use Rattle.promises.specs.Unread.{MainAtBar, NeverIncluded, withBody}
+use Rattle.promises.specs.Cards.{InRecords, rejoined}
 use Rattle.expander.specs.declared.Expansion.{Expansion}
-use Rattle.expander.specs.Answer.{bare}
+use Rattle.expander.specs.Answer.{bare, refusalAt}
 use Rattle.expander.specs.Promise.{Working, isRoomy, Zero, answerOf, sixOf, Expanded}
 
 -- ---- A CALL of `expand`: what it is given, and what it gives back
 pub record Call : Type 0 where
+  pub layout : Layout
   pub deck : List ℕ
   pub text : List ℕ
   pub list : List ℕ
@@ -33,7 +42,7 @@ pub record Call : Type 0 where
 
 abbrev pub Meets : Call → Type 0
 Meets c =
-    Expanded (c .deck) (c .text) (c .list) (c .working) (c .steps) (c .answer) (c .textAfter) (c .listAfter)
+    Expanded (c .layout) (c .deck) (c .text) (c .list) (c .working) (c .steps) (c .answer) (c .textAfter) (c .listAfter)
     (c .workingAfter)
 
 -- the lines that lie in the list room at exit, newest first, by "Twelve bytes a line"; and the bytes of the text
@@ -47,15 +56,24 @@ textOut c = take (c .answer .text) (c .textAfter)
 abbrev pub Countable : Call → Type 0
 Countable c = length (c .list) < 51539607552
 
--- ---- demand 1: the numbers. 1 is given exactly when the deck is malformed, 2 exactly when it is sound and a working room is too short
+-- ---- demand 1: the numbers. 1 is given exactly when the deck is malformed, 20 exactly when it is sound and a body of card images is no
+-- whole number of records, 2 exactly when neither is so and a working room is too short
 pub record Numbered (c : Call) : Type 0 where
   pub malformed : isSound (c .deck) ≡ false → c .answer ≡ bare 1
   pub one : c .answer .number ≡ 1 → isSound (c .deck) ≡ false
-  pub short : isSound (c .deck) ≡ true → isRoomy (c .working) ≡ false → c .answer ≡ bare 2
-  pub two : c .answer .number ≡ 2 → (isSound (c .deck) ≡ true) × (isRoomy (c .working) ≡ false)
-  pub most : c .answer .number ≤ 19
+  pub uneven : (k : ℕ) → isSound (c .deck) ≡ true → unevenIn (c .layout) (c .deck) ≡ Deck.line k → c .answer ≡ refusalAt 20 k 0 0
+  pub twenty : c .answer .number ≡ 20 → (isSound (c .deck) ≡ true) × (unevenIn (c .layout) (c .deck) ≡ Deck.line (c .answer .member))
+  pub short : isSound (c .deck) ≡ true → unevenIn (c .layout) (c .deck) ≡ Deck.none → isRoomy (c .working) ≡ false → c .answer ≡ bare 2
+  pub two : c .answer .number ≡ 2 → (isSound (c .deck) ≡ true) × (unevenIn (c .layout) (c .deck) ≡ Deck.none) × (isRoomy (c .working) ≡ false)
+  pub most : c .answer .number ≤ 20
   pub place : c .answer .offset < 65536
   pub steps : c .answer .steps ≤ c .steps
+
+-- a place is one of the body as given, or just behind it
+abbrev pub Placed : Call → Type 0
+Placed c =
+    isSound (c .deck) ≡ true
+    → (c .answer .member < Deck.count (c .deck)) × (c .answer .offset ≤ length (bodyOf (c .deck) (c .answer .member)))
 
 -- "A refusal reports text length and lines 0, rooms all zero"
 pub record Empty (c : Call) : Type 0 where
@@ -77,24 +95,31 @@ pub record Ended (c : Call) : Type 0 where
 -- ---- WHAT IS READ OFF the numbers and the rooms is the definition's expansion: its text, its lines, and all of it, as `printing` reads
 -- it to print it
 abbrev pub definedFor : Call → X.Expansion
-definedFor c = answerOf (c .deck) (c .text) (c .list) (c .working) (c .steps)
+definedFor c = answerOf (c .layout) (c .deck) (c .text) (c .list) (c .working) (c .steps)
+
+abbrev pub readOff : Call → X.Expansion
+readOff c = expansionIn (sixOf (c .answer)) (c .textAfter) (c .listAfter)
 
 pub record ReadOff (c : Call) : Type 0 where
   pub text : textOut c ≡ definedFor c .text
   pub lines : Countable c → linesOut c ≡ definedFor c .lines
-  pub whole : Countable c → expansionIn (sixOf (c .answer)) (c .textAfter) (c .listAfter) ≡ definedFor c
+  pub whole : Countable c → readOff c ≡ definedFor c
 
--- the passes of the run that the call tells the result of
+-- the passes of the run of a plain deck that the call tells the result of
 abbrev pub passesFor : Call → List Pass
 passesFor c = passing (isRoomy (c .working)) (c .deck) (length (c .text)) (length (c .list)) (c .steps)
 
--- ---- demand 3: "Every byte of the text belongs to exactly one line of the list, in order ..", a copied stretch equals its source and
--- is as long as can be
+-- ---- demand 3: "Every byte of the text belongs to exactly one line of the list, in order ..", a copied stretch equals its source in
+-- the deck as given, and is as long as can be
 pub record Partitioned (c : Call) : Type 0 where
   pub cut : Cuts (c .deck) (reverse (linesOut c)) (textOut c)
   pub longest : Longest (reverse (linesOut c))
 
--- "no name in it .. was active when the scan passed. Every name .. that was active .. is listed once for each pass": the list and the
+-- C-11: "a copied stretch is cut into a line of its own at each record edge"
+abbrev pub Recorded : Call → Type 0
+Recorded c = c .layout ≡ Cards → InRecords (linesOut c)
+
+-- of a plain deck: "no name in it .. was active when the scan passed. Every name .. that was active .. is listed once for each pass": the list and the
 -- text tell the passes of the run, which cover its texts
 pub record Honest (c : Call) : Type 0 where
   pub told : Told (passesFor c) (linesOut c) (textOut c)
@@ -109,8 +134,10 @@ pub record Longer (v w : Working) : Type 0 where
   pub low : length (v .low) ≤ length (w .low)
   pub high : length (v .high) ≤ length (w .high)
   pub work : length (v .work) ≤ length (w .work)
+  pub joined : length (v .joined) ≤ length (w .joined)
 
 pub record Larger (c e : Call) : Type 0 where
+  pub layout : e .layout ≡ c .layout
   pub deck : e .deck ≡ c .deck
   pub text : length (c .text) ≤ length (e .text)
   pub list : length (c .list) ≤ length (e .list)
@@ -130,7 +157,13 @@ MoreKeeps c e =
     Larger c e → (c .answer .number ≡ 2 → ⊥) → (c .answer .number ≡ 17 → ⊥) → (c .answer .number ≡ 18 → ⊥) → Same c e
 
 -- ---- "A body never included, replaced by any other of that length, changes nothing in the answer, text or list."
+abbrev pub NeverIn : Layout → ℕ → List ℕ → ℕ → ℕ → ℕ → Type 0
+NeverIn Plain k d textRoom listRoom steps = NeverIncluded k d textRoom listRoom steps
+NeverIn Cards k d textRoom listRoom steps =
+    MainAtBar k (enter 0 (readMember (bodyOf (joined d) 0)) (worldFor Cards textRoom listRoom steps)) (joined d) → ⊥
+
 pub record Rewritten (k : ℕ) (b : List ℕ) (c e : Call) : Type 0 where
+  pub layout : e .layout ≡ c .layout
   pub deck : e .deck ≡ withBody k b (c .deck)
   pub text : length (e .text) ≡ length (c .text)
   pub list : length (e .list) ≡ length (c .list)
@@ -140,7 +173,7 @@ pub record Rewritten (k : ℕ) (b : List ℕ) (c e : Call) : Type 0 where
   pub notMain : 0 < k
   pub line : k < Deck.count (c .deck)
   pub size : length b ≡ Deck.lineAt (c .deck) k .size
-  pub never : NeverIncluded k (c .deck) (length (c .text)) (length (c .list)) (c .steps)
+  pub never : NeverIn (c .layout) k (c .deck) (length (c .text)) (length (c .list)) (c .steps)
 
 pub record Alike (c e : Call) : Type 0 where
   pub numbers : e .answer ≡ c .answer
@@ -152,6 +185,7 @@ UnreadBody c e = (k : ℕ) (b : List ℕ) → Rewritten k b c e → Alike c e
 
 -- ---- what lay in the rooms does not matter: calls with the same deck, lengths and steps are answered alike
 pub record Even (c e : Call) : Type 0 where
+  pub layout : e .layout ≡ c .layout
   pub deck : e .deck ≡ c .deck
   pub text : length (e .text) ≡ length (c .text)
   pub list : length (e .list) ≡ length (c .list)
@@ -160,3 +194,21 @@ pub record Even (c e : Call) : Type 0 where
 
 abbrev pub Determined : Call → Call → Type 0
 Determined c e = Even c e → Alike c e
+
+-- ---- C-11: of a call with cards and a plain call with the joined deck, in rooms of the same lengths
+pub record Beside (c e : Call) : Type 0 where
+  pub cards : c .layout ≡ Cards
+  pub plain : e .layout ≡ Plain
+  pub deck : e .deck ≡ joined (c .deck)
+  pub text : length (e .text) ≡ length (c .text)
+  pub list : length (e .list) ≡ length (c .list)
+  pub working : isRoomy (e .working) ≡ isRoomy (c .working)
+  pub steps : e .steps ≡ c .steps
+
+-- what is read off the first is what is read off the second, told by the places of the deck as given; and the pieces of its lines,
+-- joined, are the lines of the second. But room (17) the first may want sooner
+abbrev pub Tied : Call → Call → Type 0
+Tied c e =
+    Beside c e → Countable c → Countable e → isSound (c .deck) ≡ true → unevenIn (c .layout) (c .deck) ≡ Deck.none
+    → (c .answer .number ≡ 2 → ⊥) → (c .answer .number ≡ 17 → ⊥)
+    → (readOff c ≡ told (joined (c .deck)) (readOff e)) × (rejoined (linesOut c) ≡ linesOut e)

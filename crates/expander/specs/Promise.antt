@@ -5,17 +5,25 @@ use mathlib.Core.Bool.{Bool, _&&_}
 use mathlib.Core.List.{List, [], _∷_}
 use lib.Dec.{leb}
 use lib.ListN.{length}
+use Rattle.definition.specs.declared.Layout.{Layout}
 use Rattle.definition.specs.Room.{over, zeros}
 use Rattle.definition.specs.Expansion as X
-use Rattle.definition.specs.Expansion.{expansion, textRoomAfter, listRoomAfter}
+use Rattle.definition.specs.Expansion.{expansionOf, textRoomAfter, listRoomAfter}
 use Rattle.expander.specs.declared.Expansion.{Expansion}
-use Rattle.expander.specs.Answer.{numbersOf}
+use Rattle.expander.specs.declared.Early.the-variants.{Runs}
+use Rattle.expander.specs.Answer.{numbersOf, earlyFor}
 
 -- ---- the working rooms
 -- whether rooms of so many numbers are as long as docs/ROOMS.md says
-abbrev pub areRoomy : ℕ → ℕ → ℕ → ℕ → ℕ → ℕ → Bool
-areRoomy rows names cells low high work =
-    leb 32768 rows && leb 4096 names && leb 256 cells && leb 65536 low && leb 65536 high && leb 65536 work
+abbrev pub areRoomy : ℕ → ℕ → ℕ → ℕ → ℕ → ℕ → ℕ → Bool
+areRoomy rows names cells low high work joined =
+    leb 32768 rows
+    && leb 4096 names
+    && leb 256 cells
+    && leb 65536 low
+    && leb 65536 high
+    && leb 65536 work
+    && leb 65536 joined
 
 -- what lies in them
 pub record Working : Type 0 where
@@ -25,10 +33,11 @@ pub record Working : Type 0 where
   pub low : List ℕ
   pub high : List ℕ
   pub work : List ℕ
+  pub joined : List ℕ
 
-abbrev pub working : (rows names cells low high work : List ℕ) → Working
-working rows names cells low high work =
-    record { rows = rows; names = names; cells = cells; low = low; high = high; work = work }
+abbrev pub working : (rows names cells low high work joined : List ℕ) → Working
+working rows names cells low high work joined =
+    record { rows = rows; names = names; cells = cells; low = low; high = high; work = work; joined = joined }
 
 abbrev pub isRoomy : Working → Bool
 isRoomy w =
@@ -39,6 +48,7 @@ isRoomy w =
     (length (w .low))
     (length (w .high))
     (length (w .work))
+    (length (w .joined))
 
 -- a room that held b is zero
 abbrev pub Zero : List ℕ → List ℕ → Type 0
@@ -52,16 +62,18 @@ pub record Cleared (b e : Working) : Type 0 where
   pub low : Zero (b .low) (e .low)
   pub high : Zero (b .high) (e .high)
   pub work : Zero (b .work) (e .work)
+  pub joined : Zero (b .joined) (e .joined)
 
--- ---- THE DEFINITION'S EXPANSION of the deck d, with the text room t, the list room l, the working rooms w and so many steps
-abbrev pub answerOf : (d t l : List ℕ) → Working → ℕ → X.Expansion
-answerOf d t l w steps = expansion (isRoomy w) d (length t) (length l) steps
+-- ---- THE DEFINITION'S EXPANSION of the deck d in the layout y, with the text room t, the list room l, the working rooms w and so many
+-- steps
+abbrev pub answerOf : Layout → (d t l : List ℕ) → Working → ℕ → X.Expansion
+answerOf y d t l w steps = expansionOf y (isRoomy w) d (length t) (length l) steps
 
 -- THE ENSURES: the numbers r, and the rooms at exit
-pub record Expanded (d t l : List ℕ) (w : Working) (steps : ℕ) (r : Expansion) (t′ l′ : List ℕ) (w′ : Working) : Type 0 where
-  pub numbers : r ≡ numbersOf (answerOf d t l w steps)
-  pub text : t′ ≡ textRoomAfter (length t) (answerOf d t l w steps)
-  pub list : l′ ≡ listRoomAfter (length l) (answerOf d t l w steps)
+pub record Expanded (y : Layout) (d t l : List ℕ) (w : Working) (steps : ℕ) (r : Expansion) (t′ l′ : List ℕ) (w′ : Working) : Type 0 where
+  pub numbers : r ≡ numbersOf (answerOf y d t l w steps)
+  pub text : t′ ≡ textRoomAfter (length t) (answerOf y d t l w steps)
+  pub list : l′ ≡ listRoomAfter (length l) (answerOf y d t l w steps)
   pub working : Cleared w w′
 
 -- the six numbers in 01's order
@@ -69,10 +81,10 @@ abbrev pub sixOf : Expansion → List ℕ
 sixOf r = r .number ∷ r .member ∷ r .offset ∷ r .steps ∷ r .text ∷ r .lines ∷ []
 
 -- THE ENSURES for a caller that lends a room n for the numbers: they stand over its start, as many as fit
-pub record Told (d t l : List ℕ) (w : Working) (steps : ℕ) (n t′ l′ : List ℕ) (w′ : Working) (n′ : List ℕ) : Type 0 where
-  pub numbers : n′ ≡ over n 0 (sixOf (numbersOf (answerOf d t l w steps)))
-  pub text : t′ ≡ textRoomAfter (length t) (answerOf d t l w steps)
-  pub list : l′ ≡ listRoomAfter (length l) (answerOf d t l w steps)
+pub record Told (y : Layout) (d t l : List ℕ) (w : Working) (steps : ℕ) (n t′ l′ : List ℕ) (w′ : Working) (n′ : List ℕ) : Type 0 where
+  pub numbers : n′ ≡ over n 0 (sixOf (numbersOf (answerOf y d t l w steps)))
+  pub text : t′ ≡ textRoomAfter (length t) (answerOf y d t l w steps)
+  pub list : l′ ≡ listRoomAfter (length l) (answerOf y d t l w steps)
   pub working : Cleared w w′
 
 -- ---- on the way: the answer is decided, where the text room and the list room are zero, and a refusal says nothing of them yet
@@ -81,8 +93,12 @@ pub record Answered (x : X.Expansion) (r : Expansion) (t′ l′ : List ℕ) : T
   pub text : x .number ≡ 0 → t′ ≡ textRoomAfter (length t′) x
   pub list : x .number ≡ 0 → l′ ≡ listRoomAfter (length l′) x
 
-pub record Decided (d t l : List ℕ) (w : Working) (steps : ℕ) (r : Expansion) (t′ l′ : List ℕ) : Type 0 where
-  pub is : Zero t t → Zero l l → Answered (answerOf d t l w steps) r t′ l′
+-- by a run, if nothing is refused before it
+pub record RanFor (y : Layout) (d t l : List ℕ) (w : Working) (steps : ℕ) (r : Expansion) (t′ l′ : List ℕ) : Type 0 where
+  pub is : earlyFor y d (isRoomy w) ≡ Runs → Zero t t → Zero l l → Answered (answerOf y d t l w steps) r t′ l′
+
+pub record Decided (y : Layout) (d t l : List ℕ) (w : Working) (steps : ℕ) (r : Expansion) (t′ l′ : List ℕ) : Type 0 where
+  pub is : Zero t t → Zero l l → Answered (answerOf y d t l w steps) r t′ l′
 
 -- after a refusal, which has a number, both rooms are made zero again
 pub record Emptied (n : ℕ) (t l t′ l′ : List ℕ) : Type 0 where

@@ -1,4 +1,5 @@
 // The syntax of an expression: which operator stands next, a sign or a name that must follow, and where the whole ends.
+// Parts: operators, a sign or a name that must follow, prefix operators, the check of a whole expression.
 ghost use mathlib.Core.Path.{_≡_};
 ghost use lib.ListN.{length};
 ghost use Rattle.definition.specs.Tokens.{tokenAt, sign};

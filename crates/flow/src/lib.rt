@@ -1,5 +1,6 @@
 // Where control goes in rows: behind a statement, into a group, to a label. It is the same for members and procedures; what a
 // member puts out on the way is not done here.
+// Parts: frames of groups, behind a statement, GOTO.
 ghost use mathlib.Core.Path.{_≡_};
 ghost use Prim.Native.Nat.{_+_};
 ghost use Rattle.fixed.specs.Answer.{resultOf};

@@ -1,10 +1,21 @@
-// The limits of names, values, sentences, nesting, levels and rooms, each named on the type that it bounds, with its test.
+// The limits of records, names, values, sentences, nesting, levels and rooms, each named on the type that it bounds, with its test.
 // FIXED, the deck and the meter have theirs on their own types.
 ghost use mathlib.Core.Path.{_≡_};
 ghost use lib.Dec.{leb};
 ghost use Rattle.definition.specs.Limits.{nameLength, memberSentences, enteredSentences, declaredNames, openParentheses, openGroups};
 ghost use Rattle.definition.specs.Limits.{includeLevels, replacementLevels, runningProcedures, textBytes, unfinishedBytes, programText, programList};
 ghost use Rattle.limits.specs.Checked.{nameOf, valueOf, nameRefusal, valueRefusal};
+
+// A record of a card image, by its columns: the source begins with the second.
+pub struct Record {
+    pub columns: usize,
+}
+
+impl Record {
+    pub const COLUMNS: usize = 80;
+
+    pub const SOURCE: usize = 71;
+}
 
 // A name in a statement, by its length.
 pub struct Name {

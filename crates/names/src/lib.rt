@@ -1,5 +1,6 @@
 // The names that are declared: a table of records, one for each address. Identifiers and addresses are kept apart: only
 // the environment, `find` and `seen_from`, leads from one to the other.
+// Parts: a record that is read, the search, a record that is written.
 ghost use mathlib.Core.Path.{_≡_};
 ghost use mathlib.Core.List.{_∷_, []};
 ghost use Prim.Native.Nat.{_+_, _*_, _-_, _≤_};

@@ -1,5 +1,6 @@
 // What is open while a member is read, and how a sentence begins and ends: labels, the word that begins a statement, ELSE and END.
 // Nothing is lent here to be written.
+// Parts: what is open, labels, the word that a statement begins with, ELSE and END, texts.
 ghost use mathlib.Core.Path.{_≡_};
 ghost use mathlib.Core.Bool.{_&&_};
 ghost use mathlib.Core.List.{[]};

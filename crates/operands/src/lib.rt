@@ -1,5 +1,6 @@
 // What an expression is made of: constants, operators with their sides, names without a list, and what the arguments of a list are
 // made. `u` is the bytes of the unfinished values that wait in the work room.
+// Parts: constants, operators, arguments, names without a list.
 ghost use mathlib.Core.Path.{_≡_};
 ghost use mathlib.Core.Bool.{cond};
 ghost use Prim.Native.Nat.{_+_};

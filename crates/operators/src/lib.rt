@@ -1,5 +1,6 @@
 // Values among those that are unfinished, and the operators on them. A CHARACTER or BIT value lies in the work room at a place u,
 // above the bytes of those that wait; the second side of an operator lies directly above the first. A result lies at u again.
+// Parts: the work room, conversions, prefix operators, infix operators, SUBSTR.
 ghost use mathlib.Core.Path.{_≡_};
 ghost use mathlib.Core.List.{_∷_, []};
 ghost use Prim.Native.Nat.{_+_};

@@ -1,5 +1,6 @@
 // What scanning is made of: the text that is scanned, a stretch of a body or of the work room, given by numbers, since the work
 // room is read and written at once; the names in it that are active; where outcomes go; and argument lists.
+// Parts: the text that is scanned, outcomes, argument lists, values, the copy under NORESCAN.
 ghost use mathlib.Core.Path.{_≡_};
 ghost use mathlib.Core.Bool.{_&&_};
 ghost use Prim.Native.Nat.{_+_};

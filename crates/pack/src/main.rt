@@ -2,6 +2,7 @@
 //
 // Each argument is a member, the first the main program: NAME=path, or a path alone, whose base name up to its first
 // dot, in capitals, is the name. Where no deck can be made, one line on standard error says why and nothing is written.
+// Parts: refusals, names, files, the deck.
 ghost use Prim.Native.Nat.{_≤_};
 ghost use lib.ListN.{length};
 use chars::is_alphameric;

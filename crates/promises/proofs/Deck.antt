@@ -96,7 +96,7 @@ module _ (d : List ℕ) (k : ℕ) (b : List ℕ) (sound : isSound d ≡ true) (m
   pub count-same : count (withBody k b d) ≡ count d
   count-same = ap number (part-low 2 0 (lineAt d k .offset) b d (omega (arith, table)))
 
-  line-same : (j : ℕ) → j < count d → lineAt (withBody k b d) j ≡ lineAt d j
+  pub line-same : (j : ℕ) → j < count d → lineAt (withBody k b d) j ≡ lineAt d j
   line-same j h = line-low d b (lineAt d k .offset) j (omega (arith, table))
 
   pub lines-same : lines (withBody k b d) ≡ lines d

@@ -5,3 +5,8 @@ pub mod Deck
 pub mod Unread
 pub mod Ghost
 pub mod Seen
+pub mod Cards
+pub mod Tied
+pub mod Rejoined
+pub mod Edges
+pub mod Bodies

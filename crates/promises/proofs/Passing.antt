@@ -17,6 +17,7 @@ use Rattle.definition.specs.Bytes.{isBlank}
 use Rattle.definition.specs.Deck.{isSound}
 use Rattle.definition.specs.Tokens.{Piece, name, plain, unclosed, pieceAt}
 use Rattle.definition.specs.Program.{Stretch, Source}
+use Rattle.definition.specs.Cards.{takes}
 use Rattle.definition.specs.Reading.{readMember}
 use Rattle.definition.specs.Values.{Answer, toCharacters}
 use Rattle.definition.specs.Events.{Event, blank, copied, replaced, textOf, Line, line, goesOn as eventGoesOn, joins, longer, linesOf}
@@ -28,14 +29,16 @@ use Rattle.definition.specs.Scan.{Into, toText, Scanner, Argument, Arguments, l
 use Rattle.definition.specs.Names.{Entering, enter}
 use Rattle.definition.specs.Flow.{End, ran, returned, went}
 use Rattle.definition.specs.Run.{Stop, stop, bodyOf, putOut, copyHere, replaceHere, tokenHere, passOf, textOn, textOut}
-use Rattle.definition.specs.Expansion.{refusal, result, runMain, mainWorld, expansion}
+use Rattle.definition.specs.Expansion.{refusal, result, runMain, worldFor, mainWorld, expansion}
+use Rattle.definition.specs.declared.Layout.{Layout}
+use Rattle.definition.specs.declared.Layout.the-variants.{Plain as plainly}
 use Rattle.definition.proofs.Choices.{when-has}
 use Rattle.definition.proofs.Parts.{length-part}
 use Rattle.definition.proofs.Ends.{pieceAt-past}
 use Rattle.definition.proofs.Texts as Texts
 use Rattle.definition.proofs.Keeping.{Any, Gives, given, failed, any-given, then-gives, Laws, valueless, OfEnd, AllAwake, awake-in, Leaves, leaves, stops, passes, charge-leaves, calls-leaves, replacer-leaves, SoundEntering, entered-sound, unreadable-any, enter-leaves}
 use Rattle.definition.proofs.Members.{member-leaves}
-use Rattle.promises.proofs.Cutting.{and-true, Newest, newest-line}
+use Rattle.definition.proofs.Views.{and-true, Newest, newest-line}
 use Rattle.promises.specs.Passes.{passesOf, mainPasses, passing, activityAt, activityOf, IsActive, WasActive, asksFor, asksAt, asksOf, Asks, Told, nothing, aBlank, aName, aToken, another, textIn, TextOf, first, behind, leading as leadingIn, isActive, activePlaces, listedPlaces, GoesOnAt, atOnce, behindList, At, outside, inside, Scans, none, begins, goesOn, ends, Honest}
 
 -- ---- what is active, as the definition asks and as the promise says
@@ -324,10 +327,10 @@ module _ (d : List ℕ) where
       token-passed : (y : Active) → activeIn (pieceAt t p .piece) v ≡ y → AllAwake y → Passed p (tokenHere y m (x .from + p) t p q sight v)
       unfolding copyHere putOut replaceHere
       token-passed notActive e awake =
-          go (leb (cond (joins (v .events) m (x .from + p)) 0 1) (v .linesLeft) && leb (length (part (q - p) p t)) (v .textLeft))
+          go (leb (takes (v .layout) (joins (v .events) m (x .from + p)) (x .from + p) (part (q - p) p t)) (v .linesLeft) && leb (length (part (q - p) p t)) (v .textLeft))
         where
-          go : (b : Bool) → Passed p (bind (when b (λ _. good (tt {0}) (withEvent (copied m (x .from + p) (part (q - p) p t)) (sight (part (q - p) p t) q) (cond (joins (v .events) m (x .from + p)) 0 1) v)) (λ _. bad roomFull (v .used))) λ _ w. good q w)
-          go true = further after (copied-on e (cond (joins (v .events) m (x .from + p)) 0 1))
+          go : (b : Bool) → Passed p (bind (when b (λ _. good (tt {0}) (withEvent (copied m (x .from + p) (part (q - p) p t)) (sight (part (q - p) p t) q) (takes (v .layout) (joins (v .events) m (x .from + p)) (x .from + p) (part (q - p) p t)) v)) (λ _. bad roomFull (v .used))) λ _ w. good q w)
+          go true = further after (copied-on e (takes (v .layout) (joins (v .events) m (x .from + p)) (x .from + p) (part (q - p) p t)))
           go false = halted
       token-passed (active b y) e awake =
           when-has (Passed p) (leb 1 (v .linesLeft)) _ _
@@ -363,12 +366,16 @@ module _ (d : List ℕ) where
   main-honest unreadable-any = record { told = nothing; scans = none; listed = refl }
   main-honest (entered-sound {w} h) = result-honest (member-leaves (standing outside) d text-passed includeLevels 0 [] w h)
 
+  -- in each layout
+  pub run-honest : (y : Layout) (textRoom listRoom steps : ℕ) → Honest d (mainPasses (enter 0 (readMember (bodyOf d 0)) (worldFor y textRoom listRoom steps)) d) (runMain (enter 0 (readMember (bodyOf d 0)) (worldFor y textRoom listRoom steps)) d)
+  run-honest y textRoom listRoom steps = main-honest (enter-leaves (standing outside) 0 (readMember (bodyOf d 0)) (record { pairs = tt; scans = none }))
+
   -- THE SCAN IS HONEST, for every deck, every size of the rooms and every limit
   pub honest : (roomy : Bool) (textRoom listRoom steps : ℕ) → Honest d (passing roomy d textRoom listRoom steps) (expansion roomy d textRoom listRoom steps)
   unfolding expansion passing
   honest roomy textRoom listRoom steps = go (isSound d) roomy
     where
       go : (y z : Bool) → Honest d (when y (λ _. when z (λ _. mainPasses (enter 0 (readMember (bodyOf d 0)) (mainWorld textRoom listRoom steps)) d) (λ _. [])) (λ _. [])) (when y (λ _. when z (λ _. runMain (enter 0 (readMember (bodyOf d 0)) (mainWorld textRoom listRoom steps)) d) (λ _. refusal shortRoom 0 0 0)) (λ _. refusal malformedDeck 0 0 0))
-      go true true = main-honest (enter-leaves (standing outside) 0 (readMember (bodyOf d 0)) (record { pairs = tt; scans = none }))
+      go true true = run-honest plainly textRoom listRoom steps
       go true false = record { told = nothing; scans = none; listed = refl }
       go false z = record { told = nothing; scans = none; listed = refl }

@@ -24,6 +24,7 @@ use Rattle.definition.specs.Reading.{depth as Reading·depth, change as Reading
 use Rattle.definition.specs.Run.{bodyOf as Run·bodyOf, putOut as Run·putOut, copyHere as Run·copyHere, replaceHere as Run·replaceHere, textOn as Run·textOn, textOut as Run·textOut, activateAll as Run·activateAll, activations as Run·activations, jumpAway as Run·jumpAway, jumpLabel as Run·jumpLabel, includeAll as Run·includeAll, memberMachine as Run·memberMachine, runSource as Run·runSource, runMember as Run·runMember}
 use Rattle.definition.specs.Scan.{activeName as Scan·activeName, cutOn as Scan·cutOn, listAt as Scan·listAt, scanArguments as Scan·scanArguments, callWith as Scan·callWith, replaceEntry as Scan·replaceEntry, scanOn as Scan·scanOn, replacer as Scan·replacer}
 use Rattle.definition.specs.Statements.{ended as Statements·ended, assignment as Statements·assignment, thenWord as Statements·thenWord, ifClause as Statements·ifClause, boundAt as Statements·boundAt, doBounds as Statements·doBounds, doClause as Statements·doClause, gotoClause as Statements·gotoClause, listOf as Statements·listOf, includeClause as Statements·includeClause, deactivateClause as Statements·deactivateClause, activateClause as Statements·activateClause, returnClause as Statements·returnClause, namesAt as Statements·namesAt, attribute as Statements·attribute, declareNames as Statements·declareNames, declareNext as Statements·declareNext, declareFrom as Statements·declareFrom, returnsType as Statements·returnsType, procedureHead as Statements·procedureHead, procedureClause as Statements·procedureClause}
+use Rattle.definition.specs.Cards.{takes as Cards·takes}
 use Rattle.definition.specs.Steps.{isLeft as Steps·isLeft, usedAfter as Steps·usedAfter}
 use Rattle.definition.specs.Tokens.{commentEnd as Tokens·commentEnd, quoteEnd as Tokens·quoteEnd, isComment as Tokens·isComment, isSpace as Tokens·isSpace, spaces as Tokens·spaces, quotedAt as Tokens·quotedAt, isBit as Tokens·isBit, constantAt as Tokens·constantAt, isPair as Tokens·isPair, signAt as Tokens·signAt, runAt as Tokens·runAt, lexemeOf as Tokens·lexemeOf, isTouching as Tokens·isTouching, lexemeAt as Tokens·lexemeAt, tokenAt as Tokens·tokenAt, pieceOf as Tokens·pieceOf, pieceAt as Tokens·pieceAt, textEnd as Tokens·textEnd}
 use Rattle.definition.specs.Values.{decimalOn as Values·decimalOn, fixedText as Values·fixedText, written as Values·written, constant as Values·constant, numberIn as Values·numberIn, toFixed as Values·toFixed, toCharacters as Values·toCharacters, binary as Values·binary, toBits as Values·toBits, convert as Values·convert, anyOne as Values·anyOne, holds as Values·holds, limited as Values·limited, unfinished as Values·unfinished, bitwise as Values·bitwise, inverted as Values·inverted, orderOf as Values·orderOf, bytesOrder as Values·bytesOrder, numbersOrder as Values·numbersOrder, compared as Values·compared, comparing as Values·comparing, arithmetic as Values·arithmetic, logical as Values·logical, joined as Values·joined, infixed as Values·infixed, prefixed as Values·prefixed, cutOut as Values·cutOut, substr as Values·substr}
@@ -60,7 +61,7 @@ pub seen : map shown (reverse (passing true deck programText programList program
     (2 ∷ 80 ∷ 81 ∷ 0 ∷ []) ∷
     (1 ∷ 81 ∷ 84 ∷ 0 ∷ 39 ∷ 65 ∷ 39 ∷ []) ∷
     (2 ∷ 84 ∷ 89 ∷ 1 ∷ 90 ∷ []) ∷ [])
-unfolding Bytes·isLetter Bytes·isDigit Bytes·isAlphameric Bytes·isBlank Bytes·isMark Bytes·classOf Calls·isRunning Calls·bodyMachine Calls·bodyRun Calls·calls Deck·lineAt Deck·linesFrom Deck·isMemberName Deck·areNamed Deck·isCalled Deck·find Deck·areDistinct Deck·follow Deck·isSound Deck·contents Deck·bodyByte Evaluate·isSubstr Evaluate·meant Evaluate·parameters Evaluate·callee Evaluate·count Evaluate·put Evaluate·plainName Evaluate·listedName Evaluate·evaluate Evaluate·arguments Events·textOf Events·goesOn Events·linesOf Events·listBytes expansion Expansion·textRoomAfter Expansion·listRoomAfter Expressions·comparison Expressions·infixOf Expressions·prefixOf Expressions·expectSign Expressions·expectWord Expressions·nameAt Expressions·arguments Expressions·referenceAt Expressions·primitive Expressions·operand Expressions·chain Expressions·levels Expressions·expression Fixed·inRange Fixed·ranged Fixed·sum Fixed·difference Fixed·product Fixed·negative Fixed·quotient Flow·isOnce Flow·behindOn Flow·leadOut Flow·into Flow·assigned Flow·truth Flow·number Flow·bounds Flow·stepped Flow·statement Flow·turn Flow·runOn Program·isIterated Flow·groupsFrom Flow·isIn Flow·areIn Flow·mayGo Names·isListed Names·declareAll Names·namesPast Names·sentencesPast Names·faultOf Names·enter Reading·depth Reading·change Reading·addRow Reading·isDecided Reading·elseWord Reading·elseAt Reading·complete Reading·labelsFrom Reading·taken Reading·doAt Reading·common Reading·inList Reading·byWord Reading·endName Reading·isFull Reading·isEnd Reading·clauseFrom Reading·innerAt Reading·deepEnough Reading·turn Reading·readOn Reading·readMember Run·bodyOf Run·putOut Run·copyHere Run·replaceHere Run·textOn Run·textOut Run·activateAll Run·activations Run·jumpAway Run·jumpLabel Run·includeAll Run·memberMachine Run·runSource Run·runMember Scan·activeName Scan·cutOn Scan·listAt Scan·scanArguments Scan·callWith Scan·replaceEntry Scan·scanOn Scan·replacer Statements·ended Statements·assignment Statements·thenWord Statements·ifClause Statements·boundAt Statements·doBounds Statements·doClause Statements·gotoClause Statements·listOf Statements·includeClause Statements·deactivateClause Statements·activateClause Statements·returnClause Statements·namesAt Statements·attribute Statements·declareNames Statements·declareNext Statements·declareFrom Statements·returnsType Statements·procedureHead Statements·procedureClause Steps·isLeft Steps·usedAfter Tokens·commentEnd Tokens·quoteEnd Tokens·isComment Tokens·isSpace Tokens·spaces Tokens·quotedAt Tokens·isBit Tokens·constantAt Tokens·isPair Tokens·signAt Tokens·runAt Tokens·lexemeOf Tokens·isTouching Tokens·lexemeAt Tokens·tokenAt Tokens·pieceOf Tokens·pieceAt Tokens·textEnd Values·decimalOn Values·fixedText Values·written Values·constant Values·numberIn Values·toFixed Values·toCharacters Values·binary Values·toBits Values·convert Values·anyOne Values·holds Values·limited Values·unfinished Values·bitwise Values·inverted Values·orderOf Values·bytesOrder Values·numbersOrder Values·compared Values·comparing Values·arithmetic Values·logical Values·joined Values·infixed Values·prefixed Values·cutOut Values·substr World·charge World·addressIn World·seenFrom World·rowsIn passing
+unfolding Bytes·isLetter Bytes·isDigit Bytes·isAlphameric Bytes·isBlank Bytes·isMark Bytes·classOf Cards·takes Calls·isRunning Calls·bodyMachine Calls·bodyRun Calls·calls Deck·lineAt Deck·linesFrom Deck·isMemberName Deck·areNamed Deck·isCalled Deck·find Deck·areDistinct Deck·follow Deck·isSound Deck·contents Deck·bodyByte Evaluate·isSubstr Evaluate·meant Evaluate·parameters Evaluate·callee Evaluate·count Evaluate·put Evaluate·plainName Evaluate·listedName Evaluate·evaluate Evaluate·arguments Events·textOf Events·goesOn Events·linesOf Events·listBytes expansion Expansion·textRoomAfter Expansion·listRoomAfter Expressions·comparison Expressions·infixOf Expressions·prefixOf Expressions·expectSign Expressions·expectWord Expressions·nameAt Expressions·arguments Expressions·referenceAt Expressions·primitive Expressions·operand Expressions·chain Expressions·levels Expressions·expression Fixed·inRange Fixed·ranged Fixed·sum Fixed·difference Fixed·product Fixed·negative Fixed·quotient Flow·isOnce Flow·behindOn Flow·leadOut Flow·into Flow·assigned Flow·truth Flow·number Flow·bounds Flow·stepped Flow·statement Flow·turn Flow·runOn Program·isIterated Flow·groupsFrom Flow·isIn Flow·areIn Flow·mayGo Names·isListed Names·declareAll Names·namesPast Names·sentencesPast Names·faultOf Names·enter Reading·depth Reading·change Reading·addRow Reading·isDecided Reading·elseWord Reading·elseAt Reading·complete Reading·labelsFrom Reading·taken Reading·doAt Reading·common Reading·inList Reading·byWord Reading·endName Reading·isFull Reading·isEnd Reading·clauseFrom Reading·innerAt Reading·deepEnough Reading·turn Reading·readOn Reading·readMember Run·bodyOf Run·putOut Run·copyHere Run·replaceHere Run·textOn Run·textOut Run·activateAll Run·activations Run·jumpAway Run·jumpLabel Run·includeAll Run·memberMachine Run·runSource Run·runMember Scan·activeName Scan·cutOn Scan·listAt Scan·scanArguments Scan·callWith Scan·replaceEntry Scan·scanOn Scan·replacer Statements·ended Statements·assignment Statements·thenWord Statements·ifClause Statements·boundAt Statements·doBounds Statements·doClause Statements·gotoClause Statements·listOf Statements·includeClause Statements·deactivateClause Statements·activateClause Statements·returnClause Statements·namesAt Statements·attribute Statements·declareNames Statements·declareNext Statements·declareFrom Statements·returnsType Statements·procedureHead Statements·procedureClause Steps·isLeft Steps·usedAfter Tokens·commentEnd Tokens·quoteEnd Tokens·isComment Tokens·isSpace Tokens·spaces Tokens·quotedAt Tokens·isBit Tokens·constantAt Tokens·isPair Tokens·signAt Tokens·runAt Tokens·lexemeOf Tokens·isTouching Tokens·lexemeAt Tokens·tokenAt Tokens·pieceOf Tokens·pieceAt Tokens·textEnd Values·decimalOn Values·fixedText Values·written Values·constant Values·numberIn Values·toFixed Values·toCharacters Values·binary Values·toBits Values·convert Values·anyOne Values·holds Values·limited Values·unfinished Values·bitwise Values·inverted Values·orderOf Values·bytesOrder Values·numbersOrder Values·compared Values·comparing Values·arithmetic Values·logical Values·joined Values·infixed Values·prefixed Values·cutOut Values·substr World·charge World·addressIn World·seenFrom World·rowsIn passing
 seen = refl
 
 -- a deck of two members, MAIN and M: one run includes line 1, M, and ends at the bar; the other never does
@@ -70,9 +71,9 @@ deckOf x y =
     ++ bytesOf "M       " ++ bytes 4 (34 + length (bytesOf x)) ++ bytes 4 (length (bytesOf y)) ++ bytesOf x ++ bytesOf y
 
 pub included : NeverIncluded 1 (deckOf "%INCLUDE M;" "X") programText programList programSteps → ⊥
-unfolding Bytes·isLetter Bytes·isDigit Bytes·isAlphameric Bytes·isBlank Bytes·isMark Bytes·classOf Calls·isRunning Calls·bodyMachine Calls·bodyRun Calls·calls Deck·lineAt Deck·linesFrom Deck·isMemberName Deck·areNamed Deck·isCalled Deck·find Deck·areDistinct Deck·follow Deck·isSound Deck·contents Deck·bodyByte Evaluate·isSubstr Evaluate·meant Evaluate·parameters Evaluate·callee Evaluate·count Evaluate·put Evaluate·plainName Evaluate·listedName Evaluate·evaluate Evaluate·arguments Events·textOf Events·goesOn Events·linesOf Events·listBytes expansion Expansion·textRoomAfter Expansion·listRoomAfter Expressions·comparison Expressions·infixOf Expressions·prefixOf Expressions·expectSign Expressions·expectWord Expressions·nameAt Expressions·arguments Expressions·referenceAt Expressions·primitive Expressions·operand Expressions·chain Expressions·levels Expressions·expression Fixed·inRange Fixed·ranged Fixed·sum Fixed·difference Fixed·product Fixed·negative Fixed·quotient Flow·isOnce Flow·behindOn Flow·leadOut Flow·into Flow·assigned Flow·truth Flow·number Flow·bounds Flow·stepped Flow·statement Flow·turn Flow·runOn Program·isIterated Flow·groupsFrom Flow·isIn Flow·areIn Flow·mayGo Names·isListed Names·declareAll Names·namesPast Names·sentencesPast Names·faultOf Names·enter Reading·depth Reading·change Reading·addRow Reading·isDecided Reading·elseWord Reading·elseAt Reading·complete Reading·labelsFrom Reading·taken Reading·doAt Reading·common Reading·inList Reading·byWord Reading·endName Reading·isFull Reading·isEnd Reading·clauseFrom Reading·innerAt Reading·deepEnough Reading·turn Reading·readOn Reading·readMember Run·bodyOf Run·putOut Run·copyHere Run·replaceHere Run·textOn Run·textOut Run·activateAll Run·activations Run·jumpAway Run·jumpLabel Run·includeAll Run·memberMachine Run·runSource Run·runMember Scan·activeName Scan·cutOn Scan·listAt Scan·scanArguments Scan·callWith Scan·replaceEntry Scan·scanOn Scan·replacer Statements·ended Statements·assignment Statements·thenWord Statements·ifClause Statements·boundAt Statements·doBounds Statements·doClause Statements·gotoClause Statements·listOf Statements·includeClause Statements·deactivateClause Statements·activateClause Statements·returnClause Statements·namesAt Statements·attribute Statements·declareNames Statements·declareNext Statements·declareFrom Statements·returnsType Statements·procedureHead Statements·procedureClause Steps·isLeft Steps·usedAfter Tokens·commentEnd Tokens·quoteEnd Tokens·isComment Tokens·isSpace Tokens·spaces Tokens·quotedAt Tokens·isBit Tokens·constantAt Tokens·isPair Tokens·signAt Tokens·runAt Tokens·lexemeOf Tokens·isTouching Tokens·lexemeAt Tokens·tokenAt Tokens·pieceOf Tokens·pieceAt Tokens·textEnd Values·decimalOn Values·fixedText Values·written Values·constant Values·numberIn Values·toFixed Values·toCharacters Values·binary Values·toBits Values·convert Values·anyOne Values·holds Values·limited Values·unfinished Values·bitwise Values·inverted Values·orderOf Values·bytesOrder Values·numbersOrder Values·compared Values·comparing Values·arithmetic Values·logical Values·joined Values·infixed Values·prefixed Values·cutOut Values·substr World·charge World·addressIn World·seenFrom World·rowsIn includeAllBut machineBut runSourceBut runBut
+unfolding Bytes·isLetter Bytes·isDigit Bytes·isAlphameric Bytes·isBlank Bytes·isMark Bytes·classOf Cards·takes Calls·isRunning Calls·bodyMachine Calls·bodyRun Calls·calls Deck·lineAt Deck·linesFrom Deck·isMemberName Deck·areNamed Deck·isCalled Deck·find Deck·areDistinct Deck·follow Deck·isSound Deck·contents Deck·bodyByte Evaluate·isSubstr Evaluate·meant Evaluate·parameters Evaluate·callee Evaluate·count Evaluate·put Evaluate·plainName Evaluate·listedName Evaluate·evaluate Evaluate·arguments Events·textOf Events·goesOn Events·linesOf Events·listBytes expansion Expansion·textRoomAfter Expansion·listRoomAfter Expressions·comparison Expressions·infixOf Expressions·prefixOf Expressions·expectSign Expressions·expectWord Expressions·nameAt Expressions·arguments Expressions·referenceAt Expressions·primitive Expressions·operand Expressions·chain Expressions·levels Expressions·expression Fixed·inRange Fixed·ranged Fixed·sum Fixed·difference Fixed·product Fixed·negative Fixed·quotient Flow·isOnce Flow·behindOn Flow·leadOut Flow·into Flow·assigned Flow·truth Flow·number Flow·bounds Flow·stepped Flow·statement Flow·turn Flow·runOn Program·isIterated Flow·groupsFrom Flow·isIn Flow·areIn Flow·mayGo Names·isListed Names·declareAll Names·namesPast Names·sentencesPast Names·faultOf Names·enter Reading·depth Reading·change Reading·addRow Reading·isDecided Reading·elseWord Reading·elseAt Reading·complete Reading·labelsFrom Reading·taken Reading·doAt Reading·common Reading·inList Reading·byWord Reading·endName Reading·isFull Reading·isEnd Reading·clauseFrom Reading·innerAt Reading·deepEnough Reading·turn Reading·readOn Reading·readMember Run·bodyOf Run·putOut Run·copyHere Run·replaceHere Run·textOn Run·textOut Run·activateAll Run·activations Run·jumpAway Run·jumpLabel Run·includeAll Run·memberMachine Run·runSource Run·runMember Scan·activeName Scan·cutOn Scan·listAt Scan·scanArguments Scan·callWith Scan·replaceEntry Scan·scanOn Scan·replacer Statements·ended Statements·assignment Statements·thenWord Statements·ifClause Statements·boundAt Statements·doBounds Statements·doClause Statements·gotoClause Statements·listOf Statements·includeClause Statements·deactivateClause Statements·activateClause Statements·returnClause Statements·namesAt Statements·attribute Statements·declareNames Statements·declareNext Statements·declareFrom Statements·returnsType Statements·procedureHead Statements·procedureClause Steps·isLeft Steps·usedAfter Tokens·commentEnd Tokens·quoteEnd Tokens·isComment Tokens·isSpace Tokens·spaces Tokens·quotedAt Tokens·isBit Tokens·constantAt Tokens·isPair Tokens·signAt Tokens·runAt Tokens·lexemeOf Tokens·isTouching Tokens·lexemeAt Tokens·tokenAt Tokens·pieceOf Tokens·pieceAt Tokens·textEnd Values·decimalOn Values·fixedText Values·written Values·constant Values·numberIn Values·toFixed Values·toCharacters Values·binary Values·toBits Values·convert Values·anyOne Values·holds Values·limited Values·unfinished Values·bitwise Values·inverted Values·orderOf Values·bytesOrder Values·numbersOrder Values·compared Values·comparing Values·arithmetic Values·logical Values·joined Values·infixed Values·prefixed Values·cutOut Values·substr World·charge World·addressIn World·seenFrom World·rowsIn includeAllBut machineBut runSourceBut runBut
 included h = h tt
 
 pub not-included : NeverIncluded 1 (deckOf "%IF 0 %THEN %INCLUDE M;M" "X") programText programList programSteps
-unfolding Bytes·isLetter Bytes·isDigit Bytes·isAlphameric Bytes·isBlank Bytes·isMark Bytes·classOf Calls·isRunning Calls·bodyMachine Calls·bodyRun Calls·calls Deck·lineAt Deck·linesFrom Deck·isMemberName Deck·areNamed Deck·isCalled Deck·find Deck·areDistinct Deck·follow Deck·isSound Deck·contents Deck·bodyByte Evaluate·isSubstr Evaluate·meant Evaluate·parameters Evaluate·callee Evaluate·count Evaluate·put Evaluate·plainName Evaluate·listedName Evaluate·evaluate Evaluate·arguments Events·textOf Events·goesOn Events·linesOf Events·listBytes expansion Expansion·textRoomAfter Expansion·listRoomAfter Expressions·comparison Expressions·infixOf Expressions·prefixOf Expressions·expectSign Expressions·expectWord Expressions·nameAt Expressions·arguments Expressions·referenceAt Expressions·primitive Expressions·operand Expressions·chain Expressions·levels Expressions·expression Fixed·inRange Fixed·ranged Fixed·sum Fixed·difference Fixed·product Fixed·negative Fixed·quotient Flow·isOnce Flow·behindOn Flow·leadOut Flow·into Flow·assigned Flow·truth Flow·number Flow·bounds Flow·stepped Flow·statement Flow·turn Flow·runOn Program·isIterated Flow·groupsFrom Flow·isIn Flow·areIn Flow·mayGo Names·isListed Names·declareAll Names·namesPast Names·sentencesPast Names·faultOf Names·enter Reading·depth Reading·change Reading·addRow Reading·isDecided Reading·elseWord Reading·elseAt Reading·complete Reading·labelsFrom Reading·taken Reading·doAt Reading·common Reading·inList Reading·byWord Reading·endName Reading·isFull Reading·isEnd Reading·clauseFrom Reading·innerAt Reading·deepEnough Reading·turn Reading·readOn Reading·readMember Run·bodyOf Run·putOut Run·copyHere Run·replaceHere Run·textOn Run·textOut Run·activateAll Run·activations Run·jumpAway Run·jumpLabel Run·includeAll Run·memberMachine Run·runSource Run·runMember Scan·activeName Scan·cutOn Scan·listAt Scan·scanArguments Scan·callWith Scan·replaceEntry Scan·scanOn Scan·replacer Statements·ended Statements·assignment Statements·thenWord Statements·ifClause Statements·boundAt Statements·doBounds Statements·doClause Statements·gotoClause Statements·listOf Statements·includeClause Statements·deactivateClause Statements·activateClause Statements·returnClause Statements·namesAt Statements·attribute Statements·declareNames Statements·declareNext Statements·declareFrom Statements·returnsType Statements·procedureHead Statements·procedureClause Steps·isLeft Steps·usedAfter Tokens·commentEnd Tokens·quoteEnd Tokens·isComment Tokens·isSpace Tokens·spaces Tokens·quotedAt Tokens·isBit Tokens·constantAt Tokens·isPair Tokens·signAt Tokens·runAt Tokens·lexemeOf Tokens·isTouching Tokens·lexemeAt Tokens·tokenAt Tokens·pieceOf Tokens·pieceAt Tokens·textEnd Values·decimalOn Values·fixedText Values·written Values·constant Values·numberIn Values·toFixed Values·toCharacters Values·binary Values·toBits Values·convert Values·anyOne Values·holds Values·limited Values·unfinished Values·bitwise Values·inverted Values·orderOf Values·bytesOrder Values·numbersOrder Values·compared Values·comparing Values·arithmetic Values·logical Values·joined Values·infixed Values·prefixed Values·cutOut Values·substr World·charge World·addressIn World·seenFrom World·rowsIn includeAllBut machineBut runSourceBut runBut
+unfolding Bytes·isLetter Bytes·isDigit Bytes·isAlphameric Bytes·isBlank Bytes·isMark Bytes·classOf Cards·takes Calls·isRunning Calls·bodyMachine Calls·bodyRun Calls·calls Deck·lineAt Deck·linesFrom Deck·isMemberName Deck·areNamed Deck·isCalled Deck·find Deck·areDistinct Deck·follow Deck·isSound Deck·contents Deck·bodyByte Evaluate·isSubstr Evaluate·meant Evaluate·parameters Evaluate·callee Evaluate·count Evaluate·put Evaluate·plainName Evaluate·listedName Evaluate·evaluate Evaluate·arguments Events·textOf Events·goesOn Events·linesOf Events·listBytes expansion Expansion·textRoomAfter Expansion·listRoomAfter Expressions·comparison Expressions·infixOf Expressions·prefixOf Expressions·expectSign Expressions·expectWord Expressions·nameAt Expressions·arguments Expressions·referenceAt Expressions·primitive Expressions·operand Expressions·chain Expressions·levels Expressions·expression Fixed·inRange Fixed·ranged Fixed·sum Fixed·difference Fixed·product Fixed·negative Fixed·quotient Flow·isOnce Flow·behindOn Flow·leadOut Flow·into Flow·assigned Flow·truth Flow·number Flow·bounds Flow·stepped Flow·statement Flow·turn Flow·runOn Program·isIterated Flow·groupsFrom Flow·isIn Flow·areIn Flow·mayGo Names·isListed Names·declareAll Names·namesPast Names·sentencesPast Names·faultOf Names·enter Reading·depth Reading·change Reading·addRow Reading·isDecided Reading·elseWord Reading·elseAt Reading·complete Reading·labelsFrom Reading·taken Reading·doAt Reading·common Reading·inList Reading·byWord Reading·endName Reading·isFull Reading·isEnd Reading·clauseFrom Reading·innerAt Reading·deepEnough Reading·turn Reading·readOn Reading·readMember Run·bodyOf Run·putOut Run·copyHere Run·replaceHere Run·textOn Run·textOut Run·activateAll Run·activations Run·jumpAway Run·jumpLabel Run·includeAll Run·memberMachine Run·runSource Run·runMember Scan·activeName Scan·cutOn Scan·listAt Scan·scanArguments Scan·callWith Scan·replaceEntry Scan·scanOn Scan·replacer Statements·ended Statements·assignment Statements·thenWord Statements·ifClause Statements·boundAt Statements·doBounds Statements·doClause Statements·gotoClause Statements·listOf Statements·includeClause Statements·deactivateClause Statements·activateClause Statements·returnClause Statements·namesAt Statements·attribute Statements·declareNames Statements·declareNext Statements·declareFrom Statements·returnsType Statements·procedureHead Statements·procedureClause Steps·isLeft Steps·usedAfter Tokens·commentEnd Tokens·quoteEnd Tokens·isComment Tokens·isSpace Tokens·spaces Tokens·quotedAt Tokens·isBit Tokens·constantAt Tokens·isPair Tokens·signAt Tokens·runAt Tokens·lexemeOf Tokens·isTouching Tokens·lexemeAt Tokens·tokenAt Tokens·pieceOf Tokens·pieceAt Tokens·textEnd Values·decimalOn Values·fixedText Values·written Values·constant Values·numberIn Values·toFixed Values·toCharacters Values·binary Values·toBits Values·convert Values·anyOne Values·holds Values·limited Values·unfinished Values·bitwise Values·inverted Values·orderOf Values·bytesOrder Values·numbersOrder Values·compared Values·comparing Values·arithmetic Values·logical Values·joined Values·infixed Values·prefixed Values·cutOut Values·substr World·charge World·addressIn World·seenFrom World·rowsIn includeAllBut machineBut runSourceBut runBut
 not-included h = h

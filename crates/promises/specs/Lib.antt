@@ -4,3 +4,4 @@ pub mod More
 pub mod Passes
 pub mod Unread
 pub mod Ghost
+pub mod Cards

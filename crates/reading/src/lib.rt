@@ -1,4 +1,6 @@
 // A member is read once, from left to right, with a list of what is open: its sentences become rows, its names are declared.
+// Parts: what has been read, a new row, what comes behind a statement, labels, the statement that was read, END, one clause,
+// texts, the inside of a procedure, the member.
 ghost use mathlib.Core.Path.{_≡_};
 ghost use mathlib.Core.Bool.{_&&_};
 ghost use Prim.Native.Nat.{_%_};

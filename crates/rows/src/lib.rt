@@ -1,5 +1,6 @@
 // The rows of the members that were read: a table of records, one for each sentence, alternative and procedure statement. The rows
 // of a member are a part of it, in which they are numbered from 0 on.
+// Parts: numbers of kinds and links, a row, the part of the table that a member has.
 ghost use mathlib.Core.Path.{_≡_};
 ghost use mathlib.Core.List.{_∷_, []};
 ghost use Prim.Native.Nat.{_+_, _*_};

@@ -12,15 +12,21 @@ use Rattle.definition.specs.Room.{over, zeros}
 use Rattle.definition.specs.Deck as Deck
 use Rattle.definition.specs.Program as P
 use Rattle.definition.specs.Reading as D
+use Rattle.definition.specs.Reading.{readMember}
 use Rattle.definition.specs.World as W
-use Rattle.definition.specs.World.{World, Res, bad, rowsIn, rowsOf}
+use Rattle.definition.specs.declared.Layout.{Layout}
+use Rattle.definition.specs.Events.{Event, textOf, linesOf}
+use Rattle.definition.specs.Cards.{linesAs}
+use Rattle.definition.specs.World.{World, Res, good, bad, rowsIn, rowsOf}
 use Rattle.definition.specs.Names as N
 use Rattle.definition.specs.Calls.{Place}
 use Rattle.definition.specs.Flow as F
 use Rattle.definition.specs.Run as Run
 use Rattle.definition.specs.Run.{bodyOf}
 use Rattle.definition.specs.Expansion as X
+use Rattle.definition.specs.Expansion.{sizeIn}
 use Rattle.definition.specs.declared.Why.{Why}
+use Rattle.definition.proofs.Layouts.{main-layout}
 use Rattle.definition.proofs.Rooms.{length-over}
 use Rattle.deck.specs.Answer.{bodyIn}
 use Rattle.names.specs.declared.Label.{Label}
@@ -28,7 +34,6 @@ use Rattle.names.specs.Table.{identifiersFrom}
 use Rattle.meter.specs.declared.Meter.{Meter}
 use Rattle.output.specs.declared.Out.{Out}
 use Rattle.output.specs.Shows as Output
-use Rattle.output.proofs.Laws.{begin-shows, begin-fine}
 use Rattle.rows.specs.Parts.{noStarts, startIn, StartsAt, PartPlace}
 use Rattle.rows.specs.declared.Starts.{Starts}
 use Rattle.entering.specs.declared.Fault.{Fault}
@@ -57,7 +62,9 @@ use Rattle.texts.specs.declared.Progress.{Progress}
 use Rattle.texts.specs.declared.Here.{Here}
 use Rattle.texts.specs.declared.Stop.{Stop}
 use Rattle.texts.specs.declared.Ran.the-variants as Rn
-use Rattle.texts.specs.Shown.{stopFor, Written, Onstage}
+use Rattle.origin.specs.Written.{Filled, Written}
+use Rattle.texts.specs.Shown.{stopFor, Onstage}
+use Rattle.texts.proofs.Common.{written-none}
 use Rattle.stepping.specs.declared.Ended.{Ended}
 use Rattle.stepping.specs.declared.Ended.the-variants as En
 use Rattle.stepping.specs.Stage.{Roomy, Stage}
@@ -103,11 +110,11 @@ rows-past n more l = record { is = λ k. absurd (omega (arith, l, k)) }
 pub rows-all : (n more : ℕ) → RowsWith n more (n + more)
 rows-all n more = record { is = λ k. refl }
 
-pub with-source : (g : Progress) (x : Source) (n : ℕ) → RowsWith (g .rows) (x .rows) n → WithSource g x (record { meter = g .meter; out = g .out; rows = n; names = x .names })
-with-source g x n h = record { meter = refl; out = refl; names = refl; rows = h .is }
+pub with-source : (g : Progress) (x : Source) (n : ℕ) → RowsWith (g .rows) (x .rows) n → WithSource g x (record { meter = g .meter; layout = g .layout; out = g .out; rows = n; names = x .names })
+with-source g x n h = record { meter = refl; layout = refl; out = refl; names = refl; rows = h .is }
 
-progress-is : (g : Progress) (m : Meter) (o : Out) (r n : ℕ) → g .meter ≡ m → g .out ≡ o → g .rows ≡ r → g .names ≡ n → record { meter = m; out = o; rows = r; names = n } ≡ g
-progress-is g m o r n e f p q = rw (← e, ← f, ← p, ← q)
+progress-is : (g : Progress) (m : Meter) (y : Layout) (o : Out) (r n : ℕ) → g .meter ≡ m → g .layout ≡ y → g .out ≡ o → g .rows ≡ r → g .names ≡ n → record { meter = m; layout = y; out = o; rows = r; names = n } ≡ g
+progress-is g m y o r n e a f p q = rw (← e, ← a, ← f, ← p, ← q)
 
 pub here-is : (here : Here) (m : ℕ) → here .member ≡ m → here ≡ hereAt m (here .starts)
 here-is here m e = ap (λ (k : ℕ). hereAt k (here .starts)) e
@@ -142,8 +149,18 @@ unfolding bookOf
 book-awake deck names n B h = record { identifiers = h .identifiers; activities = h .activities ∙ acts-same names 0 n }
 
 -- ---- a world with a member more, by its tables
-grown-written : (t ls : List ℕ) (o : Out) (B v : World) → v .events ≡ B .events → v .textLeft ≡ B .textLeft → v .linesLeft ≡ B .linesLeft → Written t ls o B → Written t ls o v
-grown-written t ls o B v e f k h = record { out = subst (λ (es : _). Output.Shows es o t ls) (sym e) (h .out); fine = h .fine; text = f ∙ h .text; lines = k ∙ h .lines }
+grown-written : (sizes : ℕ → ℕ) (y : Layout) (t ls : List ℕ) (o : Out) (B v : World) → v .layout ≡ B .layout → v .events ≡ B .events → v .textLeft ≡ B .textLeft → v .linesLeft ≡ B .linesLeft → Written sizes y t ls o B → Written sizes y t ls o v
+grown-written sizes y t ls o B v a e f k h = record {
+  layout = a ∙ h .layout;
+  events = h .events;
+  out = h .out;
+  fine = h .fine;
+  same = h .same ∙ ap textOf (sym e);
+  told = h .told ∙ ap (λ (es : List Event). linesAs y sizes (linesOf es)) (sym e);
+  full = subst (λ (es : List Event). Filled (linesOf es)) (sym e) (h .full);
+  text = f ∙ h .text;
+  lines = k ∙ h .lines;
+}
 
 -- values and steps are those of the world
 world-back : (v : World) (vs : List W.Cell) (n : ℕ) → vs ≡ v .values → n ≡ v .used → withValues vs n v ≡ v
@@ -251,7 +268,7 @@ module _ (deck rows names c l h w t ls : List ℕ) (starts : Starts) (g : Progre
           (ap (λ (d : List ℕ). valuesFrom (after .denotations) 0 d l h) cells ∙ values-forgotten (B .denotations) (after .denotations) c l h held room (goes .grown .more) size ∙ sym (goes .grown .values))
           (sym (still (λ z. z .used)))
 
-      onstage-after : Onstage deck rows′ names′ c′ l h w t ls starts′ (record { meter = g .meter; out = g .out; rows = g .rows + x .rows; names = x .names }) after
+      onstage-after : Onstage deck rows′ names′ c′ l h w t ls starts′ (record { meter = g .meter; layout = g .layout; out = g .out; rows = g .rows + x .rows; names = x .names }) after
       onstage-after = record {
         shows = record {
           named = named-after;
@@ -263,10 +280,10 @@ module _ (deck rows names c l h w t ls : List ℕ) (starts : Starts) (g : Progre
           left = S .onstage .shows .left;
         };
         awake = awake-after;
-        written = grown-written t ls (g .out) B after (still (λ z. z .events)) (still (λ z. z .textLeft)) (still (λ z. z .linesLeft)) (S .onstage .written);
+        written = grown-written (sizeIn deck) (g .layout) t ls (g .out) B after (still (λ z. z .layout)) (still (λ z. z .events)) (still (λ z. z .textLeft)) (still (λ z. z .linesLeft)) (S .onstage .written);
       }
 
-      stage-new : Stage deck rows′ names′ c′ l h w t ls starts′ (record { meter = g .meter; out = g .out; rows = g .rows + x .rows; names = x .names }) after
+      stage-new : Stage deck rows′ names′ c′ l h w t ls starts′ (record { meter = g .meter; layout = g .layout; out = g .out; rows = g .rows + x .rows; names = x .names }) after
       stage-new = record {
         onstage = onstage-after;
         placed = goes .placed;
@@ -284,7 +301,7 @@ module _ (deck rows names c l h w t ls : List ℕ) (starts : Starts) (g : Progre
       stage-after : (g′ : Progress) → WithSource g x g′ → Stage deck rows′ names′ c′ l h w t ls starts′ g′ after
       stage-after g′ e =
           subst (λ (z : Progress). Stage deck rows′ names′ c′ l h w t ls starts′ z after)
-          (progress-is g′ (g .meter) (g .out) (g .rows + x .rows) (x .names) (e .meter) (e .out) (e .rows (whole .sentences)) (e .names)) stage-new
+          (progress-is g′ (g .meter) (g .layout) (g .out) (g .rows + x .rows) (x .names) (e .meter) (e .layout) (e .out) (e .rows (whole .sentences)) (e .names)) stage-new
 
       since-after : Since rows B rows′ after
       since-after = record {
@@ -359,21 +376,31 @@ module _ (deck rows names c l h w t ls : List ℕ) (below : Below) (here : Here)
           subst (λ (y : Res Run.Stop F.End). EndsAs (belowOf below) deck rows B rows″ names″ c″ l″ h″ w″ t″ ls″ (here .member) y r) (sym is)
           (record { world = ends .world; since = since-on rows rows′ rows″ B A (ends .world) since (ends .since); now = ends .now })
 
+-- whatever ends well is finished
+finished-any : (e : F.End) (v : World) → X.result (good e v) ≡ X.finished v
+finished-any F.ran v = refl
+finished-any (F.returned z) v = refl
+finished-any (F.went z) v = refl
+
+bad-good : {A : Type 0} {s : Run.Stop} {u : ℕ} {e : F.End} {v : World} → _≡_ {A = Res Run.Stop F.End} (bad s u) (good e v) → A
+bad-good q = let z : _≡_ {A = ℕ} 0 1 = cc in absurd (omega arith)
+
 -- ---- THE RUN begins: no names, no rows, nothing is put out
-main-world : (c l h : List ℕ) (steps text lines : ℕ) → worldIn (W.newWorld steps text lines) c l h 0 ≡ W.newWorld steps text lines
+main-world : (c l h : List ℕ) (y : Layout) (steps text lines : ℕ) → worldIn (W.newWorld y steps text lines) c l h 0 ≡ W.newWorld y steps text lines
 unfolding valuesFrom
-main-world c l h steps text lines = refl
+main-world c l h y steps text lines = refl
 
-main-written : (t ls : List ℕ) (o : Out) (steps : ℕ) → t ≡ zeros (length t) → ls ≡ zeros (length ls) → Output.Begins (length t) (length ls) o → Written t ls o (X.mainWorld (length t) (length ls) steps)
-main-written t ls o steps e f b = record { out = begin-shows t ls o e f b; fine = begin-fine (length t) (length ls) o b; text = sym (b .room); lines = sym (b .free) }
+main-written : (sizes : ℕ → ℕ) (y : Layout) (t ls : List ℕ) (o : Out) (steps : ℕ) → t ≡ zeros (length t) → ls ≡ zeros (length ls) → Output.Begins (length t) (length ls) o → Written sizes y t ls o (X.worldFor y (length t) (length ls) steps)
+main-written sizes y t ls o steps e f b =
+    grown-written sizes y t ls o (W.newWorld y steps (o .room) (o .free)) (X.worldFor y (length t) (length ls) steps) refl refl (sym (b .room)) (sym (b .free)) (written-none sizes y t ls o steps e f b)
 
-main-stage : (deck rows names c l h w t ls : List ℕ) (m : Meter) (o : Out) → t ≡ zeros (length t) → ls ≡ zeros (length ls) → Output.Begins (length t) (length ls) o → Roomy rows names c → 65536 ≤ length l → 65536 ≤ length h
-    → 65536 ≤ length w → Stage deck rows names c l h w t ls noStarts (record { meter = m; out = o; rows = 0; names = 0 }) (X.mainWorld (length t) (length ls) (m .limit))
+main-stage : (deck rows names c l h w t ls : List ℕ) (m : Meter) (y : Layout) (o : Out) → t ≡ zeros (length t) → ls ≡ zeros (length ls) → Output.Begins (length t) (length ls) o → Roomy rows names c → 65536 ≤ length l → 65536 ≤ length h
+    → 65536 ≤ length w → Stage deck rows names c l h w t ls noStarts (record { meter = m; layout = y; out = o; rows = 0; names = 0 }) (X.worldFor y (length t) (length ls) (m .limit))
 unfolding identifiersFrom Callees.denotationsFrom Outcomes.activitiesFrom
-main-stage deck rows names c l h w t ls m o e f b roomy low high work =
-    let B : World = X.mainWorld (length t) (length ls) (m .limit) in
-    let placed : Placed (bodyIn deck) B = placed-new (bodyIn deck) (m .limit) (X.capped (length t)) (length ls / 12) in
-    let laid : Laid deck rows noStarts 0 B = laid-new deck rows (m .limit) (X.capped (length t)) (length ls / 12) in
+main-stage deck rows names c l h w t ls m y o e f b roomy low high work =
+    let B : World = X.worldFor y (length t) (length ls) (m .limit) in
+    let placed : Placed (bodyIn deck) B = placed-new (bodyIn deck) y (m .limit) (X.capped (length t)) (length ls / 12) in
+    let laid : Laid deck rows noStarts 0 B = laid-new deck rows y (m .limit) (X.capped (length t)) (length ls / 12) in
     record {
       onstage = record {
         shows = record {
@@ -386,7 +413,7 @@ main-stage deck rows names c l h w t ls m o e f b roomy low high work =
           left = omega arith;
         };
         awake = record { identifiers = refl; activities = refl };
-        written = main-written t ls o (m .limit) e f b;
+        written = main-written (sizeIn deck) y t ls o (m .limit) e f b;
       };
       placed = placed;
       laid = laid;
@@ -395,47 +422,56 @@ main-stage deck rows names c l h w t ls m o e f b roomy low high work =
       roomy = roomy;
     }
 
-module _ (deck rows names c l h w t ls : List ℕ) (steps : ℕ) (m : Meter) (o : Out) (starts : Starts) (below : Below) (meter : (m .limit ≡ steps) × (m .used ≡ 0)) (out : Output.Begins (length t) (length ls) o) (first : starts ≡ noStarts)
+module _ (deck rows names c l h w t ls : List ℕ) (y : Layout) (steps : ℕ) (m : Meter) (o : Out) (starts : Starts) (below : Below) (meter : (m .limit ≡ steps) × (m .used ≡ 0)) (out : Output.Begins (length t) (length ls) o) (first : starts ≡ noStarts)
     (top : NoneBelow below) (rows′ names′ c′ l′ h′ w′ t′ ls′ : List ℕ) (x : Left)
-    (run : EnterIs deck rows names c l h w t ls below (hereAt 0 starts) 8 (record { meter = m; out = o; rows = 0; names = 0 }) rows′ names′ c′ l′ h′ w′ t′ ls′ x) where
+    (run : EnterIs deck rows names c l h w t ls below (hereAt 0 starts) 8 (record { meter = m; layout = y; out = o; rows = 0; names = 0 }) rows′ names′ c′ l′ h′ w′ t′ ls′ x) where
   -- how the main program ends
   abbrev Main : Type 0
-  Main = EndsAs [] deck rows (X.mainWorld (length t) (length ls) steps) rows′ names′ c′ l′ h′ w′ t′ ls′ 0 (enterRun 8 deck 0 [] (X.mainWorld (length t) (length ls) steps)) x
+  Main = EndsAs [] deck rows (X.worldFor y (length t) (length ls) steps) rows′ names′ c′ l′ h′ w′ t′ ls′ 0 (enterRun 8 deck 0 [] (X.worldFor y (length t) (length ls) steps)) x
 
   main-ends : Deck.isSound deck ≡ true → Roomy rows names c → 65536 ≤ length l → 65536 ≤ length h → 65536 ≤ length w → t ≡ zeros (length t) → ls ≡ zeros (length ls) → Main
   main-ends sound roomy low high work e f =
-      let B : World = X.mainWorld (length t) (length ls) steps in
-      let S : Stage deck rows names c l h w t ls starts (record { meter = m; out = o; rows = 0; names = 0 }) B =
-      subst (λ (z : Starts). Stage deck rows names c l h w t ls z (record { meter = m; out = o; rows = 0; names = 0 }) B) (sym first)
-      (subst (λ (n : ℕ). Stage deck rows names c l h w t ls noStarts (record { meter = m; out = o; rows = 0; names = 0 }) (X.mainWorld (length t) (length ls) n)) (meter .0) (main-stage deck rows names c l h w t ls m o e f out roomy low high work)) in
-      let same : worldIn B c l h (m .used) ≡ B = ap (λ (n : ℕ). worldIn B c l h n) (meter .1) ∙ main-world c l h steps (X.capped (length t)) (length ls / 12) in
+      let B : World = X.worldFor y (length t) (length ls) steps in
+      let S : Stage deck rows names c l h w t ls starts (record { meter = m; layout = y; out = o; rows = 0; names = 0 }) B =
+      subst (λ (z : Starts). Stage deck rows names c l h w t ls z (record { meter = m; layout = y; out = o; rows = 0; names = 0 }) B) (sym first)
+      (subst (λ (n : ℕ). Stage deck rows names c l h w t ls noStarts (record { meter = m; layout = y; out = o; rows = 0; names = 0 }) (X.worldFor y (length t) (length ls) n)) (meter .0) (main-stage deck rows names c l h w t ls m y o e f out roomy low high work)) in
+      let same : worldIn B c l h (m .used) ≡ B = ap (λ (n : ℕ). worldIn B c l h n) (meter .1) ∙ main-world c l h y steps (X.capped (length t)) (length ls / 12) in
       subst (λ (v : World). EndsAs [] deck rows B rows′ names′ c′ l′ h′ w′ t′ ls′ 0 (enterRun 8 deck 0 [] v) x) same
       (subst (λ (on : List Place). EndsAs on deck rows B rows′ names′ c′ l′ h′ w′ t′ ls′ 0 (enterRun 8 deck 0 on (worldIn B c l h (m .used))) x) (top .is)
       (run .is B S sound (main-low deck sound) (subst (λ (on : List Place). Stand on B) (sym (top .is)) tt) (omega (arith, top .count))))
 
   -- its answers
   abbrev Ended′ : Main → Ended → Type 0
-  Ended′ k e = EndNow [] deck rows′ names′ c′ l′ h′ w′ t′ ls′ (hereAt 0 (x .starts)) (enterRun 8 deck 0 [] (X.mainWorld (length t) (length ls) steps)) (k .world) e
+  Ended′ k e = EndNow [] deck rows′ names′ c′ l′ h′ w′ t′ ls′ (hereAt 0 (x .starts)) (enterRun 8 deck 0 [] (X.worldFor y (length t) (length ls) steps)) (k .world) e
 
-  pub run-ran : (g : Progress) → x .ended ≡ En.Ran g → RunIs deck rows names c l h w t ls steps t′ ls′ (Rn.Good g)
-  run-ran g e = record { is = λ sound roomy low high work z y. by (main-ends sound roomy low high work z y) }
+  -- what was told stays told
+  layout-kept : (E : N.Entering) → E ≡ N.enter 0 (readMember (bodyOf deck 0)) (X.worldFor y (length t) (length ls) steps) → (e : F.End) (v : World) → enteredRun E 0 (X.worldFor y (length t) (length ls) steps) (λ u. Run.runMember 8 deck 0 [] u) ≡ good e v → v .layout ≡ y
+  layout-kept (N.unreadable z p) i e v q = bad-good q
+  layout-kept (N.entered u) i e v q = main-layout y deck (length t) (length ls) steps (sym i) q
+
+  told-kept : (e : F.End) (v : World) → enterRun 8 deck 0 [] (X.worldFor y (length t) (length ls) steps) ≡ good e v → v .layout ≡ y
+  unfolding enterRun
+  told-kept e v q = layout-kept (N.enter 0 (readMember (bodyOf deck 0)) (X.worldFor y (length t) (length ls) steps)) refl e v q
+
+  ran-to : (e : F.End) (g : Progress) (B : World) → Written (sizeIn deck) (g .layout) t′ ls′ (g .out) B → enterRun 8 deck 0 [] (X.worldFor y (length t) (length ls) steps) ≡ good e (worldIn B c′ l′ h′ (g .meter .used)) → RanTo deck y t′ ls′ (enterRun 8 deck 0 [] (X.worldFor y (length t) (length ls) steps)) (Rn.Good g)
+  ran-to e g B v q =
+      let W : World = worldIn B c′ l′ h′ (g .meter .used) in
+      let u : Written (sizeIn deck) (g .layout) t′ ls′ (g .out) W = grown-written (sizeIn deck) (g .layout) t′ ls′ (g .out) B W refl refl refl refl v in
+      (W, subst (λ (z : Layout). Written (sizeIn deck) z t′ ls′ (g .out) W) (sym (v .layout) ∙ told-kept e W q) u, ap X.result q ∙ finished-any e W, refl)
+
+  pub run-ran : (g : Progress) → x .ended ≡ En.Ran g → RunIs y deck rows names c l h w t ls steps t′ ls′ (Rn.Good g)
+  run-ran g e = record { is = λ sound roomy low high work z a. by (main-ends sound roomy low high work z a) }
     where
-      by : (k : Main) → RanTo t′ ls′ (enterRun 8 deck 0 [] (X.mainWorld (length t) (length ls) steps)) (Rn.Good g)
-      by k =
-          let d : Ended′ k (En.Ran g) = subst (Ended′ k) e (k .now) in
-          let v : Written t′ ls′ (g .out) (k .world) = d .stage .onstage .written in
-          (worldIn (k .world) c′ l′ h′ (g .meter .used), record { out = v .out; fine = v .fine; text = v .text; lines = v .lines }, ap X.result (d .is), refl)
+      by : (k : Main) → RanTo deck y t′ ls′ (enterRun 8 deck 0 [] (X.worldFor y (length t) (length ls) steps)) (Rn.Good g)
+      by k = let d : Ended′ k (En.Ran g) = subst (Ended′ k) e (k .now) in ran-to _ g (k .world) (d .stage .onstage .written) (d .is)
 
-  pub run-went : (y : Label) (g : Progress) → x .ended ≡ En.Went y g → RunIs deck rows names c l h w t ls steps t′ ls′ (Rn.Good g)
-  run-went y g e = record { is = λ sound roomy low high work z a. by (main-ends sound roomy low high work z a) }
+  pub run-went : (q : Label) (g : Progress) → x .ended ≡ En.Went q g → RunIs y deck rows names c l h w t ls steps t′ ls′ (Rn.Good g)
+  run-went q g e = record { is = λ sound roomy low high work z a. by (main-ends sound roomy low high work z a) }
     where
-      by : (k : Main) → RanTo t′ ls′ (enterRun 8 deck 0 [] (X.mainWorld (length t) (length ls) steps)) (Rn.Good g)
-      by k =
-          let d : Ended′ k (En.Went y g) = subst (Ended′ k) e (k .now) in
-          let v : Written t′ ls′ (g .out) (k .world) = d .stage .onstage .written in
-          (worldIn (k .world) c′ l′ h′ (g .meter .used), record { out = v .out; fine = v .fine; text = v .text; lines = v .lines }, ap X.result (d .is), refl)
+      by : (k : Main) → RanTo deck y t′ ls′ (enterRun 8 deck 0 [] (X.worldFor y (length t) (length ls) steps)) (Rn.Good g)
+      by k = let d : Ended′ k (En.Went q g) = subst (Ended′ k) e (k .now) in ran-to _ g (k .world) (d .stage .onstage .written) (d .is)
 
-  pub run-bad : (y : Stop) (g : Progress) → x .ended ≡ En.Bad y g → RunIs deck rows names c l h w t ls steps t′ ls′ (Rn.Bad y g)
-  run-bad y g e = record {
-    is = λ sound roomy low high work z a. let k : Main = main-ends sound roomy low high work z a in let d : Ended′ k (En.Bad y g) = subst (Ended′ k) e (k .now) in (stopFor y, refl, ap X.result d);
+  pub run-bad : (q : Stop) (g : Progress) → x .ended ≡ En.Bad q g → RunIs y deck rows names c l h w t ls steps t′ ls′ (Rn.Bad q g)
+  run-bad q g e = record {
+    is = λ sound roomy low high work z a. let k : Main = main-ends sound roomy low high work z a in let d : Ended′ k (En.Bad q g) = subst (Ended′ k) e (k .now) in (stopFor q, refl, ap X.result d);
   }

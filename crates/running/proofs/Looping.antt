@@ -51,6 +51,7 @@ use Rattle.texts.specs.declared.Ran.{Ran}
 use Rattle.texts.specs.declared.Ran.the-variants as Rn
 use Rattle.texts.specs.Shown.{stretchFor, stopFor, After, RanAs, Lies}
 use Rattle.texts.specs.Contracts.{leadText, LeadIs}
+use Rattle.texts.proofs.Common.{body-size}
 use Rattle.stepping.specs.declared.Ended.{Ended}
 use Rattle.stepping.specs.declared.Ended.the-variants as En
 use Rattle.stepping.specs.declared.Settled.{Settled}
@@ -304,10 +305,10 @@ module _ (deck s rows names c l h w t ls : List ℕ) (y : Source) (below : Below
     body-is : s ≡ bodyOf deck (here .member)
     body-is = es ∙ ru .member .whole
 
-    lies : Lies s (y .lead .from) (y .lead .to)
+    lies : Lies deck (here .member) s (y .lead .from) (y .lead .to)
     lies =
         let o : Ordered s (stretchFor (y .lead)) = rw (so .lead, body-is) (member-ordered (bodyOf deck (here .member))) in
-        record { order = o .order; within = o .within; short = rw es (ru .member .short) }
+        record { order = o .order; within = o .within; short = rw es (ru .member .short); sized = ap (λ (z : List ℕ). length z) body-is ∙ body-size deck (here .member) }
 
     -- what is put out first
     led : RanAs deck rows names (here .starts) g B c₁ l₁ h₁ w₁ t₁ ls₁ q (F.leadOut member (source .lead) first-world)

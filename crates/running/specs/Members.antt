@@ -15,7 +15,9 @@ use Rattle.definition.specs.Flow as F
 use Rattle.definition.specs.Calls.{Place}
 use Rattle.definition.specs.Run as Run
 use Rattle.definition.specs.Run.{bodyOf}
+use Rattle.definition.specs.declared.Layout.{Layout}
 use Rattle.definition.specs.Expansion as X
+use Rattle.definition.specs.Expansion.{sizeIn}
 use Rattle.deck.specs.declared.Found.{Found}
 use Rattle.deck.specs.Answer.{bodyIn, foundFor}
 use Rattle.tokens.specs.declared.Lexeme.{Lexeme}
@@ -38,7 +40,8 @@ use Rattle.texts.specs.declared.Progress.{Progress}
 use Rattle.texts.specs.declared.Here.{Here}
 use Rattle.texts.specs.declared.Ran.{Ran}
 use Rattle.texts.specs.declared.Ran.the-variants as Rn
-use Rattle.texts.specs.Shown.{stopFor, Written}
+use Rattle.origin.specs.Written.{Written}
+use Rattle.texts.specs.Shown.{stopFor}
 use Rattle.stepping.specs.Stage.{Roomy, Stage, InMember, partHere, machineOf}
 use Rattle.stepping.specs.Steps.{StepNow, EndNow}
 use Rattle.stepping.specs.Ways.{isOver}
@@ -129,10 +132,10 @@ pub record EnterIs (deck rows names c l h w t ls : List ℕ) (below : Below) (he
       → EndsAs (belowOf below) deck rows B rows′ names′ c′ l′ h′ w′ t′ ls′ (here .member) (enterRun left deck (here .member) (belowOf below) (worldIn B c l h (g .meter .used))) r
 
 -- ---- THE RUN of a sound deck, where the text room and the list room are zero: R is the end of the main program
-abbrev pub RanTo : List ℕ → List ℕ → Res Run.Stop F.End → Ran → Type 0
-RanTo t ls R (Rn.Good g) = (B : World) × Written t ls (g .out) B × (X.result R ≡ X.finished B) × (g .meter .used ≡ B .used)
-RanTo t ls R (Rn.Bad x g) = (e : Run.Stop) × (e ≡ stopFor x) × (X.result R ≡ X.refusal (e .why) (e .member) (e .place) (g .meter .used))
+abbrev pub RanTo : List ℕ → Layout → List ℕ → List ℕ → Res Run.Stop F.End → Ran → Type 0
+RanTo deck y t ls R (Rn.Good g) = (B : World) × Written (sizeIn deck) y t ls (g .out) B × (X.result R ≡ X.finished B) × (g .meter .used ≡ B .used)
+RanTo deck y t ls R (Rn.Bad x g) = (e : Run.Stop) × (e ≡ stopFor x) × (X.result R ≡ X.refusal (e .why) (e .member) (e .place) (g .meter .used))
 
-pub record RunIs (deck rows names c l h w t ls : List ℕ) (steps : ℕ) (t′ ls′ : List ℕ) (r : Ran) : Type 0 where
+pub record RunIs (y : Layout) (deck rows names c l h w t ls : List ℕ) (steps : ℕ) (t′ ls′ : List ℕ) (r : Ran) : Type 0 where
   pub is : Deck.isSound deck ≡ true → Roomy rows names c → 65536 ≤ length l → 65536 ≤ length h → 65536 ≤ length w → t ≡ zeros (length t) → ls ≡ zeros (length ls)
-      → RanTo t′ ls′ (enterRun includeLevels deck 0 [] (X.mainWorld (length t) (length ls) steps)) r
+      → RanTo deck y t′ ls′ (enterRun includeLevels deck 0 [] (X.worldFor y (length t) (length ls) steps)) r

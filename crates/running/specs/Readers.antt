@@ -28,6 +28,7 @@ pub record RowsWith (n more r : ℕ) : Type 0 where
 
 pub record WithSource (g : Progress) (x : Source) (r : Progress) : Type 0 where
   pub meter : r .meter ≡ g .meter
+  pub layout : r .layout ≡ g .layout
   pub out : r .out ≡ g .out
   pub names : r .names ≡ x .names
   pub rows : g .rows + x .rows ≤ 2048 → r .rows ≡ g .rows + x .rows

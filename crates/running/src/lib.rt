@@ -1,4 +1,5 @@
 // Members are read, entered and run, one inside the other by INCLUDE; what a statement of a member does is below, in `stepping`.
+// Parts: where members stand, a member that is read, INCLUDE, turns, a member that runs.
 ghost use mathlib.Core.Path.{_≡_};
 ghost use Prim.Native.Nat.{_-_};
 ghost use Rattle.definition.specs.Room.{over, zeros};
@@ -8,6 +9,7 @@ ghost use Rattle.running.specs.Ways.{leftAt, begunAt, endedAt};
 ghost use Rattle.running.specs.Readers.{ReadIs, RowsWith, WithSource, StartedAt, stoppedAt};
 ghost use Rattle.running.specs.Members.{hereAt, FoundIs, IncludeOneIs, IncludeAllIs, TurnIs, RowsAre, SourceIs, EnterIs, RunIs};
 use deck::body;
+use definition::Layout;
 use definition::Why;
 use entering::Fault;
 use evaluating::deeds::turns_left;
@@ -147,9 +149,11 @@ fn with_source(g: Progress, x: Source) -> Progress
     ensures { λ r. ⌜ WithSource g x r ⌝ }
 {
     let meter = g.meter;
+    let layout = g.layout;
     let out = g.out;
     Progress {
         meter,
+        layout,
         out,
         rows: rows_with(g.rows, x.rows),
         names: x.names,
@@ -633,8 +637,9 @@ fn enter_and_run(
     }
 }
 
-// THE RUN of a sound deck, whose line 0 is the main program.
+// THE RUN of a sound deck, whose line 0 is the main program; `layout` says what its places are told by.
 pub fn run(
+    layout: Layout,
     deck: &[u8],
     rows: &mut [u16],
     names: &mut [u16],
@@ -646,10 +651,11 @@ pub fn run(
     list: &mut [u8],
     steps: u32,
 ) -> Ran
-    ensures { λ r. ⌜ RunIs (now (deck .entry)) (now (rows .entry)) (now (names .entry)) (now (cells .entry)) (now (low .entry)) (now (high .entry)) (now (work .entry)) (now (text .entry)) (now (list .entry)) steps (now (text .exit)) (now (list .exit)) r ⌝ }
+    ensures { λ r. ⌜ RunIs layout (now (deck .entry)) (now (rows .entry)) (now (names .entry)) (now (cells .entry)) (now (low .entry)) (now (high .entry)) (now (work .entry)) (now (text .entry)) (now (list .entry)) steps (now (text .exit)) (now (list .exit)) r ⌝ }
 {
     let g = Progress {
         meter: Meter::new(steps),
+        layout,
         out: Out::new(text.len(), list.len()),
         rows: 0,
         names: 0,

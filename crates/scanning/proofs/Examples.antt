@@ -5,6 +5,7 @@ use native.Mathlib.Omega.{arith}
 use mathlib.Core.Path.{refl, subst}
 use mathlib.Core.List.{List, []}
 use lib.ListN.{length, getD}
+use Rattle.definition.specs.declared.Layout.the-variants as Y
 use Rattle.definition.specs.World as W
 use Rattle.definition.specs.World.{World, variableOf, entryOf, labelAt, builtinName, noBody, bodyAt, rowsIn}
 use Rattle.meter.specs.declared.Meter.{Meter}
@@ -26,6 +27,7 @@ worldFor deck names n limit = record {
   sentences = 0;
   limit = limit;
   used = 0;
+  layout = Y.Plain;
   events = [];
   textLeft = 0;
   linesLeft = 0;

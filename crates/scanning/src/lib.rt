@@ -1,4 +1,5 @@
 // Values and arguments scanned: their tokens are copied or replaced.
+// Parts: what a conversion gives, the cycle.
 ghost use mathlib.Core.Path.{_≡_};
 ghost use Rattle.scanning.specs.Cycle.{typeFor, nextFor, ConvertedIs, givenFor, meterFor, RescanIs, TakenIs, CallWith, EntryIs, ReplaceIs, TokenIs, Scans};
 use callees::Called;

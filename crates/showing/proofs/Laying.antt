@@ -11,6 +11,7 @@ use lib.ListN.{length, getD, take, drop, length-drop, drop-of-length-le, List·g
 use lib.Seq.{getD-take, length-take-le, drop-at}
 use Rattle.definition.specs.Program as P
 use Rattle.definition.specs.Reading as D
+use Rattle.definition.specs.declared.Layout.{Layout}
 use Rattle.definition.specs.World as W
 use Rattle.definition.specs.World.{World, rowsIn, rowsOf}
 use Rattle.definition.specs.Names as N
@@ -36,9 +37,9 @@ start-none m = by (ltb m 32) refl
     by true e = getD-replicate 32 m 0 0 (ltb-true m 32 e)
     by false e = refl
 
-pub laid-new : (deck rows : List ℕ) (limit text lines : ℕ) → Laid deck rows noStarts 0 (W.newWorld limit text lines)
+pub laid-new : (deck rows : List ℕ) (y : Layout) (limit text lines : ℕ) → Laid deck rows noStarts 0 (W.newWorld y limit text lines)
 unfolding rowsIn
-laid-new deck rows limit text lines = record { stored = λ m. nothing refl; below = λ m. omega (arith, start-none m) }
+laid-new deck rows y limit text lines = record { stored = λ m. nothing refl; below = λ m. omega (arith, start-none m) }
 
 -- only the members matter
 pub laid-same : (deck rows : List ℕ) (starts : Starts) (used : ℕ) (w v : World) → v .members ≡ w .members → Laid deck rows starts used w → Laid deck rows starts used v

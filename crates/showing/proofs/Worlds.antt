@@ -11,6 +11,7 @@ use lib.ListN.{length, getD}
 use Rattle.definition.specs.Limits.{enteredSentences}
 use Rattle.definition.specs.Program as P
 use Rattle.definition.specs.Reading as D
+use Rattle.definition.specs.declared.Layout.{Layout}
 use Rattle.definition.specs.World as W
 use Rattle.definition.specs.World.{World, rowOf, rowsIn, rowsOf}
 use Rattle.definition.specs.Names as N
@@ -46,9 +47,9 @@ placed-same b w v e f g h = record {
 }
 
 -- a world without names and members
-pub placed-new : (b : ℕ → List ℕ) (limit text lines : ℕ) → Placed b (W.newWorld limit text lines)
+pub placed-new : (b : ℕ → List ℕ) (y : Layout) (limit text lines : ℕ) → Placed b (W.newWorld y limit text lines)
 unfolding rowsIn
-placed-new b limit text lines = record { names = tt; apart = λ m r ns v l e. absurd (omega arith); read = λ m. none refl }
+placed-new b y limit text lines = record { names = tt; apart = λ m r ns v l e. absurd (omega arith); read = λ m. none refl }
 
 -- ---- a member that is entered: nothing is wrong with it, and its names are declared
 sooner-sound : (x : N.Past) (f : P.Fault) → N.sooner x f ≡ P.sound → f ≡ P.sound

@@ -1,4 +1,5 @@
 // What each statement is, from behind its first word to behind its semicolon, or of an IF to behind THEN.
+// Parts: statements of one clause, DECLARE, PROCEDURE.
 ghost use mathlib.Core.Path.{_≡_};
 ghost use mathlib.Core.Bool.{_||_, true, false};
 ghost use mathlib.Core.List.{_∷_, []};

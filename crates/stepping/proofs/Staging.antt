@@ -36,7 +36,7 @@ use Rattle.showing.proofs.Worlds.{placed-same, rows-written}
 use Rattle.texts.specs.declared.Progress.{Progress}
 use Rattle.texts.specs.declared.Here.{Here}
 use Rattle.texts.specs.Shown.{withMeter, stretchFor, Onstage, Goes, After, Lies}
-use Rattle.texts.proofs.Common.{stage-values}
+use Rattle.texts.proofs.Common.{body-size, stage-values}
 use Rattle.stepping.specs.Stage.{Stage, InMember, partHere, machineOf}
 
 -- ---- a world that comes later
@@ -146,15 +146,15 @@ module _ (deck s rows names c l h w t ls : List ℕ) (here : Here) (g : Progress
   pub its-body : s ≡ bodyOf deck (here .member)
   its-body = i .body ∙ i .whole
 
-  lies-by : (x : Stretch) (y : P.Stretch) → stretchFor x ≡ y → Ordered (bodyOf deck (here .member)) y → Lies s (x .from) (x .to)
+  lies-by : (x : Stretch) (y : P.Stretch) → stretchFor x ≡ y → Ordered (bodyOf deck (here .member)) y → Lies deck (here .member) s (x .from) (x .to)
   lies-by x y e o =
       let k : Ordered s (stretchFor x) = rw (its-body, e) o in
-      record { order = k .order; within = k .within; short = i .short }
+      record { order = k .order; within = k .within; short = i .short; sized = ap (λ (z : List ℕ). length z) its-body ∙ body-size deck (here .member) }
 
-  pub text-lies : (n : ℕ) → n < length (M .rows) → Lies s (rowIn (partHere rows here) n .text .from) (rowIn (partHere rows here) n .text .to)
+  pub text-lies : (n : ℕ) → n < length (M .rows) → Lies deck (here .member) s (rowIn (partHere rows here) n .text .from) (rowIn (partHere rows here) n .text .to)
   unfolding memberMachine
   text-lies n k = lies-by (rowIn (partHere rows here) n .text) (F.at M n .text) (machine-written n k .text) (text-ordered (bodyOf deck (here .member)) n)
 
-  pub lead-lies : (n : ℕ) → n < length (M .rows) → Lies s (rowIn (partHere rows here) n .lead .from) (rowIn (partHere rows here) n .lead .to)
+  pub lead-lies : (n : ℕ) → n < length (M .rows) → Lies deck (here .member) s (rowIn (partHere rows here) n .lead .from) (rowIn (partHere rows here) n .lead .to)
   unfolding memberMachine
   lead-lies n k = lies-by (rowIn (partHere rows here) n .lead) (F.at M n .lead) (machine-written n k .lead) (lead-ordered (bodyOf deck (here .member)) n)

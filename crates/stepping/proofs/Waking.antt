@@ -70,7 +70,17 @@ module _ (deck rows names c l h w t ls : List ℕ) (starts : Starts) (g : Progre
           left = st .onstage .shows .left;
         };
         awake = record { identifiers = st .onstage .awake .identifiers ∙ sym (kp .identifiers names-fit); activities = refl };
-        written = record { out = st .onstage .written .out; fine = st .onstage .written .fine; text = st .onstage .written .text; lines = st .onstage .written .lines };
+        written = record {
+          layout = st .onstage .written .layout;
+          events = st .onstage .written .events;
+          out = st .onstage .written .out;
+          fine = st .onstage .written .fine;
+          same = st .onstage .written .same;
+          told = st .onstage .written .told;
+          full = st .onstage .written .full;
+          text = st .onstage .written .text;
+          lines = st .onstage .written .lines;
+        };
       };
       placed = placed-woken;
       laid = record { stored = λ m. st .laid .stored m; below = λ m. st .laid .below m };

@@ -1,4 +1,5 @@
 // A statement of a member that runs, and where control goes behind it, with the texts on the way. INCLUDE is above, in `running`.
+// Parts: where control goes and what is put out on the way, statements, what comes of a turn.
 ghost use mathlib.Core.Path.{_≡_};
 ghost use Rattle.stepping.specs.Stage.{partHere};
 ghost use Rattle.stepping.specs.Ways.{isListed, isInclude, isOver, turnedBy, refusedAt, doneTo, testedTo, jumpedTo, activatedTo, wentTo};

@@ -1,16 +1,16 @@
--- Every line of an expansion names a place below 65,536, and its size is below 2^32: four bytes say each.
+-- Every line of an expansion names a place below 131,072, and its size is below 2^32: four bytes say each.
 -- Assumes nothing.
 use Prim.Native.Nat.{ℕ, zero, suc, _+_, _-_, _/_, _≤_, _<_}
 use native.Mathlib.Omega.{arith}
-use mathlib.Core.Bool.{Bool, true, _&&_}
+use mathlib.Core.Bool.{Bool, true, cond, _&&_}
 use mathlib.Core.List.{List, [], _∷_}
-use mathlib.Core.Path.{_≡_, refl, ap}
+use mathlib.Core.Path.{_≡_, refl, ap, _∙_}
 use lib.Dec.{leb, eqb}
 use lib.ListN.{length}
-use borrow.Author.Tests.{leb-true, leb-false, le-leb}
+use borrow.Author.Tests.{leb-true, leb-false, le-leb, eqb-true}
 use Rattle.definition.specs.declared.Why.{Why}
-use Rattle.definition.specs.declared.Why.the-variants as Y
-use Rattle.definition.specs.Choice.{when}
+use Rattle.definition.specs.declared.Layout.{Layout}
+use Rattle.definition.specs.declared.Layout.the-variants.{Plain as plain, Cards as cards}
 use Rattle.definition.specs.Limits.{runningProcedures, replacementLevels, includeLevels, textBytes, originLineBytes}
 use Rattle.definition.specs.Lists.{part}
 use Rattle.definition.specs.Expressions.{Tree}
@@ -20,6 +20,7 @@ use Rattle.definition.specs.Deck as Deck
 use Rattle.definition.specs.Deck.{isSound}
 use Rattle.definition.specs.Reading.{readMember}
 use Rattle.definition.specs.Events.{Event, blank, copied, replaced, bytesIn, Line, line, joins, longer, linesOf}
+use Rattle.definition.specs.Cards.{column, given, isFirst, goesOver, cut, asGiven}
 use Rattle.definition.specs.World as W
 use Rattle.definition.specs.World.{Denotation, variableOf, entryOf, labelAt, builtinName, Address, address, unknown, Activity, inactive, rescanned, Pass, World, Res, rowOf, addressOf, denotation, rowsOf}
 use Rattle.definition.specs.Names.{Entering, enter}
@@ -28,12 +29,14 @@ use Rattle.definition.specs.Calls.{Place, callOut}
 use Rattle.definition.specs.Scan.{toText, Active, notActive, active, activeIn}
 use Rattle.definition.specs.Run as Run
 use Rattle.definition.specs.Run.{Stop, bodyOf, putOut, copyHere, replaceHere, tokenHere, textOn, textOut, activated, activateAt, activateAll, activations, jumpAway, jumpLabel, jumpBy, jumpFrom, Inner, Level, noLevel, level, cameOut, includeEntered, includeAt, includeAll, actAs, memberMachine, runSource, runMember}
-use Rattle.definition.specs.Expansion.{Expansion, refusal, result, runMain, capped, expansion}
+use Rattle.definition.specs.Expansion.{Expansion, result, runMain, capped, sizeIn, expansionOf}
 use Rattle.definition.proofs.Choices.{when-has, cond-has}
 use Rattle.definition.proofs.Parts.{length-part}
+use Rattle.definition.proofs.Ends.{pieceAt-past}
+use Rattle.definition.proofs.Expanding.{ranDeck, ranIn, toldAs, ran-sound, malformed-is, uneven-is, short-is, ran-is, each-way}
 use Rattle.definition.proofs.Keeping.{Any, OfDeed, OfEnd, Awake, AllAwake, awake-in, Laws, valueless, Leaves, leaves, stops, passes, halt, bind-leaves, bind-any, placed-leaves, when-leaves, charge-leaves, evaluate-leaves, lead-leaves, runOn-leaves, calls-leaves, replacer-leaves, SoundEntering, entered-sound, unreadable-any, enter-leaves}
-use Rattle.definition.proofs.Views.{sizes}
-use Rattle.definition.proofs.Fits.{text-fits, views-agree}
+use Rattle.definition.proofs.Views.{sizes, Newest, newest-line}
+use Rattle.definition.proofs.Fits.{fitting}
 use Rattle.printing.proofs.Answers.{Small}
 use Rattle.showing.proofs.Stretches.{Ordered, text-ordered, lead-ordered, member-ordered}
 use Rattle.showing.proofs.Bodies.{find-low, main-low}
@@ -42,7 +45,7 @@ use Rattle.stops.proofs.Stops.{body-short}
 -- ---- the place of an event
 abbrev Near : Event → Type 0
 Near (blank m p) = p < 65536
-Near (copied m p l) = p < 65536
+Near (copied m p l) = (p < 65536) × (p + length l ≤ 65536)
 Near (replaced m p l) = p < 65536
 
 abbrev AllNear : List Event → Type 0
@@ -70,17 +73,19 @@ replace-here m place i t q a x y to w h =
     (bind-leaves near (replacer-leaves near callOut (calls-leaves near runningProcedures []) replacementLevels t q a x (toText (w .textLeft)) 0 w y h) λ r v _ k. passes near (record { places = (i, k .places) }))
     (halt near h)
 
-token-here : (x : Active) → AllAwake x → (m place : ℕ) → place < 65536 → (t : List ℕ) (p q : ℕ) (g : List ℕ → ℕ → Pass) (w : World) → Fine w → Keeps (tokenHere x m place t p q g w)
+token-here : (x : Active) → AllAwake x → (m place : ℕ) → place < 65536 → (t : List ℕ) (p q : ℕ) → place + (q - p) ≤ 65536 → (g : List ℕ → ℕ → Pass) (w : World) → Fine w → Keeps (tokenHere x m place t p q g w)
 unfolding copyHere
-token-here notActive y m place i t p q g w h = bind-any near (put-out (copied m place (part (q - p) p t)) _ _ w i h) λ _ v k. passes near k
-token-here (active a x) y m place i t p q g w h = replace-here m place i t q a x y g w h
+token-here notActive y m place i t p q j g w h = bind-any near (put-out (copied m place (part (q - p) p t)) _ _ w (i, omega (arith, j, length-part (q - p) p t)) h) λ _ v k. passes near k
+token-here (active a x) y m place i t p q j g w h = replace-here m place i t q a x y g w h
 
 text-on : (m from : ℕ) (t : List ℕ) → from + length t < 65536 → (f p : ℕ) (w : World) → Fine w → Keeps (textOn m from t f p w)
 unfolding textOn
 text-on m from t i zero p w h = passes near h
 text-on m from t i (suc f) p w h =
     when-has (Leaves near Any) (leb (length t) p) _ _ (λ _. passes near h) λ e.
-    bind-any near (placed-leaves near _ (bind-any near (charge-leaves near h) λ _ v k. token-here (activeIn (pieceAt t p .piece) v) (awake-in (pieceAt t p .piece) v) m (from + p) (omega (arith, leb-false (length t) p e)) t p (pieceAt t p .to) _ v k)) λ q x k.
+    let l : p < length t = leb-false (length t) p e in
+    let z : pieceAt t p .to ≤ length t = pieceAt-past t p l .within in
+    bind-any near (placed-leaves near _ (bind-any near (charge-leaves near h) λ _ v k. token-here (activeIn (pieceAt t p .piece) v) (awake-in (pieceAt t p .piece) v) m (from + p) (omega (arith, l)) t p (pieceAt t p .to) (omega (arith, l, z)) _ v k)) λ q x k.
     text-on m from t i f q x k
 
 text-out : (m : ℕ) (s : List ℕ) (x : Stretch) (w : World) → length s < 65536 → Ordered s x → Fine w → Keeps (textOut m s x w)
@@ -196,20 +201,38 @@ module _ (d : List ℕ) (sound : isSound d ≡ true) where
   member-keeps (suc n) m i ps w h = source-keeps (level (runMember n d)) (member-keeps n) m i ps w h
 
 -- ---- THE LINES of an expansion
+-- a line names a near place, and a stretch ends at one
+abbrev NearLine : Line → Type 0
+NearLine l = (l .offset < 65536) × (l .kind ≡ 2 → l .offset + l .size ≤ 65536)
+
 abbrev NearLines : List Line → Type 0
 NearLines [] = Unit {0}
-NearLines (l ∷ ls) = (l .offset < 65536) × NearLines ls
+NearLines (l ∷ ls) = NearLine l × NearLines ls
 
-longer-near : (n : ℕ) (ls : List Line) → NearLines ls → NearLines (longer n ls)
-longer-near n [] h = h
-longer-near n (l ∷ ls) h = h
+-- all but the end of the newest
+abbrev NearBefore : List Line → Type 0
+NearBefore [] = Unit {0}
+NearBefore (l ∷ ls) = (l .offset < 65536) × NearLines ls
+
+longer-before : (n : ℕ) (ls : List Line) → NearLines ls → NearBefore (longer n ls)
+longer-before n [] h = h
+longer-before n (l ∷ ls) h = (h .0 .0, h .1)
+
+-- the newest ends where the token does that was copied last
+stretched : (m p : ℕ) (l : List ℕ) (es : List Event) (ls : List Line) → p + length l ≤ 65536 → Newest (copied m p l ∷ es) ls → NearBefore ls → NearLines ls
+stretched m p l es [] i n h = tt
+stretched m p l es (a ∷ ls) i n h = ((h .0, λ _. omega (arith, i, n .2)), h .1)
 
 lines-near : (es : List Event) → AllNear es → NearLines (linesOf es)
 unfolding linesOf
 lines-near [] h = tt
-lines-near (blank m p ∷ es) h = (h .0, lines-near es (h .1))
-lines-near (copied m p l ∷ es) h = cond-has NearLines (joins es m p) _ _ (λ _. longer-near (length l) (linesOf es) (lines-near es (h .1))) λ _. (h .0, lines-near es (h .1))
-lines-near (replaced m p l ∷ es) h = (h .0, lines-near es (h .1))
+lines-near (blank m p ∷ es) h = ((h .0, λ e. let z : _≡_ {A = ℕ} 1 2 = e in absurd (omega arith)), lines-near es (h .1))
+lines-near (copied m p l ∷ es) h =
+    let a : List Line = longer (length l) (linesOf es) in
+    let b : List Line = line 2 m p (length l) ∷ linesOf es in
+    stretched m p l es (cond (joins es m p) a b) (h .0 .1) (newest-line (copied m p l ∷ es))
+    (cond-has NearBefore (joins es m p) a b (λ _. longer-before (length l) (linesOf es) (lines-near es (h .1))) λ _. (h .0 .0, lines-near es (h .1)))
+lines-near (replaced m p l ∷ es) h = ((h .0, λ e. let z : _≡_ {A = ℕ} 3 2 = e in absurd (omega arith)), lines-near es (h .1))
 
 abbrev NearIn : Expansion → Type 0
 NearIn x = NearLines (x .lines)
@@ -224,12 +247,51 @@ main-near : (d : List ℕ) → isSound d ≡ true → {e : Entering} → SoundEn
 main-near d s unreadable-any = tt
 main-near d s (entered-sound {w} h) = result-near (member-keeps d s includeLevels 0 (main-low d s) [] w h)
 
-pub offsets-near : (roomy : Bool) (d : List ℕ) (textRoom listRoom steps : ℕ) → NearIn (expansion roomy d textRoom listRoom steps)
-unfolding expansion
-offsets-near roomy d textRoom listRoom steps =
-    when-has NearIn (isSound d) _ _
-    (λ s. when-has NearIn roomy _ _ (λ _. main-near d s (enter-leaves near 0 (readMember (bodyOf d 0)) (record { places = tt }))) λ _. tt)
-    λ _. tt
+run-near : (y : Layout) (d : List ℕ) → isSound d ≡ true → (textRoom listRoom steps : ℕ) → NearIn (ranIn y d textRoom listRoom steps)
+run-near y d s textRoom listRoom steps = main-near d s (enter-leaves near 0 (readMember (bodyOf d 0)) (record { places = tt }))
+
+-- ---- as they are told: 65,536 joined columns stand in 924 records
+abbrev Low : List Line → Type 0
+Low [] = Unit {0}
+Low (l ∷ ls) = (l .offset < 131072) × Low ls
+
+longer-low : (n : ℕ) (ls : List Line) → Low ls → Low (longer n ls)
+longer-low n [] h = h
+longer-low n (l ∷ ls) h = h
+
+over-low : (m p n : ℕ) (ls : List Line) → p + n ≤ 65536 → Low ls → Low (goesOver m p n ls)
+unfolding goesOver
+over-low m p zero ls i h = h
+over-low m p (suc n) ls i h = over-low m (suc p) n _ (omega (arith, i)) (cond-has Low (isFirst p) _ _ (λ _. (omega (arith, i), h)) λ _. longer-low 1 ls h)
+
+cut-low : (m p n : ℕ) (ls : List Line) → p + n ≤ 65536 → Low ls → Low (cut m p n ls)
+cut-low m p zero ls i h = h
+cut-low m p (suc n) ls i h = over-low m (suc p) n (line 2 m (column p) 1 ∷ ls) (omega (arith, i)) (omega (arith, i), h)
+
+given-low : (size p : ℕ) → p < 65536 → given size p < 131072
+unfolding given
+given-low size p i = cond-has (λ q. q < 131072) (eqb p size) _ _ (λ _. omega (arith, i)) λ _. omega (arith, i)
+
+all-low : (ls : List Line) → NearLines ls → Low ls
+all-low [] h = tt
+all-low (l ∷ ls) h = (omega (arith, h .0 .0), all-low ls (h .1))
+
+given-lines : (joint : ℕ → ℕ) (ls : List Line) → NearLines ls → Low (asGiven joint ls)
+unfolding asGiven
+given-lines joint [] h = tt
+given-lines joint (l ∷ ls) h =
+    cond-has Low (eqb (l .kind) 2) _ _ (λ e. cut-low (l .member) (l .offset) (l .size) (asGiven joint ls) (h .0 .1 (eqb-true (l .kind) 2 e)) (given-lines joint ls (h .1)))
+    λ _. (given-low (joint (l .member)) (l .offset) (h .0 .0), given-lines joint ls (h .1))
+
+told-low : (y : Layout) (d : List ℕ) (x : Expansion) → NearIn x → Low (toldAs y d x .lines)
+told-low plain d x h = all-low (x .lines) h
+told-low cards d x h = given-lines (sizeIn d) (x .lines) h
+
+pub offsets-low : (y : Layout) (roomy : Bool) (d : List ℕ) (textRoom listRoom steps : ℕ) → Low (expansionOf y roomy d textRoom listRoom steps .lines)
+offsets-low y roomy d textRoom listRoom steps =
+    let e : List ℕ = ranDeck y d in
+    each-way (λ (x : Expansion). Low (x .lines)) y roomy d textRoom listRoom steps (λ _. tt) (λ _ _ _. tt) (λ _ _ _. tt)
+    λ s _ _. told-low y e (ranIn y e textRoom listRoom steps) (run-near y e (ran-sound y d s) textRoom listRoom steps)
 
 -- ---- the text is at most 4,294,967,295 long: in a room that counts for less it is the same
 capped-most : (n : ℕ) → capped n ≤ 4294967295
@@ -238,20 +300,25 @@ capped-most n = cond-has (λ k. k ≤ 4294967295) (leb n textBytes) n textBytes 
 capped-again : (n : ℕ) → capped (capped n) ≡ capped n
 capped-again n = rw (le-leb (capped n) textBytes (capped-most n))
 
-module _ (roomy : Bool) (d : List ℕ) (textRoom listRoom steps : ℕ) where
-  same-capped : expansion roomy d (capped textRoom) listRoom steps ≡ expansion roomy d textRoom listRoom steps
-  unfolding expansion
-  same-capped = ap (λ (n : ℕ). when (isSound d) (λ _. when roomy (λ _. runMain (enter 0 (readMember (bodyOf d 0)) (W.newWorld steps n (listRoom / originLineBytes))) d) (λ _. refusal Y.ShortRoom 0 0 0)) (λ _. refusal Y.MalformedDeck 0 0 0)) (capped-again textRoom)
+module _ (y : Layout) (roomy : Bool) (d : List ℕ) (textRoom listRoom steps : ℕ) where
+  ran-capped : (e : List ℕ) → ranIn y e (capped textRoom) listRoom steps ≡ ranIn y e textRoom listRoom steps
+  ran-capped e = ap (λ (n : ℕ). runMain (enter 0 (readMember (bodyOf e 0)) (W.newWorld y steps n (listRoom / originLineBytes))) e) (capped-again textRoom)
 
-  pub text-most : length (expansion roomy d textRoom listRoom steps .text) ≤ 4294967295
+  same-capped : expansionOf y roomy d (capped textRoom) listRoom steps ≡ expansionOf y roomy d textRoom listRoom steps
+  same-capped =
+      each-way (λ (x : Expansion). expansionOf y roomy d (capped textRoom) listRoom steps ≡ x) y roomy d textRoom listRoom steps
+      (malformed-is roomy d (capped textRoom) listRoom steps y) (uneven-is roomy d (capped textRoom) listRoom steps y) (short-is roomy d (capped textRoom) listRoom steps y)
+      λ s e r. ran-is roomy d (capped textRoom) listRoom steps y s e r ∙ ap (toldAs y (ranDeck y d)) (ran-capped (ranDeck y d))
+
+  pub text-most : length (expansionOf y roomy d textRoom listRoom steps .text) ≤ 4294967295
   text-most =
-      let e : length (expansion roomy d (capped textRoom) listRoom steps .text) ≡ length (expansion roomy d textRoom listRoom steps .text) = ap (λ (x : Expansion). length (x .text)) same-capped in
-      omega (arith, e, text-fits roomy d (capped textRoom) listRoom steps, capped-most textRoom)
+      let e : length (expansionOf y roomy d (capped textRoom) listRoom steps .text) ≡ length (expansionOf y roomy d textRoom listRoom steps .text) = ap (λ (x : Expansion). length (x .text)) same-capped in
+      omega (arith, e, fitting y roomy d (capped textRoom) listRoom steps .text, capped-most textRoom)
 
   -- THE LINES ARE SMALL
-  pub lines-small : Small (expansion roomy d textRoom listRoom steps .lines)
-  lines-small = small (expansion roomy d textRoom listRoom steps .lines) (offsets-near roomy d textRoom listRoom steps) (omega (arith, views-agree roomy d textRoom listRoom steps, text-most))
+  pub lines-small : Small (expansionOf y roomy d textRoom listRoom steps .lines)
+  lines-small = small (expansionOf y roomy d textRoom listRoom steps .lines) (offsets-low y roomy d textRoom listRoom steps) (omega (arith, fitting y roomy d textRoom listRoom steps .agree, text-most))
     where
-      small : (ls : List Line) → NearLines ls → sizes ls ≤ 4294967295 → Small ls
+      small : (ls : List Line) → Low ls → sizes ls ≤ 4294967295 → Small ls
       small [] h k = tt
       small (l ∷ ls) h k = (omega (arith, h .0), omega arith, small ls (h .1) (omega arith))

@@ -47,6 +47,7 @@ Late Y.TooLong = Unit {0}
 Late Y.RoomFull = Unit {0}
 Late Y.NoStep = Unit {0}
 Late Y.SubstrOutside = Unit {0}
+Late Y.UnevenBody = ⊥
 
 pub choice : {A : Type 0} (P : A → Type 0) (t : Bool) (f g : Unit {0} → A) → P (f tt) → P (g tt) → P (when t f g)
 choice P t f g h k = when-has P t f g (λ _. h) (λ _. k)

@@ -1,17 +1,19 @@
--- Why a run stops, and where: for one of 3 to 19, at a place below 65,536. So 1 is given for a malformed deck alone, and 2 for a short
--- working room alone.
+-- Why a run stops, and where: for one of 3 to 19, at a place in the body of a member, at most behind its last byte. So 1 is given for
+-- a malformed deck alone, 20 for a body that is no whole number of records alone, and 2 for a short working room alone.
 -- Assumes nothing.
-use Prim.Native.Nat.{ℕ, zero, suc, _+_, _-_, _<_}
+use Prim.Native.Nat.{ℕ, zero, suc, _+_, _*_, _-_, _/_, _%_, _<_, _≤_}
 use native.Mathlib.Omega.{arith}
-use mathlib.Core.Bool.{Bool, true, false, _&&_, _||_}
+use mathlib.Core.Bool.{Bool, true, false, cond, _&&_, _||_}
 use mathlib.Core.List.{List, [], _∷_}
 use mathlib.Core.Path.{_≡_, refl, subst}
 use lib.Dec.{leb, ltb, eqb}
 use lib.IntN.{ℤ}
 use lib.ListN.{length}
-use borrow.Author.Tests.{leb-false}
+use borrow.Author.Tests.{leb-false, eqb-true, eqb-false}
 use Rattle.definition.specs.declared.Why.{Why}
 use Rattle.definition.specs.declared.Why.the-variants as Y
+use Rattle.definition.specs.declared.Layout.{Layout}
+use Rattle.definition.specs.declared.Layout.the-variants.{Plain as plain, Cards as cards}
 use Rattle.definition.specs.declared.ValueType.{ValueType}
 use Rattle.definition.specs.declared.ValueType.the-variants.{FixedType, CharacterType}
 use Rattle.definition.specs.Steps.{isLeft}
@@ -27,19 +29,22 @@ use Rattle.definition.specs.Evaluate.{Meant, aVariable, anEntry, theSubstr, noS
 use Rattle.definition.specs.Flow.{Jump, toRow, toEnd, away, Deed, passed, gave, jumps, Next, begin, again, noNext, End, ran, returned, went, Frame, Machine, Turn, on, ended, isOnce, endIn, nextIn, upFrom, behindAs, behindOn, behind, endOf, leadOut, firstIn, into, inRow, targetAs, targetAt, assigned, truth, number, bounded, bounds, startAs, startIn, startAt, frameOf, numberAt, stepped, follow, done, onward, alternativeOf, chosen, statement, turn, continued, runOn, mayGo}
 use Rattle.definition.specs.Calls.{Place, isRunning, actIn, jumpLocal, jumpGlobal, jumpOut, jumpIn, bodyMachine, valueOf, bodyRun, calls, callOut}
 use Rattle.definition.specs.Lists.{part}
-use Rattle.definition.specs.Events.{Event, bytesIn, Line}
+use Rattle.definition.specs.Events.{Event, bytesIn}
 use Rattle.definition.specs.Tokens.{pieceAt}
 use Rattle.definition.specs.Scan.{Into, toText, toWork, fits, full, Scanner, outcome, Argument, Arguments, listUpTo, noList, listAt, scanArguments, Replacer, upTo, callWith, withList, replaceEntry, replaceCell, replaceAs, Active, notActive, active, activeIn, token, scanOn, scanWith, replacer}
 use Rattle.definition.specs.Deck as Deck
 use Rattle.definition.specs.Deck.{isSound}
+use Rattle.definition.specs.Cards.{uneven, unevenIn, joined, given}
 use Rattle.definition.specs.Reading.{places, readMember}
 use Rattle.definition.specs.Names as Names
 use Rattle.definition.specs.Names.{New, new, listing, newOf, Joint, joint, twice, jointOf, setDenotation, declaredAt, isListed, identifierOf, declareOne, isParameter, Past, within, pastAt, namesPast, sentencesPast, sooner, faultOf, Declaring, fine, second, declareAll, Entering, entered, unreadable, withMember, enteredAs, enter}
 use Rattle.definition.specs.Run as R
 use Rattle.definition.specs.Run.{Stop, bodyOf, putOut, copyHere, replaceHere, tokenHere, textOn, textOut, activated, activateAt, activateAll, activations, jumpAway, jumpLabel, jumpBy, jumpFrom, Inner, Level, noLevel, level, cameOut, includeEntered, includeAt, includeAll, actAs, memberMachine, runSource, runMember}
 use Rattle.definition.specs.Refusal.{numberOf}
-use Rattle.definition.specs.Expansion.{Expansion, result, runMain, mainWorld, expansion}
-use Rattle.definition.proofs.Choices.{when-has}
+use Rattle.definition.specs.Expansion.{Expansion, finished, result, runMain, worldFor, sizeIn, expansionOf}
+use Rattle.definition.proofs.Choices.{when-has, cond-has}
+use Rattle.definition.proofs.Expanding.{ranDeck, ranIn, toldAs, ran-sound, malformed-is, each-way}
+use Rattle.definition.proofs.Joined.{count-joined, size-joined, length-body}
 use Rattle.definition.proofs.Parts.{length-part}
 use Rattle.showing.proofs.Stretches.{Ordered, text-ordered, lead-ordered, member-ordered}
 use Rattle.showing.proofs.Bodies.{find-low, main-low, lined}
@@ -427,9 +432,12 @@ replacer-ends run runs zero t p a x i u w = stops tt
 replacer-ends run runs (suc n) t p a x i u w =
     replace-as (scanWith (replacer run n)) (λ j l v z. scan-on (replacer run n) (replacer-ends run runs n) j l v (suc (length l)) [] 0 z) run runs x i u (denotation a w) t p a w
 
--- ---- program text: a refusal has a place below 65,536
-abbrev Stopped : Stop → Type 0
-Stopped s = Late (s .why) × (s .place < 65536)
+-- ---- program text: a refusal has a place in the body of its member, at most behind its last byte
+abbrev At : List ℕ → ℕ → ℕ → Type 0
+At d m p = (m < Deck.count d) × (p ≤ length (bodyOf d m))
+
+abbrev Stopped : List ℕ → Stop → Type 0
+Stopped d s = Late (s .why) × At d (s .member) (s .place)
 
 put-out : (e : Event) (g : Pass) (n : ℕ) (w : World) → Fair (putOut e g n w)
 unfolding putOut
@@ -444,19 +452,20 @@ unfolding copyHere
 token-here notActive m place t p q g w = bind-ends (put-out _ _ _ w) λ _ v. well
 token-here (active a x) m place t p q g w = replace-here m place t q a x g w
 
-text-on : (m from : ℕ) (t : List ℕ) → from + length t < 65536 → (f p : ℕ) (w : World) → Ends Stopped (textOn m from t f p w)
+text-on : (d : List ℕ) (m from : ℕ) (t : List ℕ) → At d m (from + length t) → (f p : ℕ) (w : World) → Ends (Stopped d) (textOn m from t f p w)
 unfolding textOn
-text-on m from t i zero p w = well
-text-on m from t i (suc f) p w = when-has (Ends Stopped) (leb (length t) p) _ _ (λ _. well) λ e.
-    bind-ends (placed-ends _ (λ y h. (h, omega (arith, leb-false (length t) p e))) (bind-ends (charge-ends w) λ _ v. token-here (activeIn (pieceAt t p .piece) v) m (from + p) t p (pieceAt t p .to) _ v)) λ q x.
-    text-on m from t i f q x
+text-on d m from t i zero p w = well
+text-on d m from t i (suc f) p w = when-has (Ends (Stopped d)) (leb (length t) p) _ _ (λ _. well) λ e.
+    bind-ends (placed-ends _ (λ y h. (h, (i .0, omega (arith, leb-false (length t) p e, i .1)))) (bind-ends (charge-ends w) λ _ v. token-here (activeIn (pieceAt t p .piece) v) m (from + p) t p (pieceAt t p .to) _ v)) λ q x.
+    text-on d m from t i f q x
 
-text-out : (m : ℕ) (s : List ℕ) (x : Stretch) (w : World) → length s < 65536 → Ordered s x → Ends Stopped (textOut m s x w)
+text-out : (d : List ℕ) (m : ℕ) (x : Stretch) (w : World) → m < Deck.count d → Ordered (bodyOf d m) x → Ends (Stopped d) (textOut m (bodyOf d m) x w)
 unfolding textOut
-text-out m s x w i o =
+text-out d m x w i o =
     let n : ℕ = x .to - x .from in
-    bind-ends (placed-ends _ (λ y h. (h, omega (arith, o .order, o .within))) (put-out _ _ 1 w)) λ _ v.
-    text-on m (x .from) (part n (x .from) s) (omega (arith, length-part n (x .from) s, o .order, o .within)) (suc n) 0 v
+    let s : List ℕ = bodyOf d m in
+    bind-ends (placed-ends _ (λ y h. (h, (i, omega (arith, o .order, o .within)))) (put-out _ _ 1 w)) λ _ v.
+    text-on d m (x .from) (part n (x .from) s) (i, omega (arith, length-part n (x .from) s, o .order, o .within)) (suc n) 0 v
 
 -- ---- what the statements of a member do
 activated-ends : (d : Denotation) (x : Activity) (a : ℕ) (w : World) → Fair (activated d x a w)
@@ -573,42 +582,42 @@ module _ (b : List ℕ) where
   row-place (r ∷ rs) (suc n) h = row-place rs n (h .1)
 
 -- ---- INCLUDE and members of a sound deck
-module _ (d : List ℕ) (sound : isSound d ≡ true) where
-  pub body-short : (k : ℕ) → k < Deck.count d → length (bodyOf d k) < 65536
-  body-short k i = subst (λ (s : List ℕ). length s < 65536) (lined d sound k i .same) (lined d sound k i .short)
+pub body-short : (d : List ℕ) → isSound d ≡ true → (k : ℕ) → k < Deck.count d → length (bodyOf d k) < 65536
+body-short d s k i = subst (λ (b : List ℕ). length b < 65536) (lined d s k i .same) (lined d s k i .short)
 
+module _ (d : List ℕ) where
   abbrev FairInner : Inner → Type 0
-  FairInner inner = (k : ℕ) → k < Deck.count d → (ps : List Place) (w : World) → Ends Stopped (inner k ps w)
+  FairInner inner = (k : ℕ) → k < Deck.count d → (ps : List Place) (w : World) → Ends (Stopped d) (inner k ps w)
 
   abbrev FairLevel : Level → Type 0
   FairLevel noLevel = Unit {0}
   FairLevel (level inner) = FairInner inner
 
-  module _ (next : World → Res Stop Deed) (nexts : (w : World) → Ends Stopped (next w)) where
-    came-out : (m : ℕ) (x : End) (w : World) → Ends Stopped (cameOut m x w next)
+  module _ (next : World → Res Stop Deed) (nexts : (w : World) → Ends (Stopped d) (next w)) where
+    came-out : (m : ℕ) (x : End) (w : World) → Ends (Stopped d) (cameOut m x w next)
     came-out m ran w = nexts w
     came-out m (returned v) w = nexts w
     came-out m (went t) w = well
 
-    include-entered : (k : ℕ) → k < Deck.count d → {e : Entering} → Enters (bodyOf d k) e → (inner : Inner) → FairInner inner → (m n : ℕ) (ps : List Place) (w : World) → Ends Stopped (includeEntered e inner k m n ps w next)
-    include-entered k i (is-late {e} {p} h j) inner is m n ps w = stops {e = R.stop k p e} (h, omega (arith, body-short k i))
+    include-entered : (k : ℕ) → k < Deck.count d → {e : Entering} → Enters (bodyOf d k) e → (inner : Inner) → FairInner inner → (m n : ℕ) (ps : List Place) (w : World) → Ends (Stopped d) (includeEntered e inner k m n ps w next)
+    include-entered k i (is-late {e} {p} h j) inner is m n ps w = stops {e = R.stop k p e} (h, (i, j))
     include-entered k i (is-entered {w = v}) inner is m n ps w = bind-ends (is k i _ v) λ x y. came-out m x y
 
-    include-at : (f : Deck.Found) → ((k : ℕ) → f ≡ Deck.line k → k < Deck.count d) → (l : Level) → FairLevel l → (p m n : ℕ) → p < 65536 → (ps : List Place) (w : World) → Ends Stopped (includeAt f l d p m n ps w next)
+    include-at : (f : Deck.Found) → ((k : ℕ) → f ≡ Deck.line k → k < Deck.count d) → (l : Level) → FairLevel l → (p m n : ℕ) → At d m p → (ps : List Place) (w : World) → Ends (Stopped d) (includeAt f l d p m n ps w next)
     include-at Deck.none i l is p m n j ps w = stops (tt, j)
     include-at (Deck.line k) i noLevel is p m n j ps w = stops (tt, j)
     include-at (Deck.line k) i (level inner) is p m n j ps w = include-entered k (i k refl) (enter-ends (bodyOf d k) k w) inner is m n ps w
 
   module _ (l : Level) (is : FairLevel l) where
-    include-all : (p m n : ℕ) → p < 65536 → (ps : List Place) (xs : List (List ℕ)) (w : World) → Ends Stopped (includeAll l d p m n ps xs w)
+    include-all : (p m n : ℕ) → At d m p → (ps : List Place) (xs : List (List ℕ)) (w : World) → Ends (Stopped d) (includeAll l d p m n ps xs w)
     unfolding includeAll
     include-all p m n i ps [] w = well
     include-all p m n i ps (x ∷ xs) w = include-at _ (include-all p m n i ps xs) (Deck.find x 0 (Deck.lines d)) (find-low d x) l is p m n i ps w
 
-    deed-ends : (m p : ℕ) {r : Res Why (Unit {0})} → p < 65536 → Fair r → Ends Stopped (placed (R.stop m p) (R.deed r))
+    deed-ends : (m p : ℕ) {r : Res Why (Unit {0})} → At d m p → Fair r → Ends (Stopped d) (placed (R.stop m p) (R.deed r))
     deed-ends m p i h = placed-ends _ (λ e k. (k, i)) (bind-ends h λ _ v. well)
 
-    act-as : (s : Statement) (p m n : ℕ) → p < 65536 → (ps : List Place) (w : World) → Ends Stopped (actAs s l d p m n ps w)
+    act-as : (s : Statement) (p m n : ℕ) → At d m p → (ps : List Place) (w : World) → Ends (Stopped d) (actAs s l d p m n ps w)
     act-as null p m n i ps w = well
     act-as (declare ns) p m n i ps w = deed-ends m p i (activate-all rescanned ns w)
     act-as (procedure ns t) p m n i ps w = well
@@ -622,20 +631,20 @@ module _ (d : List ℕ) (sound : isSound d ≡ true) where
     act-as (deactivate ns) p m n i ps w = deed-ends m p i (activate-all inactive ns w)
     act-as (return x) p m n i ps w = well
 
-    source-ends : (m : ℕ) → m < Deck.count d → (ps : List Place) (w : World) → Ends Stopped (runSource l d m ps (readMember (bodyOf d m)) w)
+    source-ends : (m : ℕ) → m < Deck.count d → (ps : List Place) (w : World) → Ends (Stopped d) (runSource l d m ps (readMember (bodyOf d m)) w)
     unfolding runSource memberMachine
     source-ends m i ps w =
         let b : List ℕ = bodyOf d m in
         let s : Source = readMember b in
         let M : Machine Stop = memberMachine l d m ps s in
-        let at : (n : ℕ) → rowOf (s .rows) n .place < 65536 = λ n. omega (arith, row-place b (s .rows) n (member-read b .rows), body-short m i) in
-        let faults : (n : ℕ) (e : Why) → Late e → Stopped (M .fault (rowOf (M .rows) n) e) = λ n e h. (h, at n) in
+        let at : (n : ℕ) → At d m (rowOf (s .rows) n .place) = λ n. (i, row-place b (s .rows) n (member-read b .rows)) in
+        let faults : (n : ℕ) (e : Why) → Late e → Stopped d (M .fault (rowOf (M .rows) n) e) = λ n e h. (h, at n) in
         let values : (x : Tree) (v : World) → Fair (M .value x v) = λ x v. evaluate-ends callOut call-out W.everyone x 0 v in
-        let outs : (x : Stretch) (v : World) → Ordered b x → Ends Stopped (M .out x v) = λ x v o. text-out m b x v (body-short m i) o in
-        let acts : (n : ℕ) (v : World) → Ends Stopped (M .act n v) = λ n v. act-as (rowOf (s .rows) n .statement) _ m n (at n) ps v in
-        let gotos : (n : ℕ) (t : List ℕ) (v : World) → Ends Stopped (M .jump n t v) = λ n t v. placed-ends _ (λ e h. (h, at n)) (jump-from (addressOf t W.everyone v) m (s .rows) ps n v) in
-        bind-ends (lead-out Stopped M (Ordered b) (text-ordered b) (lead-ordered b) faults values outs acts gotos (s .lead) w (member-ordered b))
-        λ _ v. run-on Stopped M (Ordered b) (text-ordered b) (lead-ordered b) faults values outs acts gotos _ _ [] v
+        let outs : (x : Stretch) (v : World) → Ordered b x → Ends (Stopped d) (M .out x v) = λ x v o. text-out d m x v i o in
+        let acts : (n : ℕ) (v : World) → Ends (Stopped d) (M .act n v) = λ n v. act-as (rowOf (s .rows) n .statement) _ m n (at n) ps v in
+        let gotos : (n : ℕ) (t : List ℕ) (v : World) → Ends (Stopped d) (M .jump n t v) = λ n t v. placed-ends _ (λ e h. (h, at n)) (jump-from (addressOf t W.everyone v) m (s .rows) ps n v) in
+        bind-ends (lead-out (Stopped d) M (Ordered b) (text-ordered b) (lead-ordered b) faults values outs acts gotos (s .lead) w (member-ordered b))
+        λ _ v. run-on (Stopped d) M (Ordered b) (text-ordered b) (lead-ordered b) faults values outs acts gotos _ _ [] v
 
   member-ends : (n : ℕ) → FairInner (runMember n d)
   unfolding runMember
@@ -643,82 +652,140 @@ module _ (d : List ℕ) (sound : isSound d ≡ true) where
   member-ends (suc n) m i ps w = source-ends (level (runMember n d)) (member-ends n) m i ps w
 
 -- ---- THE EXPANSION
-abbrev Neither : ℕ → Type 0
-Neither n = (n ≡ 1 → ⊥) × (n ≡ 2 → ⊥)
+-- not the number of a refusal before the run
+abbrev Later : ℕ → Type 0
+Later n = (n ≡ 1 → ⊥) × (n ≡ 2 → ⊥) × (n ≡ 20 → ⊥)
 
-late-number : (e : Why) → Late e → Neither (numberOf e)
+late-number : (e : Why) → Late e → Later (numberOf e)
 late-number Y.MalformedDeck h = absurd h
 late-number Y.ShortRoom h = absurd h
-late-number Y.Syntax h = (λ n. omega arith, λ n. omega arith)
-late-number Y.OverLimit h = (λ n. omega arith, λ n. omega arith)
-late-number Y.DeclaredTwice h = (λ n. omega arith, λ n. omega arith)
-late-number Y.WrongName h = (λ n. omega arith, λ n. omega arith)
-late-number Y.NoValue h = (λ n. omega arith, λ n. omega arith)
-late-number Y.NoConversion h = (λ n. omega arith, λ n. omega arith)
-late-number Y.OutOfRange h = (λ n. omega arith, λ n. omega arith)
-late-number Y.ZeroDivisor h = (λ n. omega arith, λ n. omega arith)
-late-number Y.WrongArguments h = (λ n. omega arith, λ n. omega arith)
-late-number Y.WronglyRun h = (λ n. omega arith, λ n. omega arith)
-late-number Y.WrongGoto h = (λ n. omega arith, λ n. omega arith)
-late-number Y.UnknownMember h = (λ n. omega arith, λ n. omega arith)
-late-number Y.TooDeep h = (λ n. omega arith, λ n. omega arith)
-late-number Y.TooLong h = (λ n. omega arith, λ n. omega arith)
-late-number Y.RoomFull h = (λ n. omega arith, λ n. omega arith)
-late-number Y.NoStep h = (λ n. omega arith, λ n. omega arith)
-late-number Y.SubstrOutside h = (λ n. omega arith, λ n. omega arith)
+late-number Y.Syntax h = (λ n. omega arith, λ n. omega arith, λ n. omega arith)
+late-number Y.OverLimit h = (λ n. omega arith, λ n. omega arith, λ n. omega arith)
+late-number Y.DeclaredTwice h = (λ n. omega arith, λ n. omega arith, λ n. omega arith)
+late-number Y.WrongName h = (λ n. omega arith, λ n. omega arith, λ n. omega arith)
+late-number Y.NoValue h = (λ n. omega arith, λ n. omega arith, λ n. omega arith)
+late-number Y.NoConversion h = (λ n. omega arith, λ n. omega arith, λ n. omega arith)
+late-number Y.OutOfRange h = (λ n. omega arith, λ n. omega arith, λ n. omega arith)
+late-number Y.ZeroDivisor h = (λ n. omega arith, λ n. omega arith, λ n. omega arith)
+late-number Y.WrongArguments h = (λ n. omega arith, λ n. omega arith, λ n. omega arith)
+late-number Y.WronglyRun h = (λ n. omega arith, λ n. omega arith, λ n. omega arith)
+late-number Y.WrongGoto h = (λ n. omega arith, λ n. omega arith, λ n. omega arith)
+late-number Y.UnknownMember h = (λ n. omega arith, λ n. omega arith, λ n. omega arith)
+late-number Y.TooDeep h = (λ n. omega arith, λ n. omega arith, λ n. omega arith)
+late-number Y.TooLong h = (λ n. omega arith, λ n. omega arith, λ n. omega arith)
+late-number Y.RoomFull h = (λ n. omega arith, λ n. omega arith, λ n. omega arith)
+late-number Y.NoStep h = (λ n. omega arith, λ n. omega arith, λ n. omega arith)
+late-number Y.SubstrOutside h = (λ n. omega arith, λ n. omega arith, λ n. omega arith)
+late-number Y.UnevenBody h = absurd h
 
-zero-neither : Neither 0
-zero-neither = (λ n. omega arith, λ n. omega arith)
+zero-later : Later 0
+zero-later = (λ n. omega arith, λ n. omega arith, λ n. omega arith)
 
-record Known (x : Expansion) : Type 0 where
-  number : Neither (x .number)
-  offset : x .offset < 65536
+record Known (d : List ℕ) (x : Expansion) : Type 0 where
+  number : Later (x .number)
+  place : At d (x .member) (x .offset)
 
-known-zero : (n m u : ℕ) (t : List ℕ) (ls : List Line) → Neither n → Known (record { number = n; member = m; offset = 0; steps = u; text = t; lines = ls })
-known-zero n m u t ls h = record { number = h; offset = omega arith }
+module _ (d : List ℕ) (s : isSound d ≡ true) where
+  finished-known : (w : World) → Known d (finished w)
+  finished-known w = record { number = zero-later; place = (main-low d s, omega arith) }
 
-result-known : {r : Res Stop End} → Ends Stopped r → Known (result r)
-result-known (well {a = ran} {w}) = known-zero _ _ _ _ _ zero-neither
-result-known (well {a = returned v} {w}) = known-zero _ _ _ _ _ zero-neither
-result-known (well {a = went t} {w}) = known-zero _ _ _ _ _ zero-neither
-result-known (stops {e} h) = record { number = late-number (e .why) (h .0); offset = h .1 }
+  result-known : {r : Res Stop End} → Ends (Stopped d) r → Known d (result r)
+  result-known (well {a = ran} {w}) = finished-known w
+  result-known (well {a = returned v} {w}) = finished-known w
+  result-known (well {a = went t} {w}) = finished-known w
+  result-known (stops {e} h) = record { number = late-number (e .why) (h .0); place = h .1 }
 
-main-known : (d : List ℕ) → isSound d ≡ true → {x : Entering} → Enters (bodyOf d 0) x → Known (runMain x d)
-main-known d s (is-late {e} h i) = record { number = late-number e h; offset = omega (arith, body-short d s 0 (main-low d s)) }
-main-known d s (is-entered {w}) = result-known (member-ends d s includeLevels 0 (main-low d s) [] w)
+  main-known : {x : Entering} → Enters (bodyOf d 0) x → Known d (runMain x d)
+  main-known (is-late {e} h i) = record { number = late-number e h; place = (main-low d s, i) }
+  main-known (is-entered {w}) = result-known (member-ends d includeLevels 0 (main-low d s) [] w)
 
--- number 1 is given for a malformed deck alone, and 2 for a sound one with a short working room alone
-module _ (d : List ℕ) (t l steps : ℕ) where
-  run-known : isSound d ≡ true → Known (runMain (enter 0 (readMember (bodyOf d 0)) (mainWorld t l steps)) d)
-  run-known s = main-known d s (enter-ends (bodyOf d 0) 0 (mainWorld t l steps))
+  run-known : (y : Layout) (t l steps : ℕ) → Known d (ranIn y d t l steps)
+  run-known y t l steps = main-known (enter-ends (bodyOf d 0) 0 (worldFor y t l steps))
 
-  ran-neither : (roomy : Bool) → isSound d ≡ true → roomy ≡ true → Neither (expansion roomy d t l steps .number)
-  unfolding expansion
-  ran-neither roomy s r = rw (s, r) (run-known s .number)
+  -- THE PLACE of a refusal, before it is told
+  pub ran-near : (y : Layout) (t l steps : ℕ) → ranIn y d t l steps .offset < 65536
+  ran-near y t l steps =
+      let h : At d (ranIn y d t l steps .member) (ranIn y d t l steps .offset) = run-known y t l steps .place in
+      omega (arith, h .1, body-short d s (ranIn y d t l steps .member) (h .0))
 
-  -- THE PLACE of a refusal is below 65,536
-  pub offset-near : (roomy : Bool) → expansion roomy d t l steps .offset < 65536
-  unfolding expansion
-  offset-near roomy =
-      when-has (λ (x : Expansion). x .offset < 65536) (isSound d) _ _
-      (λ s. when-has (λ (x : Expansion). x .offset < 65536) roomy _ _ (λ _. run-known s .offset) λ _. omega arith)
-      λ _. omega arith
+-- ---- bodies of a deck
+body-size : (d : List ℕ) (m : ℕ) → length (bodyOf d m) ≡ Deck.lineAt d m .size
+unfolding bodyOf
+body-size d m = length-part (Deck.lineAt d m .size) (Deck.lineAt d m .offset) d
 
-  short-two : (roomy : Bool) → isSound d ≡ true → roomy ≡ false → expansion roomy d t l steps .number ≡ 2
-  unfolding expansion
-  short-two roomy s r = rw (s, r)
+uneven-by : (b : Bool) (d : List ℕ) (i n k : ℕ) → cond b (uneven (suc i) (Deck.linesFrom d (suc i) n)) (Deck.line i) ≡ Deck.line k → (uneven (suc i) (Deck.linesFrom d (suc i) n) ≡ Deck.line k → k < suc i + n) → k < i + suc n
+uneven-by true d i n k e h = omega (arith, h e)
+uneven-by false d i n k e h = let z : i ≡ k = cc in omega arith
 
-  malformed-one : (roomy : Bool) → isSound d ≡ false → expansion roomy d t l steps .number ≡ 1
-  unfolding expansion
-  malformed-one roomy s = rw s
+uneven-found : (d : List ℕ) (i n k : ℕ) → uneven i (Deck.linesFrom d i n) ≡ Deck.line k → k < i + n
+unfolding uneven Deck.linesFrom
+uneven-found d i zero k e = let z : _≡_ {A = ℕ} 0 1 = cc in absurd (omega arith)
+uneven-found d i (suc n) k e = uneven-by (eqb (Deck.lineAt d i .size % 80) 0) d i n k e (uneven-found d (suc i) n k)
 
-  by-cases : (roomy sound big : Bool) → isSound d ≡ sound → roomy ≡ big → (expansion roomy d t l steps .number ≡ 1 → sound ≡ false) × (expansion roomy d t l steps .number ≡ 2 → (sound ≡ true) × (big ≡ false))
-  by-cases roomy false big s r = (λ n. refl, λ n. absurd (omega (arith, malformed-one roomy s)))
-  by-cases roomy true true s r = (λ n. absurd (ran-neither roomy s r .0 n), λ n. absurd (ran-neither roomy s r .1 n))
-  by-cases roomy true false s r = (λ n. absurd (omega (arith, short-two roomy s r)), λ n. (refl, refl))
+uneven-low : (y : Layout) (d : List ℕ) (k : ℕ) → unevenIn y d ≡ Deck.line k → k < Deck.count d
+uneven-low plain d k e = let z : _≡_ {A = ℕ} 0 1 = cc in absurd (omega arith)
+uneven-low cards d k e = omega (arith, uneven-found d 0 (Deck.count d) k e)
 
-  pub one-malformed : (roomy : Bool) → expansion roomy d t l steps .number ≡ 1 → isSound d ≡ false
-  one-malformed roomy n = by-cases roomy (isSound d) roomy refl refl .0 n
+-- ---- as it is told
+-- a place of the joined columns of n records is told in them
+pub given-most : (n p : ℕ) → p ≤ 71 * n → given (71 * n) p ≤ 80 * n
+unfolding given
+given-most n p h = cond-has (λ q. q ≤ 80 * n) (eqb p (71 * n)) _ _ (λ e. omega (arith, eqb-true p (71 * n) e)) λ e. omega (arith, eqb-false p (71 * n) e)
 
-  pub two-short : (roomy : Bool) → expansion roomy d t l steps .number ≡ 2 → (isSound d ≡ true) × (roomy ≡ false)
-  two-short roomy n = by-cases roomy (isSound d) roomy refl refl .1 n
+told-number : (y : Layout) (d : List ℕ) (x : Expansion) → toldAs y d x .number ≡ x .number
+told-number plain d x = refl
+told-number cards d x = refl
+
+-- the place of what was run for d, as it is told, in d
+told-place : (y : Layout) (d : List ℕ) → isSound d ≡ true → (x : Expansion) → At (ranDeck y d) (x .member) (x .offset) → At d (toldAs y (ranDeck y d) x .member) (toldAs y (ranDeck y d) x .offset)
+told-place plain d s x h = h
+told-place cards d s x h =
+    let i : x .member < Deck.count d = omega (arith, h .0, count-joined d s) in
+    let n : ℕ = Deck.lineAt d (x .member) .size / 80 in
+    let e : sizeIn (joined d) (x .member) ≡ 71 * n = size-joined d s (x .member) i in
+    let most : given (71 * n) (x .offset) ≤ 80 * n = given-most n (x .offset) (omega (arith, h .1, length-body d s (x .member) i)) in
+    (i, cond-has (λ p. p ≤ length (bodyOf d (x .member))) (eqb (x .number) 0) _ _ (λ _. omega arith) λ _. rw e (omega (arith, most, body-size d (x .member))))
+
+-- ---- number 1 is given for a malformed deck alone, 20 for the first uneven body of a sound one, and 2 for a sound and even one with a
+-- short working room
+record Numbers (y : Layout) (roomy : Bool) (d : List ℕ) (x : Expansion) : Type 0 where
+  one : x .number ≡ 1 → isSound d ≡ false
+  twenty : x .number ≡ 20 → (isSound d ≡ true) × (unevenIn y d ≡ Deck.line (x .member))
+  two : x .number ≡ 2 → (isSound d ≡ true) × (unevenIn y d ≡ Deck.none) × (roomy ≡ false)
+
+module _ (y : Layout) (roomy : Bool) (d : List ℕ) (t l steps : ℕ) where
+  ran-later : isSound d ≡ true → Later (toldAs y (ranDeck y d) (ranIn y (ranDeck y d) t l steps) .number)
+  ran-later s = rw (told-number y (ranDeck y d) (ranIn y (ranDeck y d) t l steps)) (run-known (ranDeck y d) (ran-sound y d s) y t l steps .number)
+
+  numbers : Numbers y roomy d (expansionOf y roomy d t l steps)
+  numbers =
+      each-way (Numbers y roomy d) y roomy d t l steps
+      (λ s. record { one = λ _. s; twenty = λ n. absurd (omega (arith, n)); two = λ n. absurd (omega (arith, n)) })
+      (λ k s e. record { one = λ n. absurd (omega (arith, n)); twenty = λ _. (s, e); two = λ n. absurd (omega (arith, n)) })
+      (λ s e r. record { one = λ n. absurd (omega (arith, n)); twenty = λ n. absurd (omega (arith, n)); two = λ _. (s, e, r) })
+      λ s e r. record { one = λ n. absurd (ran-later s .0 n); twenty = λ n. absurd (ran-later s .2 n); two = λ n. absurd (ran-later s .1 n) }
+
+  pub one-malformed : expansionOf y roomy d t l steps .number ≡ 1 → isSound d ≡ false
+  one-malformed n = numbers .one n
+
+  pub twenty-uneven : expansionOf y roomy d t l steps .number ≡ 20 → (isSound d ≡ true) × (unevenIn y d ≡ Deck.line (expansionOf y roomy d t l steps .member))
+  twenty-uneven n = numbers .twenty n
+
+  pub two-short : expansionOf y roomy d t l steps .number ≡ 2 → (isSound d ≡ true) × (unevenIn y d ≡ Deck.none) × (roomy ≡ false)
+  two-short n = numbers .two n
+
+  -- THE PLACE that is told lies in the body as given, at most behind its last byte
+  pub place-within : isSound d ≡ true → (expansionOf y roomy d t l steps .member < Deck.count d) × (expansionOf y roomy d t l steps .offset ≤ length (bodyOf d (expansionOf y roomy d t l steps .member)))
+  place-within s =
+      each-way (λ (x : Expansion). At d (x .member) (x .offset)) y roomy d t l steps
+      (λ _. (main-low d s, omega arith)) (λ k _ e. (uneven-low y d k e, omega arith)) (λ _ _ _. (main-low d s, omega arith))
+      λ _ _ _. told-place y d s (ranIn y (ranDeck y d) t l steps) (run-known (ranDeck y d) (ran-sound y d s) y t l steps .place)
+
+  pub offset-near : expansionOf y roomy d t l steps .offset < 65536
+  offset-near = go (isSound d) refl
+    where
+      go : (b : Bool) → isSound d ≡ b → expansionOf y roomy d t l steps .offset < 65536
+      go false s = rw (malformed-is roomy d t l steps y s) (omega arith)
+      go true s =
+          let h : At d (expansionOf y roomy d t l steps .member) (expansionOf y roomy d t l steps .offset) = place-within s in
+          omega (arith, h .1, body-short d s (expansionOf y roomy d t l steps .member) (h .0))

@@ -71,7 +71,7 @@ pub record Texting (deck s rows names c₀ l₀ h₀ w₀ t₀ ls₀ : List ℕ)
   pub work : length w ≡ length w₀
   pub long : length t ≡ length t₀
   pub list : length ls ≡ length ls₀
-  pub so : (B : World) → Onstage deck rows names c₀ l₀ h₀ w₀ t₀ ls₀ (here .starts) g₀ B → Lies s (x .from) (x .to) → x .«in_work» ≡ false → here .member < 32 → Along deck s rows names c₀ l₀ h₀ w₀ x here g₀ B turns p g c l h w t ls
+  pub so : (B : World) → Onstage deck rows names c₀ l₀ h₀ w₀ t₀ ls₀ (here .starts) g₀ B → Lies deck (here .member) s (x .from) (x .to) → x .«in_work» ≡ false → here .member < 32 → Along deck s rows names c₀ l₀ h₀ w₀ x here g₀ B turns p g c l h w t ls
 
 pub texting-start : (deck s rows names c l h w t ls : List ℕ) (x : Src) (here : Here) (g : Progress) (size turns : ℕ) → size ≡ x .to - x .from → turns ≡ sumTo greatest size 1 → Texting deck s rows names c l h w t ls x here g turns 0 g c l h w t ls
 texting-start deck s rows names c l h w t ls x here g size turns e f = record {
@@ -116,7 +116,7 @@ module _ (deck s rows names c₀ l₀ h₀ w₀ t₀ ls₀ : List ℕ) (x : Src)
   texting-out f = end-by turns refl (λ v e. absurd (omega arith))
 
   module _ (size : ℕ) (e : size ≡ x .to - x .from) (lt : p < size) (go : 0 < turns) (c′ l′ h′ w′ t′ ls′ : List ℕ) (r : Passed) (tk : TokenIs deck s rows names c l h w t ls x p here g c′ l′ h′ w′ t′ ls′ r) where
-    module _ (B : World) (st : Onstage deck rows names c₀ l₀ h₀ w₀ t₀ ls₀ (here .starts) g₀ B) (li : Lies s (x .from) (x .to)) (wk : x .«in_work» ≡ false) (mm : here .member < 32) where
+    module _ (B : World) (st : Onstage deck rows names c₀ l₀ h₀ w₀ t₀ ls₀ (here .starts) g₀ B) (li : Lies deck (here .member) s (x .from) (x .to)) (wk : x .«in_work» ≡ false) (mm : here .member < 32) where
       now-is : Along deck s rows names c₀ l₀ h₀ w₀ x here g₀ B turns p g c l h w t ls
       now-is = i .so B st li wk mm
 
@@ -169,16 +169,16 @@ module _ (deck s rows names c₀ l₀ h₀ w₀ t₀ ls₀ : List ℕ) (x : Src)
     }
 
 -- ---- one blank, then the text
-module _ (deck s rows names c l h w t ls : List ℕ) (x : Stretch) (here : Here) (g : Progress) (t₁ ls₁ : List ℕ) (b : Ran) (from to : ℕ) (f₁ : from ≡ x .from) (f₂ : to ≡ x .to) (pt : PutIs (blank (here .member) from) t ls g (here .member) from t₁ ls₁ b) where
+module _ (deck s rows names c l h w t ls : List ℕ) (x : Stretch) (here : Here) (g : Progress) (t₁ ls₁ : List ℕ) (b : Ran) (from to : ℕ) (f₁ : from ≡ x .from) (f₂ : to ≡ x .to) (pt : PutIs (blank (here .member) from) (length s) from t ls g (here .member) from t₁ ls₁ b) where
   abbrev began-at : Pass
   began-at = began (here .member) (stretchFor x)
 
-  module _ (B : World) (st : Onstage deck rows names c l h w t ls (here .starts) g B) (li : Lies s (x .from) (x .to)) (mm : here .member < 32) where
+  module _ (B : World) (st : Onstage deck rows names c l h w t ls (here .starts) g B) (li : Lies deck (here .member) s (x .from) (x .to)) (mm : here .member < 32) where
     abbrev put : Res Run.Stop (Unit {0})
     put = placed (stop (here .member) (x .from)) (putOut (blank (here .member) (x .from)) began-at 1 (worldIn B c l h (g .meter .used)))
 
     blank-ran : RanAs deck rows names (here .starts) g B c l h w t₁ ls₁ b put
-    blank-ran = put-ran deck rows names c l h w t ls t₁ ls₁ (here .starts) g (here .member) (x .from) (blank (here .member) (x .from)) B st began-at b (rw f₁ at pt) mm (omega (arith, li .order, li .within, li .short)) (omega arith)
+    blank-ran = put-ran deck rows names c l h w t ls t₁ ls₁ (here .starts) g (here .member) (x .from) (blank (here .member) (x .from)) B st began-at b (length s) (x .from) (rw f₁ at pt) (sym (li .sized)) mm (omega (arith, li .order, li .within, li .short)) (omega arith) (omega arith)
 
     text-is : textOut (here .member) s (stretchFor x) (worldIn B c l h (g .meter .used)) ≡ bind put (λ _ v. textOn (here .member) (x .from) (part (x .to - x .from) (x .from) s) (suc (x .to - x .from)) 0 v)
     unfolding textOut

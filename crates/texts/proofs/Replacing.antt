@@ -17,6 +17,7 @@ use Rattle.definition.specs.Calls.{callOut}
 use Rattle.definition.specs.Evaluate.{Call}
 use Rattle.definition.specs.Scan as D
 use Rattle.definition.specs.Run as Run
+use Rattle.definition.specs.Expansion.{sizeIn}
 use Rattle.definition.specs.Run.{stop, replaceHere}
 use Rattle.definition.specs.declared.Why.{Why}
 use Rattle.definition.specs.declared.Why.the-variants.{RoomFull}
@@ -42,17 +43,17 @@ use Rattle.texts.specs.declared.Here.{Here}
 use Rattle.texts.specs.declared.Ran.{Ran}
 use Rattle.texts.specs.declared.Passed.{Passed}
 use Rattle.texts.specs.declared.Passed.the-variants as Ps
-use Rattle.texts.specs.Shown.{withMeter, withOut, badAt, passFor, SceneIs, Written, Onstage, PassedAs, Lies}
+use Rattle.texts.specs.Shown.{withMeter, withOut, badAt, passFor, SceneIs, Onstage, PassedAs, Lies}
 use Rattle.texts.specs.Contracts.{PutMore, LineIs, ReplacementAs, ReplacementIs, ReplacingIs}
 use Rattle.texts.proofs.Common.{body-sourced, runs-out, stage-event, stage-scene, stage-awake, goes-event}
 
 -- ---- the outcome with its line
-module _ (t ls ls′ : List ℕ) (g k : Progress) (m p : ℕ) (r : Replaced) (j : Meter) (e : k ≡ withMeter g j) where
-  pub replacement-good : (n q : ℕ) (x : Ran) (z : Passed) → r ≡ Rd.Good n q j → LineIs t ls k m p n ls′ x → z ≡ passFor x q → ReplacementIs t ls g m p r ls′ z
-  replacement-good n q x z a i f = record { is = subst (λ (v : Replaced). ReplacementAs v t ls g m p ls′ z) (sym a) (x, subst (λ (v : Progress). LineIs t ls v m p n ls′ x) e i, f) }
+module _ (t ls ls′ : List ℕ) (g k : Progress) (m size p : ℕ) (r : Replaced) (j : Meter) (e : k ≡ withMeter g j) where
+  pub replacement-good : (n q : ℕ) (x : Ran) (z : Passed) → r ≡ Rd.Good n q j → LineIs t ls k m size p n ls′ x → z ≡ passFor x q → ReplacementIs t ls g m size p r ls′ z
+  replacement-good n q x z a i f = record { is = subst (λ (v : Replaced). ReplacementAs v t ls g m size p ls′ z) (sym a) (x, subst (λ (v : Progress). LineIs t ls v m size p n ls′ x) e i, f) }
 
-  pub replacement-bad : (y : Why) → r ≡ Rd.Bad y j → ReplacementIs t ls g m p r ls′ (Ps.Bad (record { why = y; member = m; place = p }) k)
-  replacement-bad y a = record { is = subst (λ (v : Replaced). ReplacementAs v t ls g m p ls′ (Ps.Bad (record { why = y; member = m; place = p }) k)) (sym a) (ap (Ps.Bad (record { why = y; member = m; place = p })) e) }
+  pub replacement-bad : (y : Why) → r ≡ Rd.Bad y j → ReplacementIs t ls g m size p r ls′ (Ps.Bad (record { why = y; member = m; place = p }) k)
+  replacement-bad y a = record { is = subst (λ (v : Replaced). ReplacementAs v t ls g m size p ls′ (Ps.Bad (record { why = y; member = m; place = p }) k)) (sym a) (ap (Ps.Bad (record { why = y; member = m; place = p })) e) }
 
 -- ---- the definition's replacement
 abbrev finish : ℕ → ℕ → (List ℕ → ℕ → Pass) → D.Replaced → World → Res Why ℕ
@@ -76,7 +77,7 @@ module _ (deck s rows names c l h w t ls : List ℕ) (x : Src) (p to a : ℕ) (y
   abbrev dest : Dest
   dest = record { «to_work» = false; at = g .out .text; room = g .out .room }
 
-  place-is : Lies s (x .from) (x .to) → p < x .to - x .from → place ≡ x .from + p
+  place-is : Lies deck (here .member) s (x .from) (x .to) → p < x .to - x .from → place ≡ x .from + p
   place-is k lt = pl ∙ sum-fits (x .from) p (omega (arith, k .within, k .short))
 
   pub replacing-full : (b : Ran) (r : Passed) → g .out .free < 1 → b ≡ badAt g RoomFull (here .member) place → r ≡ passFor b to → ReplacingIs deck s rows names c l h w t ls x p to a y here g c l h w t ls r
@@ -87,13 +88,13 @@ module _ (deck s rows names c l h w t ls : List ℕ) (x : Src) (p to a : ℕ) (y
         rw is (ap (placed (stop (here .member) (x .from + p))) (here-none (here .member) (x .from + p) (textOf s w x) to a (activityOf y) z (worldIn B c l h (g .meter .used)) none));
   }
 
-  module _ (c′ l′ h′ w′ t′ ls′ : List ℕ) (r : Passed) (B : World) (st : Onstage deck rows names c l h w t ls (here .starts) g B) (z : List ℕ → ℕ → Pass) (m q : ℕ) (mm : m < 32) (qq : q < 65536) (some : 1 ≤ g .out .free) where
-    gone-by : (rr : Replaced) (R : Res Why D.Replaced) → replacedIn B dest 0 c′ l′ h′ w′ t′ rr ≡ R → ReplacedPut B dest 0 t w′ t′ rr → Left B 0 w t c′ l′ h′ w′ t′ (meterIn rr) → ReplacementAs rr t′ ls g m q ls′ r
+  module _ (c′ l′ h′ w′ t′ ls′ : List ℕ) (r : Passed) (B : World) (st : Onstage deck rows names c l h w t ls (here .starts) g B) (z : List ℕ → ℕ → Pass) (m q : ℕ) (mm : m < 32) (qq : q < 65536) (some : 1 ≤ g .out .free) (sz : sizeIn deck m ≡ length s) where
+    gone-by : (rr : Replaced) (R : Res Why D.Replaced) → replacedIn B dest 0 c′ l′ h′ w′ t′ rr ≡ R → ReplacedPut B dest 0 t w′ t′ rr → Left B 0 w t c′ l′ h′ w′ t′ (meterIn rr) → ReplacementAs rr t′ ls g m (length s) q ls′ r
         → PassedAs deck rows names (here .starts) g B c′ l′ h′ w′ t′ ls′ r (placed (stop m q) (bind R (λ v u. finish m q z v u)))
     gone-by (Rd.Good n k j) R e pt lf ro =
         let bytes : List ℕ = outIn dest t′ w′ 0 n in
         let written : t′ ≡ over t (g .out .text) bytes = pt .text ∙ with-text dest bytes t refl in
-        let pm : PutMore (replaced m q bytes) (withMeter g j) B t′ ls′ (ro .0) = ro .1 .is B t bytes (st .written) written (out-length dest t′ w′ 0 n) (pt .room) some mm qq in
+        let pm : PutMore (sizeIn deck) (replaced m q bytes) (withMeter g j) B t′ ls′ (ro .0) = ro .1 .is (sizeIn deck) B t bytes sz (st .written) written (out-length dest t′ w′ 0 n) (pt .room) some mm qq in
         let is : r ≡ Ps.Good k (withOut (withMeter g j) (pm .out)) = ro .2 ∙ ap (λ (v : Ran). passFor v k) (pm .is) in
         rw is (record {
           world = withEvent (replaced m q bytes) (z bytes k) 1 B;
@@ -106,7 +107,7 @@ module _ (deck s rows names c l h w t ls : List ℕ) (x : Src) (p to a : ℕ) (y
     gone-by (Rd.Bad b j) R e pt lf ro = rw ro (ap (λ (v : Res Why D.Replaced). placed (stop m q) (bind v (λ u y₁. finish m q z u y₁))) (sym e))
 
   pub replacing-done : (sc : Scene) (rr : Replaced) (c′ l′ h′ w′ t′ ls′ : List ℕ) (r : Passed) → 1 ≤ g .out .free → SceneIs (here .starts) g sc → ReplaceIs deck s rows names c l h w t x to a y dest 0 32 sc (g .meter) c′ l′ h′ w′ t′ rr
-      → ReplacementIs t′ ls g (here .member) place rr ls′ r → ReplacingIs deck s rows names c l h w t ls x p to a y here g c′ l′ h′ w′ t′ ls′ r
+      → ReplacementIs t′ ls g (here .member) (length s) place rr ls′ r → ReplacingIs deck s rows names c l h w t ls x p to a y here g c′ l′ h′ w′ t′ ls′ r
   replacing-done sc rr c′ l′ h′ w′ t′ ls′ r some si ri ro = record {
     is = λ B st li wk lt mm lo on z.
         let v : World = worldIn B c l h (g .meter .used) in
@@ -118,7 +119,7 @@ module _ (deck s rows names c l h w t ls : List ℕ) (x : Src) (p to a : ℕ) (y
         let gone : Gone B dest 0 w t c′ l′ h′ w′ t′ rr (replacerIn sc 32 (textOf s w x) to a (activityOf y) (intoOf dest) 0 v) = ri .is B stage (body-sourced s w x wk li) (omega (arith, lo, si .names)) on in
         let e : replacedIn B dest 0 c′ l′ h′ w′ t′ rr ≡ D.replacer callOut 32 (textOf s w x) to a (activityOf y) (D.toText (B .textLeft)) 0 v =
         gone .is ∙ replacer-is sc dest 32 (textOf s w x) to a (activityOf y) (B .textLeft) v (si .left) refl (sym (st .written .text)) in
-        let ra : ReplacementAs rr t′ ls g (here .member) (x .from + p) ls′ r = subst (λ (k : ℕ). ReplacementAs rr t′ ls g (here .member) k ls′ r) (place-is li lt) (ro .is) in
+        let ra : ReplacementAs rr t′ ls g (here .member) (length s) (x .from + p) ls′ r = subst (λ (k : ℕ). ReplacementAs rr t′ ls g (here .member) (length s) k ls′ r) (place-is li lt) (ro .is) in
         rw (here-some (here .member) (x .from + p) (textOf s w x) to a (activityOf y) z v (omega (arith, some, st .written .lines)))
-        (gone-by c′ l′ h′ w′ t′ ls′ r B st z (here .member) (x .from + p) mm (omega (arith, li .within, li .short)) some rr (D.replacer callOut 32 (textOf s w x) to a (activityOf y) (D.toText (B .textLeft)) 0 v) e (gone .put) (gone .left) ra);
+        (gone-by c′ l′ h′ w′ t′ ls′ r B st z (here .member) (x .from + p) mm (omega (arith, li .within, li .short)) some (sym (li .sized)) rr (D.replacer callOut 32 (textOf s w x) to a (activityOf y) (D.toText (B .textLeft)) 0 v) e (gone .put) (gone .left) ra);
   }

@@ -29,7 +29,8 @@ use Rattle.names.specs.Table.{activityOf, identifiersFrom}
 use Rattle.rows.specs.declared.Starts.{Starts}
 use Rattle.tokens.specs.declared.Piece.{Piece}
 use Rattle.tokens.specs.Answer.{pieceFor}
-use Rattle.output.specs.Shows.{taken}
+use Rattle.definition.specs.declared.Layout.{Layout}
+use Rattle.definition.specs.Cards.{taking}
 use Rattle.callees.specs.Shown.{worldIn}
 use Rattle.outcomes.specs.declared.Src.{Src}
 use Rattle.outcomes.specs.declared.Active.{Active}
@@ -85,7 +86,7 @@ module _ (deck s rows names c l h w t ls : List ℕ) (x : Src) (p : ℕ) (here :
   abbrev text : List ℕ
   text = textOf s w x
 
-  place-is : Lies s (x .from) (x .to) → p < x .to - x .from → place ≡ x .from + p
+  place-is : Lies deck (here .member) s (x .from) (x .to) → p < x .to - x .from → place ≡ x .from + p
   place-is k lt = pl ∙ sum-fits (x .from) p (omega (arith, k .within, k .short))
 
   module _ (B : World) (st : Onstage deck rows names c l h w t ls (here .starts) g₀ B) where
@@ -111,7 +112,7 @@ module _ (deck s rows names c l h w t ls : List ℕ) (x : Src) (p : ℕ) (here :
   }
 
   module _ (y : Piece) (act : Active) (pi : PieceIn (roomOf s w x) (x .from) (x .to) p y) (ah : ActiveHere deck names (g .names) (roomOf s w x) x p y act) (f : paid .paid ≡ true) where
-    module _ (B : World) (st : Onstage deck rows names c l h w t ls (here .starts) g₀ B) (li : Lies s (x .from) (x .to)) (wk : x .«in_work» ≡ false) (lt : p < x .to - x .from) where
+    module _ (B : World) (st : Onstage deck rows names c l h w t ls (here .starts) g₀ B) (li : Lies deck (here .member) s (x .from) (x .to)) (wk : x .«in_work» ≡ false) (lt : p < x .to - x .from) where
       abbrev world : World
       world = worldIn B c l h (paid .meter .used)
 
@@ -150,21 +151,21 @@ module _ (deck s rows names c l h w t ls : List ℕ) (x : Src) (p : ℕ) (here :
       abbrev bytes : List ℕ
       bytes = part (y .to - p) p text
 
-      copied-is : bind (copyHere (here .member) (x .from + p) bytes (pass bytes (y .to)) world) (λ _ v. good (y .to) v) ≡ bind (putOut (copied (here .member) (x .from + p) bytes) (pass bytes (y .to)) (taken (copied (here .member) (x .from + p) bytes) (B .events)) world) (λ _ v. good (y .to) v)
+      copied-is : bind (copyHere (here .member) (x .from + p) bytes (pass bytes (y .to)) world) (λ _ v. good (y .to) v) ≡ bind (putOut (copied (here .member) (x .from + p) bytes) (pass bytes (y .to)) (taking (g₀ .layout) (copied (here .member) (x .from + p) bytes) (B .events)) world) (λ _ v. good (y .to) v)
       unfolding copyHere
-      copied-is = refl
+      copied-is = ap (λ (v : Layout). bind (putOut (copied (here .member) (x .from + p) bytes) (pass bytes (y .to)) (taking v (copied (here .member) (x .from + p) bytes) (B .events)) world) (λ _ v₁. good (y .to) v₁)) (st .written .layout)
 
-      copied-on : (to : ℕ) (t′ ls′ : List ℕ) (b : Ran) (r : Passed) → act ≡ NotActive → to ≡ sumTo greatest (x .from) (y .to) → here .member < 32 → PutIs (copied (here .member) place (part (to - place) place s)) t ls g (here .member) place t′ ls′ b → r ≡ passFor b (y .to)
+      copied-on : (to : ℕ) (t′ ls′ : List ℕ) (b : Ran) (r : Passed) → act ≡ NotActive → to ≡ sumTo greatest (x .from) (y .to) → here .member < 32 → PutIs (copied (here .member) place (part (to - place) place s)) (length s) to t ls g (here .member) place t′ ls′ b → r ≡ passFor b (y .to)
           → PassedAs deck rows names (here .starts) g₀ B c l h w t′ ls′ r (turnHere (here .member) (x .from) text p (worldIn B c l h (g₀ .meter .used)))
       copied-on to t′ ls′ b r e i mm pt j =
           let g₁ : Progress = withMeter g₀ (paid .meter) in
-          let k : PutIs (copied (here .member) (x .from + p) bytes) t ls g₁ (here .member) (x .from + p) t′ ls′ b = rw (gi, place-is li lt, end-is to i, bytes-are) at pt in
+          let k : PutIs (copied (here .member) (x .from + p) bytes) (length s) (x .from + y .to) t ls g₁ (here .member) (x .from + p) t′ ls′ b = rw (gi, place-is li lt, end-is to i, bytes-are) at pt in
           let a : turnHere (here .member) (x .from) text p (worldIn B c l h (g₀ .meter .used)) ≡ placed (stop (here .member) (x .from + p)) (tokenHere D.notActive (here .member) (x .from + p) text p (y .to) pass world) = turn-is D.notActive (sym active-at ∙ ap activeFor e) in
-          let d : RanAs deck rows names (here .starts) g₁ B c l h w t′ ls′ b (placed (stop (here .member) (x .from + p)) (putOut (copied (here .member) (x .from + p) bytes) (pass bytes (y .to)) (taken (copied (here .member) (x .from + p) bytes) (B .events)) world)) =
-          put-ran deck rows names c l h w t ls t′ ls′ (here .starts) g₁ (here .member) (x .from + p) (copied (here .member) (x .from + p) bytes) B (stage-now B st) (pass bytes (y .to)) b k mm (omega (arith, li .within, li .short)) (omega (arith, length-part (y .to - p) p text, past-place .1, li .within, li .short)) in
-          let n : PassedAs deck rows names (here .starts) g₁ B c l h w t′ ls′ (passFor b (y .to)) (passing (y .to) (placed (stop (here .member) (x .from + p)) (putOut (copied (here .member) (x .from + p) bytes) (pass bytes (y .to)) (taken (copied (here .member) (x .from + p) bytes) (B .events)) world))) =
+          let d : RanAs deck rows names (here .starts) g₁ B c l h w t′ ls′ b (placed (stop (here .member) (x .from + p)) (putOut (copied (here .member) (x .from + p) bytes) (pass bytes (y .to)) (taking (g₀ .layout) (copied (here .member) (x .from + p) bytes) (B .events)) world)) =
+          put-ran deck rows names c l h w t ls t′ ls′ (here .starts) g₁ (here .member) (x .from + p) (copied (here .member) (x .from + p) bytes) B (stage-now B st) (pass bytes (y .to)) b (length s) (x .from + y .to) k (sym (li .sized)) mm (omega (arith, past-place .1, li .within, li .short)) (omega (arith, length-part (y .to - p) p text, past-place .0)) (omega (arith, length-part (y .to - p) p text, past-place .1, li .within, li .short)) in
+          let n : PassedAs deck rows names (here .starts) g₁ B c l h w t′ ls′ (passFor b (y .to)) (passing (y .to) (placed (stop (here .member) (x .from + p)) (putOut (copied (here .member) (x .from + p) bytes) (pass bytes (y .to)) (taking (g₀ .layout) (copied (here .member) (x .from + p) bytes) (B .events)) world))) =
           pass-ran deck rows names c l h w t′ ls′ (here .starts) g₁ B b (y .to) _ d in
-          rw (a, copied-is, placed-pass (stop (here .member) (x .from + p)) (putOut (copied (here .member) (x .from + p) bytes) (pass bytes (y .to)) (taken (copied (here .member) (x .from + p) bytes) (B .events)) world) (y .to), j)
+          rw (a, copied-is, placed-pass (stop (here .member) (x .from + p)) (putOut (copied (here .member) (x .from + p) bytes) (pass bytes (y .to)) (taking (g₀ .layout) (copied (here .member) (x .from + p) bytes) (B .events)) world) (y .to), j)
           (passed-meter deck rows names c l h w t′ ls′ (here .starts) g₀ B (paid .meter) (passFor b (y .to)) _ n)
 
       replaced-on : (a : Address) (v : Activity) (c′ l′ h′ w′ t′ ls′ : List ℕ) (r : Passed) → act ≡ IsActive a v → here .member < 32 → ReplacingIs deck s rows names c l h w t ls x p (y .to) (a .0) v here g c′ l′ h′ w′ t′ ls′ r
@@ -178,7 +179,7 @@ module _ (deck s rows names c l h w t ls : List ℕ) (x : Src) (p : ℕ) (here :
           rw (turn-is (D.active (a .0) (activityOf v)) i)
           (passed-meter deck rows names c′ l′ h′ w′ t′ ls′ (here .starts) g₀ B (paid .meter) r _ (k .is B (stage-now B st) li wk lt mm low (on-is v (aw .on)) pass))
 
-    pub turn-copied : (to : ℕ) (t′ ls′ : List ℕ) (b : Ran) (r : Passed) → act ≡ NotActive → to ≡ sumTo greatest (x .from) (y .to) → PutIs (copied (here .member) place (part (to - place) place s)) t ls g (here .member) place t′ ls′ b → r ≡ passFor b (y .to)
+    pub turn-copied : (to : ℕ) (t′ ls′ : List ℕ) (b : Ran) (r : Passed) → act ≡ NotActive → to ≡ sumTo greatest (x .from) (y .to) → PutIs (copied (here .member) place (part (to - place) place s)) (length s) to t ls g (here .member) place t′ ls′ b → r ≡ passFor b (y .to)
         → TokenIs deck s rows names c l h w t ls x p here g₀ c l h w t′ ls′ r
     turn-copied to t′ ls′ b r e i pt j = record { is = λ B st li wk lt mm. copied-on B st li wk lt to t′ ls′ b r e i mm pt j }
 

@@ -11,6 +11,7 @@ use Rattle.definition.specs.Room.{over}
 use Rattle.definition.specs.Tokens.{pieceAt}
 use Rattle.definition.specs.Program as Program
 use Rattle.definition.specs.Events.{Event, replaced, bytesIn}
+use Rattle.definition.specs.Cards.{taking}
 use Rattle.definition.specs.World.{Pass, World, Res, good, bind, placed, charge, withEvent}
 use Rattle.definition.specs.Scan.{activeIn}
 use Rattle.definition.specs.Run.{Stop, stop, passOf, replaceHere, tokenHere, textOn, textOut}
@@ -19,7 +20,7 @@ use Rattle.names.specs.declared.Activity.{Activity}
 use Rattle.names.specs.Table.{activityOf}
 use Rattle.rows.specs.declared.Stretch.{Stretch}
 use Rattle.output.specs.declared.Out.{Out}
-use Rattle.output.specs.Shows.{fits, taken}
+use Rattle.origin.specs.Written.{Written, fits}
 use Rattle.callees.specs.Shown.{worldIn}
 use Rattle.outcomes.specs.declared.Src.{Src}
 use Rattle.outcomes.specs.declared.Replaced.{Replaced}
@@ -32,38 +33,40 @@ use Rattle.texts.specs.declared.Ran.{Ran}
 use Rattle.texts.specs.declared.Ran.the-variants as Rn
 use Rattle.texts.specs.declared.Passed.{Passed}
 use Rattle.texts.specs.declared.Passed.the-variants as Ps
-use Rattle.texts.specs.Shown.{withMeter, withOut, badAt, passFor, stretchFor, Written, Onstage, RanAs, PassedAs, Lies}
+use Rattle.texts.specs.Shown.{withMeter, withOut, badAt, passFor, stretchFor, Onstage, RanAs, PassedAs, Lies}
 
 -- ---- an event goes out, if both rooms hold it
 -- it did, whatever its pass
-pub record PutMore (e : Event) (g : Progress) (B : World) (t ls : List ℕ) (r : Ran) : Type 0 where
+pub record PutMore (sizes : ℕ → ℕ) (e : Event) (g : Progress) (B : World) (t ls : List ℕ) (r : Ran) : Type 0 where
   pub out : Out
   pub is : r ≡ Rn.Good (withOut g out)
-  pub written : (z : Pass) → Written t ls out (withEvent e z (taken e (B .events)) B)
+  pub written : (z : Pass) → Written sizes (g .layout) t ls out (withEvent e z (taking (g .layout) e (B .events)) B)
 
-abbrev pub PutAs : Bool → Event → Progress → ℕ → ℕ → World → List ℕ → List ℕ → Ran → Type 0
-PutAs true e g m p B t ls r = PutMore e g B t ls r
-PutAs false e g m p B t ls r = r ≡ badAt g RoomFull m p
+abbrev pub PutAs : Bool → (ℕ → ℕ) → Event → Progress → ℕ → ℕ → World → List ℕ → List ℕ → Ran → Type 0
+PutAs true sizes e g m p B t ls r = PutMore sizes e g B t ls r
+PutAs false sizes e g m p B t ls r = r ≡ badAt g RoomFull m p
 
-pub record PutIs (e : Event) (t ls : List ℕ) (g : Progress) (m p : ℕ) (t′ ls′ : List ℕ) (r : Ran) : Type 0 where
-  pub is : (B : World) → Written t ls (g .out) B → m < 32 → p < 65536 → length (bytesIn e) < 65536 → PutAs (fits e (B .events) (g .out)) e g m p B t′ ls′ r
+-- an event of member m, whose body has so many bytes, from its place p up to a place q
+pub record PutIs (e : Event) (size q : ℕ) (t ls : List ℕ) (g : Progress) (m p : ℕ) (t′ ls′ : List ℕ) (r : Ran) : Type 0 where
+  pub is : (sizes : ℕ → ℕ) (B : World) → sizes m ≡ size → Written sizes (g .layout) t ls (g .out) B → m < 32 → q < 65536 → 1 ≤ length (bytesIn e) → length (bytesIn e) < 65536
+      → PutAs (fits (g .layout) e (B .events) (g .out)) sizes e g m p B t′ ls′ r
 
 -- the line of a replacement: its outcome stands in the text room t′ already
-pub record LineIs (t′ ls : List ℕ) (g : Progress) (m p n : ℕ) (ls′ : List ℕ) (r : Ran) : Type 0 where
-  pub is : (B : World) (t bytes : List ℕ) → Written t ls (g .out) B → t′ ≡ over t (g .out .text) bytes → length bytes ≡ n → n ≤ g .out .room → 1 ≤ g .out .free → m < 32 → p < 65536
-      → PutMore (replaced m p bytes) g B t′ ls′ r
+pub record LineIs (t′ ls : List ℕ) (g : Progress) (m size p n : ℕ) (ls′ : List ℕ) (r : Ran) : Type 0 where
+  pub is : (sizes : ℕ → ℕ) (B : World) (t bytes : List ℕ) → sizes m ≡ size → Written sizes (g .layout) t ls (g .out) B → t′ ≡ over t (g .out .text) bytes → length bytes ≡ n → n ≤ g .out .room → 1 ≤ g .out .free → m < 32 → p < 65536
+      → PutMore sizes (replaced m p bytes) g B t′ ls′ r
 
-abbrev pub ReplacementAs : Replaced → List ℕ → List ℕ → Progress → ℕ → ℕ → List ℕ → Passed → Type 0
-ReplacementAs (Rd.Good n q k) t ls g m p ls′ z = (x : Ran) × LineIs t ls (withMeter g k) m p n ls′ x × (z ≡ passFor x q)
-ReplacementAs (Rd.Bad e k) t ls g m p ls′ z = z ≡ Ps.Bad (record { why = e; member = m; place = p }) (withMeter g k)
+abbrev pub ReplacementAs : Replaced → List ℕ → List ℕ → Progress → ℕ → ℕ → ℕ → List ℕ → Passed → Type 0
+ReplacementAs (Rd.Good n q k) t ls g m size p ls′ z = (x : Ran) × LineIs t ls (withMeter g k) m size p n ls′ x × (z ≡ passFor x q)
+ReplacementAs (Rd.Bad e k) t ls g m size p ls′ z = z ≡ Ps.Bad (record { why = e; member = m; place = p }) (withMeter g k)
 
-pub record ReplacementIs (t ls : List ℕ) (g : Progress) (m p : ℕ) (r : Replaced) (ls′ : List ℕ) (z : Passed) : Type 0 where
-  pub is : ReplacementAs r t ls g m p ls′ z
+pub record ReplacementIs (t ls : List ℕ) (g : Progress) (m size p : ℕ) (r : Replaced) (ls′ : List ℕ) (z : Passed) : Type 0 where
+  pub is : ReplacementAs r t ls g m size p ls′ z
 
 -- ---- a token of the text x at its place p; x lies in the body s
 -- the active name that ends at `to`, whatever its pass
 pub record ReplacingIs (deck s rows names c l h w t ls : List ℕ) (x : Src) (p to a : ℕ) (y : Activity) (here : Here) (g : Progress) (c′ l′ h′ w′ t′ ls′ : List ℕ) (r : Passed) : Type 0 where
-  pub is : (B : World) → Onstage deck rows names c l h w t ls (here .starts) g B → Lies s (x .from) (x .to) → x .«in_work» ≡ false → p < x .to - x .from → here .member < 32 → a < g .names → isOn y ≡ true → (z : List ℕ → ℕ → Pass)
+  pub is : (B : World) → Onstage deck rows names c l h w t ls (here .starts) g B → Lies deck (here .member) s (x .from) (x .to) → x .«in_work» ≡ false → p < x .to - x .from → here .member < 32 → a < g .names → isOn y ≡ true → (z : List ℕ → ℕ → Pass)
       → PassedAs deck rows names (here .starts) g B c′ l′ h′ w′ t′ ls′ r (placed (stop (here .member) (x .from + p)) (replaceHere (here .member) (x .from + p) (textOf s w x) to a (activityOf y) z (worldIn B c l h (g .meter .used))))
 
 -- one turn of the definition's `textOn`
@@ -72,17 +75,17 @@ turnHere m from t p w = placed (stop m (from + p)) (bind (charge w) λ _ v.
     tokenHere (activeIn (pieceAt t p .piece) v) m (from + p) t p (pieceAt t p .to) (λ l q. passOf m (from + p) (pieceAt t p .piece) v l (from + q)) v)
 
 pub record TokenIs (deck s rows names c l h w t ls : List ℕ) (x : Src) (p : ℕ) (here : Here) (g : Progress) (c′ l′ h′ w′ t′ ls′ : List ℕ) (r : Passed) : Type 0 where
-  pub is : (B : World) → Onstage deck rows names c l h w t ls (here .starts) g B → Lies s (x .from) (x .to) → x .«in_work» ≡ false → p < x .to - x .from → here .member < 32
+  pub is : (B : World) → Onstage deck rows names c l h w t ls (here .starts) g B → Lies deck (here .member) s (x .from) (x .to) → x .«in_work» ≡ false → p < x .to - x .from → here .member < 32
       → PassedAs deck rows names (here .starts) g B c′ l′ h′ w′ t′ ls′ r (turnHere (here .member) (x .from) (textOf s w x) p (worldIn B c l h (g .meter .used)))
 
 -- ---- the tokens of a text, one after the other
 pub record TokensAre (deck s rows names c l h w t ls : List ℕ) (x : Src) (here : Here) (g : Progress) (c′ l′ h′ w′ t′ ls′ : List ℕ) (r : Ran) : Type 0 where
-  pub is : (B : World) → Onstage deck rows names c l h w t ls (here .starts) g B → Lies s (x .from) (x .to) → x .«in_work» ≡ false → here .member < 32
+  pub is : (B : World) → Onstage deck rows names c l h w t ls (here .starts) g B → Lies deck (here .member) s (x .from) (x .to) → x .«in_work» ≡ false → here .member < 32
       → RanAs deck rows names (here .starts) g B c′ l′ h′ w′ t′ ls′ r (textOn (here .member) (x .from) (textOf s w x) (suc (x .to - x .from)) 0 (worldIn B c l h (g .meter .used)))
 
 -- THE TEXT of a stretch of the body, behind one blank
 pub record TextIs (deck s rows names c l h w t ls : List ℕ) (x : Stretch) (here : Here) (g : Progress) (c′ l′ h′ w′ t′ ls′ : List ℕ) (r : Ran) : Type 0 where
-  pub is : (B : World) → Onstage deck rows names c l h w t ls (here .starts) g B → Lies s (x .from) (x .to) → here .member < 32
+  pub is : (B : World) → Onstage deck rows names c l h w t ls (here .starts) g B → Lies deck (here .member) s (x .from) (x .to) → here .member < 32
       → RanAs deck rows names (here .starts) g B c′ l′ h′ w′ t′ ls′ r (textOut (here .member) s (stretchFor x) (worldIn B c l h (g .meter .used)))
 
 -- a leading text: an empty one is none
@@ -90,5 +93,5 @@ unfoldable pub leadText : ℕ → List ℕ → Program.Stretch → World → Res
 leadText m s x w = when (ltb (x .from) (x .to)) (λ _. textOut m s x w) (λ _. good tt w)
 
 pub record LeadIs (deck s rows names c l h w t ls : List ℕ) (x : Stretch) (here : Here) (g : Progress) (c′ l′ h′ w′ t′ ls′ : List ℕ) (r : Ran) : Type 0 where
-  pub is : (B : World) → Onstage deck rows names c l h w t ls (here .starts) g B → Lies s (x .from) (x .to) → here .member < 32
+  pub is : (B : World) → Onstage deck rows names c l h w t ls (here .starts) g B → Lies deck (here .member) s (x .from) (x .to) → here .member < 32
       → RanAs deck rows names (here .starts) g B c′ l′ h′ w′ t′ ls′ r (leadText (here .member) s (stretchFor x) (worldIn B c l h (g .meter .used)))

@@ -7,6 +7,7 @@ use Rattle.definition.specs.Room.{zeros}
 use Rattle.definition.specs.Program as Program
 use Rattle.definition.specs.World.{World, Res, good, bad}
 use Rattle.definition.specs.Run as Run
+use Rattle.definition.specs.Expansion.{sizeIn}
 use Rattle.definition.specs.declared.Why.{Why}
 use Rattle.definition.specs.declared.Why.the-variants.{RoomFull}
 use Rattle.meter.specs.declared.Meter.{Meter}
@@ -16,7 +17,7 @@ use Rattle.rows.specs.declared.Stretch.{Stretch}
 use Rattle.output.specs.declared.Out.{Out}
 use Rattle.output.specs.declared.Put.{Put}
 use Rattle.output.specs.declared.Put.the-variants.{Done, Full}
-use Rattle.output.specs.Shows as Output
+use Rattle.origin.specs.Written.{Written}
 use Rattle.callees.specs.declared.Running.{Running}
 use Rattle.callees.specs.Shown.{worldIn}
 use Rattle.operands.specs.declared.Scene.{Scene}
@@ -31,10 +32,10 @@ use Rattle.texts.specs.declared.Passed.the-variants as Ps
 
 -- ---- what is made of numbers and answers
 abbrev pub withMeter : Progress → Meter → Progress
-withMeter g m = record { meter = m; out = g .out; rows = g .rows; names = g .names }
+withMeter g m = record { meter = m; layout = g .layout; out = g .out; rows = g .rows; names = g .names }
 
 abbrev pub withOut : Progress → Out → Progress
-withOut g o = record { meter = g .meter; out = o; rows = g .rows; names = g .names }
+withOut g o = record { meter = g .meter; layout = g .layout; out = o; rows = g .rows; names = g .names }
 
 abbrev pub badAt : Progress → Why → ℕ → ℕ → Ran
 badAt g e m p = Rn.Bad (record { why = e; member = m; place = p }) g
@@ -67,18 +68,11 @@ pub record SceneIs (st : Starts) (g : Progress) (r : Scene) : Type 0 where
   pub owner : r .owner ≡ Everyone
   pub left : r .running .left ≡ 16
 
--- ---- what was put out is in the text room t and the list room ls, and so much more may be
-pub record Written (t ls : List ℕ) (o : Out) (B : World) : Type 0 where
-  pub out : Output.Shows (B .events) o t ls
-  pub fine : Output.Fine o (length t) (length ls)
-  pub text : B .textLeft ≡ o .room
-  pub lines : B .linesLeft ≡ o .free
-
--- THE ROOMS SHOW THE WORLD B
+-- ---- THE ROOMS SHOW THE WORLD B
 pub record Onstage (deck rows names c l h w t ls : List ℕ) (starts : Starts) (g : Progress) (B : World) : Type 0 where
   pub shows : Shows deck rows names c l h w 0 (sceneOf starts g) (g .meter) B
   pub awake : Awake deck names (g .names) B
-  pub written : Written t ls (g .out) B
+  pub written : Written (sizeIn deck) (g .layout) t ls (g .out) B
 
 -- only what is put out, values and steps change
 pub record Goes (B B′ : World) : Type 0 where
@@ -106,8 +100,9 @@ abbrev pub PassedAs : List ℕ → List ℕ → List ℕ → Starts → Progress
 PassedAs deck rows names starts g B c l h w t ls (Ps.Good q g′) R = After ℕ deck rows names starts g B c l h w t ls g′ q R
 PassedAs deck rows names starts g B c l h w t ls (Ps.Bad x g′) R = R ≡ bad (stopFor x) (g′ .meter .used)
 
--- a text lies in the body s
-pub record Lies (s : List ℕ) (from to : ℕ) : Type 0 where
+-- a text lies in the body s of member m
+pub record Lies (deck : List ℕ) (m : ℕ) (s : List ℕ) (from to : ℕ) : Type 0 where
   pub order : from ≤ to
   pub within : to ≤ length s
   pub short : length s < 65536
+  pub sized : length s ≡ sizeIn deck m

@@ -1,11 +1,14 @@
 // Program text is put out and scanned: its tokens are copied, or replaced where they are active names. A refusal gets its place here.
+// Parts: what a run has done so far, program text.
 ghost use mathlib.Core.Path.{_≡_};
 ghost use Prim.Native.Nat.{_%_, _-_};
+ghost use lib.ListN.{length};
 ghost use Rattle.definition.specs.Lists.{part};
 ghost use Rattle.definition.specs.Events.{blank, copied};
 ghost use Rattle.texts.specs.Shown.{withMeter, withOut, badAt, SceneIs, putFor, passFor};
 ghost use Rattle.texts.specs.Contracts.{PutIs, LineIs, ReplacementIs, ReplacingIs, TokenIs, TokensAre, TextIs, LeadIs};
 use callees::none_running;
+use definition::Layout;
 use definition::Why;
 use limits::Levels;
 use meter::Meter;
@@ -13,6 +16,9 @@ use names::Activity;
 use names::Address;
 use names::Owner;
 use operands::Scene;
+use origin::tell_blank;
+use origin::tell_copied;
+use origin::tell_replaced;
 use outcomes::Active;
 use outcomes::Dest;
 use outcomes::Replaced;
@@ -21,18 +27,16 @@ use outcomes::active_in;
 use outcomes::piece_of;
 use output::Out;
 use output::Put;
-use output::put_blank;
-use output::put_copied;
-use output::put_replaced;
 use rows::Starts;
 use rows::Stretch;
 use scanning::replace;
 use sums::less;
 use sums::sum;
 
-// What a run changes beside the rooms: the steps, what was put out, the rows and names that there are.
+// What a run changes beside the rooms: the steps, what was put out, the rows and names that there are; and what the deck is.
 pub struct Progress {
     pub meter: Meter,
+    pub layout: Layout,
     pub out: Out,
     pub rows: u16,
     pub names: u16,
@@ -61,8 +65,10 @@ pub fn with_meter(g: Progress, m: Meter) -> Progress
     ensures { λ r. ⌜ r ≡ withMeter g m ⌝ }
 {
     let out = g.out;
+    let layout = g.layout;
     Progress {
         meter: m,
+        layout,
         out,
         rows: g.rows,
         names: g.names,
@@ -73,8 +79,10 @@ fn with_out(g: Progress, out: Out) -> Progress
     ensures { λ r. ⌜ r ≡ withOut g out ⌝ }
 {
     let meter = g.meter;
+    let layout = g.layout;
     Progress {
         meter,
+        layout,
         out,
         rows: g.rows,
         names: g.names,
@@ -108,12 +116,6 @@ fn member8(m: u16) -> u8
     (m % 256) as u8
 }
 
-fn place32(p: usize) -> u32
-    ensures { λ r. ⌜ r ≡ p % 65536 ⌝ }
-{
-    (p % 65_536) as u32
-}
-
 pub fn size32(n: usize) -> u32
     ensures { λ r. ⌜ r ≡ n % 4294967296 ⌝ }
 {
@@ -129,12 +131,20 @@ fn put_result(g: Progress, p: Put, member: u16, place: usize) -> Ran
     }
 }
 
-// One blank before a text.
-fn blank_out(text: &mut [u8], list: &mut [u8], g: Progress, member: u16, place: usize) -> Ran
-    ensures { λ r. ⌜ PutIs (blank member place) (now (text .entry)) (now (list .entry)) g member place (now (text .exit)) (now (list .exit)) r ⌝ }
+// One blank before a text of a body of so many bytes.
+fn blank_out(
+    text: &mut [u8],
+    list: &mut [u8],
+    g: Progress,
+    member: u16,
+    size: usize,
+    place: usize,
+) -> Ran
+    ensures { λ r. ⌜ PutIs (blank member place) size place (now (text .entry)) (now (list .entry)) g member place (now (text .exit)) (now (list .exit)) r ⌝ }
 {
     let o = g.out;
-    let p = put_blank(text, list, o, member8(member), place32(place));
+    let layout = g.layout;
+    let p = tell_blank(layout, size, text, list, o, member8(member), place);
     put_result(g, p, member, place)
 }
 
@@ -148,27 +158,38 @@ fn token_out(
     from: usize,
     to: usize,
 ) -> Ran
-    ensures { λ r. ⌜ PutIs (copied member from (part (to - from) from (now (s .entry)))) (now (text .entry)) (now (list .entry)) g member from (now (text .exit)) (now (list .exit)) r ⌝ }
+    ensures { λ r. ⌜ PutIs (copied member from (part (to - from) from (now (s .entry)))) (length (now (s .entry))) to (now (text .entry)) (now (list .entry)) g member from (now (text .exit)) (now (list .exit)) r ⌝ }
 {
     let o = g.out;
-    let n = place32(less(to, from));
-    let p = put_copied(s, from, n, text, list, o, member8(member), place32(from));
+    let layout = g.layout;
+    let p = tell_copied(layout, s, from, to, text, list, o, member8(member));
     put_result(g, p, member, from)
 }
 
-// The line of a replacement whose outcome of n bytes stands in the text room.
+// The line of a replacement whose outcome of n bytes stands in the text room, in a body of so many bytes.
 fn replaced_out(
     text: &[u8],
     list: &mut [u8],
     g: Progress,
     member: u16,
+    size: usize,
     place: usize,
     n: usize,
 ) -> Ran
-    ensures { λ r. ⌜ LineIs (now (text .entry)) (now (list .entry)) g member place n (now (list .exit)) r ⌝ }
+    ensures { λ r. ⌜ LineIs (now (text .entry)) (now (list .entry)) g member size place n (now (list .exit)) r ⌝ }
 {
     let o = g.out;
-    let after = put_replaced(text, list, o, member8(member), place32(place), size32(n));
+    let layout = g.layout;
+    let after = tell_replaced(
+        layout,
+        size,
+        text,
+        list,
+        o,
+        member8(member),
+        place,
+        size32(n),
+    );
     Ran::Good(with_out(g, after))
 }
 
@@ -193,14 +214,15 @@ fn replacement_out(
     list: &mut [u8],
     g: Progress,
     member: u16,
+    size: usize,
     place: usize,
     r: Replaced,
 ) -> Passed
-    ensures { λ z. ⌜ ReplacementIs (now (text .entry)) (now (list .entry)) g member place r (now (list .exit)) z ⌝ }
+    ensures { λ z. ⌜ ReplacementIs (now (text .entry)) (now (list .entry)) g member size place r (now (list .exit)) z ⌝ }
 {
     match r {
         Replaced::Good(n, to, m) => {
-            let x = replaced_out(text, list, with_meter(g, m), member, place, n);
+            let x = replaced_out(text, list, with_meter(g, m), member, size, place, n);
             pass_to(x, to)
         }
         Replaced::Bad(w, m) => Passed::Bad(
@@ -267,7 +289,7 @@ fn replace_here(
         scene(here, g),
         m,
     );
-    replacement_out(text, list, g, here.member, place, r)
+    replacement_out(text, list, g, here.member, s.len(), place, r)
 }
 
 // One token of a text, at p.
@@ -409,7 +431,7 @@ pub fn text_out(
         from,
         to: x.to as usize,
     };
-    let b = blank_out(text, list, g, here.member, from);
+    let b = blank_out(text, list, g, here.member, s.len(), from);
     match b {
         Ran::Good(h) => text_on(
             deck,

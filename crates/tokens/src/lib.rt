@@ -1,4 +1,6 @@
 // The tokens of a statement and of a text: where each begins and ends, and of what kind it is.
+// Parts: spaces and comments, where constants and words end, the token of a statement, what a constant holds, the pieces of a
+// text.
 ghost use mathlib.Core.Path.{_≡_};
 ghost use mathlib.Core.Bool.{_&&_, false};
 ghost use mathlib.Core.List.{_∷_, []};

@@ -1,5 +1,6 @@
 // Values where they stand: conversions, comparison, bit operations and SUBSTR's test. A CHARACTER or BIT value is n bytes at a
 // place of a slice, each 0 past the slice's end; a bit is the byte of its digit.
+// Parts: tests of bytes, comparison, to FIXED, from FIXED, bit operations, SUBSTR.
 ghost use mathlib.Core.Path.{_≡_};
 ghost use mathlib.Core.List.{[]};
 ghost use Prim.Native.Nat.{_+_, _-_, _%_};

@@ -7,7 +7,8 @@ use std::env;
 use std::io::{self, Write};
 use std::process::ExitCode;
 
-use referee::generate::{deck_of, AMPLE, MOST_STEPS};
+use referee::cards::Layout;
+use referee::generate::{cards_of, deck_of, AMPLE, MOST_STEPS};
 use referee::record::Record;
 
 /// The main program, then the members M1, M2 and so on.
@@ -116,6 +117,42 @@ const DECKS: &[Deck] = &[
     ("deck-131072", 1, || vec!["x".repeat(131_072 - 18)]),
 ];
 
+/// The most source that a deck of one member holds: 818 records.
+const MOST_SOURCE: usize = 818 * 71;
+
+/// Decks of cards; the bodies are their joined columns, filled up with blanks.
+const CARD_DECKS: &[Deck] = &[
+    ("cards-comment", 0, || vec![comment_of(MOST_SOURCE)]),
+    ("cards-comment-past", 1, || {
+        vec![comment_of(MOST_SOURCE + 1)]
+    }),
+    ("cards-name", 0, || vec!["A".repeat(MOST_SOURCE)]),
+    ("cards-blanks", 0, || vec![" ".repeat(MOST_SOURCE)]),
+    ("cards-comment-in-statement", 0, || {
+        expression(&format!("{}1", comment_of(57_000)))
+    }),
+    ("cards-string-open", 3, || vec!["'".repeat(MOST_SOURCE - 1)]),
+    ("cards-else-missing", 0, || {
+        vec![format!("%IF 1 %THEN %;{}A", " /*%*/".repeat(9_000))]
+    }),
+    ("cards-text-of-names", 0, || {
+        vec![format!("%DCL V CHAR;%V='v';{}", "V+".repeat(2_000))]
+    }),
+    ("cards-list-room-full", 0, || list_room("")),
+    ("cards-list-room-past", 17, || list_room(&comment_of(100))),
+    ("cards-list-room-past-by-a-name", 17, || list_room("V")),
+    ("cards-include-32-members", 0, include_many),
+    ("cards-sentences-1024", 0, || sentences(1_024)),
+    ("cards-sentences-1025", 4, || sentences(1_025)),
+    ("cards-names-256", 0, || names(256)),
+    ("cards-names-257", 4, || names(257)),
+    ("cards-goto-1000000", 18, goto_loop),
+    ("cards-goto-far", 18, goto_far),
+    ("cards-assignments-1000000", 0, assignments),
+    ("cards-all-at-once", 0, || all_at_once("('1')")),
+    ("cards-waiting-65537", 16, || waiting("'x'=")),
+];
+
 fn main() -> ExitCode {
     let arguments: Vec<String> = env::args().skip(1).collect();
     let outcome = match arguments.as_slice() {
@@ -134,23 +171,31 @@ fn main() -> ExitCode {
 
 fn print_names() -> io::Result<()> {
     let mut output = io::stdout().lock();
-    for (name, number, _) in DECKS {
+    for (name, number, _) in DECKS.iter().chain(CARD_DECKS) {
         writeln!(output, "{name} {number}")?;
     }
     Ok(())
 }
 
 fn write_deck(wanted: &str) -> io::Result<()> {
-    let known = DECKS.iter().find(|(name, _, _)| *name == wanted);
-    let Some((_, _, bodies)) = known else {
-        return Err(io::Error::other(format!("no deck is named {wanted}")));
+    let find = |decks: &'static [Deck]| decks.iter().find(|(name, _, _)| *name == wanted);
+    let (layout, deck) = match (find(DECKS), find(CARD_DECKS)) {
+        (Some((_, _, bodies)), _) => (Layout::Plain, deck_of(&bodies())),
+        (None, Some((_, _, bodies))) => (Layout::Cards, cards_of(&bodies())),
+        _ => return Err(io::Error::other(format!("no deck is named {wanted}"))),
     };
     let record = Record {
+        layout,
         rooms: AMPLE,
         steps: MOST_STEPS,
-        deck: deck_of(&bodies()),
+        deck,
     };
     record.write(&mut io::stdout().lock())
+}
+
+/// A comment of so many bytes.
+fn comment_of(length: usize) -> String {
+    format!("/*{}*/", "-".repeat(length - 4))
 }
 
 /// Names with a number each, from 1 on, with commas between.

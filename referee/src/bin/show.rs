@@ -4,6 +4,7 @@ use std::env;
 use std::io::{self, Write};
 use std::process::ExitCode;
 
+use referee::cards::Layout;
 use referee::cases::{folder, load, Case};
 use referee::deck;
 use referee::stack::with_large_stack;
@@ -43,10 +44,36 @@ fn show(wanted: &str) -> io::Result<bool> {
     Ok(found)
 }
 
+fn layout_name(layout: Layout) -> &'static str {
+    match layout {
+        Layout::Plain => "plain",
+        Layout::Cards => "cards",
+    }
+}
+
+/// A body as it is; of cards one record a line, its source between bars.
+fn show_body(layout: Layout, body: &[u8], output: &mut impl Write) -> io::Result<()> {
+    if layout == Layout::Plain {
+        output.write_all(body)?;
+        return writeln!(output);
+    }
+    for record in body.chunks(80) {
+        for (index, byte) in record.iter().enumerate() {
+            if index == 1 || index == 72 {
+                output.write_all(b"|")?;
+            }
+            output.write_all(&[*byte])?;
+        }
+        writeln!(output)?;
+    }
+    Ok(())
+}
+
 fn show_case(case: &Case, output: &mut impl Write) -> io::Result<()> {
     let record = &case.record;
     let (text, list) = (record.rooms.text, record.rooms.list);
     writeln!(output, "case       {}", case.name)?;
+    writeln!(output, "layout     {}", layout_name(record.layout))?;
     writeln!(output, "text room  {text}\nlist room  {list}")?;
     writeln!(output, "steps      {}", record.steps)?;
     match deck::open(&record.deck) {
@@ -55,8 +82,7 @@ fn show_case(case: &Case, output: &mut impl Write) -> io::Result<()> {
                 let name = String::from_utf8_lossy(member.name);
                 let bytes = member.body.len();
                 writeln!(output, "--- member {number}, {name}, {bytes} bytes")?;
-                output.write_all(member.body)?;
-                writeln!(output)?;
+                show_body(record.layout, member.body, output)?;
             }
         }
         None => {

@@ -2,6 +2,8 @@
 
 use super::programs::Bodies;
 use super::random::Random;
+use crate::cards::{Body, Layout};
+use crate::deck;
 
 /// Puts a deck together as 01 says.
 pub fn assemble(bodies: &Bodies) -> Vec<u8> {
@@ -20,6 +22,19 @@ pub fn assemble(bodies: &Bodies) -> Vec<u8> {
         deck.extend_from_slice(body);
     }
     deck
+}
+
+/// The names and bodies of a deck, of cards the joined columns; none if it is refused with 1 or 20.
+pub fn take_apart(layout: Layout, deck: &[u8]) -> Option<Bodies> {
+    let members = deck::open(deck)?;
+    let whole = members.iter().all(|member| layout.takes(member.body));
+    whole.then(|| Bodies {
+        names: members.iter().map(|member| member.name.to_vec()).collect(),
+        bodies: members
+            .iter()
+            .map(|member| Body::new(layout, member.body).bytes)
+            .collect(),
+    })
 }
 
 fn number(value: usize) -> [u8; 4] {

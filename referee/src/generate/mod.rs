@@ -1,6 +1,7 @@
 //! Random and damaged decks, the same for the same seed and number.
 
 mod author;
+mod cards;
 mod contents;
 mod damage;
 mod edges;
@@ -9,6 +10,7 @@ mod jumps;
 mod limits;
 mod mutated;
 mod operations;
+mod pages;
 mod pairs;
 mod programs;
 mod random;
@@ -16,6 +18,9 @@ mod statements;
 mod texts;
 mod world;
 
+use std::array;
+
+use crate::cards::Layout;
 use crate::output::Line;
 use crate::record::Record;
 use crate::{used, Rooms};
@@ -39,7 +44,23 @@ pub fn record(seed: u64, number: u64) -> Record {
 }
 
 fn made(random: &mut Random) -> Record {
-    match random.weighted(&[50, 6, 3, 3, 2, 10, 11, 4, 3, 5, 10, 2, 1, 5, 4, 20]) {
+    let kind = random.weighted(&[50, 6, 3, 3, 2, 10, 11, 4, 3, 5, 10, 2, 1, 5, 4, 20, 8]);
+    let mut record = of_kind(random, kind);
+    if record.layout == Layout::Plain && random.percent(28) {
+        cards::punch(random, &mut record);
+    }
+    if kind == TIGHT {
+        tighten(random, &mut record);
+    }
+    record
+}
+
+/// The kind whose rooms and steps are set last, since they hang on the layout too.
+const TIGHT: usize = 6;
+
+/// A deck of one of the kinds.
+fn of_kind(random: &mut Random, kind: usize) -> Record {
+    match kind {
         0 => with_rooms(random, programs),
         1 => with_rooms(random, damaged_by_tokens),
         2 => with_rooms(random, damaged_by_bytes),
@@ -50,7 +71,7 @@ fn made(random: &mut Random) -> Record {
         }
         4 => with_rooms(random, soup),
         5 => ample(&edges::edge(random)),
-        6 => tight(random),
+        TIGHT => to_be_tight(random),
         7 => ample(&pairs::misplaced(random)),
         8 => ample(&pairs::declared_twice(random)),
         9 => ample_or_cramped(random),
@@ -59,8 +80,16 @@ fn made(random: &mut Random) -> Record {
         12 => nonsense(random),
         13 => with_rooms(random, jumps::maze),
         14 => ample(&operations::operations(random)),
-        _ => ample(&limits::limit(random)),
+        15 => ample(&limits::limit(random)),
+        _ => pages_on_cards(random),
     }
+}
+
+/// Pages of text as card images.
+fn pages_on_cards(random: &mut Random) -> Record {
+    let mut record = with_rooms(random, pages::pages);
+    cards::punch(random, &mut record);
+    record
 }
 
 /// A deck of bytes in no order, perhaps with a count that may be.
@@ -70,6 +99,7 @@ fn nonsense(random: &mut Random) -> Record {
         deck.splice(..deck.len().min(2), [1, 0]);
     }
     Record {
+        layout: Layout::Plain,
         rooms: AMPLE,
         steps: MOST_STEPS,
         deck,
@@ -89,22 +119,41 @@ fn damaged_edge(random: &mut Random) -> Bodies {
 
 /// A deck of the main program MAIN and the members M1, M2 and so on.
 pub fn deck_of(bodies: &[String]) -> Vec<u8> {
+    contents::assemble(&named(bodies))
+}
+
+fn named(bodies: &[String]) -> Bodies {
     let name = |number: usize| match number {
         0 => b"MAIN".to_vec(),
         _ => format!("M{number}").into_bytes(),
     };
-    contents::assemble(&Bodies {
+    Bodies {
         names: (0..bodies.len()).map(name).collect(),
         bodies: bodies
             .iter()
             .map(|body| body.clone().into_bytes())
             .collect(),
-    })
+    }
+}
+
+/// The same as card images, with a sequence number in each record.
+pub fn cards_of(bodies: &[String]) -> Vec<u8> {
+    let mut numbers = (10..).step_by(10);
+    let mut sequence = || {
+        let number = format!("{:08}", numbers.next().unwrap_or(0));
+        (b' ', array::from_fn(|at| number.as_bytes()[at]))
+    };
+    let mut deck = named(bodies);
+    for body in &mut deck.bodies {
+        *body = cards::records(body, &mut sequence);
+    }
+    contents::assemble(&deck)
 }
 
 /// Bodies put together, with rooms that hold what they make.
 fn ample(bodies: &Bodies) -> Record {
     Record {
+        layout: Layout::Plain,
         rooms: AMPLE,
         steps: 150_000,
         deck: contents::assemble(bodies),
@@ -136,28 +185,39 @@ fn with_rooms(random: &mut Random, write: fn(&mut Random) -> Bodies) -> Record {
         3 => steps = small(random, 100),
         _ => steps = MOST_STEPS,
     }
-    Record { rooms, steps, deck }
+    Record {
+        layout: Layout::Plain,
+        rooms,
+        steps,
+        deck,
+    }
 }
 
 fn small(random: &mut Random, bound: usize) -> u32 {
     u32::try_from(random.below(bound)).unwrap_or(0)
 }
 
-/// Bodies whose steps or rooms are just enough for what they do, up to their
-/// end or up to their refusal, or one short of it.
-fn tight(random: &mut Random) -> Record {
-    let bodies = match random.weighted(&[65, 15, 10, 10]) {
+/// A deck that [`tighten`] gives its steps and rooms.
+fn to_be_tight(random: &mut Random) -> Record {
+    let bodies = match random.weighted(&[65, 15, 10, 10, 25]) {
         0 => programs(random),
         1 => pairs::several_errors(random),
         2 => damaged_by_tokens(random),
-        _ => edges::edge(random),
+        3 => edges::edge(random),
+        _ => return pages_on_cards(random),
     };
-    let mut record = Record {
+    Record {
+        layout: Layout::Plain,
         rooms: AMPLE,
         steps: 3_000,
         deck: contents::assemble(&bodies),
-    };
-    let used = used(&record.deck, record.rooms, record.steps);
+    }
+}
+
+/// Steps or rooms become just enough for what a deck does, up to its end or up
+/// to its refusal, or one short of it.
+fn tighten(random: &mut Random, record: &mut Record) {
+    let used = used(&record.deck, record.layout, record.rooms, record.steps);
     match random.below(4) {
         0 => record.steps = one_off(random, usize::try_from(used.steps).unwrap_or(0)),
         1 => record.rooms.text = one_off(random, used.text),
@@ -167,7 +227,6 @@ fn tight(random: &mut Random) -> Record {
             record.rooms.text = small(random, used.text + 2);
         }
     }
-    record
 }
 
 /// A number, one less or one more.

@@ -3,13 +3,14 @@
 use std::iter;
 use std::sync::OnceLock;
 
+use super::cards;
 use super::contents;
 use super::damage;
 use super::programs::Bodies;
 use super::random::Random;
 use super::{small, AMPLE, MOST_STEPS};
 use crate::bytes::is_identifier;
-use crate::deck;
+use crate::cards::Layout;
 use crate::record::Record;
 
 const RECORDS: &[u8] = include_bytes!("../../../tests/cases/records.bin");
@@ -30,10 +31,13 @@ pub fn mutated(random: &mut Random) -> Record {
     record.rooms.text = record.rooms.text.min(AMPLE.text);
     record.rooms.list = record.rooms.list.min(AMPLE.list);
     record.steps = record.steps.min(MOST_STEPS);
-    match bodies_of(&record.deck) {
+    match contents::take_apart(record.layout, &record.deck) {
         Some(mut bodies) => {
             for _ in 0..random.weighted(&[5, 60, 25, 10]) {
                 mutate(random, &mut bodies);
+            }
+            if record.layout == Layout::Cards {
+                cards::lay_out(random, &mut bodies);
             }
             record.deck = contents::assemble(&bodies);
         }
@@ -54,18 +58,11 @@ fn cramp(random: &mut Random, record: &mut Record) {
     }
 }
 
-fn bodies_of(deck: &[u8]) -> Option<Bodies> {
-    let members = deck::open(deck)?;
-    Some(Bodies {
-        names: members.iter().map(|member| member.name.to_vec()).collect(),
-        bodies: members.iter().map(|member| member.body.to_vec()).collect(),
-    })
-}
-
 /// The main program of some case.
 fn other_main(random: &mut Random) -> Vec<u8> {
-    let other = random.pick(cases()).and_then(|case| deck::open(&case.deck));
-    let main = other.and_then(|members| members.first().map(|member| member.body.to_vec()));
+    let other = random.pick(cases());
+    let bodies = other.and_then(|case| contents::take_apart(case.layout, &case.deck));
+    let main = bodies.and_then(|bodies| bodies.bodies.into_iter().next());
     main.unwrap_or_default()
 }
 

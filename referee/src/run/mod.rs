@@ -7,7 +7,6 @@ mod scan;
 
 use std::rc::Rc;
 
-use crate::deck::Member;
 use crate::meter::{Meter, Waiting};
 use crate::names::{Denotation, Home, Names};
 use crate::output::{Output, Rooms};
@@ -15,10 +14,11 @@ use crate::reading::{count_again, read, Entered};
 use crate::refusal::{Outcome, Place, Refusal};
 use crate::tree::{Name, Path, Reading};
 use crate::values::Value;
+use crate::Joined;
 
 /// A member of the deck, and its tree once it has been entered.
 struct Source<'d> {
-    member: Member<'d>,
+    member: &'d Joined<'d>,
     reading: Option<Rc<Reading>>,
 }
 
@@ -53,7 +53,7 @@ pub struct Run<'d> {
     waiting: Waiting,
     pub meter: Meter,
     pub output: Output,
-    /// Where an error would be told now.
+    /// Where an error would be told now, in what 01 calls the body.
     pub place: Place,
 }
 
@@ -61,13 +61,13 @@ impl<'d> Run<'d> {
     /// "ninth include level (main is level 0)".
     const MOST_INCLUDE_LEVEL: usize = 8;
 
-    pub fn new(members: Vec<Member<'d>>, rooms: Rooms, steps: u32) -> Run<'d> {
+    pub fn new(members: &'d [Joined<'d>], rooms: Rooms, steps: u32) -> Run<'d> {
         let unread = |member| Source {
             member,
             reading: None,
         };
         Run {
-            sources: members.into_iter().map(unread).collect(),
+            sources: members.iter().map(unread).collect(),
             entered: Entered::default(),
             names: Names::default(),
             frames: Vec::new(),
@@ -104,7 +104,7 @@ impl<'d> Run<'d> {
         let known = source.reading.clone();
         let outcome = match &known {
             Some(reading) => count_again(reading, &mut self.entered).map(|()| Rc::clone(reading)),
-            None => read(source.member.body, &mut self.entered).map(Rc::new),
+            None => read(&source.member.body.bytes, &mut self.entered).map(Rc::new),
         };
         match outcome {
             Ok(reading) => {
@@ -162,6 +162,14 @@ impl<'d> Run<'d> {
         if let Some(member) = self.member() {
             self.place = Place { member, offset };
         }
+    }
+
+    /// "Offsets in answers and in the origin list stay offsets into the deck body
+    /// as given".
+    pub fn as_given(&self, place: Place) -> Place {
+        let source = self.sources.get(place.member);
+        let offset = source.map_or(0, |source| source.member.body.offset_as_given(place.offset));
+        Place { offset, ..place }
     }
 
     /// What a name stands for here.

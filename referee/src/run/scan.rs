@@ -26,10 +26,10 @@ impl Run<'_> {
     /// One blank, then the program text.
     pub(super) fn text(&mut self, text: Text) -> Outcome<()> {
         self.stand_at(text.start);
-        self.output.blank(self.place)?;
+        self.output.blank(self.as_given(self.place))?;
         let member = self.place.member;
-        let body = self.sources.get(member).map_or(&[][..], |s| s.member.body);
-        let bytes = slice(body, 0, text.end);
+        let body = &self.sources.get(member).ok_or(Refusal::Member)?.member.body;
+        let bytes = slice(&body.bytes, 0, text.end);
         let mut at = text.start;
         while at < bytes.len() {
             let token = scan_token(bytes, at);
@@ -44,13 +44,28 @@ impl Run<'_> {
     fn program_token(&mut self, bytes: &[u8], at: usize, token: ScanToken) -> Outcome<usize> {
         let written = slice(bytes, at, token.end);
         if !self.is_replaced(written, token) {
-            self.output.copy(self.place, written)?;
+            self.copy(bytes, at, token.end)?;
             return Ok(token.end);
         }
-        self.output.begin_replacement(self.place)?;
+        self.output.begin_replacement(self.as_given(self.place))?;
         let behind = slice(bytes, token.end, bytes.len());
         let list = self.replace(written, behind, 1, &mut Sink::Text)?;
         Ok(token.end + list)
+    }
+
+    /// Copies a token of the program text, "cut into a line of its own at each
+    /// record edge".
+    fn copy(&mut self, bytes: &[u8], start: usize, end: usize) -> Outcome<()> {
+        let member = self.place.member;
+        let body = &self.sources.get(member).ok_or(Refusal::Member)?.member.body;
+        let mut at = start;
+        while at < end {
+            let edge = body.piece_end(at, end);
+            let given = self.as_given(Place { member, offset: at });
+            self.output.copy(given, slice(bytes, at, edge))?;
+            at = edge;
+        }
+        Ok(())
     }
 
     /// Scans a value or an argument, in which a replacement has this level.

@@ -1,28 +1,31 @@
--- A malformed deck, short rooms, or a run.
+-- What is refused before a run, or a run.
 use borrow.Author.Needs.{needs}
 use Rattle.expander.proofs.decide.Statement.{statement}
 use Rattle.expander.proofs.decide.Tie as tie
 use Rattle.expander.proofs.decide.Reads as reads
 use Rattle.expander.proofs.decide.Lts as lts
-use Rattle.expander.proofs.answer.Reads as answer-reads
 use Rattle.expander.proofs.are_roomy.Reads as are-roomy-reads
-use Rattle.expander.proofs.is_sound.Reads as is-sound-reads
-use Rattle.expander.proofs.refusal.Reads as refusal-reads
-use Rattle.running.proofs.run.Reads as run-reads
-use mathlib.Core.Path.{sym, _∙_}
-use Rattle.expander.proofs.Laws.{of-malformed, of-short, of-run}
-
-is-sound-requires : tie.Need-is-sound-requires
-is-sound-requires c κs = search needs
+use Rattle.expander.proofs.before_run.Reads as before-run-reads
+use Rattle.expander.proofs.run_in.Reads as run-in-reads
+use Rattle.expander.proofs.Laws.{of-early, of-free}
 
 are-roomy-requires : tie.Need-are-roomy-requires
 are-roomy-requires c κs = search needs
 
-run-requires : tie.Need-run-requires
-run-requires c κs = search needs
+before-run-requires : tie.Need-before-run-requires
+before-run-requires c κs = search needs
 
-answer-requires : tie.Need-answer-requires
-answer-requires c κs = search needs
+enum-known-e : tie.Need-enum-known-e
+enum-known-e c = search needs
+
+enum-told : tie.Need-enum-told
+enum-told c = search needs
+
+run-in-requires : tie.Need-run-in-requires
+run-in-requires c κs = search needs
+
+returns : tie.Need-returns
+returns c = of-early _ _ _ _ _ _ _ _ _ (c .before .before .before .before .are-roomy .result) (c .before .before .before .before-run .result) (c .before .before .before .before .are-roomy .ensures) (c .before .before .before .before-run .ensures) (search (c .before .e))
 
 same-length : tie.Need-same-length
 same-length c = search needs
@@ -48,29 +51,22 @@ same-length-7 c = search needs
 same-length-8 : tie.Need-same-length-8
 same-length-8 c = search needs
 
-returns : tie.Need-returns
-returns c = of-run _ _ _ _ _ _ _ _ (c .before .before .before .before .before .before .before .before .before .before .before .before .before .before .before .before .before .run .result) (sym (c .before .before .before .before .before .before .before .before .before .before .before .before .before .before .before .before .before .before .before .before .before .before .before .before .before .before .before .before .before .is-sound .ensures) ∙ (c .before .before .before .before .before .before .before .before .before .before .before .before .before .before .before .before .before .before .before .before .before .before .before .before .before .before .before .before .if1 .taken)) (sym (c .before .before .before .before .before .before .before .before .before .before .before .before .before .before .before .before .before .before .before .before .before .before .before .before .before .before .before .are-roomy .ensures) ∙ (c .before .before .before .before .before .before .before .before .before .before .before .before .before .before .before .before .before .before .before .before .before .before .before .before .before .before .if2 .taken)) (c .before .before .before .before .before .before .before .before .before .before .before .before .before .before .before .before .before .run .ensures) (c .answer .ensures)
-
-refusal-requires : tie.Need-refusal-requires
-refusal-requires c κs = search needs
+same-length-9 : tie.Need-same-length-9
+same-length-9 c = search needs
 
 returns-2 : tie.Need-returns-2
-returns-2 c = of-short _ _ _ _ _ _ _ _ (sym (c .before .before .before .before .is-sound .ensures) ∙ (c .before .before .before .if1 .taken)) (sym (c .before .before .are-roomy .ensures) ∙ (c .before .if2 .left)) (c .refusal .ensures)
-
-refusal-requires-2 : tie.Need-refusal-requires-2
-refusal-requires-2 c κs = search needs
-
-returns-3 : tie.Need-returns-3
-returns-3 c = of-malformed _ _ _ _ _ _ _ _ (sym (c .before .before .is-sound .ensures) ∙ (c .before .if1 .left)) (c .refusal2 .ensures)
+returns-2 c = of-free _ _ _ _ _ _ _ _ _ (c .before .before .before .before .before .before .before .before .before .before .before .before .before .before .before .before .before .before .before .before .before .before .before .before .before .before .before .before .before .before .before .are-roomy .result) (c .before .before .before .before .before .before .before .before .before .before .before .before .before .before .before .before .before .before .before .before .before .before .before .before .before .before .before .before .before .before .before-run .result) (c .before .before .before .before .before .before .before .before .before .before .before .before .before .before .before .before .before .before .before .before .before .before .before .before .before .before .before .before .before .before .before .are-roomy .ensures) (c .before .before .before .before .before .before .before .before .before .before .before .before .before .before .before .before .before .before .before .before .before .before .before .before .before .before .before .before .before .before .before-run .ensures) (c .before .before .before .before .before .before .before .before .before .before .before .before .before .before .before .before .before .before .before .before .before .before .before .before .before .before .before .before .enum-told .given .1) (c .before .before .before .before .before .before .before .before .before .before .before .before .before .before .before .before .before .before .run-in .ensures)
 
 pub decide-spec : {M : Type 1} → statement M
 decide-spec =
     tie.close
     (tie.spec
-    is-sound-requires
     are-roomy-requires
-    run-requires
-    answer-requires
+    before-run-requires
+    enum-known-e
+    enum-told
+    run-in-requires
+    returns
     same-length
     same-length-2
     same-length-3
@@ -79,8 +75,5 @@ decide-spec =
     same-length-6
     same-length-7
     same-length-8
-    returns
-    refusal-requires
-    returns-2
-    refusal-requires-2
-    returns-3)
+    same-length-9
+    returns-2)

@@ -5,8 +5,12 @@ use Rattle.expander.proofs.muharegoden_expand.Tie as tie
 use Rattle.expander.proofs.muharegoden_expand.Reads as reads
 use Rattle.expander.proofs.muharegoden_expand.Lts as lts
 use Rattle.expander.proofs.expand.Reads as expand-reads
+use Rattle.expander.proofs.layout_for.Reads as layout-for-reads
 use Rattle.expander.proofs.put_numbers.Reads as put-numbers-reads
 use Rattle.expander.proofs.Laws.{told}
+
+layout-for-requires : tie.Need-layout-for-requires
+layout-for-requires c κs = search needs
 
 expand-requires : tie.Need-expand-requires
 expand-requires c κs = search needs
@@ -41,6 +45,9 @@ same-length-8 c = search needs
 same-length-9 : tie.Need-same-length-9
 same-length-9 c = search needs
 
+same-length-10 : tie.Need-same-length-10
+same-length-10 c = search needs
+
 returns : tie.Need-returns
 returns c = search told
 
@@ -48,6 +55,7 @@ pub muharegoden-expand-spec : {M : Type 1} → statement M
 muharegoden-expand-spec =
     tie.close
     (tie.spec
+    layout-for-requires
     expand-requires
     put-numbers-requires
     same-length
@@ -59,4 +67,5 @@ muharegoden-expand-spec =
     same-length-7
     same-length-8
     same-length-9
+    same-length-10
     returns)

@@ -4,8 +4,8 @@ use Rattle.texts.proofs.replace_here.Statement.{statement}
 use Rattle.texts.proofs.replace_here.Tie as tie
 use Rattle.texts.proofs.replace_here.Reads as reads
 use Rattle.texts.proofs.replace_here.Lts as lts
-use Rattle.sums.proofs.sum.Reads as sum-reads
 use Rattle.scanning.proofs.replace.Reads as replace-reads
+use Rattle.sums.proofs.sum.Reads as sum-reads
 use Rattle.texts.proofs.bad.Reads as bad-reads
 use Rattle.texts.proofs.pass_to.Reads as pass-to-reads
 use Rattle.texts.proofs.replacement_out.Reads as replacement-out-reads

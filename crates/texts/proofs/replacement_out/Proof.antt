@@ -31,10 +31,10 @@ same-length : tie.Need-same-length
 same-length c = search needs
 
 returns : tie.Need-returns
-returns c = replacement-good _ _ _ _ _ _ _ _ _ (c .before .before .before .before .with-meter .ensures) _ _ _ _ (c .before .before .before .before .before .before .before .r .given .1) (c .before .before .before .replaced-out .ensures) (c .pass-to .ensures)
+returns c = replacement-good _ _ _ _ _ _ _ _ _ _ (c .before .before .before .before .with-meter .ensures) _ _ _ _ (c .before .before .before .before .before .before .before .r .given .1) (c .before .before .before .replaced-out .ensures) (c .pass-to .ensures)
 
 returns-2 : tie.Need-returns-2
-returns-2 c = replacement-bad _ _ _ _ _ _ _ _ _ (c .with-meter2 .ensures) _ (c .before .before .r2 .given .1)
+returns-2 c = replacement-bad _ _ _ _ _ _ _ _ _ _ (c .with-meter2 .ensures) _ (c .before .before .r2 .given .1)
 
 pub replacement-out-spec : {M : Type 1} → statement M
 replacement-out-spec =

@@ -12,8 +12,8 @@ use Rattle.texts.proofs.Looping.{text-begun, text-refused}
 cast-from : tie.Need-cast-from
 cast-from c = search needs
 
-cast-t20 : tie.Need-cast-t20
-cast-t20 c = search needs
+cast-blank-out : tie.Need-cast-blank-out
+cast-blank-out c = search needs
 
 blank-out-requires : tie.Need-blank-out-requires
 blank-out-requires c κs = search needs
@@ -62,7 +62,7 @@ text-out-spec =
     tie.close
     (tie.spec
     cast-from
-    cast-t20
+    cast-blank-out
     blank-out-requires
     enum-known-b
     text-on-requires

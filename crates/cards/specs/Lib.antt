@@ -1,0 +1,2 @@
+-- What the functions on card images ensure.
+pub mod Joins

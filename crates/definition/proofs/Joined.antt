@@ -1,0 +1,341 @@
+-- The joined deck of a sound deck is sound: the same members in the same order, and each body is the joined columns.
+-- Assumes nothing.
+use Prim.Native.Nat.{ℕ, zero, suc, _+_, _*_, _-_, _/_, _%_, _<_, _≤_}
+use native.Mathlib.Nat.{not-suc-le-zero, zero-add, suc-add, add-zero}
+use native.Mathlib.Omega.{arith}
+use mathlib.Core.Bool.{Bool, true, false, cond, _&&_, false≢true}
+use mathlib.Core.List.{List, [], _∷_, _++_, append-assoc}
+use mathlib.Core.Path.{_≡_, refl, sym, ap, _∙_}
+use lib.Dec.{leb, eqb}
+use lib.ListN.{length, getD, length-append, List·getD-append}
+use borrow.Author.Tests.{leb-true, leb-false, le-leb, eqb-true, eq-eqb}
+use Rattle.definition.specs.Limits.{deckBytes, deckLines}
+use Rattle.definition.specs.Lists.{part, number, bytes}
+use Rattle.definition.specs.Deck.{Line, count, linePlace, lineAt, linesFrom, lines, areNamed, isCalled, none, line, find, areDistinct, follow, isSound}
+use Rattle.definition.specs.Cards.{uneven, columns, records, joinedSize, column, joinedLines, joinedBodies, joined}
+use Rattle.definition.specs.Run.{bodyOf}
+use Rattle.definition.proofs.Parts.{length-part, getD-part, part-of-part, number-bytes}
+use Rattle.definition.proofs.Keeping.{and-left, and-right}
+
+-- ---- parts of lists that are put together
+part-shift : (n at x : ℕ) (s : List ℕ) → part n (suc at) (x ∷ s) ≡ part n at s
+part-shift zero at x s = refl
+part-shift (suc n) at x s = ap (λ (t : List ℕ). getD s at 0 ∷ t) (part-shift n (suc at) x s)
+
+part-behind : (n k : ℕ) (xs zs : List ℕ) → part n (length xs + k) (xs ++ zs) ≡ part n k zs
+part-behind n k [] zs = rw zero-add
+part-behind n k (x ∷ xs) zs = rw suc-add (part-shift n (length xs + k) x (xs ++ zs) ∙ part-behind n k xs zs)
+
+part-front : (ys zs : List ℕ) → part (length ys) 0 (ys ++ zs) ≡ ys
+part-front [] zs = refl
+part-front (y ∷ ys) zs = ap (λ (t : List ℕ). y ∷ t) (part-shift (length ys) 0 y (ys ++ zs) ∙ part-front ys zs)
+
+-- the same with the places given by equations
+pub part-past : (n k q : ℕ) (xs zs : List ℕ) → q ≡ length xs + k → part n q (xs ++ zs) ≡ part n k zs
+part-past n k q xs zs e = rw e (part-behind n k xs zs)
+
+pub part-first-of : (n : ℕ) (ys zs : List ℕ) → n ≡ length ys → part n 0 (ys ++ zs) ≡ ys
+part-first-of n ys zs e = rw e (part-front ys zs)
+
+length-bytes : (k n : ℕ) → length (bytes k n) ≡ k
+length-bytes zero n = refl
+length-bytes (suc k) n = ap suc (length-bytes k (n / 256))
+
+pub length-columns : (n at : ℕ) (d : List ℕ) → length (columns n at d) ≡ 71 * n
+unfolding columns
+length-columns zero at d = refl
+length-columns (suc n) at d = simp length-append (omega (arith, length-part 71 (suc at) d, length-columns n (at + 80) d))
+
+-- ---- byte p of the columns stands where `column` says
+getD-behind : (xs ys : List ℕ) (q : ℕ) → getD (xs ++ ys) (length xs + q) 0 ≡ getD ys q 0
+getD-behind [] ys q = rw zero-add
+getD-behind (x ∷ xs) ys q = rw suc-add (getD-behind xs ys q)
+
+pub byte-in-columns : (n at p : ℕ) (d : List ℕ) → p < 71 * n → getD (columns n at d) p 0 ≡ getD d (at + column p) 0
+unfolding columns
+byte-in-columns zero at p d h = absurd (omega arith)
+byte-in-columns (suc n) at p d h = go (leb 71 p) refl (byte-in-columns n (at + 80) (p - 71) d)
+  where
+    go : (t : Bool) → leb 71 p ≡ t → (p - 71 < 71 * n → getD (columns n (at + 80) d) (p - 71) 0 ≡ getD d (at + 80 + column (p - 71)) 0) → getD (part 71 (suc at) d ++ columns n (at + 80) d) p 0 ≡ getD d (at + column p) 0
+    go false e i =
+        let k : p < 71 = leb-false 71 p e in
+        let z : suc at + p ≡ at + column p = omega arith in
+        List·getD-append (part 71 (suc at) d) (columns n (at + 80) d) 0 p (omega (arith, length-part 71 (suc at) d)) ∙ getD-part 71 p (suc at) d k ∙ rw z
+    go true e i =
+        let k : 71 ≤ p = leb-true 71 p e in
+        let y : p ≡ length (part 71 (suc at) d) + (p - 71) = omega (arith, length-part 71 (suc at) d) in
+        let z : at + 80 + column (p - 71) ≡ at + column p = omega arith in
+        ap (λ (q : ℕ). getD (part 71 (suc at) d ++ columns n (at + 80) d) q 0) y ∙ getD-behind (part 71 (suc at) d) (columns n (at + 80) d) (p - 71) ∙ i (omega arith) ∙ rw z
+
+-- the columns of a part
+pub columns-part : (n at q size : ℕ) (d : List ℕ) → q + 80 * n ≤ size → columns n (at + q) d ≡ columns n q (part size at d)
+unfolding columns
+columns-part zero at q size d h = refl
+columns-part (suc n) at q size d h =
+    let e : suc (at + q) ≡ at + suc q = omega arith in
+    let f : at + q + 80 ≡ at + (q + 80) = omega arith in
+    let x : part 71 (suc (at + q)) d ≡ part 71 (suc q) (part size at d) = ap (λ (z : ℕ). part 71 z d) e ∙ sym (part-of-part 71 (suc q) size at d (omega arith)) in
+    let y : columns n (at + q + 80) d ≡ columns n (q + 80) (part size at d) = ap (λ (z : ℕ). columns n z d) f ∙ columns-part n at (q + 80) size d (omega arith) in
+    λ i. x i ++ y i
+
+-- ---- the contents of the joined deck, whose next body begins at a place
+abbrev contentsFrom : ℕ → List Line → List Line
+contentsFrom at [] = []
+contentsFrom at (l ∷ ls) = record { name = l .name; offset = at; size = joinedSize l } ∷ contentsFrom (at + joinedSize l) ls
+
+abbrev Eights : List Line → Type 0
+Eights [] = Unit {0}
+Eights (l ∷ ls) = (length (l .name) ≡ 8) × Eights ls
+
+eights : (d : List ℕ) (k n : ℕ) → Eights (linesFrom d k n)
+unfolding linesFrom lineAt
+eights d k zero = tt
+eights d k (suc n) = (length-part 8 (linePlace k) d, eights d (suc k) n)
+
+pub length-lines : (d : List ℕ) (i n : ℕ) → length (linesFrom d i n) ≡ n
+unfolding linesFrom
+length-lines d i zero = refl
+length-lines d i (suc n) = ap suc (length-lines d (suc i) n)
+
+follow-end : (b end : ℕ) (ls : List Line) → follow b ls end ≡ true → b ≤ end
+unfolding follow
+follow-end b end [] f = omega (arith, eqb-true b end f)
+follow-end b end (l ∷ ls) f = omega (arith, follow-end (b + l .size) end ls (and-right (eqb (l .offset) b) _ f))
+
+-- a line of sixteen bytes
+module _ (k : ℕ) (pre a b c rest : List ℕ) (p : length pre ≡ linePlace k) (x : length a ≡ 8) (y : length b ≡ 4) (z : length c ≡ 4) where
+  line-of : lineAt (pre ++ (a ++ b ++ c ++ rest)) k ≡ record { name = a; offset = number b; size = number c }
+  unfolding lineAt
+  line-of =
+      let s : List ℕ = a ++ b ++ c ++ rest in
+      let e : s ≡ a ++ (b ++ (c ++ rest)) = append-assoc (a ++ b) c rest ∙ append-assoc a b (c ++ rest) in
+      let u : part 8 (linePlace k) (pre ++ s) ≡ a = part-past 8 0 (linePlace k) pre s (omega (arith, p)) ∙ ap (part 8 0) e ∙ part-first-of 8 a _ (sym x) in
+      let v : part 4 (linePlace k + 8) (pre ++ s) ≡ b = part-past 4 8 (linePlace k + 8) pre s (omega (arith, p)) ∙ ap (part 4 8) e ∙ part-past 4 0 8 a _ (omega (arith, x)) ∙ part-first-of 4 b _ (sym y) in
+      let w : part 4 (linePlace k + 12) (pre ++ s) ≡ c = part-past 4 12 (linePlace k + 12) pre s (omega (arith, p)) ∙ ap (part 4 12) e ∙ part-past 4 4 12 a _ (omega (arith, x)) ∙ part-past 4 0 4 b _ (omega (arith, y)) ∙ part-first-of 4 c _ (sym z) in
+      λ i. record { name = u i; offset = number (v i); size = number (w i) }
+
+-- the lines that are read in the joined deck: `b` is where the body of the first stands in the deck as given
+lines-joined : (ls : List Line) (at b end k : ℕ) (pre rest : List ℕ) → length pre ≡ linePlace k → Eights ls → follow b ls end ≡ true → at ≤ b → end ≤ deckBytes → linesFrom (pre ++ joinedLines at ls ++ rest) k (length ls) ≡ contentsFrom at ls
+unfolding linesFrom joinedLines follow
+lines-joined [] at b end k pre rest p e f h i = refl
+lines-joined (l ∷ ls) at b end k pre rest p e f h i =
+    let n : List ℕ = bytes 4 at in
+    let s : List ℕ = bytes 4 (joinedSize l) in
+    let more : List ℕ = joinedLines (at + joinedSize l) ls in
+    let g : follow (b + l .size) ls end ≡ true = and-right (eqb (l .offset) b) _ f in
+    let j : b + l .size ≤ end = follow-end (b + l .size) end ls g in
+    let x : number n ≡ at = number-bytes 4 at (omega arith) in
+    let y : number s ≡ joinedSize l = number-bytes 4 (joinedSize l) (omega arith) in
+    let u : lineAt (pre ++ (l .name ++ n ++ s ++ more) ++ rest) k ≡ record { name = l .name; offset = number n; size = number s } =
+    ap (λ (t : List ℕ). lineAt t k) (append-assoc pre (l .name ++ n ++ s ++ more) rest ∙ ap (λ (t : List ℕ). pre ++ t) (append-assoc (l .name ++ n ++ s) more rest))
+    ∙ line-of k pre (l .name) n s (more ++ rest) p (e .0) (length-bytes 4 at) (length-bytes 4 (joinedSize l)) in
+    let q : length (pre ++ (l .name ++ n ++ s)) ≡ linePlace (suc k) = simp length-append (omega (arith, p, e .0, length-bytes 4 at, length-bytes 4 (joinedSize l))) in
+    let v : linesFrom (pre ++ (l .name ++ n ++ s ++ more) ++ rest) (suc k) (length ls) ≡ contentsFrom (at + joinedSize l) ls =
+    ap (λ (t : List ℕ). linesFrom (t ++ rest) (suc k) (length ls)) (sym (append-assoc pre (l .name ++ n ++ s) more))
+    ∙ lines-joined ls (at + joinedSize l) (b + l .size) end (suc k) (pre ++ (l .name ++ n ++ s)) rest q (e .1) g (omega arith) i in
+    let w : _≡_ {A = Line} (record { name = l .name; offset = number n; size = number s }) (record { name = l .name; offset = at; size = joinedSize l }) = λ i. record { name = l .name; offset = x i; size = y i } in
+    λ i. (u ∙ w) i ∷ v i
+
+-- ---- what soundness asks of them
+named-joined : (at : ℕ) (ls : List Line) → areNamed (contentsFrom at ls) ≡ areNamed ls
+unfolding areNamed
+named-joined at [] = refl
+named-joined at (l ∷ ls) = rw (named-joined (at + joinedSize l) ls)
+
+find-joined : (x : List ℕ) (k at : ℕ) (ls : List Line) → find x k (contentsFrom at ls) ≡ find x k ls
+unfolding find isCalled
+find-joined x k at [] = refl
+find-joined x k at (l ∷ ls) = rw (find-joined x (suc k) (at + joinedSize l) ls)
+
+distinct-joined : (at : ℕ) (ls : List Line) → areDistinct (contentsFrom at ls) ≡ areDistinct ls
+unfolding areDistinct
+distinct-joined at [] = refl
+distinct-joined at (l ∷ ls) = rw (find-joined (l .name) 0 (at + joinedSize l) ls, distinct-joined (at + joinedSize l) ls)
+
+both-true : (a b : Bool) → a ≡ true → b ≡ true → (a && b) ≡ true
+both-true true b h k = k
+both-true false b h k = absurd (false≢true h)
+
+follow-joined : (at end : ℕ) (ls : List Line) (d : List ℕ) → end ≡ at + length (joinedBodies ls d) → follow at (contentsFrom at ls) end ≡ true
+unfolding follow joinedBodies
+follow-joined at end [] d e = eq-eqb at end (omega arith)
+follow-joined at end (l ∷ ls) d e =
+    both-true (eqb at at) _ (eq-eqb at at refl)
+    (follow-joined (at + joinedSize l) end ls d (omega (arith, length-append (columns (records l) (l .offset) d) (joinedBodies ls d), length-columns (records l) (l .offset) d)))
+
+-- ---- lengths
+length-contents : (at : ℕ) (ls : List Line) → Eights ls → length (joinedLines at ls) ≡ 16 * length ls
+unfolding joinedLines
+length-contents at [] e = refl
+length-contents at (l ∷ ls) e = simp length-append (omega (arith, e .0, length-bytes 4 at, length-bytes 4 (joinedSize l), length-contents (at + joinedSize l) ls (e .1)))
+
+length-bodies : (b end : ℕ) (ls : List Line) (d : List ℕ) → follow b ls end ≡ true → b + length (joinedBodies ls d) ≤ end
+unfolding follow joinedBodies
+length-bodies b end [] d f = omega (arith, eqb-true b end f)
+length-bodies b end (l ∷ ls) d f = simp length-append (omega (arith, length-columns (records l) (l .offset) d, length-bodies (b + l .size) end ls d (and-right (eqb (l .offset) b) _ f)))
+
+-- ---- the bodies
+abbrev at-line : List Line → ℕ → Line
+at-line ls m = getD ls m (record { name = []; offset = 0; size = 0 })
+
+line-in : (d : List ℕ) (k n m : ℕ) → m < n → at-line (linesFrom d k n) m ≡ lineAt d (k + m)
+unfolding linesFrom
+line-in d k zero m h = absurd (not-suc-le-zero h)
+line-in d k (suc n) zero h = rw add-zero
+line-in d k (suc n) (suc m) h = let e : k + suc m ≡ suc k + m = omega arith in rw e (line-in d (suc k) n m (omega arith))
+
+name-in : (at : ℕ) (ls : List Line) (m : ℕ) → at-line (contentsFrom at ls) m .name ≡ at-line ls m .name
+name-in at [] m = refl
+name-in at (l ∷ ls) zero = refl
+name-in at (l ∷ ls) (suc m) = name-in (at + joinedSize l) ls m
+
+size-in : (at : ℕ) (ls : List Line) (m : ℕ) → at-line (contentsFrom at ls) m .size ≡ joinedSize (at-line ls m)
+size-in at [] m = refl
+size-in at (l ∷ ls) zero = refl
+size-in at (l ∷ ls) (suc m) = size-in (at + joinedSize l) ls m
+
+body-in : (at : ℕ) (ls : List Line) (m : ℕ) (pre d : List ℕ) → m < length ls → length pre ≡ at → part (at-line (contentsFrom at ls) m .size) (at-line (contentsFrom at ls) m .offset) (pre ++ joinedBodies ls d) ≡ columns (records (at-line ls m)) (at-line ls m .offset) d
+unfolding joinedBodies
+body-in at [] m pre d h p = absurd (not-suc-le-zero h)
+body-in at (l ∷ ls) zero pre d h p =
+    part-past (joinedSize l) 0 at pre _ (omega (arith, p)) ∙ part-first-of (joinedSize l) (columns (records l) (l .offset) d) (joinedBodies ls d) (sym (length-columns (records l) (l .offset) d))
+body-in at (l ∷ ls) (suc m) pre d h p =
+    let c : List ℕ = columns (records l) (l .offset) d in
+    ap (part (at-line (contentsFrom (at + joinedSize l) ls) m .size) (at-line (contentsFrom (at + joinedSize l) ls) m .offset)) (sym (append-assoc pre c (joinedBodies ls d)))
+    ∙ body-in (at + joinedSize l) ls m (pre ++ c) d (omega arith) (length-append pre c ∙ omega (arith, p, length-columns (records l) (l .offset) d))
+
+-- ---- THE JOINED DECK of a sound one
+pub record Sound (d : List ℕ) : Type 0 where
+  pub few : length d ≤ deckBytes
+  pub some : 1 ≤ count d
+  pub members : count d ≤ deckLines
+  pub contents : linePlace (count d) ≤ length d
+  pub named : areNamed (lines d) ≡ true
+  pub distinct : areDistinct (lines d) ≡ true
+  pub following : follow (linePlace (count d)) (lines d) (length d) ≡ true
+
+pub sound-parts : (d : List ℕ) → isSound d ≡ true → Sound d
+unfolding isSound
+sound-parts d h =
+    let a : Bool = leb (length d) deckBytes in
+    let b : Bool = leb 1 (count d) in
+    let c : Bool = leb (count d) deckLines in
+    let e : Bool = leb (linePlace (count d)) (length d) in
+    let f : Bool = areNamed (lines d) in
+    let g : Bool = areDistinct (lines d) in
+    let t : Bool = follow (linePlace (count d)) (lines d) (length d) in
+    let h₆ : (a && b && c && e && f && g) ≡ true = and-left _ t h in
+    let h₅ : (a && b && c && e && f) ≡ true = and-left _ g h₆ in
+    let h₄ : (a && b && c && e) ≡ true = and-left _ f h₅ in
+    let h₃ : (a && b && c) ≡ true = and-left _ e h₄ in
+    let h₂ : (a && b) ≡ true = and-left _ c h₃ in
+    record { few = leb-true _ _ (and-left a b h₂); some = leb-true _ _ (and-right a b h₂); members = leb-true _ _ (and-right (a && b) c h₃); contents = leb-true _ _ (and-right (a && b && c) e h₄); named = and-right (a && b && c && e) f h₅; distinct = and-right (a && b && c && e && f) g h₆; following = and-right (a && b && c && e && f && g) t h }
+
+pub sound-whole : (d : List ℕ) → Sound d → isSound d ≡ true
+unfolding isSound
+sound-whole d s =
+    both-true _ _ (both-true _ _ (both-true _ _ (both-true _ _ (both-true _ _ (both-true _ _ (le-leb _ _ (s .few)) (le-leb _ _ (s .some))) (le-leb _ _ (s .members))) (le-leb _ _ (s .contents))) (s .named)) (s .distinct)) (s .following)
+
+module _ (d : List ℕ) (sound : isSound d ≡ true) where
+  parts : Sound d
+  parts = sound-parts d sound
+
+  length-head : length (part 2 0 d ++ joinedLines (linePlace (count d)) (lines d)) ≡ linePlace (count d)
+  length-head = simp length-append (omega (arith, length-part 2 0 d, length-contents (linePlace (count d)) (lines d) (eights d 0 (count d)), length-lines d 0 (count d)))
+
+  pub count-joined : count (joined d) ≡ count d
+  unfolding joined
+  count-joined =
+      let ls : List ℕ = joinedLines (linePlace (count d)) (lines d) in
+      let bs : List ℕ = joinedBodies (lines d) d in
+      ap number (ap (part 2 0) (append-assoc (part 2 0 d) ls bs) ∙ part-first-of 2 (part 2 0 d) (ls ++ bs) (sym (length-part 2 0 d)))
+
+  contents-joined : lines (joined d) ≡ contentsFrom (linePlace (count d)) (lines d)
+  unfolding joined
+  contents-joined =
+      rw (count-joined)
+      (ap (linesFrom (joined d) 0) (sym (length-lines d 0 (count d)))
+      ∙ lines-joined (lines d) (linePlace (count d)) (linePlace (count d)) (length d) 0 (part 2 0 d) (joinedBodies (lines d) d) (length-part 2 0 d) (eights d 0 (count d)) (parts .following) (omega arith) (parts .few))
+
+  length-joined : length (joined d) ≡ linePlace (count d) + length (joinedBodies (lines d) d)
+  unfolding joined
+  length-joined = length-append (part 2 0 d ++ joinedLines (linePlace (count d)) (lines d)) (joinedBodies (lines d) d) ∙ omega (arith, length-head)
+
+  pub joined-shorter : length (joined d) ≤ length d
+  joined-shorter = omega (arith, length-joined, length-bodies (linePlace (count d)) (length d) (lines d) d (parts .following))
+
+  pub sound-joined : isSound (joined d) ≡ true
+  sound-joined = sound-whole (joined d) (record {
+    few = omega (arith, joined-shorter, parts .few);
+    some = rw count-joined (parts .some);
+    members = rw count-joined (parts .members);
+    contents = rw count-joined (omega (arith, length-joined));
+    named = rw contents-joined (named-joined (linePlace (count d)) (lines d) ∙ parts .named);
+    distinct = rw contents-joined (distinct-joined (linePlace (count d)) (lines d) ∙ parts .distinct);
+    following = rw (contents-joined, count-joined) (follow-joined (linePlace (count d)) (length (joined d)) (lines d) d length-joined);
+  })
+
+  -- how a member is found
+  pub found-joined : (x : List ℕ) (k : ℕ) → find x k (lines (joined d)) ≡ find x k (lines d)
+  found-joined x k = rw contents-joined (find-joined x k (linePlace (count d)) (lines d))
+
+  module _ (m : ℕ) (h : m < count d) where
+    line-given : at-line (lines d) m ≡ lineAt d m
+    line-given = line-in d 0 (count d) m h ∙ rw zero-add
+
+    line-there : lineAt (joined d) m ≡ at-line (contentsFrom (linePlace (count d)) (lines d)) m
+    line-there = ap (lineAt (joined d)) (sym (zero-add m)) ∙ sym (line-in (joined d) 0 (count (joined d)) m (rw count-joined h)) ∙ ap (λ (ls : List Line). at-line ls m) contents-joined
+
+    pub name-joined : lineAt (joined d) m .name ≡ lineAt d m .name
+    name-joined = ap (λ (l : Line). l .name) line-there ∙ name-in (linePlace (count d)) (lines d) m ∙ ap (λ (l : Line). l .name) line-given
+
+    pub size-joined : lineAt (joined d) m .size ≡ joinedSize (lineAt d m)
+    size-joined = ap (λ (l : Line). l .size) line-there ∙ size-in (linePlace (count d)) (lines d) m ∙ ap (λ (l : Line). joinedSize l) line-given
+
+    body-there : part (at-line (contentsFrom (linePlace (count d)) (lines d)) m .size) (at-line (contentsFrom (linePlace (count d)) (lines d)) m .offset) (joined d) ≡ columns (records (at-line (lines d) m)) (at-line (lines d) m .offset) d
+    unfolding joined
+    body-there = body-in (linePlace (count d)) (lines d) m (part 2 0 d ++ joinedLines (linePlace (count d)) (lines d)) d (omega (arith, length-lines d 0 (count d))) length-head
+
+    pub body-joined : bodyOf (joined d) m ≡ columns (records (lineAt d m)) (lineAt d m .offset) d
+    unfolding bodyOf
+    body-joined =
+        ap (λ (l : Line). part (l .size) (l .offset) (joined d)) line-there
+        ∙ body-there
+        ∙ ap (λ (l : Line). columns (records l) (l .offset) d) line-given
+
+    -- the columns of the body as given
+    pub body-columns : bodyOf (joined d) m ≡ columns (records (lineAt d m)) 0 (bodyOf d m)
+    unfolding bodyOf
+    body-columns =
+        body-joined
+        ∙ ap (λ (q : ℕ). columns (records (lineAt d m)) q d) (sym (add-zero (lineAt d m .offset)))
+        ∙ columns-part (records (lineAt d m)) (lineAt d m .offset) 0 (lineAt d m .size) d (omega arith)
+
+    pub length-body : length (bodyOf (joined d) m) ≡ joinedSize (lineAt d m)
+    length-body = rw body-joined (length-columns (records (lineAt d m)) (lineAt d m .offset) d)
+
+    -- byte p of the joined body is the byte of the body as given that `column` names
+    pub byte-joined : (p : ℕ) → p < length (bodyOf (joined d) m) → getD (bodyOf (joined d) m) p 0 ≡ getD (bodyOf d m) (column p) 0
+    unfolding bodyOf
+    byte-joined p i =
+        let j : p < 71 * records (lineAt d m) = omega (arith, length-body) in
+        rw body-joined
+        (byte-in-columns (records (lineAt d m)) (lineAt d m .offset) p d j ∙ sym (getD-part (lineAt d m .size) (column p) (lineAt d m .offset) d (omega arith)))
+
+-- decks with the same contents, joined, have the same contents
+pub lines-alike : (d e : List ℕ) → isSound d ≡ true → isSound e ≡ true → lines e ≡ lines d → count e ≡ count d → lines (joined e) ≡ lines (joined d)
+lines-alike d e s t h k = contents-joined e t ∙ (λ i. contentsFrom (linePlace (k i)) (h i)) ∙ sym (contents-joined d s)
+
+-- ---- a deck of whole records
+even-at : (k : ℕ) (ls : List Line) (m : ℕ) → uneven k ls ≡ none → at-line ls m .size % 80 ≡ 0
+unfolding uneven
+even-at k [] m e = refl
+even-at k (l ∷ ls) m e = go (eqb (l .size % 80) 0) refl e m (λ n. even-at (suc k) ls n)
+  where
+    go : (t : Bool) → eqb (l .size % 80) 0 ≡ t → cond t (uneven (suc k) ls) (line k) ≡ none → (n : ℕ) → ((i : ℕ) → uneven (suc k) ls ≡ none → at-line ls i .size % 80 ≡ 0) → at-line (l ∷ ls) n .size % 80 ≡ 0
+    go false f e n h = let z : _≡_ {A = ℕ} 0 1 = cc in absurd (omega arith)
+    go true f e zero h = eqb-true (l .size % 80) 0 f
+    go true f e (suc n) h = h n e
+
+pub whole-records : (d : List ℕ) → isSound d ≡ true → uneven 0 (lines d) ≡ none → (m : ℕ) → m < count d → lineAt d m .size % 80 ≡ 0
+whole-records d s e m h = ap (λ (l : Line). l .size % 80) (sym (line-given d s m h)) ∙ even-at 0 (lines d) m e

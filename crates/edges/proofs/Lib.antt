@@ -1,0 +1,3 @@
+-- What the proofs of `edges` share.
+pub mod Laws
+pub mod Piecing

@@ -1,0 +1,20 @@
+-- By the test.
+use borrow.Author.Needs.{needs}
+use Rattle.expander.proofs.malformed.Statement.{statement}
+use Rattle.expander.proofs.malformed.Tie as tie
+use Rattle.expander.proofs.malformed.Reads as reads
+use Rattle.expander.proofs.malformed.Lts as lts
+use Rattle.expander.proofs.refusal.Reads as refusal-reads
+use Rattle.expander.proofs.Laws.{is-run, is-refused}
+
+returns : tie.Need-returns
+returns c = search is-run
+
+refusal-requires : tie.Need-refusal-requires
+refusal-requires c κs = search needs
+
+returns-2 : tie.Need-returns-2
+returns-2 c = search is-refused
+
+pub malformed-spec : {M : Type 1} → statement M
+malformed-spec = tie.close (tie.spec returns refusal-requires returns-2)

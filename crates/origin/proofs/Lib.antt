@@ -1,0 +1,3 @@
+-- What the proofs of `origin` share.
+pub mod Lines
+pub mod Telling

@@ -1,0 +1,2 @@
+-- What the contracts of `origin` cite.
+pub mod Written
