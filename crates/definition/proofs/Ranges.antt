@@ -5,13 +5,13 @@ use Prim.Native.Char.{code}
 use native.Mathlib.Omega.{arith}
 use mathlib.Core.Bool.{Bool, true, _&&_}
 use mathlib.Core.List.{List, [], _∷_, _++_}
-use mathlib.Core.Path.{_≡_, refl, ap}
+use mathlib.Core.Path.{_≡_, refl, ap, _∙_}
 use lib.Dec.{leb, ltb, eqb}
 use lib.IntN.{ℤ, pos, negsuc, natAbs}
-use lib.ListN.{length, getD, set, take, drop, length-take, length-drop}
+use lib.ListN.{length, getD, set, take, drop, replicate, length-take, length-drop, length-append, length-replicate}
 use lib.Signed.{quotZ}
 use borrow.Author.Tests.{leb-true}
-use Rattle.definition.specs.Limits.{valueLength, unfinishedBytes}
+use Rattle.definition.specs.Limits.{fixedWidth, valueLength, unfinishedBytes}
 use Rattle.definition.specs.Lists.{all, past, leading}
 use Rattle.definition.specs.Bytes.{isDigit, isBlank}
 use Rattle.definition.specs.Tokens.{isBit}
@@ -19,7 +19,7 @@ use Rattle.definition.specs.Fixed as Fixed
 use Rattle.definition.specs.Fixed.{Result, inRange, ranged}
 use Rattle.definition.specs.Expressions.{Operator, orOp, andOp, greater, greaterEqual, equal, less, lessEqual, notGreater, notEqual, notLess, catOp, plus, minus, times, divided, Prefix, positive, negative, complement, Tree}
 use Rattle.definition.specs.Program.{Type′, fixedType, characterType}
-use Rattle.definition.specs.Values.{Value, fixed, characters, bitValue, Answer, fromFixed, decimalOn, fixedText, written, constant, isMinus, unsigned, signedBy, numberIn, toFixed, toCharacters, binary, toBits, convert, sizeOf, limited, unfinished, bitOf, bitwise, inverted, Order, compared, comparing, arithmetic, logical, joined, infixed, prefixed, subject, piece, cutOut, lengthFrom, startFrom, asNumber, substr}
+use Rattle.definition.specs.Values.{Value, fixed, characters, bitValue, Answer, fromFixed, decimalOn, shortest, fixedText, written, constant, isMinus, unsigned, signedBy, numberIn, toFixed, toCharacters, binary, toBits, convert, sizeOf, limited, unfinished, bitOf, bitwise, inverted, Order, compared, comparing, arithmetic, logical, joined, infixed, prefixed, subject, piece, cutOut, lengthFrom, startFrom, asNumber, substr}
 use Rattle.definition.specs.World as W
 use Rattle.definition.specs.World.{Owner, Cell, World, good, valueAt}
 use Rattle.definition.specs.Evaluate.{evaluate}
@@ -95,15 +95,24 @@ toFixed-small (characters l) h = number-small (past isBlank l)
 toFixed-small (bitValue l) h = ranged-small (pos (written 2 0 l))
 
 -- ---- characters and bits
-decimal-length : (f n : ℕ) (ds : List ℕ) → length (decimalOn f n ds) ≤ f + length ds
+pub decimal-length : (f n : ℕ) (ds : List ℕ) → length (decimalOn f n ds) ≤ f + length ds
 unfolding decimalOn
 decimal-length zero n ds = omega arith
 decimal-length (suc f) n ds = when-has (λ (l : List ℕ). length l ≤ suc f + length ds) (ltb n 10) _ _ (λ _. omega arith) λ _. omega (arith, decimal-length f (n / 10) ((code "0" + n % 10) ∷ ds))
 
-text-short : (z : ℤ) → Short (fixedText z)
+shortest-length : (z : ℤ) → length (shortest z) ≤ fixedWidth
+shortest-length (pos n) = omega (arith, decimal-length 6 n [])
+shortest-length (negsuc n) = omega (arith, decimal-length 6 (suc n) [])
+
+-- C-12: FIXED to CHARACTER gives eight places
+pub text-wide : (z : ℤ) → length (fixedText z) ≡ fixedWidth
 unfolding fixedText
-text-short (pos n) = omega (arith, decimal-length 6 n [])
-text-short (negsuc n) = omega (arith, decimal-length 6 (suc n) [])
+text-wide z =
+    length-append (replicate (fixedWidth - length (shortest z)) (code " ")) (shortest z)
+    ∙ rw (length-replicate {A = ℕ}) (omega (arith, shortest-length z))
+
+text-short : (z : ℤ) → Short (fixedText z)
+text-short z = rw (text-wide z) (omega arith)
 
 pub toCharacters-short : (v : Value) → Fine v → Short (toCharacters v)
 unfolding toCharacters

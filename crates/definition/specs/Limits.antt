@@ -9,6 +9,10 @@ leastFixed = negsuc 99998
 abbrev pub mostFixed : ℤ
 mostFixed = pos 99999
 
+-- 02, C-12: "a FIXED value into eight characters"
+abbrev pub fixedWidth : ℕ
+fixedWidth = 8
+
 -- "CHARACTER and BIT hold 0 to 512 places"
 abbrev pub valueLength : ℕ
 valueLength = 512

@@ -4,11 +4,11 @@ use Prim.Native.Char.{code}
 use mathlib.Core.Bool.{Bool, true, false, not, cond, _&&_, _||_}
 use mathlib.Core.List.{List, [], _∷_, _++_}
 use lib.Dec.{leb, ltb, eqb}
-use lib.ListN.{length, take, drop}
+use lib.ListN.{length, take, drop, replicate}
 use lib.IntN.{ℤ, pos, negsuc, negℤ, natAbs}
 use lib.Signed.{ltZ}
 use Rattle.definition.specs.Choice.{when}
-use Rattle.definition.specs.Limits.{valueLength, unfinishedBytes}
+use Rattle.definition.specs.Limits.{valueLength, fixedWidth, unfinishedBytes}
 use Rattle.definition.specs.Refusal.{Why, noConversion, outOfRange, zeroDivisor, tooLong, substrOutside}
 use Rattle.definition.specs.Lists.{all, past, leading}
 use Rattle.definition.specs.Bytes.{isDigit, isBlank}
@@ -44,10 +44,15 @@ decimalOn zero n ds = ds
 decimalOn (suc f) n ds =
     when (ltb n 10) (λ _. (code "0" + n) ∷ ds) (λ _. decimalOn f (n / 10) ((code "0" + n % 10) ∷ ds))
 
--- "FIXED to CHARACTER: shortest decimal, `-` in front if negative"
+-- "shortest decimal, `-` in front if negative"
+abbrev pub shortest : ℤ → List ℕ
+shortest (pos n) = decimalOn 6 n []
+shortest (negsuc n) = code "-" ∷ decimalOn 6 (suc n) []
+
+-- FIXED to CHARACTER (C-12): "eight characters, digits at the right, the minus sign directly before the first digit,
+-- blanks in front"
 unfoldable pub fixedText : ℤ → List ℕ
-fixedText (pos n) = decimalOn 6 n []
-fixedText (negsuc n) = code "-" ∷ decimalOn 6 (suc n) []
+fixedText z = replicate (fixedWidth - length (shortest z)) (code " ") ++ shortest z
 
 -- the number that digits write, to a base
 unfoldable pub written : ℕ → ℕ → List ℕ → ℕ

@@ -25,6 +25,9 @@ impl Fixed {
 
     pub const MOST: i32 = 99_999;
 
+    // How many places a number has as CHARACTER.
+    pub const WIDTH: usize = 8;
+
     // What is stored for 0, so that every number in range is stored as one above 0.
     const STORED_ZERO: i64 = 100_000;
 

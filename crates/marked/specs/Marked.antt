@@ -64,30 +64,30 @@ wanted x = x .wanted
 
 abbrev marked : List Example
 marked =
-    -- M1
-    example "%DECLARE N FIXED;%N=3+4; X=N;" (gives 0 0 8 "   X=7;" (blank 17 ∷ blank 24 ∷ copied 24 3 ∷ replaced 27 1 ∷ copied 28 1 ∷ [])) ∷
+    -- M1, as C-12 amends it: 14 bytes of text, 15 steps, a V line of length 8
+    example "%DECLARE N FIXED;%N=3+4; X=N;" (gives 0 0 15 "   X=       7;" (blank 17 ∷ blank 24 ∷ copied 24 3 ∷ replaced 27 8 ∷ copied 28 1 ∷ [])) ∷
     -- M2: empty main
     example "" (gives 0 0 0 "" []) ∷
     -- M3: main `A` gives blank and A, 1 step, 2 lines
     example "A" (gives 0 0 1 " A" (blank 0 ∷ copied 0 1 ∷ [])) ∷
     -- M4: -7/2 and 7/-2 are -3
-    example "%DCL R FIXED;%R=-7/2;<R>" (gives 0 0 7 "  <-3>" (blank 13 ∷ blank 21 ∷ copied 21 1 ∷ replaced 22 2 ∷ copied 23 1 ∷ [])) ∷
-    example "%DCL R FIXED;%R=7/-2;<R>" (gives 0 0 7 "  <-3>" (blank 13 ∷ blank 21 ∷ copied 21 1 ∷ replaced 22 2 ∷ copied 23 1 ∷ [])) ∷
+    example "%DCL R FIXED;%R=-7/2;<R>" (gives 0 0 13 "  <      -3>" (blank 13 ∷ blank 21 ∷ copied 21 1 ∷ replaced 22 8 ∷ copied 23 1 ∷ [])) ∷
+    example "%DCL R FIXED;%R=7/-2;<R>" (gives 0 0 13 "  <      -3>" (blank 13 ∷ blank 21 ∷ copied 21 1 ∷ replaced 22 8 ∷ copied 23 1 ∷ [])) ∷
     -- M5: 1/0 is 10
     example "%DCL R FIXED;%R=1/0;<R>" (gives 10 13 2 "" []) ∷
     -- M6: 99999+1 is 9, 0-99999 stands
     example "%DCL R FIXED;%R=99999+1;<R>" (gives 9 13 2 "" []) ∷
-    example "%DCL R FIXED;%R=0-99999;<R>" (gives 0 0 7 "  <-99999>" (blank 13 ∷ blank 24 ∷ copied 24 1 ∷ replaced 25 6 ∷ copied 26 1 ∷ [])) ∷
+    example "%DCL R FIXED;%R=0-99999;<R>" (gives 0 0 9 "  <  -99999>" (blank 13 ∷ blank 24 ∷ copied 24 1 ∷ replaced 25 8 ∷ copied 26 1 ∷ [])) ∷
     -- M7: '12 ' is 12, '' is 0, '1 2' is 8
-    example "%DCL R FIXED;%R='12 ';<R>" (gives 0 0 6 "  <12>" (blank 13 ∷ blank 22 ∷ copied 22 1 ∷ replaced 23 2 ∷ copied 24 1 ∷ [])) ∷
-    example "%DCL R FIXED;%R='';<R>" (gives 0 0 6 "  <0>" (blank 13 ∷ blank 19 ∷ copied 19 1 ∷ replaced 20 1 ∷ copied 21 1 ∷ [])) ∷
+    example "%DCL R FIXED;%R='12 ';<R>" (gives 0 0 12 "  <      12>" (blank 13 ∷ blank 22 ∷ copied 22 1 ∷ replaced 23 8 ∷ copied 24 1 ∷ [])) ∷
+    example "%DCL R FIXED;%R='';<R>" (gives 0 0 13 "  <       0>" (blank 13 ∷ blank 19 ∷ copied 19 1 ∷ replaced 20 8 ∷ copied 21 1 ∷ [])) ∷
     example "%DCL R FIXED;%R='1 2';<R>" (gives 8 13 2 "" []) ∷
     -- M8: 'A'='A  ' holds
     example "%DCL R CHAR;%R='A'='A  ';<R>" (gives 0 0 6 "  <1>" (blank 12 ∷ blank 25 ∷ copied 25 1 ∷ replaced 26 1 ∷ copied 27 1 ∷ [])) ∷
     -- M9: 5>3>1 does not
     example "%DCL R CHAR;%R=5>3>1;<R>" (gives 0 0 6 "  <0>" (blank 12 ∷ blank 21 ∷ copied 21 1 ∷ replaced 22 1 ∷ copied 23 1 ∷ [])) ∷
-    -- M10: 2+3||4 is 54
-    example "%DCL R CHAR;%R=2+3||4;<R>" (gives 0 0 6 "  <54>" (blank 12 ∷ blank 22 ∷ copied 22 1 ∷ replaced 23 2 ∷ copied 24 1 ∷ [])) ∷
+    -- M10 (C-12): 2+3||4 is 5 and 4, each eight wide
+    example "%DCL R CHAR;%R=2+3||4;<R>" (gives 0 0 21 "  <       5       4>" (blank 12 ∷ blank 22 ∷ copied 22 1 ∷ replaced 23 16 ∷ copied 24 1 ∷ [])) ∷
     -- M11: A holding 'A' with RESCAN is 15
     example "%DCL A CHAR;%A='A';A" (gives 15 19 35 "" []) ∷
     -- M12: an active name in a string stays

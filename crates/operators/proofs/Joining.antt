@@ -11,6 +11,7 @@ use lib.Dec.{leb, ltb}
 use lib.IntN.{ℤ, natAbs}
 use lib.ListN.{length, take, length-append}
 use lib.Seq.{take-take}
+use Rattle.definition.specs.Limits.{fixedWidth}
 use Rattle.definition.specs.Lists.{part, all}
 use Rattle.definition.specs.Room.{over}
 use Rattle.definition.specs.Tokens.{isBit}
@@ -21,6 +22,7 @@ use Rattle.definition.specs.declared.Operator.the-variants as O
 use Rattle.definition.specs.Values as D
 use Rattle.definition.specs.Fixed as F
 use Rattle.definition.proofs.Parts.{length-part}
+use Rattle.definition.proofs.Ranges.{text-wide}
 use Rattle.definition.proofs.Rooms.{length-over, over-nil, over-next, over-next-at}
 use Rattle.fixed.specs.declared.Fixed.{Fixed}
 use Rattle.fixed.specs.declared.Answer.{Answer}
@@ -32,7 +34,6 @@ use Rattle.values.specs.declared.Logic.{Logic}
 use Rattle.values.specs.declared.Logic.the-variants.{And, Or}
 use Rattle.values.specs.Answers.{orderFor, orderIn, isWanted}
 use Rattle.values.specs.Bits.{longer, logicOf}
-use Rattle.values.specs.Digits.{Wrote}
 use Rattle.values.proofs.Bits.{length-bitwise}
 use Rattle.operators.specs.declared.Value.{Value}
 use Rattle.operators.specs.declared.Value.the-variants.{Number, Characters, Bits}
@@ -51,9 +52,9 @@ use Rattle.operators.proofs.Answers.{size-is, value-number, made-gave}
 use Rattle.operators.proofs.Texts.{never, length-binary, BitsAt, bits-at}
 
 -- ---- the bytes of a side as CHARACTER
-pub text-number : (v : Value) (x : Fixed) (k : ℕ) → v ≡ Number x → k ≡ length (D.fixedText (x .value)) → k ≡ textSize v
+pub text-number : (v : Value) (x : Fixed) → v ≡ Number x → fixedWidth ≡ textSize v
 unfolding textSize
-text-number v x k e f = rw e f
+text-number v x e = rw e
 
 pub text-characters : (v : Value) (n : ℕ) → v ≡ Characters n → n ≡ textSize v
 unfolding textSize
@@ -63,9 +64,9 @@ pub text-bits : (v : Value) (n : ℕ) → v ≡ Bits n → n ≡ textSize v
 unfolding textSize
 text-bits v n e = rw e
 
-pub digits-written : (w : List ℕ) (u : ℕ) (v : Value) (x : Fixed) (w′ : List ℕ) (r : ℕ) → v ≡ Number x → Wrote (D.fixedText (x .value)) w u w′ r → w′ ≡ over w u (numberText v)
+pub digits-written : (w : List ℕ) (u : ℕ) (v : Value) (x : Fixed) (w′ : List ℕ) → v ≡ Number x → w′ ≡ over w u (D.fixedText (x .value)) → w′ ≡ over w u (numberText v)
 unfolding numberText
-digits-written w u v x w′ r e f = rw e (f .is)
+digits-written w u v x w′ e f = rw e f
 
 pub characters-stay : (w : List ℕ) (u : ℕ) (v : Value) (n : ℕ) → v ≡ Characters n → w ≡ over w u (numberText v)
 unfolding numberText
@@ -75,13 +76,13 @@ pub bits-stay : (w : List ℕ) (u : ℕ) (v : Value) (n : ℕ) → v ≡ Bits n 
 unfolding numberText
 bits-stay w u v n e = rw e (sym (over-nil w u))
 
-pub first-written : (w : List ℕ) (u m : ℕ) (v : Value) (x : Fixed) (k : ℕ) (w₁ w₂ : List ℕ) (r : ℕ) → v ≡ Number x → k ≡ length (D.fixedText (x .value))
-    → Raised w u m k w₁ → Wrote (D.fixedText (x .value)) w₁ u w₂ r → WroteFirst w u m v w₂
+pub first-written : (w : List ℕ) (u m : ℕ) (v : Value) (x : Fixed) (w₁ w₂ : List ℕ) → v ≡ Number x
+    → Raised w u m fixedWidth w₁ → w₂ ≡ over w₁ u (D.fixedText (x .value)) → WroteFirst w u m v w₂
 unfolding firstText textSize
-first-written w u m v x k w₁ w₂ r e f g h = rw e (record {
+first-written w u m v x w₁ w₂ e g h = rw e (record {
   is = λ l.
-      let c : w₁ ≡ over w (u + k) (part m u w) = g .is (rw f l) in
-      h .is ∙ rw c (over-under w u k (D.fixedText (x .value)) (part m u w) f);
+      let c : w₁ ≡ over w (u + fixedWidth) (part m u w) = g .is l in
+      h ∙ rw c (over-under w u fixedWidth (D.fixedText (x .value)) (part m u w) (sym (text-wide (x .value))));
 })
 
 pub first-characters-stay : (w : List ℕ) (u m : ℕ) (v : Value) (n : ℕ) → v ≡ Characters n → WroteFirst w u m v w
@@ -142,7 +143,7 @@ value-size false n = refl
 
 text-length : (w : List ℕ) (u : ℕ) (v : Value) → length (D.toCharacters (valueIn w u v)) ≡ textSize v
 unfolding valueIn D.toCharacters textSize
-text-length w u (Number x) = refl
+text-length w u (Number x) = text-wide (x .value)
 text-length w u (Characters n) = length-part n u w
 text-length w u (Bits n) = length-part n u w
 
@@ -189,9 +190,9 @@ both w u n m = over-nil (over w u []) (u + n) ∙ over-nil w u ∙ sym (over-sel
 joined-room : (w : List ℕ) (u : ℕ) (x y : Value)
     → over (over w u (firstText w u (sizeFor y) x)) (u + textSize x) (numberText y) ≡ over w u (D.toCharacters (valueIn w u x) ++ D.toCharacters (valueIn w (u + sizeFor x) y))
 unfolding firstText sizeFor textSize numberText valueIn D.toCharacters
-joined-room w u (Number a) (Number b) = rw append-nil (over-next w u (D.fixedText (a .value)) (D.fixedText (b .value)))
-joined-room w u (Number a) (Characters m) = rw add-zero (over-nil (over w u (D.fixedText (a .value) ++ part m u w)) (u + length (D.fixedText (a .value))))
-joined-room w u (Number a) (Bits m) = rw add-zero (over-nil (over w u (D.fixedText (a .value) ++ part m u w)) (u + length (D.fixedText (a .value))))
+joined-room w u (Number a) (Number b) = rw (append-nil, ← text-wide (a .value)) (over-next w u (D.fixedText (a .value)) (D.fixedText (b .value)))
+joined-room w u (Number a) (Characters m) = rw add-zero (over-nil (over w u (D.fixedText (a .value) ++ part m u w)) (u + fixedWidth))
+joined-room w u (Number a) (Bits m) = rw add-zero (over-nil (over w u (D.fixedText (a .value) ++ part m u w)) (u + fixedWidth))
 joined-room w u (Characters n) (Number b) = rw over-nil (over-behind n u w (D.fixedText (b .value)))
 joined-room w u (Characters n) (Characters m) = both w u n m
 joined-room w u (Characters n) (Bits m) = both w u n m

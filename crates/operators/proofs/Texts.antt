@@ -10,6 +10,7 @@ use borrow.Author.Tests.{le-leb, lt-leb, leb-true, leb-false}
 use lib.Dec.{leb}
 use lib.IntN.{ℤ, natAbs}
 use lib.ListN.{length, take}
+use Rattle.definition.specs.Limits.{fixedWidth}
 use Rattle.definition.specs.Lists.{part, all}
 use Rattle.definition.specs.Room.{over}
 use Rattle.definition.specs.Tokens.{isBit}
@@ -21,9 +22,9 @@ use Rattle.definition.specs.declared.Prefix.the-variants.{Positive, Negative, C
 use Rattle.definition.specs.Values as D
 use Rattle.definition.specs.Fixed as F
 use Rattle.definition.proofs.Parts.{length-part}
+use Rattle.definition.proofs.Ranges.{text-wide}
 use Rattle.definition.proofs.Rooms.{length-over, over-nil}
 use Rattle.fixed.specs.declared.Fixed.{Fixed}
-use Rattle.values.specs.Digits.{Wrote}
 use Rattle.values.proofs.Bits.{length-inverted}
 use Rattle.operators.specs.declared.Value.{Value}
 use Rattle.operators.specs.declared.Value.the-variants.{Number, Characters, Bits}
@@ -45,23 +46,27 @@ put-out : (u : ℕ) (l : List ℕ) → leb (u + length l) 65536 ≡ false → if
 put-out u l e = rw e
 
 -- ---- to CHARACTER
-module _ (w : List ℕ) (u : ℕ) (v : Value) (x : Fixed) (e : v ≡ Number x) (k : ℕ) (t : Bool) (f : k ≡ length (D.fixedText (x .value))) (g : t ≡ leb (u + k) 65536) where
-  pub text-in : (w′ : List ℕ) (r : ℕ) → t ≡ true → Wrote (D.fixedText (x .value)) w u w′ r
-      → Made w u (textPut u v) (stacked u (D.convert CharacterType (valueIn w u v))) w′ (Gives (Characters r))
+module _ (w : List ℕ) (u : ℕ) (v : Value) (x : Fixed) (e : v ≡ Number x) (t : Bool) (g : t ≡ leb (u + fixedWidth) 65536) where
+  abbrev text : List ℕ
+  text = D.fixedText (x .value)
+
+  test : leb (u + length text) 65536 ≡ t
+  test = rw (text-wide (x .value)) (sym g)
+
+  pub text-in : (w′ : List ℕ) → t ≡ true → w′ ≡ over w u (D.fixedText (x .value))
+      → Made w u (textPut u v) (stacked u (D.convert CharacterType (valueIn w u v))) w′ (Gives (Characters fixedWidth))
   unfolding textPut valueIn givenIn stacked D.convert D.toCharacters D.unfinished
-  text-in w′ r h m =
-      let l = D.fixedText (x .value) in
-      let b : leb (u + length l) 65536 ≡ true = rw (← f) (sym g ∙ h) in
+  text-in w′ h m =
+      let b : leb (u + length text) 65536 ≡ true = test ∙ h in
       rw e (record {
-        wrote = rw b (m .is);
-        is = λ room. rw (b, part-written r u w w′ l (m .size) (m .is) (omega (arith, leb-true (u + length l) 65536 b)));
+        wrote = rw b m;
+        is = λ room. rw (b, part-written fixedWidth u w w′ text (sym (text-wide (x .value))) m (omega (arith, leb-true (u + length text) 65536 b)));
       })
 
   pub text-out : t ≡ false → Made w u (textPut u v) (stacked u (D.convert CharacterType (valueIn w u v))) w (Fails tooLong)
   unfolding textPut valueIn givenIn stacked D.convert D.toCharacters D.unfinished
   text-out h =
-      let l = D.fixedText (x .value) in
-      let b : leb (u + length l) 65536 ≡ false = rw (← f) (sym g ∙ h) in
+      let b : leb (u + length text) 65536 ≡ false = test ∙ h in
       rw e (record { wrote = rw b (sym (over-nil w u)); is = λ room. rw b })
 
 module _ (w : List ℕ) (u : ℕ) (v : Value) (n : ℕ) (g : Given) where

@@ -7,7 +7,7 @@ use lib.IntN.{ℤ}
 use lib.ListN.{length, take}
 use Rattle.definition.specs.Lists.{part}
 use Rattle.definition.specs.Room.{over}
-use Rattle.definition.specs.Limits.{unfinishedBytes}
+use Rattle.definition.specs.Limits.{fixedWidth, unfinishedBytes}
 use Rattle.definition.specs.Fixed as F
 use Rattle.definition.specs.Values as D
 use Rattle.definition.specs.declared.Operator.{Operator}
@@ -94,7 +94,7 @@ pub record First (w : List ℕ) (u : ℕ) (x : Value) (m : ℕ) (w′ : List ℕ
 
 -- ---- `||`
 unfoldable pub textSize : Value → ℕ
-textSize (Number x) = length (D.fixedText (x .value))
+textSize (Number x) = fixedWidth
 textSize (Characters n) = n
 textSize (Bits n) = n
 

@@ -36,7 +36,6 @@ use values::bytes_order;
 use values::combine;
 use values::cut_part;
 use values::cut_rest;
-use values::fixed_length;
 use values::invert;
 use values::is_wanted;
 use values::number_in;
@@ -180,8 +179,9 @@ pub fn to_characters(work: &mut [u8], u: usize, v: Value) -> Given
 {
     match v {
         Value::Number(x) => {
-            if fits(u, fixed_length(x)) {
-                return Given::Gives(Value::Characters(put_fixed(x, work, u)));
+            if fits(u, Fixed::WIDTH) {
+                put_fixed(x, work, u);
+                return Given::Gives(Value::Characters(Fixed::WIDTH));
             }
             Given::Fails(Why::TooLong)
         }
@@ -450,7 +450,7 @@ fn text_size(v: Value) -> usize
     ensures { λ r. ⌜ r ≡ textSize v ⌝ }
 {
     match v {
-        Value::Number(x) => fixed_length(x),
+        Value::Number(_) => Fixed::WIDTH,
         Value::Characters(n) => n,
         Value::Bits(n) => n,
     }
@@ -475,7 +475,7 @@ fn write_first(work: &mut [u8], u: usize, v: Value, m: usize)
 {
     match v {
         Value::Number(x) => {
-            raise(work, u, m, fixed_length(x));
+            raise(work, u, m, Fixed::WIDTH);
             put_fixed(x, work, u);
         }
         Value::Characters(_) => {}

@@ -5,6 +5,7 @@ use mathlib.Core.Bool.{Bool, true, false}
 use mathlib.Core.List.{List, []}
 use Prim.Native.Nat.{ℕ}
 use lib.ListN.{length}
+use Rattle.definition.specs.Limits.{fixedWidth}
 use Rattle.definition.specs.Lists.{part}
 use Rattle.definition.specs.Room.{over}
 use Rattle.definition.specs.Values as Val
@@ -14,6 +15,7 @@ use Rattle.definition.specs.declared.Why.the-variants.{NoValue}
 use Rattle.definition.specs.declared.ValueType.{ValueType}
 use Rattle.definition.specs.declared.ValueType.the-variants.{FixedType, CharacterType}
 use Rattle.definition.proofs.Parts.{length-part}
+use Rattle.definition.proofs.Ranges.{text-wide}
 use Rattle.fixed.specs.declared.Fixed.{Fixed}
 use Rattle.meter.specs.declared.Meter.{Meter}
 use Rattle.operators.specs.declared.Value.{Value}
@@ -27,7 +29,6 @@ use Rattle.store.specs.declared.Number.the-variants as N
 use Rattle.store.specs.declared.Length.{Length}
 use Rattle.store.specs.declared.Length.the-variants as L
 use Rattle.store.specs.Cells.{cellIn, numberCell, LengthAt, slot, half}
-use Rattle.values.specs.Digits.{Wrote}
 use Rattle.outcomes.specs.declared.Dest.{Dest}
 use Rattle.outcomes.specs.declared.Scanned.{Scanned}
 use Rattle.outcomes.specs.declared.Scanned.the-variants as S
@@ -63,15 +64,18 @@ module _ (w t : List ℕ) (n : ℕ) (d : Dest) (u : ℕ) (m : Meter) (b : Bool) 
   value-full y e h = went-nowhere w t (part n u w) d u n m (sym (length-part n u w)) b g y e h
 
 -- ---- a number
-module _ (w t : List ℕ) (x : Fixed) (d : Dest) (u n : ℕ) (m : Meter) (k : n ≡ length (Val.fixedText (x .value))) (b : Bool) (g : b ≡ D.fits (intoOf d) u 0 n) where
-  pub number-work : (w′ : List ℕ) (z : ℕ) → b ≡ true → d .«to_work» ≡ true → Wrote (Val.fixedText (x .value)) w u w′ z → CopiedValue w t (Val.fixedText (x .value)) d u m w′ t (S.Good n m)
-  number-work w′ z e f h = went-up w t (Val.fixedText (x .value)) d u n m k b g w′ e f (h .is)
+module _ (w t : List ℕ) (x : Fixed) (d : Dest) (u : ℕ) (m : Meter) (b : Bool) (g : b ≡ D.fits (intoOf d) u 0 fixedWidth) where
+  wide : fixedWidth ≡ length (Val.fixedText (x .value))
+  wide = sym (text-wide (x .value))
 
-  pub number-text : (t′ : List ℕ) (z : ℕ) → b ≡ true → d .«to_work» ≡ false → Wrote (Val.fixedText (x .value)) t (d .at) t′ z → CopiedValue w t (Val.fixedText (x .value)) d u m w t′ (S.Good n m)
-  number-text t′ z e f h = went-out w t (Val.fixedText (x .value)) d u n m k b g t′ e f (h .is)
+  pub number-work : (w′ : List ℕ) → b ≡ true → d .«to_work» ≡ true → w′ ≡ over w u (Val.fixedText (x .value)) → CopiedValue w t (Val.fixedText (x .value)) d u m w′ t (S.Good fixedWidth m)
+  number-work w′ e f h = went-up w t (Val.fixedText (x .value)) d u fixedWidth m wide b g w′ e f h
+
+  pub number-text : (t′ : List ℕ) → b ≡ true → d .«to_work» ≡ false → t′ ≡ over t (d .at) (Val.fixedText (x .value)) → CopiedValue w t (Val.fixedText (x .value)) d u m w t′ (S.Good fixedWidth m)
+  number-text t′ e f h = went-out w t (Val.fixedText (x .value)) d u fixedWidth m wide b g t′ e f h
 
   pub number-full : (y : Why) → b ≡ false → y ≡ D.full (intoOf d) → CopiedValue w t (Val.fixedText (x .value)) d u m w t (S.Bad y m)
-  number-full y e h = went-nowhere w t (Val.fixedText (x .value)) d u n m k b g y e h
+  number-full y e h = went-nowhere w t (Val.fixedText (x .value)) d u fixedWidth m wide b g y e h
 
 -- ---- the bytes of a variable, which lie at a place of the room s
 module _ (w t s : List ℕ) (at n : ℕ) (d : Dest) (u : ℕ) (m : Meter) (b : Bool) (g : b ≡ D.fits (intoOf d) u 0 n) where

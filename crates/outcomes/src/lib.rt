@@ -47,7 +47,6 @@ use sums::sum;
 use tokens::Piece;
 use tokens::PieceKind;
 use tokens::piece_at;
-use values::fixed_length;
 use values::put_fixed;
 
 // What is scanned: a stretch of a body, or of the work room.
@@ -532,14 +531,13 @@ fn copied_value(work: &[u8], text: &mut [u8], n: usize, d: Dest, u: usize, m: Me
 fn copied_number(work: &mut [u8], text: &mut [u8], x: Fixed, d: Dest, u: usize, m: Meter) -> Scanned
     ensures { λ r. ⌜ CopiedValue (now (work .entry)) (now (text .entry)) (fixedText (x .value)) d u m (now (work .exit)) (now (text .exit)) r ⌝ }
 {
-    let n = fixed_length(x);
-    if may_put(d, u, 0, n) {
+    if may_put(d, u, 0, Fixed::WIDTH) {
         if d.to_work {
             put_fixed(x, work, u);
-            return Scanned::Good(n, m);
+            return Scanned::Good(Fixed::WIDTH, m);
         }
         put_fixed(x, text, d.at);
-        return Scanned::Good(n, m);
+        return Scanned::Good(Fixed::WIDTH, m);
     }
     Scanned::Bad(full(d), m)
 }

@@ -44,9 +44,14 @@ five-bits : binary 17 5 ≡ bytesOf "00000000000000101"
 unfolding binary
 five-bits = refl
 
-least-text : fixedText (negsuc 99998) ≡ bytesOf "-99999"
+-- C-12
+least-text : fixedText (negsuc 99998) ≡ bytesOf "  -99999"
 unfolding fixedText decimalOn
 least-text = refl
+
+zero-text : fixedText (pos 0) ≡ bytesOf "       0"
+unfolding fixedText decimalOn
+zero-text = refl
 
 -- the shorter side is filled
 blanks-alike : bytesOrder 32 (bytesOf "A") (bytesOf "A  ") ≡ alike

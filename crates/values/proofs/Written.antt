@@ -2,27 +2,24 @@
 -- Assumes nothing.
 use mathlib.Core.Path.{_≡_, refl, sym, ap, subst, _∙_}
 use mathlib.Core.Bool.{Bool, true, false, not}
-use mathlib.Core.List.{List, [], _∷_}
+use mathlib.Core.List.{List, [], _∷_, _++_, append-nil, append-assoc}
 use Prim.Native.Nat.{ℕ, zero, suc, _+_, _*_, _-_, _/_, _%_, _^_, _<_, _≤_}
-use native.Mathlib.Nat.{add-zero, sub-self, div-one, pow-zero, pow-suc, div-div-eq-div-mul, mod-lt, mod-eq-of-lt, div-add-mod, pow-succ'}
+use native.Mathlib.Nat.{zero-add, suc-add, sub-self, div-one, pow-zero, pow-suc, div-div-eq-div-mul, mod-lt, mod-eq-of-lt}
 use native.Mathlib.Numerals.{add-one}
 use native.Mathlib.Omega.{arith}
-use borrow.Author.Tests.{lt-ltb, le-ltb, ltb-true, ltb-false}
+use borrow.Author.Tests.{lt-ltb, le-ltb, ltb-true}
 use lib.Dec.{ltb, lit<}
 use lib.IntN.{ℤ, pos, negsuc, natAbs}
-use lib.ListN.{length}
+use lib.ListN.{length, drop, replicate, length-append, length-replicate, replicate-append-replicate}
 use lib.Signed.{nonNeg}
-use mir.Syntax.{w64}
-use mir.Val.{Fits}
 use Rattle.definition.specs.Choice.{when}
-use Rattle.definition.specs.Fixed.{inRange}
 use Rattle.definition.specs.Room.{over}
-use Rattle.definition.specs.Values.{binary, decimalOn, fixedText}
-use Rattle.definition.proofs.Rooms.{length-over, over-nil, over-next-at, over-past}
-use Rattle.fixed.proofs.Magnitude.{range-size}
+use Rattle.definition.specs.Values.{binary, decimalOn, shortest as signed, fixedText}
+use Rattle.definition.proofs.Ranges.{decimal-length}
+use Rattle.definition.proofs.Rooms.{length-over, over-nil, over-next-at}
 use Rattle.values.specs.declared.Base.{Base}
 use Rattle.values.specs.declared.Base.the-variants.{Two, Ten}
-use Rattle.values.specs.Digits.{baseOf, lastDigits, Wrote}
+use Rattle.values.specs.Digits.{baseOf, lastDigits}
 
 -- ---- one digit
 base-low : (b : Base) → 0 < baseOf b
@@ -156,78 +153,105 @@ decimal-is n =
     let e : length (decimalOn 6 n []) ≡ s .count = ap length (s .is) ∙ length-digits 10 (s .count) n in
     rw e (s .is)
 
-decimal-most : (f n : ℕ) (l : List ℕ) → length (decimalOn f n l) ≤ f + length l
-unfolding decimalOn
-decimal-most zero n l = omega arith
-decimal-most (suc f) n l = go (ltb n 10) (decimal-most f (n / 10) ((48 + n % 10) ∷ l))
-  where
-    go : (t : Bool) → length (decimalOn f (n / 10) ((48 + n % 10) ∷ l)) ≤ f + suc (length l)
-        → length (when t (λ _. (48 + n) ∷ l) (λ _. decimalOn f (n / 10) ((48 + n % 10) ∷ l))) ≤ suc f + length l
-    go true h = omega arith
-    go false h = omega arith
+-- ---- blanks
+pub record Blanking (n : ℕ) (r₀ : List ℕ) (at : ℕ) (r : List ℕ) (j : ℕ) : Type 0 where
+  pub low : j ≤ n
+  pub is : r ≡ over r₀ at (replicate j 32)
+  pub size : length r ≡ length r₀
 
--- ---- FIXED to CHARACTER
-minus-text : (z : ℤ) → not (nonNeg z) ≡ true → fixedText z ≡ 45 ∷ decimalOn 6 (natAbs z) []
-unfolding fixedText
-minus-text (pos n) e = cc
-minus-text (negsuc n) e = refl
+pub blanking-start : (n : ℕ) (r : List ℕ) (at : ℕ) → Blanking n r at r 0
+blanking-start n r at = record { low = omega arith; is = sym (over-nil r at); size = refl }
 
-plain-text : (z : ℤ) → not (nonNeg z) ≡ false → fixedText z ≡ decimalOn 6 (natAbs z) []
-unfolding fixedText
-plain-text (pos n) e = refl
-plain-text (negsuc n) e = cc
+blank-last : (j : ℕ) → _++_ {A = ℕ} (replicate j 32) (32 ∷ []) ≡ replicate (j + 1) 32
+blank-last j = replicate-append-replicate {A = ℕ} j 1 32
+
+module _ (n : ℕ) (r₀ : List ℕ) (at : ℕ) (r : List ℕ) (j : ℕ) (p : Blanking n r₀ at r j) where
+  pub blanking-more : (r′ : List ℕ) → j < n → r′ ≡ over r (at + j) (32 ∷ []) → Blanking n r₀ at r′ (j + 1)
+  blanking-more r′ h e =
+      let d : r′ ≡ over r₀ at (replicate (j + 1) 32) =
+      e ∙ rw (p .is) (over-next-at r₀ at (at + j) (replicate j 32) (32 ∷ []) (rw (length-replicate {A = ℕ}))) ∙ ap (over r₀ at) (blank-last j) in
+      record { low = omega arith; is = d; size = ap length d ∙ length-over r₀ at (replicate (j + 1) 32) }
+
+  pub blanking-done : n ≤ j → r ≡ over r₀ at (replicate n 32)
+  blanking-done h =
+      let e : j ≡ n = omega (arith, p .low) in
+      rw e at (p .is)
+
+-- ---- FIXED to CHARACTER: eight digits, then blanks and the sign over the first of them
+-- what is written over the front of what was written
+front0 : (r l m : List ℕ) → over (over r 0 l) 0 m ≡ over r 0 (m ++ drop (length m) l)
+front0 [] l m = refl
+front0 (r ∷ rs) l [] = over-nil (over (r ∷ rs) 0 l) 0
+front0 (r ∷ rs) [] (x ∷ m) = ap (λ (t : List ℕ). x ∷ over rs 0 t) (sym (append-nil m))
+front0 (r ∷ rs) (y ∷ l) (x ∷ m) = ap (λ (t : List ℕ). x ∷ t) (front0 rs l m)
+
+over-front : (r : List ℕ) (at : ℕ) (l m : List ℕ) → over (over r at l) at m ≡ over r at (m ++ drop (length m) l)
+over-front r zero l m = front0 r l m
+over-front [] (suc at) l m = refl
+over-front (r ∷ rs) (suc at) l m = ap (λ (t : List ℕ). r ∷ t) (over-front rs at l m)
+
+-- the last digits are the end of more of them
+last-of-more : (base i k n : ℕ) → drop i (lastDigits base (i + k) n) ≡ lastDigits base k n
+unfolding lastDigits
+last-of-more base zero k n = rw zero-add
+last-of-more base (suc i) k n = rw suc-add (last-of-more base i k n)
+
+module _ (n k : ℕ) (f : k ≡ length (decimalOn 6 n [])) where
+  digits-few : k ≤ 6
+  digits-few = omega (arith, decimal-length 6 n [])
+
+  pub digits-in : k ≤ 8
+  digits-in = omega (arith, digits-few)
+
+  pub sign-in : 1 ≤ 8 - k
+  sign-in = omega (arith, digits-few)
+
+  digits-are : drop (8 - k) (lastDigits 10 8 n) ≡ decimalOn 6 n []
+  digits-are =
+      let c : 8 ≡ (8 - k) + k = omega (arith, digits-few) in
+      let d : drop (8 - k) (lastDigits 10 8 n) ≡ lastDigits 10 k n = subst (λ (j : ℕ). drop (8 - k) (lastDigits 10 j n) ≡ lastDigits 10 k n) (sym c) (last-of-more 10 (8 - k) k n) in
+      d ∙ ap (λ (j : ℕ). lastDigits 10 j n) f ∙ sym (decimal-is n)
 
 module _ (z : ℤ) (n k : ℕ) (negative : Bool) (e : n ≡ natAbs z) (f : k ≡ length (decimalOn 6 n [])) (g : negative ≡ not (nonNeg z)) where
-  pub count-fits : Fits w64 (k + 1)
-  count-fits = omega (arith, decimal-most 6 n [])
+  plain-text : negative ≡ false → fixedText z ≡ replicate (8 - k) 32 ++ decimalOn 6 n []
+  unfolding fixedText
+  plain-text h = rw (f, e) (go z (sym g ∙ h))
+    where
+      go : (x : ℤ) → not (nonNeg x) ≡ false
+          → replicate (8 - length (signed x)) 32 ++ signed x ≡ replicate (8 - length (decimalOn 6 (natAbs x) [])) 32 ++ decimalOn 6 (natAbs x) []
+      go (pos n) c = refl
+      go (negsuc n) c = cc
 
-  digits-are : lastDigits 10 k n ≡ decimalOn 6 (natAbs z) []
-  digits-are = rw (f, ← e) (sym (decimal-is n))
+  minus-text : negative ≡ true → fixedText z ≡ replicate (8 - k - 1) 32 ++ 45 ∷ decimalOn 6 n []
+  unfolding fixedText
+  minus-text h = rw (f, e) (go z (sym g ∙ h))
+    where
+      go : (x : ℤ) → not (nonNeg x) ≡ true
+          → replicate (8 - length (signed x)) 32 ++ signed x ≡ replicate (8 - length (decimalOn 6 (natAbs x) []) - 1) 32 ++ 45 ∷ decimalOn 6 (natAbs x) []
+      go (pos n) c = cc
+      go (negsuc n) c =
+          let d : 8 - suc (length (decimalOn 6 (suc n) [])) ≡ 8 - length (decimalOn 6 (suc n) []) - 1 = omega arith in
+          rw d
 
-  minus-is : negative ≡ true → fixedText z ≡ 45 ∷ lastDigits 10 k n
-  minus-is h = rw digits-are (minus-text z (sym g ∙ h))
+  module _ (r r₁ r₂ : List ℕ) (at : ℕ) (p : r₁ ≡ over r at (lastDigits 10 8 n)) (q : r₂ ≡ over r₁ at (replicate (8 - k) 32)) where
+    -- what of the length of the blanks is written at last
+    covered : (l : List ℕ) → length l ≡ 8 - k → over r₁ at l ≡ over r at (l ++ decimalOn 6 n [])
+    covered l c =
+        let d : drop (length l) (lastDigits 10 8 n) ≡ decimalOn 6 n [] = rw c (digits-are n k f) in
+        rw (p, over-front, d)
 
-  plain-is : negative ≡ false → fixedText z ≡ lastDigits 10 k n
-  plain-is h = rw digits-are (plain-text z (sym g ∙ h))
+    pub plain-put : negative ≡ false → r₂ ≡ over r at (fixedText z)
+    plain-put h = q ∙ covered (replicate (8 - k) 32) (length-replicate (8 - k) 32) ∙ ap (over r at) (sym (plain-text h))
 
-  pub minus-length : negative ≡ true → k + 1 ≡ length (fixedText z)
-  minus-length h = rw (minus-is h, add-one) (ap suc (sym (length-digits 10 k n)))
-
-  pub plain-length : negative ≡ false → k ≡ length (fixedText z)
-  plain-length h = rw (plain-is h) (sym (length-digits 10 k n))
-
-  pub minus-lost : (r : List ℕ) (at : ℕ) → negative ≡ true → length r ≤ at → Wrote (fixedText z) r at r (k + 1)
-  minus-lost r at h l = record { size = minus-length h; is = sym (over-past r at (fixedText z) l) }
-
-  pub minus-put : (r r₁ r₂ : List ℕ) (at : ℕ) → negative ≡ true → r₁ ≡ over r (at + 0) (45 ∷ []) → r₂ ≡ over r₁ (at + 1) (lastDigits 10 k n)
-      → Wrote (fixedText z) r at r₂ (k + 1)
-  minus-put r r₁ r₂ at h p q = record {
-    size = minus-length h;
-    is = q ∙ rw (p, add-zero, minus-is h) (over-next-at r at (at + 1) (45 ∷ []) (lastDigits 10 k n) refl);
-  }
-
-  pub plain-put : (r r₁ : List ℕ) (at : ℕ) → negative ≡ false → r₁ ≡ over r at (lastDigits 10 k n) → Wrote (fixedText z) r at r₁ k
-  plain-put r r₁ at h p = record { size = plain-length h; is = rw (plain-is h) p }
-
--- ---- how long a text is: a number below 10 ^ k has at most k digits
-module _ (f k n : ℕ) (l : List ℕ) (more : 10 ≤ n → length (decimalOn f (n / 10) ((48 + n % 10) ∷ l)) ≤ k + suc (length l)) where
-  within-next : (t : Bool) → ltb n 10 ≡ t
-      → length (when t (λ _. (48 + n) ∷ l) (λ _. decimalOn f (n / 10) ((48 + n % 10) ∷ l))) ≤ suc k + length l
-  within-next true e = omega arith
-  within-next false e = omega (arith, more (ltb-false n 10 e))
-
-within : (f k n : ℕ) (l : List ℕ) → n < 10 ^ k → 1 ≤ k → length (decimalOn f n l) ≤ k + length l
-unfolding decimalOn
-within zero k n l h o = omega arith
-within (suc f) zero n l h o = absurd (omega arith)
-within (suc f) (suc zero) n l h o =
-    let e : n < 10 = h in
-    rw (lt-ltb n 10 e) (omega arith)
-within (suc f) (suc (suc k)) n l h o =
-    let e : n < 10 * 10 ^ suc k = rw pow-succ' at h in
-    within-next f (suc k) n l (λ _. within f (suc k) (n / 10) ((48 + n % 10) ∷ l) (omega (arith, div-add-mod n 10)) (omega arith)) (ltb n 10) refl
-
-pub text-short : (z : ℤ) → inRange z ≡ true → length (fixedText z) ≤ 6
-unfolding fixedText
-text-short (pos n) e = omega (arith, within 6 5 n [] (omega (arith, range-size (pos n) e)) (omega arith))
-text-short (negsuc n) e = omega (arith, within 6 5 (suc n) [] (omega (arith, range-size (negsuc n) e)) (omega arith))
+    pub minus-put : (r₃ : List ℕ) → negative ≡ true → r₃ ≡ over r₂ (at + (8 - k - 1)) (45 ∷ []) → r₃ ≡ over r at (fixedText z)
+    minus-put r₃ h s =
+        let front : List ℕ = replicate (8 - k - 1) 32 in
+        let size : length front ≡ 8 - k - 1 = length-replicate (8 - k - 1) 32 in
+        let c : 8 - k ≡ (8 - k - 1) + 1 = omega (arith, digits-few n k f) in
+        let d : replicate (8 - k) 32 ≡ front ++ 32 ∷ [] = ap (λ (j : ℕ). replicate j 32) c ∙ sym (blank-last (8 - k - 1)) in
+        let blank : r₂ ≡ over (over r₁ at front) (at + (8 - k - 1)) (32 ∷ []) =
+        q ∙ ap (over r₁ at) d ∙ sym (over-next-at r₁ at (at + (8 - k - 1)) front (32 ∷ []) (rw size)) in
+        let sign : r₃ ≡ over r₁ at (front ++ 45 ∷ []) =
+        s ∙ rw blank (over-front (over r₁ at front) (at + (8 - k - 1)) (32 ∷ []) (45 ∷ [])) ∙ over-next-at r₁ at (at + (8 - k - 1)) front (45 ∷ []) (rw size) in
+        sign ∙ covered (front ++ 45 ∷ []) (length-append front (45 ∷ []) ∙ rw size (omega (arith, digits-few n k f)))
+        ∙ ap (over r at) (append-assoc front (45 ∷ []) (decimalOn 6 n []) ∙ sym (minus-text h))

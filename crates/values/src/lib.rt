@@ -5,7 +5,7 @@ ghost use mathlib.Core.Path.{_≡_};
 ghost use mathlib.Core.List.{[]};
 ghost use Prim.Native.Nat.{_+_, _-_, _%_};
 ghost use lib.IntN.{natAbs};
-ghost use lib.ListN.{length, getD};
+ghost use lib.ListN.{length, getD, replicate};
 ghost use Rattle.definition.specs.Lists.{part, all};
 ghost use Rattle.definition.specs.Room.{over};
 ghost use Rattle.definition.specs.Bytes.{isDigit, isBlank};
@@ -389,34 +389,28 @@ fn decimal_length(n: u32) -> usize
     k
 }
 
-// How long a FIXED is as CHARACTER.
-pub fn fixed_length(x: Fixed) -> usize
-    ensures { λ r. ⌜ r ≡ length (fixedText (x .value)) ⌝ }
+// Writes n blanks.
+fn put_blanks(room: &mut [u8], at: usize, n: usize)
+    ensures { λ _. ⌜ now (room .exit) ≡ over (now (room .entry)) at (replicate n 32) ⌝ }
 {
-    let k = decimal_length(x.magnitude());
-    if x.is_negative() {
-        return k + 1;
+    let mut j = 0;
+    while j < n {
+        put_byte(room, at, j, b' ');
+        j += 1;
     }
-    k
 }
 
-// FIXED to CHARACTER.
-pub fn put_fixed(x: Fixed, room: &mut [u8], at: usize) -> usize
-    ensures { λ r. ⌜ Wrote (fixedText (x .value)) (now (room .entry)) at (now (room .exit)) r ⌝ }
+// FIXED to CHARACTER. All eight places are written as digits; then blanks, and the sign, cover the zeros in front.
+pub fn put_fixed(x: Fixed, room: &mut [u8], at: usize)
+    ensures { λ _. ⌜ now (room .exit) ≡ over (now (room .entry)) at (fixedText (x .value)) ⌝ }
 {
     let n = x.magnitude();
-    let k = decimal_length(n);
+    let first = Fixed::WIDTH - decimal_length(n);
+    put_digits(Base::Ten, n, Fixed::WIDTH, room, at);
+    put_blanks(room, at, first);
     if x.is_negative() {
-        // Past the room's end nothing is written, and the next place may be no usize.
-        if room.len() <= at {
-            return k + 1;
-        }
-        put_byte(room, at, 0, b'-');
-        put_digits(Base::Ten, n, k, room, at + 1);
-        return k + 1;
+        put_byte(room, at, first - 1, b'-');
     }
-    put_digits(Base::Ten, n, k, room, at);
-    k
 }
 
 // ---- bit operations

@@ -6,15 +6,11 @@ use Rattle.operators.proofs.to_characters.Reads as reads
 use Rattle.operators.proofs.to_characters.Lts as lts
 use Rattle.operators.proofs.among.Reads as among-reads
 use Rattle.operators.proofs.fits.Reads as fits-reads
-use Rattle.values.proofs.fixed_length.Reads as fixed-length-reads
 use Rattle.values.proofs.put_fixed.Reads as put-fixed-reads
 use Rattle.operators.proofs.Texts.{text-in, text-out, text-characters, text-bits}
 
 enum-known-v : tie.Need-enum-known-v
 enum-known-v c = search needs
-
-fixed-length-requires : tie.Need-fixed-length-requires
-fixed-length-requires c κs = search needs
 
 fits-requires : tie.Need-fits-requires
 fits-requires c κs = search needs
@@ -54,7 +50,6 @@ to-characters-spec =
     tie.close
     (tie.spec
     enum-known-v
-    fixed-length-requires
     fits-requires
     put-fixed-requires
     same-length

@@ -5,15 +5,11 @@ use Rattle.operators.proofs.write_first.Tie as tie
 use Rattle.operators.proofs.write_first.Reads as reads
 use Rattle.operators.proofs.write_first.Lts as lts
 use Rattle.operators.proofs.raise.Reads as raise-reads
-use Rattle.values.proofs.fixed_length.Reads as fixed-length-reads
 use Rattle.values.proofs.put_fixed.Reads as put-fixed-reads
 use Rattle.operators.proofs.Joining.{first-written, first-characters-stay, first-bits-stay}
 
 enum-known-v : tie.Need-enum-known-v
 enum-known-v c = search needs
-
-fixed-length-requires : tie.Need-fixed-length-requires
-fixed-length-requires c κs = search needs
 
 raise-requires : tie.Need-raise-requires
 raise-requires c κs = search needs
@@ -44,7 +40,6 @@ write-first-spec =
     tie.close
     (tie.spec
     enum-known-v
-    fixed-length-requires
     raise-requires
     put-fixed-requires
     enum-told

@@ -6,12 +6,8 @@ use Rattle.outcomes.proofs.copied_number.Reads as reads
 use Rattle.outcomes.proofs.copied_number.Lts as lts
 use Rattle.outcomes.proofs.full.Reads as full-reads
 use Rattle.outcomes.proofs.may_put.Reads as may-put-reads
-use Rattle.values.proofs.fixed_length.Reads as fixed-length-reads
 use Rattle.values.proofs.put_fixed.Reads as put-fixed-reads
 use Rattle.outcomes.proofs.Copying.{number-work, number-text, number-full}
-
-fixed-length-requires : tie.Need-fixed-length-requires
-fixed-length-requires c κs = search needs
 
 may-put-requires : tie.Need-may-put-requires
 may-put-requires c κs = search needs
@@ -44,7 +40,6 @@ pub copied-number-spec : {M : Type 1} → statement M
 copied-number-spec =
     tie.close
     (tie.spec
-    fixed-length-requires
     may-put-requires
     put-fixed-requires
     same-length

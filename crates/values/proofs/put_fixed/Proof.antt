@@ -1,4 +1,4 @@
--- The sign, and the digits after it.
+-- Eight digits, and what covers the zeros in front of them.
 use borrow.Author.Needs.{needs}
 use Rattle.values.proofs.put_fixed.Statement.{statement}
 use Rattle.values.proofs.put_fixed.Tie as tie
@@ -8,8 +8,9 @@ use Rattle.fixed.proofs.Fixed.is_negative.Reads as is-negative-reads
 use Rattle.fixed.proofs.Fixed.magnitude.Reads as magnitude-reads
 use Rattle.rooms.proofs.put_byte.Reads as put-byte-reads
 use Rattle.values.proofs.decimal_length.Reads as decimal-length-reads
+use Rattle.values.proofs.put_blanks.Reads as put-blanks-reads
 use Rattle.values.proofs.put_digits.Reads as put-digits-reads
-use Rattle.values.proofs.Written.{count-fits, minus-lost, minus-put, plain-put}
+use Rattle.values.proofs.Written.{digits-in, sign-in, minus-put, plain-put}
 
 magnitude-requires : tie.Need-magnitude-requires
 magnitude-requires c κs = search needs
@@ -17,41 +18,35 @@ magnitude-requires c κs = search needs
 decimal-length-requires : tie.Need-decimal-length-requires
 decimal-length-requires c κs = search needs
 
-is-negative-requires : tie.Need-is-negative-requires
-is-negative-requires c κs = search needs
-
-add-result : tie.Need-add-result
-add-result c = search count-fits
-
-returns : tie.Need-returns
-returns c = search minus-lost
-
-put-byte-requires : tie.Need-put-byte-requires
-put-byte-requires c κs = search needs
-
-add-put-digits : tie.Need-add-put-digits
-add-put-digits c = search needs
+sub-first : tie.Need-sub-first
+sub-first c = search digits-in
 
 put-digits-requires : tie.Need-put-digits-requires
 put-digits-requires c κs = search needs
 
-add-result-2 : tie.Need-add-result-2
-add-result-2 c = search count-fits
+put-blanks-requires : tie.Need-put-blanks-requires
+put-blanks-requires c κs = search needs
+
+is-negative-requires : tie.Need-is-negative-requires
+is-negative-requires c κs = search needs
+
+sub-put-byte : tie.Need-sub-put-byte
+sub-put-byte c = search sign-in
+
+put-byte-requires : tie.Need-put-byte-requires
+put-byte-requires c κs = search needs
 
 same-length : tie.Need-same-length
 same-length c = search needs
 
-returns-2 : tie.Need-returns-2
-returns-2 c = search minus-put
-
-put-digits-requires-2 : tie.Need-put-digits-requires-2
-put-digits-requires-2 c κs = search needs
+returns : tie.Need-returns
+returns c = search minus-put
 
 same-length-2 : tie.Need-same-length-2
 same-length-2 c = search needs
 
-returns-3 : tie.Need-returns-3
-returns-3 c = search plain-put
+returns-2 : tie.Need-returns-2
+returns-2 c = search plain-put
 
 pub put-fixed-spec : {M : Type 1} → statement M
 put-fixed-spec =
@@ -59,15 +54,13 @@ put-fixed-spec =
     (tie.spec
     magnitude-requires
     decimal-length-requires
-    is-negative-requires
-    add-result
-    returns
-    put-byte-requires
-    add-put-digits
+    sub-first
     put-digits-requires
-    add-result-2
+    put-blanks-requires
+    is-negative-requires
+    sub-put-byte
+    put-byte-requires
     same-length
-    returns-2
-    put-digits-requires-2
+    returns
     same-length-2
-    returns-3)
+    returns-2)
