@@ -48,6 +48,9 @@ impl Value {
     /// FIXED to BIT: "17 bits of the magnitude".
     const FIXED_BITS: u32 = 17;
 
+    /// C-12: a FIXED value is turned "into eight characters".
+    const FIXED_CHARACTERS: usize = 8;
+
     pub fn character(places: Vec<u8>) -> Outcome<Value> {
         within_places(places).map(Value::Character)
     }
@@ -98,7 +101,7 @@ impl Value {
 
     pub fn into_characters(self) -> Vec<u8> {
         match self {
-            Value::Fixed(number) => number.get().to_string().into_bytes(),
+            Value::Fixed(number) => fixed_to_characters(number),
             Value::Character(places) | Value::Bit(places) => places,
         }
     }
@@ -182,6 +185,13 @@ pub fn magnitude(digits: &[u8], base: i64) -> i64 {
         let next = so_far * base + i64::from(digit.saturating_sub(b'0'));
         next.min(Fixed::GREATEST + 1)
     })
+}
+
+/// "eight characters, digits at the right, the minus sign directly before the
+/// first digit, blanks in front" (C-12).
+fn fixed_to_characters(number: Fixed) -> Vec<u8> {
+    let width = Value::FIXED_CHARACTERS;
+    format!("{:>width$}", number.get()).into_bytes()
 }
 
 fn fixed_to_bits(number: Fixed) -> Vec<u8> {

@@ -293,12 +293,12 @@ fn constants_and_operators_cross_an_edge() {
     for (front, back, value) in [
         ("'a'", "'b'", "a'b"),
         ("'a", "b'", "ab"),
-        ("1", "2", "12"),
+        ("1", "2", "      12"),
         ("'1'", "B", "1"),
-        ("1|", "|2", "12"),
+        ("1|", "|2", "       1       2"),
         ("1^", "=2", "1"),
         ("1>", "=2", "0"),
-        ("SUB", "STR(45,2)", "5"),
+        ("SUB", "STR(45,8)", "5"),
     ] {
         let filler = " ".repeat(71 - statements.len() - front.len());
         let records = [

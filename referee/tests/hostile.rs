@@ -54,9 +54,9 @@ fn long_chains_of_operators() {
         assert_eq!(answer.number, 0);
         answer.text
     };
-    assert_eq!(value(format!("{}1", "-".repeat(60_000))), b"  1");
+    assert_eq!(value(format!("{}1", "-".repeat(60_000))), b"         1");
     assert_eq!(value(format!("{}'01'B", "^".repeat(60_001))), b"  10");
-    assert_eq!(value(format!("1{}", "+1-1".repeat(15_000))), b"  1");
+    assert_eq!(value(format!("1{}", "+1-1".repeat(15_000))), b"         1");
     assert_eq!(value(format!("1{}", "|0&1=1".repeat(10_000)))[18], b'1');
 }
 
@@ -98,13 +98,13 @@ fn deepest() -> Record {
             16 => "1".to_string(),
             _ => format!("P{}(1)", number + 1),
         };
-        let open = "+(1+0*(1||".repeat(6) + "(";
+        let open = "+(1+0*(''||".repeat(6) + "(";
         let close = ")".repeat(13);
         let groups = "DO;".repeat(8) + &"IF 1 THEN DO;".repeat(4);
         let ends = "END;".repeat(12);
         main.push_str(&format!(
             "%P{number}:PROC(A)RETURNS(CHAR);DCL A CHAR;\
-             {groups}A=SUBSTR({open}{inner}{close},1,1)=1;RETURN(A);{ends}%END;"
+             {groups}A=SUBSTR({open}{inner}{close},8,1)=1;RETURN(A);{ends}%END;"
         ));
     }
     let nest = |inside: &str| {

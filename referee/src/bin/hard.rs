@@ -101,8 +101,8 @@ const DECKS: &[Deck] = &[
     ("waiting-in-procedures-65537", 16, || {
         waiting_in_procedures("'x'")
     }),
-    ("waiting-in-substr-65536", 0, || waiting_in_substr(507)),
-    ("waiting-in-substr-65537", 16, || waiting_in_substr(508)),
+    ("waiting-in-substr-65536", 0, || waiting_in_substr(504)),
+    ("waiting-in-substr-65537", 16, || waiting_in_substr(505)),
     ("waiting-given-back", 0, waiting_given_back),
     ("waiting-given-back-in-text", 0, waiting_given_back_in_text),
     ("waiting-in-text", 0, || waiting_in_text(7)),
@@ -237,7 +237,7 @@ fn operators_infix() -> Bodies {
 
 /// From the loosest operator to the tightest and back.
 fn operators_of_each_kind() -> Bodies {
-    expression(&format!("1{}", "|1&1=1||1+1*1".repeat(5_000)))
+    expression(&format!("1{}", "|1&1=''||1+1*1".repeat(4_600)))
 }
 
 /// A long expression costs one step, however long it is.
@@ -466,7 +466,7 @@ fn called_with(arguments: usize) -> (String, String) {
 
 fn arguments(count: usize) -> Bodies {
     let (procedure, call) = called_with(count);
-    vec![format!("{procedure}%IF {call}='1255' %THEN %DO;yes%END;")]
+    vec![format!("{procedure}%IF {call}=1||255 %THEN %DO;yes%END;")]
 }
 
 fn arguments_in_text(count: usize) -> Bodies {
@@ -566,7 +566,8 @@ fn waiting_in_text(count: usize) -> Bodies {
     vec![format!("{main}{open}{}", ")".repeat(16))]
 }
 
-/// 127 values of 512 bytes wait for a call, then the digits of a FIXED s in SUBSTR, then an argument of so many bytes.
+/// 127 values of 512 bytes wait for a call, then the characters of a FIXED s in SUBSTR, then an argument of so many
+/// bytes.
 fn waiting_in_substr(last: usize) -> Bodies {
     let parameters = numbered("A", 128);
     let mut main = format!("%DCL (R,V,W) CHAR;%V='{}';", "v".repeat(512));
