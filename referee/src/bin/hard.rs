@@ -26,6 +26,7 @@ const DECKS: &[Deck] = &[
     ("prefix-mixed-60000", 0, prefix_mixed),
     ("joins", 0, joins),
     ("comparisons", 0, comparisons),
+    ("comparisons-of-512", 0, comparisons_of_512),
     ("parentheses-16", 0, || parentheses(16)),
     ("parentheses-17", 4, || parentheses(17)),
     ("parentheses-again-and-again", 0, parentheses_repeated),
@@ -112,6 +113,8 @@ const DECKS: &[Deck] = &[
     ("list-room-full", 0, || list_room("")),
     ("list-room-past", 17, || list_room("V")),
     ("text-of-names", 0, text_of_names),
+    ("text-of-numbers", 0, || text_of_numbers(3)),
+    ("text-of-numbers-past", 17, || text_of_numbers(4)),
     ("deck-65536", 0, || vec!["x".repeat(65_536 - 18)]),
     ("deck-65537", 1, || vec!["x".repeat(65_537 - 18)]),
     ("deck-131072", 1, || vec!["x".repeat(131_072 - 18)]),
@@ -261,6 +264,14 @@ fn joins() -> Bodies {
 
 fn comparisons() -> Bodies {
     expression(&format!("1{}", "=1".repeat(30_000)))
+}
+
+/// Two sides that differ in their last place, 40,000 times.
+fn comparisons_of_512() -> Bodies {
+    let side = "v".repeat(511);
+    in_procedure(&format!(
+        "DCL I FIXED,(V,W) CHAR;V='{side}w';W='{side}x';DO I=1 TO 20000;IF V=W|V||''>W THEN RETURN(I);END;"
+    ))
 }
 
 fn parentheses(depth: usize) -> Bodies {
@@ -615,6 +626,17 @@ fn text_room(more: usize) -> Bodies {
     vec![format!(
         "%DCL V CHAR;%V='{value}';{}{}",
         "V+".repeat(127),
+        "+".repeat(more)
+    )]
+}
+
+/// 3 blanks, 28 times 256 numbers with a byte behind each and one more, 110 such numbers, and so many bytes more.
+fn text_of_numbers(more: usize) -> Bodies {
+    vec![format!(
+        "%DCL F FIXED,V CHAR;%F=-7;%V='{}';{}{}{}",
+        "F+".repeat(256),
+        "V;".repeat(28),
+        "F;".repeat(110),
         "+".repeat(more)
     )]
 }

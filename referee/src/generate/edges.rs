@@ -5,7 +5,7 @@ use super::random::Random;
 
 /// A deck at some limit.
 pub fn edge(random: &mut Random) -> Bodies {
-    match random.weighted(&[8, 10, 14, 12, 8, 8, 5, 7, 6, 8, 8, 3, 6, 4]) {
+    match random.weighted(&[8, 10, 14, 12, 8, 8, 5, 7, 6, 8, 8, 3, 6, 4, 9]) {
         0 => main(parentheses(random)),
         1 => main(nested_groups(random)),
         2 => main(long_name(random)),
@@ -19,7 +19,8 @@ pub fn edge(random: &mut Random) -> Bodies {
         10 => main(number_ends(random)),
         11 => big_deck(random),
         12 => main(substr_ends(random)),
-        _ => many_members(random),
+        13 => many_members(random),
+        _ => main(long_sides(random)),
     }
 }
 
@@ -170,7 +171,7 @@ fn long_value(random: &mut Random) -> Vec<u8> {
     let half = length / 2;
     let run = |byte: u8, count: usize| String::from_utf8_lossy(&vec![byte; count]).into_owned();
     let rest = length - half;
-    let body = match random.below(10) {
+    let body = match random.below(12) {
         0 => format!("%DCL R CHAR;%R='{}';R", run(b'X', length)),
         1 => format!("%DCL R CHAR;%R='{}'B;R", run(b'1', length)),
         2 => format!(
@@ -178,7 +179,7 @@ fn long_value(random: &mut Random) -> Vec<u8> {
             run(b'X', half),
             run(b'y', rest)
         ),
-        3 => format!("%DCL R CHAR;%R='{}'||12;%R=R||R;", run(b'X', half)),
+        3 => format!("%DCL R CHAR;%R='{}'||12;%R=R||R;", run(b'X', half - 8)),
         4 => format!(
             "%DCL P ENTRY;%P:PROC(A)RETURNS(CHAR);DCL A CHAR;RETURN(A);%END;P({})",
             run(b'X', length)
@@ -195,10 +196,15 @@ fn long_value(random: &mut Random) -> Vec<u8> {
         ),
         7 => format!("%IF '{}'&1 %THEN %;A", run(b'0', length)),
         8 => format!("%DCL R CHAR;%R='{}';R", "''".repeat(length)),
+        9 => format!("%DCL R CHAR;%R=-12345||'{}';R", run(b'y', length - 8)),
+        10 => format!(
+            "%DCL P ENTRY,F FIXED;%F={half};%P:PROC(A)RETURNS(CHAR);DCL A CHAR;RETURN(A);%END;P({}F)",
+            run(b'-', length - 8)
+        ),
         _ => format!(
             "%DCL R FIXED;%R='{}7{}'||8;R",
             run(b'0', half),
-            run(b' ', rest - 2)
+            run(b' ', rest - 9)
         ),
     };
     body.into_bytes()
@@ -529,18 +535,62 @@ fn many_members(random: &mut Random) -> Bodies {
     Bodies { names, bodies }
 }
 
-/// SUBSTR around the ends of its string.
+/// SUBSTR around the ends of its string, or of the eight characters of a number.
 fn substr_ends(random: &mut Random) -> Vec<u8> {
-    let string = random.word(&[
-        b"''", b"'A'", b"'ABC'", b"123", b"-5", b"'101'B", b"''B", b"S",
-    ]);
-    let start = random.word(&[
-        b"0", b"1", b"2", b"3", b"4", b"5", b"-1", b"99999", b"'2'", b"'X'",
-    ]);
+    let number = random.one_in(3);
+    let string = random.word(match number {
+        true => &[b"123", b"-5", b"0", b"-99999", b"S+1"],
+        false => &[b"''", b"'A'", b"'ABC'", b"'101'B", b"''B", b"S"],
+    });
+    let start = random.word(match number {
+        true => &[b"0", b"1", b"2", b"5", b"6", b"7", b"8", b"9", b"10"],
+        false => &[
+            b"0", b"1", b"2", b"3", b"4", b"5", b"-1", b"99999", b"'2'", b"'X'",
+        ],
+    });
     let count = random.word(&[
-        b"", b",0", b",1", b",2", b",3", b",4", b",-1", b",99999", b",'01'B",
+        b"", b",0", b",1", b",2", b",3", b",4", b",8", b",-1", b",99999", b",'01'B",
     ]);
     let before = b"%DCL (R,S) CHAR;%S='01';%R=(SUBSTR(";
     let behind = random.word(&[b"))||'!';<R>", b"))||'1'B;<R>", b")='1'B);<R>"]);
     [before, string, b",", start, count, behind].concat()
+}
+
+/// A side of 509 to 512 places: as it is, cut, or joined out of two; its last places may differ.
+fn long_side(random: &mut Random) -> String {
+    let length = random.between(509, 512);
+    let (filler, mark) = if random.one_in(3) {
+        ("0", "B")
+    } else {
+        ("a", "")
+    };
+    let last = ["0", "1", "a", " ", "!", "\n"];
+    // Only 0 and 1 can stand in a bit string.
+    let last = last[random.below(if mark == "B" { 2 } else { last.len() })];
+    let constant = |count: usize| format!("'{}{last}'{mark}", filler.repeat(count - 1));
+    match random.below(6) {
+        0 => "V".to_string(),
+        1 => format!("SUBSTR(V,{})", random.between(1, 4)),
+        2 => format!("'{}'{mark}||{}", filler.repeat(200), constant(length - 200)),
+        3 => format!("'{}'||7", filler.repeat(length - 8)),
+        4 => ["''", "''B", "' '", "7"][random.below(4)].to_string(),
+        _ => constant(length),
+    }
+}
+
+/// Comparisons of long sides, alone or while other values wait for their call.
+fn long_sides(random: &mut Random) -> Vec<u8> {
+    let operator = ["=", "^=", "<", ">", "<=", ">=", "^<", "^>"][random.below(8)];
+    let compared = format!("{}{operator}{}", long_side(random), long_side(random));
+    let mut body = format!("%DCL (R,V) CHAR;%V='{}';", "a".repeat(512));
+    if random.one_in(3) {
+        body += &format!("%R={compared};R%IF {compared} %THEN %DO;b%END;");
+        return body.into_bytes();
+    }
+    let waiting = random.between(125, 127);
+    let names: Vec<String> = (0..=waiting).map(|number| format!("A{number}")).collect();
+    let names = names.join(",");
+    body += &format!("%P:PROC({names})RETURNS(CHAR);DCL ({names}) CHAR;RETURN(A{waiting});%END;");
+    body += &format!("%R=P({}{compared});R", "V,".repeat(waiting));
+    body.into_bytes()
 }

@@ -97,7 +97,7 @@ impl Author<'_> {
     fn digits(&mut self) {
         self.put(b"SUBSTR('12345'||");
         self.small_number();
-        let ends: &[&[u8]] = &[b",2,3)", b",3)", b",6)", b",1,0)", b",5,1)"];
+        let ends: &[&[u8]] = &[b",2,3)", b",13)", b",6)", b",1,0)", b",5,1)"];
         let end = self.random.word(ends);
         self.put(end);
     }

@@ -9,6 +9,7 @@ mod expressions;
 mod jumps;
 mod limits;
 mod mutated;
+mod numbers;
 mod operations;
 mod pages;
 mod pairs;
@@ -44,7 +45,7 @@ pub fn record(seed: u64, number: u64) -> Record {
 }
 
 fn made(random: &mut Random) -> Record {
-    let kind = random.weighted(&[50, 6, 3, 3, 2, 10, 11, 4, 3, 5, 10, 2, 1, 5, 4, 20, 8]);
+    let kind = random.weighted(&[50, 6, 3, 3, 2, 10, 11, 4, 3, 5, 10, 2, 1, 5, 4, 20, 8, 7]);
     let mut record = of_kind(random, kind);
     if record.layout == Layout::Plain && random.percent(28) {
         cards::punch(random, &mut record);
@@ -81,7 +82,8 @@ fn of_kind(random: &mut Random, kind: usize) -> Record {
         13 => with_rooms(random, jumps::maze),
         14 => ample(&operations::operations(random)),
         15 => ample(&limits::limit(random)),
-        _ => pages_on_cards(random),
+        16 => pages_on_cards(random),
+        _ => with_rooms(random, numbers::numbers),
     }
 }
 
@@ -199,12 +201,13 @@ fn small(random: &mut Random, bound: usize) -> u32 {
 
 /// A deck that [`tighten`] gives its steps and rooms.
 fn to_be_tight(random: &mut Random) -> Record {
-    let bodies = match random.weighted(&[65, 15, 10, 10, 25]) {
+    let bodies = match random.weighted(&[60, 15, 10, 10, 25, 30]) {
         0 => programs(random),
         1 => pairs::several_errors(random),
         2 => damaged_by_tokens(random),
         3 => edges::edge(random),
-        _ => return pages_on_cards(random),
+        4 => return pages_on_cards(random),
+        _ => numbers::numbers(random),
     };
     Record {
         layout: Layout::Plain,
