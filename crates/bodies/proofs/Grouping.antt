@@ -41,7 +41,6 @@ use Rattle.bodies.specs.declared.Bound.{Bound}
 use Rattle.bodies.specs.declared.Bound.the-variants as Bo
 use Rattle.bodies.specs.declared.Side.{Side}
 use Rattle.bodies.specs.declared.Side.the-variants as Si
-use Rattle.bodies.specs.declared.Word.{Word}
 use Rattle.bodies.specs.declared.Word.the-variants as Wo
 use Rattle.bodies.specs.declared.Widened.{Widened}
 use Rattle.bodies.specs.declared.Widened.the-variants as Wd

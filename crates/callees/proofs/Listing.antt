@@ -3,15 +3,12 @@
 use mathlib.Core.Path.{_≡_, refl, sym, ap, _∙_}
 use mathlib.Core.Bool.{Bool, true, false, not, cond}
 use mathlib.Core.List.{List, [], _∷_}
-use Prim.Native.Nat.{ℕ, zero, suc, _+_, _-_, _<_, _≤_}
+use Prim.Native.Nat.{ℕ, suc, _+_, _-_, _<_, _≤_}
 use Prim.Native.String as S
-use native.Mathlib.Nat.{zero-add, add-zero}
-use native.Mathlib.Numerals.{add-one}
+use native.Mathlib.Nat.{zero-add}
 use native.Mathlib.Omega.{arith}
-use borrow.Author.Tests.{leb-true}
 use lib.Dec.{leb}
 use lib.ListN.{length}
-use Rattle.definition.specs.Lists.{part}
 use Rattle.definition.specs.Text.{bytesOf}
 use Rattle.definition.specs.Tokens as T
 use Rattle.definition.specs.Tokens.{tokenAt, isSign}
@@ -22,8 +19,7 @@ use Rattle.definition.specs.declared.Why.{Why}
 use Rattle.definition.specs.declared.Why.the-variants.{WrongName, OverLimit}
 use Rattle.definition.proofs.Ends.{Past, Lies, tokenAt-lies, reads-it, nameAt-past}
 use Rattle.tokens.specs.declared.Lexeme.{Lexeme}
-use Rattle.tokens.specs.declared.Kind.{Kind}
-use Rattle.tokens.specs.declared.Kind.the-variants.{Word, Integer, String, Bits, Sign, Nothing, Wrong}
+use Rattle.tokens.specs.declared.Kind.the-variants.{String, Nothing, Wrong}
 use Rattle.tokens.specs.Answer.{Lexed, isSignIn, kindOf, lexemeFor, spelling, content, tokenFor}
 use Rattle.tokens.proofs.Lexemes as L
 use Rattle.names.specs.declared.Place.{Place}
@@ -41,7 +37,7 @@ use Rattle.callees.specs.declared.Parameter.{Parameter}
 use Rattle.callees.specs.declared.Called.{Called}
 use Rattle.callees.specs.declared.Called.the-variants as K
 use Rattle.callees.specs.Shown.{namesWorld}
-use Rattle.callees.specs.Answer.{ownerAt, spelledAt, parameterFor, withTo, parameterOf, ParameterIs, Listed, Names, calledFor, CountedIs, HeadedBy, Headed, CalleeIs, CalleeOf}
+use Rattle.callees.specs.Answer.{ownerAt, spelledAt, parameterFor, parameterOf, ParameterIs, Listed, Names, calledFor, CountedIs, HeadedBy, CalleeIs, CalleeOf}
 
 -- ---- a sign behind a place
 pub told : (s : List ℕ) (at : ℕ) (l : Lexeme) (lex : Lexed s at l) (W : S.String) (w : List ℕ) (r b : Bool) → bytesOf W ≡ w → r ≡ isSignIn s l w → r ≡ b → isSign W (tokenAt s at .token) ≡ b

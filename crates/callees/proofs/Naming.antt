@@ -3,22 +3,19 @@
 use mathlib.Core.Path.{_≡_, refl, sym, ap, _∙_}
 use mathlib.Core.Bool.{Bool, true, false, cond}
 use mathlib.Core.List.{List, [], _∷_}
-use Prim.Native.Nat.{ℕ, zero, suc, _+_, _-_, _<_, _≤_}
-use native.Mathlib.Nat.{add-zero, add-suc, zero-add}
+use Prim.Native.Nat.{ℕ, zero, suc, _+_, _-_, _<_}
+use native.Mathlib.Nat.{add-zero, zero-add}
 use native.Mathlib.Omega.{arith}
-use lib.Dec.{eqb}
 use lib.ListN.{length, getD}
 use Rattle.definition.specs.Choice.{when}
 use Rattle.definition.specs.Lists.{part, same}
 use Rattle.definition.specs.Text.{bytesOf}
-use Rattle.definition.specs.Tokens as T
 use Rattle.definition.specs.Values as Val
 use Rattle.definition.specs.World as W
 use Rattle.definition.specs.World.{addressIn, isIdentifier, seenFrom, orGlobal, addressOf}
 use Rattle.definition.specs.Evaluate as E
 use Rattle.definition.proofs.Parts.{length-part, same-length}
 use Rattle.definition.specs.declared.ValueType.{ValueType}
-use Rattle.definition.specs.declared.Why.the-variants.{WrongName}
 use Rattle.tokens.specs.declared.Lexeme.{Lexeme}
 use Rattle.tokens.specs.Answer.{Lexed}
 use Rattle.names.specs.declared.Address.{Address}
@@ -36,7 +33,7 @@ use Rattle.names.specs.Table.{ownerOf, denotationOf, nameIn, identifiersFrom, f
 use Rattle.callees.specs.declared.Meant.{Meant}
 use Rattle.callees.specs.declared.Meant.the-variants.{AVariable, AnEntry, TheSubstr, NoSuch}
 use Rattle.callees.specs.declared.ParameterAt.the-variants as P
-use Rattle.callees.specs.Shown.{denotationsFrom, namesWorld, Named}
+use Rattle.callees.specs.Shown.{denotationsFrom, namesWorld}
 use Rattle.callees.specs.Answer.{meantFor, ownerAt, spelledAt, parameterOf, ParameterIs}
 
 -- ---- SUBSTR

@@ -1,8 +1,8 @@
 -- Procedures that are running.
 -- Assumes nothing.
-use mathlib.Core.Path.{_≡_, refl, sym, ap, _∙_}
+use mathlib.Core.Path.{_≡_, refl, sym, _∙_}
 use mathlib.Core.Bool.{Bool, true, false, _&&_, _||_}
-use mathlib.Core.List.{List, [], _∷_}
+use mathlib.Core.List.{List}
 use Prim.Native.Nat.{ℕ, zero, suc, _+_, _-_, _<_, _≤_}
 use native.Mathlib.Numerals.{add-one}
 use native.Mathlib.Omega.{arith}
@@ -10,11 +10,10 @@ use borrow.Author.Tests.{eq-eqb, ne-eqb}
 use lib.Dec.{eqb}
 use lib.ListN.{length, getD, set}
 use lib.Seq.{getD-set-same, getD-set-other}
-use Rattle.definition.specs.Calls as C
 use Rattle.definition.specs.Calls.{isRunning}
 use Rattle.names.specs.declared.Place.{Place}
 use Rattle.callees.specs.declared.Running.{Running}
-use Rattle.callees.specs.Answer.{onFrom, onOf, placeOf, StartedIs}
+use Rattle.callees.specs.Answer.{onFrom, onOf, StartedIs}
 
 pub here-both : (m r : ℕ) (p : Place) → m ≡ p .member → r ≡ p .row → true ≡ (eqb m (p .member) && eqb r (p .row))
 here-both m r p e f = rw (eq-eqb m (p .member) e, eq-eqb r (p .row) f)

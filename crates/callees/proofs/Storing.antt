@@ -5,7 +5,7 @@ use mathlib.Core.Bool.{Bool, true, false, cond}
 use mathlib.Core.List.{List, [], _∷_}
 use mathlib.Core.Logic.{⊎-elim, _⊎_, inl, inr}
 use Prim.Native.Nat.{ℕ, zero, suc, _+_, _*_, _-_, _%_, _<_, _≤_}
-use native.Mathlib.Nat.{add-zero, add-suc, zero-add, mod-eq-of-lt}
+use native.Mathlib.Nat.{add-zero, zero-add, mod-eq-of-lt}
 use native.Mathlib.Numerals.{add-one}
 use native.Mathlib.Omega.{arith}
 use borrow.Author.Tests.{lt-ltb, le-ltb, leb-true, ltb-true, ltb-false}
@@ -17,8 +17,7 @@ use lib.ListN.{length, getD, set}
 use Rattle.definition.specs.Lists.{part}
 use Rattle.definition.specs.Room.{over}
 use Rattle.definition.specs.Fixed as F
-use Rattle.definition.specs.Tokens.{tokenAt, isSign}
-use Rattle.definition.specs.Expressions as X
+use Rattle.definition.specs.Tokens.{tokenAt}
 use Rattle.definition.specs.Values as Val
 use Rattle.definition.specs.Evaluate as E
 use Rattle.definition.specs.World as W
@@ -38,7 +37,7 @@ use Rattle.store.specs.declared.Number.{Number}
 use Rattle.store.specs.declared.Number.the-variants as N
 use Rattle.store.specs.declared.Length.{Length}
 use Rattle.store.specs.declared.Length.the-variants as L
-use Rattle.store.specs.Cells.{slot, half, fixedCell, characterCell, cellIn, numberCell, lengthCell, LengthAt, Stored}
+use Rattle.store.specs.Cells.{slot, half, characterCell, cellIn, numberCell, LengthAt, Stored}
 use Rattle.names.specs.declared.Place.{Place}
 use Rattle.operators.specs.declared.Value.{Value}
 use Rattle.operators.specs.declared.Value.the-variants as O
@@ -53,7 +52,7 @@ use Rattle.callees.specs.declared.Parameter.{Parameter}
 use Rattle.callees.specs.declared.Callee.{Callee}
 use Rattle.callees.specs.declared.Held.{Held}
 use Rattle.callees.specs.Shown.{denotationsFrom, namesWorld, cellAs, valuesFrom, Slots, Typed}
-use Rattle.callees.specs.Answer.{ownerAt, spelledAt, parameterFor, parameterOf, ParameterIs, Listed, Names, heldNumber, HeldWith, heldAt, numberOf, fixedIn, FixedHeld, heldIn, heldSize, heldFrom, Waiting, HeldIs, readIn, VariableIs, ValueStored, storeCells, AllStored}
+use Rattle.callees.specs.Answer.{ownerAt, spelledAt, parameterFor, parameterOf, ParameterIs, Names, heldNumber, HeldWith, heldAt, numberOf, fixedIn, FixedHeld, heldSize, heldFrom, Waiting, HeldIs, VariableIs, ValueStored, storeCells, AllStored}
 use Rattle.callees.proofs.Listing.{First, first-of}
 
 -- ---- a number that is held

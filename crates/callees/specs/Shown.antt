@@ -1,6 +1,6 @@
 -- HOW THE ROOMS STAND FOR THE WORLD. What evaluation changes, the values and the steps, is a function of the rooms: `worldIn`. What it
 -- leaves as it is (identifiers, denotations, rows, and all the rest) is a world B that the rooms show: `Named` here.
-use Prim.Native.Nat.{ℕ, zero, suc, _+_, _≤_}
+use Prim.Native.Nat.{ℕ, zero, suc, _≤_}
 use mathlib.Core.Path.{_≡_}
 use mathlib.Core.List.{List, [], _∷_}
 use lib.ListN.{length, getD}

@@ -14,7 +14,7 @@ use lib.ListN.{length, length-append}
 use Rattle.definition.specs.Lists.{part, bytes}
 use Rattle.definition.specs.Room.{over}
 use Rattle.definition.specs.Deck.{Line, linePlace, lineAt, linesFrom, lines, count}
-use Rattle.definition.specs.Cards.{uneven, columns, records, joinedSize, joinedLines, joinedBodies, joined, given}
+use Rattle.definition.specs.Cards.{uneven, columns, records, joinedSize, joinedLines, joinedBodies, joined}
 use Rattle.definition.proofs.Rooms.{length-over, over-nil, over-next-at}
 use Rattle.definition.proofs.Parts.{length-part}
 use Rattle.deck.specs.Answer as A

@@ -7,13 +7,12 @@ use Prim.Native.Nat.{ℕ, zero, suc, _+_, _*_, _-_, _<_, _≤_}
 use native.Mathlib.Nat.{add-zero, suc-add, add-suc}
 use native.Mathlib.Numerals.{add-one}
 use native.Mathlib.Omega.{arith}
-use borrow.Author.Needs.{needs}
 use borrow.Author.Tests.{eq-eqb, ne-eqb, le-leb, lt-leb}
 use lib.Dec.{eqb, leb}
 use lib.ListN.{length, getD, replicate}
 use Rattle.definition.specs.Lists.{part, number, all, past, same}
 use Rattle.definition.specs.Bytes.{isLetter, isAlphameric, isBlank}
-use Rattle.definition.specs.Deck.{Line, linePlace, lineAt, linesFrom, lines, count, isMemberName, areNamed, isCalled, Found, none, line, find, isNone, areDistinct, follow, isSound, contents, holds, malformed}
+use Rattle.definition.specs.Deck.{Line, linePlace, lineAt, linesFrom, lines, count, isMemberName, areNamed, isCalled, Found, none, line, find, isNone, areDistinct, follow, isSound, contents}
 use Rattle.definition.proofs.Parts.{part-first, length-part, same-length}
 use Rattle.member.specs.Body.{bodyBytes}
 use Rattle.deck.specs.Answer as A

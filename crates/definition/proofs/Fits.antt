@@ -14,7 +14,7 @@ use Rattle.definition.specs.Events.{Event, blank, copied, replaced, byte
 use Rattle.definition.specs.Cards.{Layout, plain, cards, joined, asGiven, linesAs}
 use Rattle.definition.specs.World as W
 use Rattle.definition.specs.World.{Pass, World}
-use Rattle.definition.specs.Names.{Entering, enter}
+use Rattle.definition.specs.Names.{Entering}
 use Rattle.definition.specs.Flow.{End, ran, returned, went}
 use Rattle.definition.specs.Run.{Stop, bodyOf}
 use Rattle.definition.specs.Expansion.{Expansion, result, runMain, capped, worldFor, expansion, sizeIn, expansionOf}

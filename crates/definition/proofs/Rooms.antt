@@ -1,11 +1,12 @@
 -- The laws of `over`, which every proof about a lent room cites.
 -- Assumes nothing.
 use mathlib.Core.Path.{_≡_, refl, sym, ap, _∙_}
-use mathlib.Core.List.{List, [], _∷_, _++_}
+use mathlib.Core.List.{List, [], _∷_, _++_, append-nil}
 use Prim.Native.Nat.{ℕ, zero, suc, _+_, _<_, _≤_}
 use native.Mathlib.Nat.{zero-add, suc-add, not-suc-le-zero, le-of-suc-le-suc}
+use native.Mathlib.Numerals.{add-one}
 use native.Mathlib.Omega.{arith}
-use lib.ListN.{length, getD, set, length-replicate, replicate-append-replicate}
+use lib.ListN.{length, getD, set, drop, length-replicate, replicate-append-replicate}
 use Rattle.definition.specs.Room.{over, zeros}
 
 pub length-over : (r : List ℕ) (at : ℕ) (xs : List ℕ) → length (over r at xs) ≡ length r
@@ -39,6 +40,32 @@ over-next (r ∷ rs) (suc at) xs ys = rw suc-add (ap (λ (t : List ℕ). r ∷ t
 -- the same with the place given by an equation, so that omega finds it
 pub over-next-at : (r : List ℕ) (at n : ℕ) (xs ys : List ℕ) → n ≡ at + length xs → over (over r at xs) n ys ≡ over r at (xs ++ ys)
 over-next-at r at n xs ys e = rw e (over-next r at xs ys)
+
+under0 : (r xs ys : List ℕ) → over (over r (length xs) ys) 0 xs ≡ over r 0 (xs ++ ys)
+under0 [] xs ys = refl
+under0 (r ∷ rs) [] ys = over-nil (over (r ∷ rs) 0 ys) 0
+under0 (r ∷ rs) (x ∷ xs) ys = ap (λ (t : List ℕ). x ∷ t) (under0 rs xs ys)
+
+-- what is written before what was written
+pub over-under : (r : List ℕ) (u n : ℕ) (xs ys : List ℕ) → n ≡ length xs → over (over r (u + n) ys) u xs ≡ over r u (xs ++ ys)
+over-under r zero n xs ys e = rw (zero-add, e) (under0 r xs ys)
+over-under [] (suc u) n xs ys e = refl
+over-under (r ∷ rs) (suc u) n xs ys e = rw suc-add (ap (λ (t : List ℕ). r ∷ t) (over-under rs u n xs ys e))
+
+pub over-before : (r : List ℕ) (p x : ℕ) (xs : List ℕ) → over (over r (suc p) xs) p (x ∷ []) ≡ over r p (x ∷ xs)
+over-before r p x xs = rw (← add-one p) (over-under r p 1 (x ∷ []) xs refl)
+
+-- what is written over the front of what was written
+front0 : (r l m : List ℕ) → over (over r 0 l) 0 m ≡ over r 0 (m ++ drop (length m) l)
+front0 [] l m = refl
+front0 (r ∷ rs) l [] = over-nil (over (r ∷ rs) 0 l) 0
+front0 (r ∷ rs) [] (x ∷ m) = ap (λ (t : List ℕ). x ∷ over rs 0 t) (sym (append-nil m))
+front0 (r ∷ rs) (y ∷ l) (x ∷ m) = ap (λ (t : List ℕ). x ∷ t) (front0 rs l m)
+
+pub over-front : (r : List ℕ) (at : ℕ) (l m : List ℕ) → over (over r at l) at m ≡ over r at (m ++ drop (length m) l)
+over-front r zero l m = front0 r l m
+over-front [] (suc at) l m = refl
+over-front (r ∷ rs) (suc at) l m = ap (λ (t : List ℕ). r ∷ t) (over-front rs at l m)
 
 over-same : (r ys zs : List ℕ) → length ys ≤ length zs → over (over r 0 ys) 0 zs ≡ over r 0 zs
 over-same [] ys zs h = refl

@@ -11,7 +11,7 @@ use Rattle.definition.specs.Expressions.{Tree}
 use Rattle.definition.specs.Program.{Statement, Row}
 use Rattle.definition.specs.Values.{Value}
 use Rattle.definition.specs.World.{Owner, procedureAt, World, Res, good, bad, addressOf, rowOf}
-use Rattle.definition.specs.Names.{Entering, enter}
+use Rattle.definition.specs.Names.{Entering}
 use Rattle.definition.specs.Evaluate.{Callee, evaluate}
 use Rattle.definition.specs.Flow.{Frame, End, ran, returned, went, statement}
 use Rattle.definition.specs.Calls.{Place, bodyMachine, calls}

@@ -5,7 +5,6 @@ use Prim.Native.Nat.{ℕ, _/_}
 use mathlib.Core.Bool.{Bool, cond}
 use mathlib.Core.List.{List, []}
 use lib.Dec.{leb, eqb}
-use lib.ListN.{length}
 use Rattle.definition.specs.Choice.{when}
 use Rattle.definition.specs.Limits.{includeLevels, textBytes, originLineBytes}
 use Rattle.definition.specs.Refusal.{Why, malformedDeck, shortRoom, unevenBody, numberOf}

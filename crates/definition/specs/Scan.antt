@@ -13,7 +13,7 @@ use Rattle.definition.specs.Lists.{part, leading}
 use Rattle.definition.specs.Bytes.{isBlank}
 use Rattle.definition.specs.Refusal.{Why, wrongName, noValue, wrongArguments, tooDeep, tooLong, roomFull}
 use Rattle.definition.specs.Tokens.{Piece, name, plain, unclosed, pieceAt}
-use Rattle.definition.specs.Values.{Value, characters, gives, toCharacters, convert, sizeOf}
+use Rattle.definition.specs.Values.{Value, characters, toCharacters, convert, sizeOf}
 use Rattle.definition.specs.World as W
 use Rattle.definition.specs.World.{everyone, Denotation, variableOf, entryOf, labelAt, builtinName, Cell, Activity, inactive, rescanned, copiedOnly, Address, address, unknown, World, Res, good, bad, bind, ask, charge, addressOf, denotation, valueAt, activityAt}
 use Rattle.definition.specs.Evaluate.{Parameter, Callee, callee, Call, put}

@@ -2,14 +2,14 @@
 -- Assumes nothing.
 use mathlib.Core.Path.{_≡_, refl, sym, ap, subst, _∙_}
 use mathlib.Core.Bool.{Bool, true, false, cond, _&&_, not, false≢true}
-use mathlib.Core.List.{List, [], _∷_, _++_, append-assoc, append-nil}
-use Prim.Native.Nat.{ℕ, zero, suc, _+_, _*_, _-_, _/_, _%_, _<_, _≤_}
+use mathlib.Core.List.{List, _∷_, _++_, append-assoc, append-nil}
+use Prim.Native.Nat.{ℕ, _+_, _-_, _%_, _<_, _≤_}
 use native.Mathlib.Omega.{arith}
 use borrow.Author.Tests.{eq-eqb, le-leb, lt-leb, leb-true, leb-false}
 use lib.Dec.{leb, eqb}
 use lib.ListN.{length}
 use Rattle.definition.specs.Lists.{part}
-use Rattle.definition.specs.Events.{Event, copied, bytesIn, goesOn, joins, textOf, Line, line, longer, linesOf}
+use Rattle.definition.specs.Events.{Event, copied, goesOn, joins, textOf, Line, line, longer, linesOf}
 use Rattle.definition.specs.Cards.{isFirst, column, pieces}
 use Rattle.definition.proofs.Parts.{length-part, part-append}
 use Rattle.output.specs.declared.Out.{Out}
@@ -17,7 +17,7 @@ use Rattle.output.specs.declared.Put.{Put}
 use Rattle.output.specs.declared.Put.the-variants.{Done, Full}
 use Rattle.output.specs.Shows as Output
 use Rattle.output.specs.Shows.{Fine, Shows, More, PutsFine}
-use Rattle.edges.specs.Pieces.{PieceIs, onto, Copied, Answers, fits, Pieces, PiecesFine}
+use Rattle.edges.specs.Pieces.{PieceIs, onto, Answers, fits, PiecesFine}
 use Rattle.edges.proofs.Laws.{column-next, onto-in, onto-more, pieces-in, pieces-more}
 
 -- ---- a piece

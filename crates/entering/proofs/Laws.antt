@@ -1,14 +1,14 @@
 -- The room of names as a book: what a record that is written changes; and one law for each way out.
 -- Assumes nothing.
 use mathlib.Core.Path.{_≡_, refl, sym, ap, _∙_}
-use mathlib.Core.Bool.{Bool, true, false, cond, not, _&&_}
+use mathlib.Core.Bool.{Bool, true, false, not}
 use mathlib.Core.List.{List, [], _∷_, _++_}
 use Prim.Native.Nat.{ℕ, zero, suc, _+_, _*_, _-_, _%_, _<_, _≤_}
 use native.Mathlib.Omega.{arith}
-use native.Mathlib.Nat.{add-zero, add-suc, mod-eq-of-lt}
+use native.Mathlib.Nat.{add-zero, mod-eq-of-lt}
 use native.Mathlib.Numerals.{add-one}
 use borrow.Author.Tests.{le-leb, lt-leb, lt-ltb, le-ltb, eqb-true, eqb-false}
-use lib.Dec.{eqb, leb, ltb}
+use lib.Dec.{eqb}
 use lib.ListN.{length, getD, set}
 use Rattle.definition.specs.Choice.{when}
 use Rattle.definition.specs.Lists.{part}
@@ -19,7 +19,7 @@ use Rattle.definition.specs.Names as N
 use Rattle.definition.specs.declared.ValueType.{ValueType}
 use Rattle.definition.specs.declared.Why.{Why}
 use Rattle.definition.specs.declared.Why.the-variants.{OverLimit, DeclaredTwice}
-use Rattle.names.specs.Table.{ownerOf, bodyOf, denotationOf, activityOf, identifierOf, identifiersFrom, nameIn, numbersOf, foundFor, spelled}
+use Rattle.names.specs.Table.{ownerOf, denotationOf, activityOf, identifierOf, identifiersFrom, nameIn, numbersOf, foundFor, spelled}
 use Rattle.names.proofs.Laws.{name-back, name-other}
 use Rattle.names.specs.declared.Identifier.{Identifier}
 use Rattle.names.specs.declared.Name.{Name}
@@ -33,7 +33,7 @@ use Rattle.names.specs.declared.Address.{Address}
 use Rattle.names.specs.declared.Found.{Found}
 use Rattle.names.specs.declared.Found.the-variants.{Known, Unknown}
 use Rattle.names.specs.declared.Denotation.{Denotation}
-use Rattle.names.specs.declared.Denotation.the-variants.{Variable, EntryName, LabelName, Builtin}
+use Rattle.names.specs.declared.Denotation.the-variants.{Variable, EntryName, LabelName}
 use Rattle.entering.specs.declared.Meaning.{Meaning}
 use Rattle.entering.specs.declared.Meaning.the-variants as M
 use Rattle.entering.specs.declared.Mark.{Mark}
@@ -44,7 +44,7 @@ use Rattle.entering.specs.declared.Joint.{Joint}
 use Rattle.entering.specs.declared.Joint.the-variants.{Joined, Twice}
 use Rattle.entering.specs.declared.Fault.{Fault}
 use Rattle.entering.specs.declared.Fault.the-variants.{Sound, Faulty}
-use Rattle.entering.specs.Book.{jointFor, jointBoth, firstOf, tallyPast, tallySecond, tallyOf, newDenotation, placeAt, Book, bookPast, bookSecond, bookMore, bookSet, bookAdd, bookJoint, bookJoin, bookAt, bookOne, denotationsFrom, activitiesFrom, bookOf, Roomy, Spelled, Declarable, identifierIn, newName, Added, Joining, JoinedAt, Entered, AddedIf, JoinedIf, EnteredIf, identifierAt, twiceOr, sooner, faultIn}
+use Rattle.entering.specs.Book.{jointFor, jointBoth, firstOf, tallyPast, tallySecond, tallyOf, newDenotation, placeAt, Book, bookAdd, bookJoint, bookJoin, bookAt, bookOne, denotationsFrom, activitiesFrom, bookOf, Roomy, Declarable, identifierIn, newName, Added, Joining, JoinedAt, Entered, AddedIf, JoinedIf, EnteredIf, identifierAt, twiceOr, faultIn}
 
 -- ---- marks and tallies
 pub first-none : (m : Mark) (p : ℕ) → m ≡ Unmarked → Marked p ≡ firstOf m p

@@ -6,13 +6,11 @@ use mathlib.Core.List.{List, [], _∷_, _++_}
 use mathlib.Core.Path.{_≡_}
 use lib.Dec.{leb, ltb}
 use lib.ListN.{length, getD, set}
-use Rattle.definition.specs.Choice.{when}
 use Rattle.definition.specs.Lists.{part}
 use Rattle.definition.specs.Limits.{declaredNames}
 use Rattle.definition.specs.Program as P
 use Rattle.definition.specs.World as W
 use Rattle.definition.specs.Names as N
-use Rattle.definition.specs.declared.Why.{Why}
 use Rattle.definition.specs.declared.Why.the-variants.{OverLimit, DeclaredTwice}
 use Rattle.names.specs.Table.{ownerOf, denotationOf, activityOf, identifierOf, identifiersFrom, nameIn}
 use Rattle.names.specs.declared.Identifier.{Identifier}

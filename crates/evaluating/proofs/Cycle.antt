@@ -11,7 +11,7 @@ use Rattle.definition.specs.Choice.{when}
 use Rattle.definition.specs.Tokens as T
 use Rattle.definition.specs.Tokens.{tokenAt, isSign}
 use Rattle.definition.specs.Expressions as E
-use Rattle.definition.specs.Expressions.{Reading, read, refused, then, Parsed, parsed, Reader, Tree, binary, Maybe, is, noOperator, infixOf, expectSign, Named, referenceAt, primitive, chain, levels, wholeExpression}
+use Rattle.definition.specs.Expressions.{Reading, read, refused, then, Parsed, parsed, Reader, Tree, binary, Maybe, is, noOperator, infixOf, expectSign, Named, referenceAt, primitive, chain, wholeExpression}
 use Rattle.definition.specs.Values as Val
 use Rattle.definition.specs.World.{World, Res, good}
 use Rattle.definition.specs.Evaluate as Ev

@@ -17,7 +17,7 @@ use Rattle.definition.specs.Refusal.{numberOf}
 use Rattle.definition.specs.Limits.{includeLevels}
 use Rattle.definition.specs.Room.{over, zeros}
 use Rattle.definition.specs.Deck as D
-use Rattle.definition.specs.Cards.{layoutFor, uneven, unevenIn, joined, given, asGiven, linesAs}
+use Rattle.definition.specs.Cards.{layoutFor, uneven, unevenIn, joined, asGiven, linesAs}
 use Rattle.definition.specs.Reading.{readMember}
 use Rattle.definition.specs.Events.{Line, textOf, linesOf}
 use Rattle.definition.specs.World.{World, Res}

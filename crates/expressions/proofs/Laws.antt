@@ -1,15 +1,14 @@
 -- What a test on a lexeme tells of the definition's token, and one law for each way out.
 -- Assumes nothing.
 use mathlib.Core.Path.{_≡_, refl, sym, ap, _∙_}
-use mathlib.Core.Bool.{Bool, true, false, cond, _&&_, false≢true}
-use mathlib.Core.List.{List, [], _∷_}
-use Prim.Native.Nat.{ℕ, zero, suc, _+_, _-_, _<_, _≤_}
+use mathlib.Core.Bool.{Bool, true, false, _&&_, false≢true}
+use mathlib.Core.List.{List}
+use Prim.Native.Nat.{ℕ, zero, suc, _-_, _<_, _≤_}
 use Prim.Native.String as S
 use native.Mathlib.Omega.{arith}
 use borrow.Author.Tests.{le-leb, lt-leb}
-use lib.Dec.{leb}
 use lib.ListN.{length}
-use Rattle.definition.specs.Lists.{part, same}
+use Rattle.definition.specs.Lists.{same}
 use Rattle.definition.specs.Text.{bytesOf}
 use Rattle.definition.specs.Tokens as T
 use Rattle.definition.specs.Expressions as E
@@ -20,7 +19,6 @@ use Rattle.tokens.specs.declared.Kind.the-variants.{Word, Integer, String, Bits
 use Rattle.tokens.specs.declared.Lexeme.{Lexeme}
 use Rattle.tokens.specs.Answer.{Lexed, spelling, isSignIn, isWordIn, isSignKind, isWordKind, content, tokenFor}
 use Rattle.tokens.proofs.Lexemes as L
-use Rattle.expressions.specs.declared.Expected.{Expected}
 use Rattle.expressions.specs.declared.Expected.the-variants.{Past, Refused}
 use Rattle.expressions.specs.declared.NamedAt.the-variants as N
 use Rattle.expressions.specs.declared.InfixAt.{InfixAt}

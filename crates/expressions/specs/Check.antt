@@ -1,12 +1,11 @@
 -- What the answers about an expression's syntax stand for.
 use Prim.Native.Nat.{ℕ, zero, suc}
-use mathlib.Core.Bool.{Bool, true, false, cond}
+use mathlib.Core.Bool.{Bool, false, cond}
 use mathlib.Core.List.{List}
 use lib.ListN.{length}
 use Rattle.definition.specs.Lists.{same}
 use Rattle.definition.specs.Tokens.{Token, word, integer, string, bits, sign, nothing, wrong, tokenAt}
 use Rattle.definition.specs.Expressions.{Reading, read, refused, then, none, Parsed, Reader, Named, Maybe, is, noOperator, infixOf, prefixOf, nameAt, referenceAt, primitive, operand, chain, levels, expression}
-use Rattle.definition.specs.declared.Why.{Why}
 use Rattle.definition.specs.declared.Why.the-variants.{Syntax, OverLimit}
 use Rattle.definition.specs.declared.Operator.{Operator}
 use Rattle.definition.specs.declared.Prefix.{Prefix}

@@ -1,9 +1,9 @@
 -- Signed numbers for crates that know none: equality, and the form that a room of unsigned numbers holds.
 use Prim.Native.Nat.{ℕ, _≤_}
 use mathlib.Core.Path.{_≡_}
-use mathlib.Core.Bool.{Bool, true, false, cond}
+use mathlib.Core.Bool.{Bool, false, cond}
 use lib.Dec.{eqb}
-use lib.IntN.{ℤ, pos, negsuc, negℤ, natAbs, _+ℤ_, _-ℤ_}
+use lib.IntN.{ℤ, pos, negsuc, natAbs, _+ℤ_, _-ℤ_}
 use Rattle.definition.specs.Fixed.{Result, inRange, ranged}
 
 abbrev pub eqZ : ℤ → ℤ → Bool

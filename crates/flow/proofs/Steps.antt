@@ -1,10 +1,9 @@
 -- One law for each way out of a function of this crate.
 -- Assumes nothing.
 use mathlib.Core.Path.{_≡_, refl, sym, ap, _∙_}
-use mathlib.Core.Bool.{Bool, true, false, cond, not}
+use mathlib.Core.Bool.{Bool, true, false, not}
 use mathlib.Core.List.{List}
 use Prim.Native.Nat.{ℕ, zero, suc, _+_, _-_, _<_, _≤_}
-use native.Mathlib.Numerals.{add-one}
 use native.Mathlib.Omega.{arith}
 use borrow.Author.Tests.{lt-ltb, le-ltb, le-leb, lt-leb, ltb-true, ltb-false, eq-eqb, ne-eqb}
 use lib.Dec.{eqb, ltb, leb}
@@ -16,7 +15,6 @@ use Rattle.fixed.specs.declared.Fixed.{Fixed}
 use Rattle.fixed.specs.declared.Answer.{Answer}
 use Rattle.fixed.specs.declared.Answer.the-variants as A
 use Rattle.fixed.specs.Answer.{resultOf}
-use Rattle.fixed.specs.Signed.{fromStored}
 use Rattle.rows.specs.declared.Statement.the-variants.{Null, Declare, Procedure, Assign, Conditional, Group, Iterated, Goto, Include, Activate, Deactivate, Return}
 use Rattle.rows.specs.declared.Role.the-variants.{Listed, ThenPart, ElsePart}
 use Rattle.rows.specs.declared.Link.{Link}

@@ -3,18 +3,16 @@ use Prim.Native.Nat.{ℕ, zero, suc, _+_}
 use mathlib.Core.Bool.{Bool, true, false, cond, not}
 use mathlib.Core.List.{List}
 use lib.Dec.{eqb, ltb}
-use lib.IntN.{ℤ, pos}
+use lib.IntN.{ℤ}
 use lib.ListN.{getD, set, replicate}
 use lib.Signed.{leZ, nonNeg}
 use Rattle.definition.specs.Fixed as F
-use Rattle.fixed.specs.Signed.{fromStored}
 use Rattle.rows.specs.declared.Statement.{Statement}
 use Rattle.rows.specs.declared.Statement.the-variants.{Null, Declare, Procedure, Assign, Conditional, Group, Iterated, Goto, Include, Activate, Deactivate, Return}
 use Rattle.rows.specs.declared.Role.{Role}
 use Rattle.rows.specs.declared.Role.the-variants.{Listed, ThenPart, ElsePart}
 use Rattle.rows.specs.declared.Link.{Link}
 use Rattle.rows.specs.declared.Link.the-variants.{Nowhere, To}
-use Rattle.rows.specs.declared.Row.{Row}
 use Rattle.rows.specs.Table.{rowIn}
 use Rattle.flow.specs.declared.Next.{Next}
 use Rattle.flow.specs.declared.Next.the-variants.{Begin, Again, Over}

@@ -1,5 +1,5 @@
--- 01, "The program and marked examples": M1 to M13 as one table, proved under a single statement by computing. Each row is a
--- main program and what it gives with the rooms and steps of the program.
+-- 01, "The program and marked examples": M1 to M13, with numbers eight wide (02, C-12), as one table, proved under a single
+-- statement by computing. Each row is a main program and what it gives with the rooms and steps of the program.
 -- Assumes nothing.
 use Prim.Native.Nat.{ℕ}
 use Prim.Native.String.{String}

@@ -1,9 +1,9 @@
 -- ELSE, END, alternatives and the ends of texts: one law for each way out.
 -- Assumes nothing.
-use mathlib.Core.Path.{_≡_, refl, sym, ap, subst, _∙_}
-use mathlib.Core.Bool.{Bool, true, false, cond, not, _&&_, _||_, false≢true}
+use mathlib.Core.Path.{_≡_, refl, sym, ap, _∙_}
+use mathlib.Core.Bool.{Bool, true, false, cond, _&&_, false≢true}
 use mathlib.Core.List.{List, [], _∷_}
-use Prim.Native.Nat.{ℕ, zero, suc, _+_, _<_, _≤_}
+use Prim.Native.Nat.{ℕ, zero, suc, _<_}
 use native.Mathlib.Omega.{arith}
 use borrow.Author.Tests.{leb-false}
 use lib.Dec.{leb, eqb}
@@ -35,7 +35,7 @@ use Rattle.openings.specs.declared.Where.the-variants as Wh
 use Rattle.openings.specs.declared.Open.{Open}
 use Rattle.openings.specs.declared.Done.{Done}
 use Rattle.openings.specs.declared.Done.the-variants as Dn
-use Rattle.openings.specs.Open.{whereOf, elseFor, beginsIn, isEndIn, mayNameIn, doneTurn, Completes, alternativeTurn, Enters, first, behind, AlternativeFrom}
+use Rattle.openings.specs.Open.{whereOf, elseFor, beginsIn, isEndIn, mayNameIn, doneTurn, Completes, alternativeTurn, first, behind, AlternativeFrom}
 use Rattle.openings.proofs.Words.{begins-is}
 
 pub inside-is : (k : Owner) → D.isInside (scopeOf k) ≡ isInside k

@@ -5,8 +5,8 @@ use mathlib.Core.Bool.{Bool, true, false, cond, not, _&&_, _||_}
 use mathlib.Core.List.{List, [], _∷_, _++_}
 use Prim.Native.Nat.{ℕ, zero, suc, _+_, _-_, _<_, _≤_}
 use native.Mathlib.Omega.{arith}
-use native.Mathlib.Numerals.{add-one, sub-one}
-use borrow.Author.Tests.{lt-ltb, le-ltb}
+use native.Mathlib.Numerals.{sub-one}
+use borrow.Author.Tests.{lt-ltb}
 use lib.Dec.{ltb}
 use lib.ListN.{length, length-append}
 use Rattle.definition.specs.Choice.{when}
@@ -25,7 +25,7 @@ use Rattle.expressions.specs.declared.NamedAt.the-variants as N
 use Rattle.entering.specs.declared.Mark.{Mark}
 use Rattle.entering.specs.declared.Mark.the-variants.{Unmarked, Marked}
 use Rattle.entering.specs.Book.{firstOf}
-use Rattle.statements.proofs.Listed.{Names, named-is}
+use Rattle.statements.proofs.Listed.{named-is}
 use Rattle.openings.specs.declared.Labels.{Labels}
 use Rattle.openings.specs.Open.{labelPast, labelled, firstLong, longAfter, LabelsAt, namesAs}
 

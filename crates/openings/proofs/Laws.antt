@@ -5,12 +5,9 @@ use mathlib.Core.Bool.{Bool, true, false, cond, not, _&&_}
 use mathlib.Core.List.{List, [], _∷_}
 use Prim.Native.Nat.{ℕ}
 use lib.ListN.{length}
-use Rattle.definition.specs.Choice.{when}
 use Rattle.definition.specs.Tokens as Tk
 use Rattle.definition.specs.Tokens.{tokenAt}
 use Rattle.definition.specs.Reading as D
-use Rattle.tokens.specs.declared.Kind.{Kind}
-use Rattle.tokens.specs.declared.Kind.the-variants as Kd
 use Rattle.tokens.specs.declared.Lexeme.{Lexeme}
 use Rattle.tokens.specs.declared.Ending.{Ending}
 use Rattle.tokens.specs.declared.Ending.the-variants as E

@@ -8,20 +8,16 @@ use native.Mathlib.Nat.{add-zero, zero-add}
 use native.Mathlib.Omega.{arith}
 use borrow.Author.Tests.{le-leb, lt-leb, leb-true}
 use lib.Dec.{leb}
-use lib.ListN.{length, getD, take}
+use lib.ListN.{length, getD}
 use Rattle.definition.specs.Lists.{part}
-use Rattle.definition.specs.Room.{over}
-use Rattle.definition.specs.Tokens.{tokenAt}
-use Rattle.definition.specs.Expressions.{Tree, integerOf, stringOf, bitsOf}
+use Rattle.definition.specs.Expressions.{integerOf}
 use Rattle.definition.specs.Values as Val
 use Rattle.definition.specs.World as W
-use Rattle.definition.specs.World.{World, Owner, Res, good, bad, bind, ask, variableOf, entryOf, labelAt, builtinName, seenFrom}
+use Rattle.definition.specs.World.{World, Res, good, bad, ask, variableOf, entryOf, labelAt, builtinName, seenFrom}
 use Rattle.definition.specs.Evaluate as Ev
 use Rattle.definition.specs.Evaluate.{Call, evaluate, put, plainName, readCell, meant}
-use Rattle.definition.proofs.Parts.{length-part}
-use Rattle.definition.proofs.Rooms.{getD-over-at, getD-over-low}
 use Rattle.definition.specs.declared.Why.{Why}
-use Rattle.definition.specs.declared.Why.the-variants.{TooLong, WrongName, WrongArguments, NoConversion, OutOfRange, NoValue}
+use Rattle.definition.specs.declared.Why.the-variants.{TooLong, WrongName, WrongArguments, NoConversion, OutOfRange}
 use Rattle.definition.specs.declared.ValueType.{ValueType}
 use Rattle.fixed.specs.declared.Fixed.{Fixed}
 use Rattle.meter.specs.declared.Meter.{Meter}
@@ -35,7 +31,7 @@ use Rattle.operators.specs.declared.Value.{Value}
 use Rattle.operators.specs.declared.Value.the-variants.{Number, Characters, Bits}
 use Rattle.operators.specs.declared.Given.{Given}
 use Rattle.operators.specs.declared.Given.the-variants.{Gives, Fails}
-use Rattle.operators.specs.Stands.{sizeFor, valueIn, givenIn, stacked, Ready, Stood}
+use Rattle.operators.specs.Stands.{sizeFor, valueIn, givenIn, stacked, Stood}
 use Rattle.operators.specs.Stands as O
 use Rattle.operators.proofs.Room.{part-written, below-over}
 use Rattle.operators.proofs.Answers.{size-is}
@@ -43,12 +39,12 @@ use Rattle.operators.proofs.Callers as R
 use Rattle.operators.proofs.Callers.{below-less, stood-fits}
 use Rattle.callees.specs.declared.Meant.{Meant}
 use Rattle.callees.specs.declared.Meant.the-variants as M
-use Rattle.callees.specs.Shown.{cellAs, valuesFrom, worldIn}
-use Rattle.callees.specs.Answer.{meantFor, readIn, VariableIs}
+use Rattle.callees.specs.Shown.{valuesFrom, worldIn}
+use Rattle.callees.specs.Answer.{readIn, VariableIs}
 use Rattle.operands.specs.declared.Scene.{Scene}
 use Rattle.operands.specs.declared.Evaluated.{Evaluated}
 use Rattle.operands.specs.declared.Evaluated.the-variants.{Is, Failed}
-use Rattle.operands.specs.Answer.{Below, resIn, sizeOf, meterOf, withEnd, runIn, valueOf, evaluatedFor, ConstantIs, IntegerIs, stringTree, ClosedIs, Means, isEntry, PlainIs, infixOn, Turns, WithInfix}
+use Rattle.operands.specs.Answer.{Below, resIn, sizeOf, meterOf, withEnd, runIn, valueOf, evaluatedFor, ConstantIs, IntegerIs, stringTree, ClosedIs, Means, PlainIs, infixOn, Turns, WithInfix}
 use Rattle.definition.specs.declared.Operator.{Operator}
 
 pub true-false : {A : Type 0} → true ≡ false → A

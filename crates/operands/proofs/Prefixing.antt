@@ -1,11 +1,10 @@
 -- Prefix operators in blocks: what is left to apply, after what was applied, is all. And how many arguments a list has.
 -- Assumes nothing.
 use mathlib.Core.Path.{_≡_, refl, sym, ap, _∙_}
-use mathlib.Core.Bool.{Bool, true, false, cond}
+use mathlib.Core.Bool.{Bool, true, false}
 use mathlib.Core.List.{List, [], _∷_, _++_}
 use Prim.Native.Nat.{ℕ, zero, suc, _+_, _-_, _%_, _<_, _≤_}
 use native.Mathlib.Nat.{add-zero, zero-add, add-suc, suc-add, mod-lt, mod-le}
-use native.Mathlib.Numerals.{add-one}
 use native.Mathlib.Omega.{arith}
 use borrow.Author.Tests.{lt-ltb, le-ltb, ltb-true, ltb-false, leb-true, le-leb, lt-leb, leb-false}
 use lib.Dec.{ltb, leb}
@@ -14,9 +13,9 @@ use lib.ListN.{length, getD, set, take, replicate}
 use Rattle.definition.specs.Choice.{when}
 use Rattle.definition.specs.Tokens.{tokenAt, isSign}
 use Rattle.definition.specs.Expressions as E
-use Rattle.definition.specs.Expressions.{Reading, read, refused, then, Parsed, parsed, Reader, Tree, more, none, Maybe, is, noOperator, prefixOf, expectSign}
+use Rattle.definition.specs.Expressions.{Reading, read, then, Parsed, parsed, Tree, more, none, Maybe, is, noOperator, prefixOf, expectSign}
 use Rattle.definition.specs.Values as Val
-use Rattle.definition.specs.World.{World, Res, good, bad, bind, ask}
+use Rattle.definition.specs.World.{World, bad, bind, ask}
 use Rattle.definition.specs.Evaluate.{put, count}
 use Rattle.definition.specs.declared.Why.{Why}
 use Rattle.definition.specs.declared.Why.the-variants.{Syntax}
@@ -41,7 +40,7 @@ use Rattle.callees.specs.Shown.{worldIn}
 use Rattle.operands.specs.declared.Signs.{Signs}
 use Rattle.operands.specs.declared.Evaluated.{Evaluated}
 use Rattle.operands.specs.declared.Evaluated.the-variants.{Is, Failed}
-use Rattle.operands.specs.Answer.{Below, resIn, sizeOf, meterOf, withEnd, evaluatedFor, Turns, withSign, signsAt, prefixedBy, PrefixesDone}
+use Rattle.operands.specs.Answer.{sizeOf, evaluatedFor, Turns, signsAt, prefixedBy, PrefixesDone}
 use Rattle.operands.specs.Blocks.{codeOf, signOf, signIn, signsIn, noSigns, allSigns, prefixedAll, WithSign, SignsFrom, Applied, BlockDone, AllDone, CountIs}
 use Rattle.operands.proofs.Trees.{never, read-same, IsRead, then-read}
 use Rattle.operands.proofs.Leaves.{end-is, res-given, given-end, given-meter, failed-turns}

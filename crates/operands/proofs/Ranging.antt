@@ -3,7 +3,7 @@
 use mathlib.Core.Path.{_≡_, refl, sym, ap, _∙_}
 use mathlib.Core.Bool.{Bool, true, false, cond}
 use mathlib.Core.List.{List, [], _∷_}
-use Prim.Native.Nat.{ℕ, zero, suc, _+_, _-_, _<_, _≤_}
+use Prim.Native.Nat.{ℕ, zero, suc, _+_, _-_, _≤_}
 use native.Mathlib.Nat.{add-zero, zero-add}
 use native.Mathlib.Omega.{arith}
 use lib.Dec.{leb}
@@ -14,20 +14,19 @@ use Rattle.definition.specs.Fixed as F
 use Rattle.definition.specs.Expressions.{Tree}
 use Rattle.definition.specs.Values as Val
 use Rattle.definition.specs.World as W
-use Rattle.definition.specs.World.{World, Res, good, bad, variableOf, entryOf, labelAt, builtinName, valueAt}
+use Rattle.definition.specs.World.{World, good, variableOf, entryOf, labelAt, builtinName}
 use Rattle.definition.specs.declared.Why.the-variants.{TooLong}
 use Rattle.definition.specs.declared.ValueType.{ValueType}
 use Rattle.definition.specs.declared.ValueType.the-variants.{FixedType, CharacterType}
 use Rattle.definition.proofs.Parts.{length-part}
-use Rattle.definition.proofs.Keeping.{Gives, given, failed, OfCell}
+use Rattle.definition.proofs.Keeping.{Gives, given, OfCell}
 use Rattle.definition.proofs.Ranges.{Small, Fine, FineWorld, toFixed-small, toCharacters-short, evaluate-fine}
 use Rattle.fixed.specs.Signed.{fromStored}
-use Rattle.meter.specs.declared.Meter.{Meter}
 use Rattle.names.specs.Table.{ownerOf}
 use Rattle.store.specs.Cells.{slot, half, fixedCell, characterCell, cellIn}
 use Rattle.operators.specs.declared.Value.{Value}
 use Rattle.operators.specs.declared.Value.the-variants.{Number, Characters, Bits}
-use Rattle.operators.specs.Stands.{valueIn, sizeFor, stacked}
+use Rattle.operators.specs.Stands.{valueIn, stacked}
 use Rattle.callees.specs.Shown.{cellAs, valuesFrom, worldIn, Slots, Typed}
 use Rattle.callees.specs.Answer.{onOf}
 use Rattle.operands.specs.declared.Scene.{Scene}

@@ -5,25 +5,19 @@ use mathlib.Core.Bool.{Bool, true, false, cond}
 use mathlib.Core.List.{List, [], _∷_}
 use Prim.Native.Nat.{ℕ, zero, suc, _+_, _-_, _<_, _≤_}
 use native.Mathlib.Omega.{arith}
-use lib.Dec.{leb}
 use lib.ListN.{length}
-use Rattle.definition.specs.Choice.{when}
-use Rattle.definition.specs.Tokens as T
 use Rattle.definition.specs.Tokens.{tokenAt, isSign}
-use Rattle.definition.specs.Expressions as E
-use Rattle.definition.specs.Expressions.{Reading, read, refused, then, Parsed, parsed, Reader, Tree, reference, call, unary, binary, Maybe, is, noOperator, infixOf, prefixOf, expectSign, Named, nameOf, referenceAt, primitive, operand, chain, levels, expression}
+use Rattle.definition.specs.Expressions.{Reading, read, refused, then, Parsed, parsed, Reader, Tree, unary, binary, Maybe, is, noOperator, infixOf, prefixOf, expectSign, operand, chain, levels, expression}
 use Rattle.definition.specs.Values as Val
-use Rattle.definition.specs.World.{World, Owner, Res, good, bad, bind}
-use Rattle.definition.specs.Evaluate.{Call, evaluate, put, meant, plainName}
+use Rattle.definition.specs.World.{World, good, bad, bind}
+use Rattle.definition.specs.Evaluate.{evaluate, put}
 use Rattle.definition.specs.declared.Why.{Why}
 use Rattle.definition.specs.declared.Why.the-variants.{Syntax, OverLimit}
 use Rattle.definition.specs.declared.Operator.{Operator}
 use Rattle.definition.specs.declared.Prefix.{Prefix}
-use Rattle.names.specs.Table.{ownerOf}
-use Rattle.expressions.specs.declared.Prefixes.{Prefixes}
-use Rattle.expressions.specs.Check.{insideOf, operandIn, levelsIn, primitiveAt, prefixesOf, withPrefix, prefixes}
+use Rattle.expressions.specs.Check.{insideOf, levelsIn, primitiveAt, prefixes}
 use Rattle.operands.specs.declared.Scene.{Scene}
-use Rattle.operands.specs.Answer.{runIn, valueOf, infixOn, withSign, signsAt, prefixedBy}
+use Rattle.operands.specs.Answer.{valueOf, infixOn, signsAt, prefixedBy}
 
 pub clash : {A : Type 0} → _≡_ {A = ℕ} 0 1 → A
 clash z = absurd (omega arith)

@@ -1,41 +1,33 @@
 -- What the answers stand for, and the contracts of what makes or changes one.
-use Prim.Native.Nat.{ℕ, zero, suc, _+_, _-_, _<_, _≤_}
-use mathlib.Core.Bool.{Bool, true, false, cond}
+use Prim.Native.Nat.{ℕ, zero, suc, _+_, _≤_}
+use mathlib.Core.Bool.{Bool, true, false}
 use mathlib.Core.Path.{_≡_}
 use mathlib.Core.List.{List, [], _∷_}
 use lib.ListN.{length, take}
-use Rattle.definition.specs.Lists.{part}
 use Rattle.definition.specs.Expressions as E
-use Rattle.definition.specs.Expressions.{Reading, read, Parsed, parsed, Tree, Maybe, is, noOperator, prefixOf}
+use Rattle.definition.specs.Expressions.{Tree, Maybe, is, noOperator, prefixOf}
 use Rattle.definition.specs.Tokens.{tokenAt}
 use Rattle.definition.specs.Values as Val
 use Rattle.definition.specs.World.{World, Owner, Res, good, bad, bind}
 use Rattle.definition.specs.Evaluate as Ev
-use Rattle.definition.specs.Evaluate.{Call, evaluate, put, plainName, listedName}
-use Rattle.definition.specs.Calls.{calls, bodyRun}
+use Rattle.definition.specs.Evaluate.{Call, evaluate, put, plainName}
+use Rattle.definition.specs.Calls.{calls}
 use Rattle.definition.specs.declared.Why.{Why}
 use Rattle.definition.specs.declared.Operator.{Operator}
 use Rattle.definition.specs.declared.Prefix.{Prefix}
 use Rattle.meter.specs.declared.Meter.{Meter}
 use Rattle.names.specs.Table.{ownerOf}
-use Rattle.names.specs.declared.Place.{Place}
-use Rattle.names.specs.declared.Owner.the-variants.{Procedure}
-use Rattle.deck.specs.Answer.{bodyIn}
 use Rattle.operators.specs.declared.Value.{Value}
-use Rattle.operators.specs.Stands.{sizeFor, valueIn, givenIn}
+use Rattle.operators.specs.Stands.{sizeFor, valueIn}
 use Rattle.operators.specs.declared.Given.{Given}
 use Rattle.operators.specs.declared.Given.the-variants.{Gives, Fails}
-use Rattle.expressions.specs.Check.{insideOf, levelsIn}
 use Rattle.callees.specs.declared.Meant.{Meant}
 use Rattle.callees.specs.declared.Meant.the-variants as M
-use Rattle.callees.specs.declared.Callee.{Callee}
-use Rattle.callees.specs.declared.Held.{Held}
-use Rattle.callees.specs.Shown.{namesWorld, worldIn, Slots}
-use Rattle.callees.specs.Answer.{meantFor, onOf, ownerAt, Names, Waiting, heldFrom}
+use Rattle.callees.specs.Shown.{worldIn, Slots}
+use Rattle.callees.specs.Answer.{meantFor, onOf}
 use Rattle.operands.specs.declared.Scene.{Scene}
 use Rattle.operands.specs.declared.Evaluated.{Evaluated}
 use Rattle.operands.specs.declared.Evaluated.the-variants.{Is, Failed}
-use Rattle.operands.specs.Shown.{IsRow, Shows}
 
 -- below u bytes the work room is as it was
 abbrev pub Below : ℕ → List ℕ → List ℕ → Type 0

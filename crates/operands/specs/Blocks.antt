@@ -1,9 +1,9 @@
 -- Prefix operators, a block at a time; and how many arguments a list has.
 use Prim.Native.Nat.{ℕ, zero, suc, _+_, _<_, _≤_}
-use mathlib.Core.Bool.{Bool, cond}
+use mathlib.Core.Bool.{cond}
 use mathlib.Core.Path.{_≡_}
 use mathlib.Core.List.{List, [], _∷_}
-use lib.Dec.{ltb, leb}
+use lib.Dec.{ltb}
 use lib.ListN.{length, getD, take, replicate}
 use Rattle.definition.specs.declared.Prefix.{Prefix}
 use Rattle.definition.specs.declared.Prefix.the-variants.{Positive, Negative, Complement}

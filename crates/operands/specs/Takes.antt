@@ -1,24 +1,20 @@
 -- Arguments: what is wished for, what waits, and whose they are.
 use Prim.Native.Nat.{ℕ, zero, suc, _+_, _≤_}
-use mathlib.Core.Bool.{Bool, true, false, cond, _||_}
+use mathlib.Core.Bool.{cond, _||_}
 use mathlib.Core.Path.{_≡_}
 use mathlib.Core.List.{List, [], _∷_}
 use lib.Dec.{ltb, eqb}
 use lib.ListN.{length}
-use Rattle.definition.specs.Expressions as E
-use Rattle.definition.specs.Expressions.{read, parsed, Tree}
 use Rattle.definition.specs.Values as Val
-use Rattle.definition.specs.World.{World, Res, good, bad, bind}
+use Rattle.definition.specs.World.{World, Res, bind}
 use Rattle.definition.specs.Evaluate as Ev
 use Rattle.definition.specs.Evaluate.{put}
 use Rattle.definition.specs.declared.Why.{Why}
 use Rattle.definition.specs.declared.Why.the-variants.{WrongName, WrongArguments}
-use Rattle.definition.specs.declared.ValueType.{ValueType}
 use Rattle.definition.specs.declared.ValueType.the-variants.{FixedType}
 use Rattle.deck.specs.Answer.{bodyIn}
 use Rattle.meter.specs.declared.Meter.{Meter}
 use Rattle.rows.specs.declared.Starts.{Starts}
-use Rattle.expressions.specs.Check.{insideOf}
 use Rattle.operators.specs.declared.Value.{Value}
 use Rattle.operators.specs.Stands.{sizeFor, valueIn}
 use Rattle.callees.specs.declared.Meant.{Meant}
@@ -26,9 +22,8 @@ use Rattle.callees.specs.declared.Meant.the-variants as M
 use Rattle.callees.specs.declared.Called.{Called}
 use Rattle.callees.specs.declared.Called.the-variants as K
 use Rattle.callees.specs.declared.Held.{Held}
-use Rattle.callees.specs.Shown.{namesWorld, worldIn, Slots}
+use Rattle.callees.specs.Shown.{namesWorld, worldIn}
 use Rattle.callees.specs.Answer.{ownerAt, Names, CalleeOf, heldIn, heldSize, fixedIn}
-use Rattle.operands.specs.declared.Scene.{Scene}
 use Rattle.operands.specs.declared.Evaluated.{Evaluated}
 use Rattle.operands.specs.declared.Wish.{Wish}
 use Rattle.operands.specs.declared.Wish.the-variants as Wi
@@ -37,8 +32,7 @@ use Rattle.operands.specs.declared.Target.{Target}
 use Rattle.operands.specs.declared.Target.the-variants as T
 use Rattle.operands.specs.declared.Aim.{Aim}
 use Rattle.operands.specs.declared.Aim.the-variants as A
-use Rattle.operands.specs.Shown.{Shows}
-use Rattle.operands.specs.Answer.{Below, resIn, sizeOf, meterOf, withEnd, runIn, Turns}
+use Rattle.operands.specs.Answer.{Below, resIn, sizeOf, meterOf, withEnd, Turns}
 
 -- ---- wishes
 abbrev pub wishFor : Wish → Ev.Wish

@@ -1,17 +1,14 @@
 -- What answers stand for: numbers, values among those that wait, and the conversions that give a number.
 -- Assumes nothing.
-use mathlib.Core.Path.{_≡_, refl, sym, ap, _∙_}
+use mathlib.Core.Path.{_≡_, refl, ap, _∙_}
 use mathlib.Core.Bool.{Bool, true, false, cond}
-use mathlib.Core.List.{List, []}
+use mathlib.Core.List.{List}
 use Prim.Native.Nat.{ℕ, _+_, _<_, _≤_}
 use native.Mathlib.Nat.{add-zero}
 use native.Mathlib.Omega.{arith}
-use borrow.Author.Tests.{le-leb, lt-leb, leb-true, leb-false}
+use borrow.Author.Tests.{le-leb, lt-leb}
 use lib.Dec.{leb}
-use lib.IntN.{ℤ}
-use lib.ListN.{length, take}
 use Rattle.definition.specs.Lists.{part}
-use Rattle.definition.specs.Room.{over}
 use Rattle.definition.specs.declared.Why.{Why}
 use Rattle.definition.specs.declared.Why.the-variants.{TooLong as tooLong, NoConversion as noConversion, OutOfRange as outOfRange, ZeroDivisor as zeroDivisor}
 use Rattle.definition.specs.declared.ValueType.{ValueType}
@@ -19,7 +16,6 @@ use Rattle.definition.specs.declared.ValueType.the-variants.{FixedType, Charact
 use Rattle.definition.specs.Values as D
 use Rattle.definition.specs.Fixed as F
 use Rattle.definition.proofs.Parts.{length-part}
-use Rattle.definition.proofs.Rooms.{length-over}
 use Rattle.fixed.specs.declared.Fixed.{Fixed}
 use Rattle.fixed.specs.declared.Answer.{Answer}
 use Rattle.fixed.specs.declared.Answer.the-variants as A
@@ -33,7 +29,7 @@ use Rattle.operators.specs.declared.Given.{Given}
 use Rattle.operators.specs.declared.Given.the-variants.{Gives, Fails}
 use Rattle.operators.specs.declared.NumberGiven.{NumberGiven}
 use Rattle.operators.specs.declared.NumberGiven.the-variants.{Is as isNumber, Fails as noNumber}
-use Rattle.operators.specs.Stands.{valueIn, givenIn, numberFor, sizeFor, stacked, Ready, Stood, Gave, Made, amongFor, limitedFor, numberValue}
+use Rattle.operators.specs.Stands.{valueIn, givenIn, numberFor, sizeFor, stacked, Gave, Made, amongFor, limitedFor, numberValue}
 use Rattle.operators.specs.Sides.{negatedFor}
 use Rattle.operators.proofs.Room.{below-over}
 

@@ -2,35 +2,25 @@
 -- Assumes nothing.
 use mathlib.Core.Path.{_≡_, refl, sym, ap, _∙_}
 use mathlib.Core.Bool.{Bool, true, false, cond}
-use mathlib.Core.List.{List, [], _∷_, _++_}
-use Prim.Native.Nat.{ℕ, zero, suc, _+_, _<_, _≤_}
-use native.Mathlib.Nat.{add-zero, zero-add}
+use mathlib.Core.List.{List, []}
+use Prim.Native.Nat.{ℕ, _+_, _<_, _≤_}
+use native.Mathlib.Nat.{add-zero}
 use native.Mathlib.Omega.{arith}
-use borrow.Author.Tests.{le-leb, lt-leb, leb-true, leb-false, ltb-true, ltb-false}
+use borrow.Author.Tests.{le-leb, lt-leb, leb-true, leb-false}
 use lib.Dec.{leb, ltb}
-use lib.IntN.{ℤ, natAbs}
+use lib.IntN.{natAbs}
 use lib.ListN.{length, take}
-use lib.Seq.{take-take}
 use Rattle.definition.specs.Lists.{part, all}
 use Rattle.definition.specs.Room.{over}
 use Rattle.definition.specs.Tokens.{isBit}
 use Rattle.definition.specs.declared.Why.{Why}
 use Rattle.definition.specs.declared.Why.the-variants.{TooLong as tooLong, NoConversion as noConversion}
-use Rattle.definition.specs.declared.Operator.{Operator}
-use Rattle.definition.specs.declared.Operator.the-variants as O
 use Rattle.definition.specs.Values as D
-use Rattle.definition.specs.Fixed as F
 use Rattle.definition.proofs.Parts.{length-part}
 use Rattle.definition.proofs.Rooms.{length-over, over-nil}
 use Rattle.fixed.specs.declared.Fixed.{Fixed}
 use Rattle.fixed.specs.declared.Answer.{Answer}
-use Rattle.fixed.specs.Answer.{resultOf}
-use Rattle.values.specs.declared.Order.{Order}
-use Rattle.values.specs.declared.Comparison.{Comparison}
-use Rattle.values.specs.declared.Comparison.the-variants.{Greater, GreaterEqual, Equal, Less, LessEqual, NotGreater, NotEqual, NotLess}
 use Rattle.values.specs.declared.Logic.{Logic}
-use Rattle.values.specs.declared.Logic.the-variants.{And, Or}
-use Rattle.values.specs.Answers.{orderFor, orderIn, isWanted}
 use Rattle.values.specs.Bits.{longer, logicOf}
 use Rattle.values.specs.Digits.{Wrote}
 use Rattle.values.proofs.Bits.{length-bitwise}
@@ -38,16 +28,10 @@ use Rattle.operators.specs.declared.Value.{Value}
 use Rattle.operators.specs.declared.Value.the-variants.{Number, Characters, Bits}
 use Rattle.operators.specs.declared.Given.{Given}
 use Rattle.operators.specs.declared.Given.the-variants.{Gives, Fails}
-use Rattle.operators.specs.declared.NumberGiven.{NumberGiven}
-use Rattle.operators.specs.declared.NumberGiven.the-variants.{Is as isNumber, Fails as noNumber}
-use Rattle.operators.specs.declared.Pair.{Pair}
-use Rattle.operators.specs.declared.Pair.the-variants.{Are as arePair, Fails as noPair}
-use Rattle.operators.specs.declared.OrderGiven.{OrderGiven}
-use Rattle.operators.specs.declared.OrderGiven.the-variants.{Is as isOrder, Fails as noOrder}
-use Rattle.operators.specs.Stands.{valueIn, givenIn, numberFor, sizeFor, stacked, Ready, Stood, Gave, Made, topOf, amongFor, numberValue, asBit, bitsPut}
-use Rattle.operators.specs.Sides.{calcOf, Numbers, numbers, numbersIn, pairFor, orderAnswer, numericOf, bytesOrdered, wantedBy, Raised, First}
-use Rattle.operators.proofs.Room.{part-over, part-written, below-over, take-over, part-below, part-above, top-in}
-use Rattle.operators.proofs.Answers.{size-is, value-number, made-gave}
+use Rattle.operators.specs.Stands.{valueIn, givenIn, sizeFor, stacked, Ready, Gave, Made, topOf, asBit, bitsPut}
+use Rattle.operators.specs.Sides.{Raised, First}
+use Rattle.operators.proofs.Room.{part-written, below-over, part-below, part-above, top-in}
+use Rattle.operators.proofs.Answers.{size-is}
 use Rattle.operators.proofs.Texts.{never, length-binary, BitsAt, bits-at}
 
 -- ---- the first side, below the second

@@ -3,14 +3,12 @@
 use mathlib.Core.Path.{_≡_, refl, sym, ap, _∙_}
 use mathlib.Core.Bool.{Bool, true, false, cond}
 use mathlib.Core.List.{List}
-use Prim.Native.Nat.{ℕ, _+_, _<_, _≤_}
+use Prim.Native.Nat.{ℕ, _+_, _≤_}
 use native.Mathlib.Omega.{arith}
 use borrow.Author.Tests.{leb-true}
 use lib.Dec.{leb}
 use lib.ListN.{length, take}
 use lib.Seq.{take-take}
-use Rattle.definition.specs.Lists.{part}
-use Rattle.definition.specs.declared.Why.{Why}
 use Rattle.definition.specs.declared.Why.the-variants.{TooLong as tooLong}
 use Rattle.definition.specs.declared.Operator.{Operator}
 use Rattle.definition.specs.declared.Prefix.{Prefix}
@@ -20,7 +18,7 @@ use Rattle.definition.specs.Evaluate.{put}
 use Rattle.operators.specs.declared.Value.{Value}
 use Rattle.operators.specs.declared.Value.the-variants.{Number, Characters, Bits}
 use Rattle.operators.specs.declared.Given.{Given}
-use Rattle.operators.specs.declared.Given.the-variants.{Gives, Fails}
+use Rattle.operators.specs.declared.Given.the-variants.{Gives}
 use Rattle.operators.specs.Stands.{valueIn, givenIn, sizeFor, stacked, Ready, Stood, Gave, topOf}
 use Rattle.operators.proofs.Room.{part-below, top-in}
 use Rattle.operators.proofs.Answers.{size-is}

@@ -3,13 +3,12 @@
 use mathlib.Core.Path.{_≡_, refl, sym, ap, _∙_}
 use mathlib.Core.Bool.{Bool, true, false, cond}
 use mathlib.Core.List.{List, [], _∷_}
-use Prim.Native.Nat.{ℕ, zero, suc, _+_, _-_, _<_, _≤_}
-use native.Mathlib.Nat.{add-zero}
+use Prim.Native.Nat.{ℕ, zero, suc, _+_, _-_, _≤_}
 use native.Mathlib.Omega.{arith}
-use borrow.Author.Tests.{le-leb, leb-true, leb-false}
+use borrow.Author.Tests.{leb-true}
 use lib.Dec.{leb}
 use lib.IntN.{ℤ, pos, negsuc}
-use lib.ListN.{length, take, drop}
+use lib.ListN.{length}
 use Rattle.definition.specs.Lists.{part}
 use Rattle.definition.specs.Room.{over}
 use Rattle.definition.specs.declared.Why.the-variants.{SubstrOutside as substrOutside}
@@ -18,13 +17,13 @@ use Rattle.definition.proofs.Parts.{length-part}
 use Rattle.fixed.specs.declared.Fixed.{Fixed}
 use Rattle.values.specs.declared.Cut.{Cut}
 use Rattle.values.specs.declared.Cut.the-variants.{Stretch, Outside}
-use Rattle.values.specs.Substr.{stretch, cutAt, cutPart, cutRest, pieceFor}
+use Rattle.values.specs.Substr.{stretch, cutAt, cutPart, cutRest}
 use Rattle.values.proofs.Substr.{substr-rest, substr-part, piece-part}
 use Rattle.operators.specs.declared.Value.{Value}
 use Rattle.operators.specs.declared.Value.the-variants.{Number, Characters, Bits}
 use Rattle.operators.specs.declared.Given.{Given}
-use Rattle.operators.specs.declared.Given.the-variants.{Gives, Fails}
-use Rattle.operators.specs.Stands.{valueIn, givenIn, sizeFor, stacked, Ready, Stood, Gave, topOf, amongFor, MovedDown}
+use Rattle.operators.specs.declared.Given.the-variants.{Fails}
+use Rattle.operators.specs.Stands.{valueIn, givenIn, sizeFor, stacked, Gave, topOf, amongFor, MovedDown}
 use Rattle.operators.specs.Sides.{sameKind, Within, pieceOf, Took}
 use Rattle.operators.proofs.Room.{part-written, below-over, top-in}
 use Rattle.operators.proofs.Answers.{size-is, among-is}

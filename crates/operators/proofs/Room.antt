@@ -1,11 +1,10 @@
 -- Stretches of the work room: read, written, moved, and what is below them.
 -- Assumes nothing.
 use mathlib.Core.Path.{_≡_, refl, sym, ap, _∙_}
-use mathlib.Core.Bool.{Bool, true, false, cond}
+use mathlib.Core.Bool.{Bool, true, false}
 use mathlib.Core.List.{List, [], _∷_, _++_}
 use Prim.Native.Nat.{ℕ, zero, suc, _+_, _-_, _<_, _≤_}
-use native.Mathlib.Nat.{add-zero, zero-add, suc-add, add-suc, not-suc-le-zero, le-of-suc-le-suc}
-use native.Mathlib.Numerals.{add-one}
+use native.Mathlib.Nat.{add-zero, not-suc-le-zero, le-of-suc-le-suc}
 use native.Mathlib.Omega.{arith}
 use borrow.Author.Tests.{le-leb, lt-leb, leb-true, leb-false}
 use lib.Dec.{leb}
@@ -14,7 +13,7 @@ use lib.Seq.{getD-take}
 use Rattle.definition.specs.Lists.{part}
 use Rattle.definition.specs.Room.{over}
 use Rattle.definition.proofs.Parts.{length-part, part-more, part-first}
-use Rattle.definition.proofs.Rooms.{length-over, over-nil, over-next, over-next-at, over-past, getD-over-at, getD-over-low, getD-over-high}
+use Rattle.definition.proofs.Rooms.{length-over, over-nil, over-before, over-next-at, getD-over-low, getD-over-high}
 use Rattle.operators.specs.Stands.{topOf, MovedDown, MovedUp}
 use Rattle.operators.specs.Sides.{Raised}
 
@@ -61,26 +60,6 @@ part-above (suc n) t u w l h = cons-cong (getD (over w u l) t 0) (getD w t 0) (p
     (getD-over-high w u t l h) (part-above n (suc t) u w l (omega arith))
 
 -- ---- two stretches, one after the other
-pub part-append : (n m u : ℕ) (w : List ℕ) → part (n + m) u w ≡ part n u w ++ part m (u + n) w
-part-append zero m u w = rw (zero-add, add-zero)
-part-append (suc n) m u w = rw suc-add (ap (λ (t : List ℕ). getD w u 0 ∷ t) (part-append n m (suc u) w ∙ rw (suc-add, add-suc)))
-
-over-cons : (r : List ℕ) (p x : ℕ) (xs : List ℕ) → over (over r (suc p) xs) p (x ∷ []) ≡ over r p (x ∷ xs)
-over-cons [] p x xs = refl
-over-cons (r ∷ rs) zero x xs = ap (λ (t : List ℕ). x ∷ t) (over-nil (over rs 0 xs) 0)
-over-cons (r ∷ rs) (suc p) x xs = ap (λ (t : List ℕ). r ∷ t) (over-cons rs p x xs)
-
-under0 : (r xs ys : List ℕ) → over (over r (length xs) ys) 0 xs ≡ over r 0 (xs ++ ys)
-under0 [] xs ys = refl
-under0 (r ∷ rs) [] ys = over-nil (over (r ∷ rs) 0 ys) 0
-under0 (r ∷ rs) (x ∷ xs) ys = ap (λ (t : List ℕ). x ∷ t) (under0 rs xs ys)
-
--- what is written before what was written
-pub over-under : (r : List ℕ) (u n : ℕ) (xs ys : List ℕ) → n ≡ length xs → over (over r (u + n) ys) u xs ≡ over r u (xs ++ ys)
-over-under r zero n xs ys e = rw (zero-add, e) (under0 r xs ys)
-over-under [] (suc u) n xs ys e = refl
-over-under (r ∷ rs) (suc u) n xs ys e = rw suc-add (ap (λ (t : List ℕ). r ∷ t) (over-under rs u n xs ys e))
-
 -- what is there already
 pub over-self : (n u : ℕ) (w : List ℕ) → over w u (part n u w) ≡ w
 over-self n u [] = refl
@@ -167,7 +146,7 @@ raising-more r₀ from n to r r′ j b c h e f = record {
       let d : part (n - i) (from + i) r₀ ≡ getD r₀ (from + i) 0 ∷ part (n - j) (from + j) r₀ =
       part-first (n - i) (n - j) (from + i) r₀ (omega (arith, c .low)) ∙ rw p in
       let s : over r (to + i) (b ∷ []) ≡ over (over r₀ (suc (to + i)) (part (n - j) (from + j) r₀)) (to + i) (getD r₀ (from + i) 0 ∷ []) = rw (g, c .is k, q) in
-      f ∙ s ∙ over-cons r₀ (to + i) (getD r₀ (from + i) 0) (part (n - j) (from + j) r₀) ∙ sym (ap (over r₀ (to + i)) d);
+      f ∙ s ∙ over-before r₀ (to + i) (getD r₀ (from + i) 0) (part (n - j) (from + j) r₀) ∙ sym (ap (over r₀ (to + i)) d);
 }
 
 pub raising-done : (r₀ : List ℕ) (from n to : ℕ) (r : List ℕ) (j : ℕ) → Raising r₀ from n to r j → j ≤ 0 → MovedUp r₀ from n to r

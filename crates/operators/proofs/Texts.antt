@@ -2,11 +2,10 @@
 -- Assumes nothing.
 use mathlib.Core.Path.{_≡_, refl, sym, ap, _∙_}
 use mathlib.Core.Bool.{Bool, true, false, cond}
-use mathlib.Core.List.{List, [], _∷_, _++_}
-use Prim.Native.Nat.{ℕ, zero, suc, _+_, _<_, _≤_}
-use native.Mathlib.Nat.{add-zero}
+use mathlib.Core.List.{List, []}
+use Prim.Native.Nat.{ℕ, zero, suc, _+_, _≤_}
 use native.Mathlib.Omega.{arith}
-use borrow.Author.Tests.{le-leb, lt-leb, leb-true, leb-false}
+use borrow.Author.Tests.{le-leb, leb-true}
 use lib.Dec.{leb}
 use lib.IntN.{ℤ, natAbs}
 use lib.ListN.{length, take}
@@ -31,12 +30,11 @@ use Rattle.operators.specs.declared.Value.the-variants.{Number, Characte
 use Rattle.operators.specs.declared.Given.{Given}
 use Rattle.operators.specs.declared.Given.the-variants.{Gives, Fails}
 use Rattle.operators.specs.declared.NumberGiven.{NumberGiven}
-use Rattle.operators.specs.declared.Truth.{Truth}
 use Rattle.operators.specs.declared.Truth.the-variants.{Is as isTruth, Fails as noTruth}
-use Rattle.operators.specs.Stands.{valueIn, givenIn, numberFor, truthFor, sizeFor, stacked, Ready, Stood, Gave, Told, Made, amongFor, numberValue, asBit, asSubject, ifFits, textPut, bitsPut}
+use Rattle.operators.specs.Stands.{valueIn, givenIn, numberFor, truthFor, sizeFor, stacked, Ready, Gave, Told, Made, amongFor, numberValue, asBit, asSubject, ifFits, textPut, bitsPut}
 use Rattle.operators.specs.Sides.{negatedFor}
-use Rattle.operators.proofs.Room.{part-written, below-over, take-over}
-use Rattle.operators.proofs.Answers.{among-is, size-is, gave-number, made-gave}
+use Rattle.operators.proofs.Room.{part-written, below-over}
+use Rattle.operators.proofs.Answers.{among-is, gave-number, made-gave}
 
 -- ---- a list that goes to u as one value
 put-in : (u : ℕ) (l : List ℕ) → leb (u + length l) 65536 ≡ true → ifFits u l ≡ l

@@ -21,7 +21,7 @@ use Rattle.values.specs.Substr.{pieceFor}
 use Rattle.operators.specs.declared.Value.{Value}
 use Rattle.operators.specs.declared.Value.the-variants.{Number, Characters, Bits}
 use Rattle.operators.specs.declared.Given.{Given}
-use Rattle.operators.specs.declared.Given.the-variants.{Gives, Fails}
+use Rattle.operators.specs.declared.Given.the-variants.{Gives}
 use Rattle.operators.specs.declared.Pair.{Pair}
 use Rattle.operators.specs.declared.Pair.the-variants.{Are as arePair, Fails as noPair}
 use Rattle.operators.specs.declared.OrderGiven.{OrderGiven}

@@ -2,7 +2,7 @@
 -- Assumes nothing.
 use mathlib.Core.Path.{_≡_, refl, sym, ap, subst, _∙_}
 use mathlib.Core.Bool.{Bool, true, false, cond, _&&_, not}
-use mathlib.Core.List.{List, [], _∷_, _++_}
+use mathlib.Core.List.{List, _∷_, _++_}
 use Prim.Native.Nat.{ℕ, _+_, _-_, _%_, _<_, _≤_}
 use native.Mathlib.Omega.{arith}
 use lib.Dec.{leb}
@@ -10,14 +10,12 @@ use lib.ListN.{length}
 use Rattle.definition.specs.declared.Layout.{Layout}
 use Rattle.definition.specs.declared.Layout.the-variants.{Plain, Cards}
 use Rattle.definition.specs.Lists.{part}
-use Rattle.definition.specs.Room.{over}
 use Rattle.definition.specs.Events.{Event, blank, copied, replaced, bytesIn, joins, textOf, Line, line, longer, linesOf}
 use Rattle.definition.specs.Cards.{isFirst, column, given, linesAs, pieces, takes, taking}
-use Rattle.definition.specs.World.{Pass, World, withEvent}
+use Rattle.definition.specs.World.{World}
 use Rattle.definition.proofs.Parts.{length-part}
 use Rattle.output.specs.declared.Out.{Out}
 use Rattle.output.specs.declared.Put.{Put}
-use Rattle.output.specs.declared.Put.the-variants.{Done, Full}
 use Rattle.output.specs.Shows as Output
 use Rattle.output.specs.Shows.{top, growsFrom, Fine, More, PutsFine, EndsFine}
 use Rattle.output.proofs.Laws.{joins-line}

@@ -1,6 +1,6 @@
 -- How the two rooms and the cursor show what a world has put out: its text, and its lines as they are told. And what an event of
 -- the definition leaves there.
-use Prim.Native.Nat.{ℕ, _+_, _-_, _<_, _≤_}
+use Prim.Native.Nat.{ℕ, _<_, _≤_}
 use mathlib.Core.Path.{_≡_}
 use mathlib.Core.Bool.{Bool, true, false, _&&_}
 use mathlib.Core.List.{List, [], _∷_}

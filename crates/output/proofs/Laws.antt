@@ -2,25 +2,23 @@
 -- Assumes nothing.
 use mathlib.Core.Path.{_≡_, refl, sym, ap, _∙_}
 use mathlib.Core.Bool.{Bool, true, false, cond, _&&_, false≢true}
-use mathlib.Core.List.{List, [], _∷_, _++_}
-use Prim.Native.Nat.{ℕ, zero, suc, _+_, _*_, _-_, _/_, _<_, _≤_}
+use mathlib.Core.List.{List, [], _∷_}
+use Prim.Native.Nat.{ℕ, suc, _+_, _*_, _-_, _/_, _<_, _≤_}
 use native.Mathlib.Nat.{add-zero, le-refl}
 use native.Mathlib.Omega.{arith}
 use borrow.Author.Tests.{eq-eqb, ne-eqb, eqb-true, eqb-false, le-leb, lt-leb, leb-true, leb-false}
 use lib.Dec.{leb, eqb}
 use lib.ListN.{length, length-append}
-use Rattle.definition.specs.Lists.{part, bytes}
+use Rattle.definition.specs.Lists.{bytes}
 use Rattle.definition.specs.Room.{over, zeros}
-use Rattle.definition.specs.Events.{Event, blank, copied, replaced, bytesIn, textOf, Line, line, goesOn, joins, longer, lineOnto, linesOf, lineBytes, listBytes}
+use Rattle.definition.specs.Events.{Event, blank, copied, replaced, bytesIn, textOf, Line, line, goesOn, joins, longer, linesOf, lineBytes, listBytes}
 use Rattle.definition.proofs.Rooms.{length-over, over-nil, over-next-at, over-again}
-use Rattle.definition.proofs.Parts.{length-part}
 use Rattle.sums.specs.Numbers.{greatest, sumTo}
 use Rattle.sums.proofs.Laws.{sum-in}
 use Rattle.output.specs.declared.Newest.{Newest}
 use Rattle.output.specs.declared.Out.{Out}
-use Rattle.output.specs.declared.Put.{Put}
 use Rattle.output.specs.declared.Put.the-variants.{Done, Full}
-use Rattle.output.specs.Shows.{top, lineIn, growsFrom, Fine, Shows, taken, fits, More, Answers, Puts, PutsFine, EndsFine, Begins}
+use Rattle.output.specs.Shows.{top, lineIn, growsFrom, Fine, Shows, taken, More, Puts, PutsFine, EndsFine, Begins}
 use Rattle.output.specs.Line.{lineAt, PutsLine, At, Wrote, Writes}
 
 -- ---- the place of a line

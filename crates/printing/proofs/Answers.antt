@@ -4,7 +4,7 @@
 use mathlib.Core.Path.{_≡_, refl, sym, ap, _∙_}
 use mathlib.Core.List.{List, [], _∷_, _++_}
 use Prim.Native.Nat.{ℕ, zero, suc, _+_, _*_, _<_, _≤_}
-use native.Mathlib.Nat.{zero-add, add-zero, suc-add, add-suc, not-suc-le-zero, le-of-suc-le-suc}
+use native.Mathlib.Nat.{zero-add, not-suc-le-zero, le-of-suc-le-suc}
 use native.Mathlib.Numerals.{add-one}
 use native.Mathlib.Omega.{arith}
 use lib.ListN.{length, getD, take, drop, length-append, length-replicate}
@@ -15,7 +15,7 @@ use Rattle.definition.specs.Room.{over, zeros}
 use Rattle.definition.specs.Events.{Line, lineBytes, listBytes}
 use Rattle.definition.specs.Expansion.{Expansion, textRoomAfter, listRoomAfter}
 use Rattle.definition.specs.Printed.{printed}
-use Rattle.definition.proofs.Parts.{length-part, part-of-part, number-bytes}
+use Rattle.definition.proofs.Parts.{length-part, part-append, part-of-part, number-bytes}
 use Rattle.printing.specs.Page.{Puts, lineAt, linesIn, expansionIn}
 
 -- ---- the page
@@ -41,10 +41,6 @@ part-over : (r xs : List ℕ) → length xs ≤ length r → part (length xs) 0 
 part-over r [] h = refl
 part-over [] (x ∷ xs) h = absurd (not-suc-le-zero h)
 part-over (r ∷ rs) (x ∷ xs) h = ap (λ (t : List ℕ). x ∷ t) (part-next (length xs) x 0 (over rs 0 xs) ∙ part-over rs xs (le-of-suc-le-suc h))
-
-part-append : (n m u : ℕ) (w : List ℕ) → part (n + m) u w ≡ part n u w ++ part m (u + n) w
-part-append zero m u w = rw (zero-add, add-zero)
-part-append (suc n) m u w = rw suc-add (ap (λ (t : List ℕ). getD w u 0 ∷ t) (part-append n m (suc u) w ∙ rw (suc-add, add-suc)))
 
 -- two lists that are the same, cut at the same length
 front : (a b c d : List ℕ) → length a ≡ length c → a ++ b ≡ c ++ d → a ≡ c

@@ -2,10 +2,9 @@
 -- Assumes nothing.
 use mathlib.Core.Path.{_≡_, refl, sym, ap, subst, _∙_}
 use mathlib.Core.Bool.{Bool, true, false, _||_, false≢true}
-use mathlib.Core.List.{List, [], _∷_, _++_}
-use Prim.Native.Nat.{ℕ, zero, suc, _+_, _-_, _<_, _≤_}
+use mathlib.Core.List.{List, [], _∷_}
+use Prim.Native.Nat.{ℕ, _+_, _-_, _≤_}
 use native.Mathlib.Omega.{arith}
-use lib.ListN.{length}
 use Rattle.definition.specs.Tokens.{tokenAt}
 use Rattle.definition.specs.Expressions.{Reading, read, refused, Named, nameAt}
 use Rattle.definition.specs.Program as P
@@ -24,7 +23,6 @@ use Rattle.names.specs.declared.Owner.{Owner}
 use Rattle.entering.specs.declared.Tally.{Tally}
 use Rattle.entering.specs.declared.Meaning.{Meaning}
 use Rattle.entering.specs.declared.Meaning.the-variants as M
-use Rattle.entering.specs.declared.Mark.{Mark}
 use Rattle.entering.specs.declared.Mark.the-variants.{Unmarked, Marked}
 use Rattle.entering.specs.Book.{Book, Entered, bookAll, bookWhole, bookOf, meaningOf}
 use Rattle.statements.specs.Clauses.{scopeOf, Own}
@@ -38,7 +36,7 @@ use Rattle.reading.specs.declared.State.{State}
 use Rattle.reading.specs.declared.Next.{Next}
 use Rattle.reading.specs.declared.Next.the-variants as Nx
 use Rattle.reading.specs.declared.Turned.{Turned}
-use Rattle.reading.specs.State.{rowsFrom, stateOf, turnOf, Around, Stand, withOpened, withScope, withTally, turned, Ends, Sits, Goes, Stops, Does, Fits, early, Way, does, Takes, fromState}
+use Rattle.reading.specs.State.{rowsFrom, stateOf, turnOf, Around, Stand, withOpened, withScope, withTally, turned, Ends, Sits, Does, Fits, early, does, Takes, fromState}
 use Rattle.reading.specs.Labelled.{LabelsIf}
 use Rattle.reading.proofs.Rows.{rows-length, marks-none}
 use Rattle.reading.proofs.Parameters.{AllPlain, whole-all, plain-means}

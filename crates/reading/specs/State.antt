@@ -1,10 +1,9 @@
 -- What the state of the reading and the room of rows stand for in the definition. A member has its own part of the room: its first
 -- row is row 0.
 use Prim.Native.Nat.{ℕ, zero, suc, _+_, _*_, _%_, _≤_, _<_}
-use mathlib.Core.Bool.{Bool, true, false, _&&_, _||_}
+use mathlib.Core.Bool.{true, false, _&&_}
 use mathlib.Core.List.{List, [], _∷_, _++_}
 use mathlib.Core.Path.{_≡_}
-use lib.Dec.{leb}
 use lib.ListN.{length}
 use Rattle.definition.specs.Room.{over}
 use Rattle.definition.specs.Expressions.{Reading, read, refused, Named}
@@ -14,7 +13,7 @@ use Rattle.definition.specs.Statements as St
 use Rattle.definition.specs.Reading as D
 use Rattle.definition.specs.declared.ValueType.{ValueType}
 use Rattle.definition.specs.declared.Why.{Why}
-use Rattle.definition.specs.declared.Why.the-variants.{Syntax, OverLimit}
+use Rattle.definition.specs.declared.Why.the-variants.{OverLimit}
 use Rattle.tokens.specs.Answer.{endingFor}
 use Rattle.tokens.specs.declared.Ending.{Ending}
 use Rattle.tokens.specs.declared.Ending.the-variants as En

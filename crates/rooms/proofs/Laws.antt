@@ -1,8 +1,8 @@
 -- One law for each way out of a function on rooms; the loops' invariants are records.
 -- Assumes nothing.
 use mathlib.Core.Path.{_≡_, refl, sym, ap, _∙_}
-use mathlib.Core.Bool.{Bool, true, false, _&&_}
-use mathlib.Core.List.{List, [], _∷_, _++_}
+use mathlib.Core.Bool.{true, false, _&&_}
+use mathlib.Core.List.{List, [], _∷_}
 use Prim.Native.Nat.{ℕ, zero, suc, _+_, _*_, _-_, _/_, _%_, _<_, _≤_}
 use native.Mathlib.Nat.{add-zero, sub-zero}
 use native.Mathlib.Omega.{arith}
@@ -13,7 +13,7 @@ use lib.ListN.{length, getD, set, drop, length-replicate, replicate-append-repli
 use lib.Seq.{drop-nil}
 use Rattle.definition.specs.Lists.{part, number, bytes, same}
 use Rattle.definition.specs.Room.{over, zeros}
-use Rattle.definition.proofs.Rooms.{length-over, over-nil, over-next-at, over-past, set-is-over, set-next, over-all, zero-more, zero-all}
+use Rattle.definition.proofs.Rooms.{length-over, over-nil, over-next-at, over-past, set-next, over-all, zero-more, zero-all}
 use Rattle.definition.proofs.Parts.{length-part, part-more, part-first, part2, part4}
 
 pub byte-past : (s : List ℕ) (at k : ℕ) → length s ≤ at + k → 0 ≡ getD s (at + k) 0

@@ -11,11 +11,11 @@ use Rattle.definition.specs.Room.{over}
 use Rattle.definition.specs.World.{World, Res, bad}
 use Rattle.definition.specs.Scan as D
 use Rattle.definition.specs.declared.Why.{Why}
-use Rattle.definition.proofs.Parts.{length-part}
+use Rattle.definition.proofs.Parts.{length-part, part-append}
 use Rattle.definition.proofs.Rooms.{over-nil, over-next-at}
 use Rattle.meter.specs.declared.Meter.{Meter}
 use Rattle.operators.specs.Stands.{topOf}
-use Rattle.operators.proofs.Room.{top-in, part-below, below-over, part-append}
+use Rattle.operators.proofs.Room.{top-in, part-below, below-over}
 use Rattle.callees.specs.Shown.{Slots}
 use Rattle.outcomes.specs.declared.Src.{Src}
 use Rattle.outcomes.specs.declared.Dest.{Dest}

@@ -1,34 +1,28 @@
 -- The clauses that declare nothing: what the answers say, one after the other, is the clause that the definition reads.
 -- Assumes nothing.
-use mathlib.Core.Path.{_≡_, refl, sym, ap, _∙_}
-use mathlib.Core.Bool.{Bool, true, false, cond, _&&_, _||_}
+use mathlib.Core.Path.{_≡_, refl, sym, _∙_}
+use mathlib.Core.Bool.{Bool, true, false, cond, _||_}
 use mathlib.Core.List.{List, [], _∷_, _++_}
-use Prim.Native.Nat.{ℕ, zero, suc, _+_, _-_, _<_, _≤_}
+use Prim.Native.Nat.{ℕ, zero, suc, _+_, _-_}
 use Prim.Native.String as Str
 use native.Mathlib.Omega.{arith}
-use native.Mathlib.Numerals.{sub-one}
 use lib.ListN.{length}
 use Rattle.definition.specs.Choice.{when}
-use Rattle.definition.specs.Lists.{same}
 use Rattle.definition.specs.Text.{bytesOf}
-use Rattle.definition.specs.Tokens.{Token, word, integer, string, bits, sign, nothing, wrong, isSign, isWord, tokenAt}
-use Rattle.definition.specs.Expressions.{Reading, read, refused, then, Tree, Parsed, parsed, expectSign, expectWord, Named, nameAt, wholeExpression}
+use Rattle.definition.specs.Tokens.{isSign, isWord, tokenAt}
+use Rattle.definition.specs.Expressions.{Reading, read, refused, then, Tree, Parsed, expectSign, expectWord, Named, nameAt, wholeExpression}
 use Rattle.definition.specs.Program as P
 use Rattle.definition.specs.Statements as D
 use Rattle.definition.specs.declared.ValueType.{ValueType}
 use Rattle.definition.specs.declared.ValueType.the-variants.{FixedType, CharacterType}
 use Rattle.definition.specs.declared.Why.{Why}
 use Rattle.definition.specs.declared.Why.the-variants.{Syntax}
-use Rattle.tokens.specs.declared.Kind.{Kind}
-use Rattle.tokens.specs.declared.Kind.the-variants as Kd
 use Rattle.tokens.specs.declared.Lexeme.{Lexeme}
-use Rattle.tokens.specs.Answer.{Lexed, spelling, content, isSignIn, isSignKind, isWordIn, isWordKind, tokenFor}
-use Rattle.tokens.proofs.Lexemes.{token-is}
+use Rattle.tokens.specs.Answer.{Lexed, spelling, isSignIn, isWordIn}
 use Rattle.expressions.specs.declared.Expected.{Expected}
 use Rattle.expressions.specs.declared.Expected.the-variants.{Past, Refused}
-use Rattle.expressions.specs.declared.NamedAt.{NamedAt}
 use Rattle.expressions.specs.declared.NamedAt.the-variants as N
-use Rattle.expressions.specs.Check.{expectFor, isSpelled, expected, isWorded, expectedWord, namedFor, endFor}
+use Rattle.expressions.specs.Check.{expectFor, expected, isWorded, expectedWord, endFor}
 use Rattle.expressions.proofs.Laws.{told}
 use Rattle.expressions.proofs.Reading.{expected-is, expectedWord-is}
 use Rattle.rows.specs.declared.Statement.{Statement}
@@ -42,14 +36,12 @@ use Rattle.statements.specs.declared.Keyword.the-variants as K
 use Rattle.statements.specs.declared.Clause.{Clause}
 use Rattle.statements.specs.declared.Read.{Read}
 use Rattle.statements.specs.declared.Read.the-variants as R
-use Rattle.statements.specs.declared.Item.{Item}
 use Rattle.statements.specs.declared.Attribute.{Attribute}
 use Rattle.statements.specs.declared.Attribute.the-variants as A
-use Rattle.statements.specs.declared.Itemized.{Itemized}
 use Rattle.statements.specs.declared.Itemized.the-variants as I
 use Rattle.statements.specs.declared.Typed.{Typed}
 use Rattle.statements.specs.declared.Typed.the-variants as T
-use Rattle.statements.specs.Clauses.{otherBy, keywordBy, opensFor, clauseOf, readFor, readUpTo, thenSign, thenWord, thenExpression, boundPast, boundsPast, nameEnd, rescanPast, rescanned, itemPast, listNext, listEnd, goClause, doKind, plainFor, isInside, itemOf, itemIn, attributeBy, worded, itemizedBy, itemized, meaningIn, typeBy, typeFrom, headUpTo, headFrom}
+use Rattle.statements.specs.Clauses.{opensFor, clauseOf, readFor, readUpTo, thenSign, thenWord, thenExpression, boundPast, boundsPast, nameEnd, rescanPast, rescanned, itemPast, listNext, listEnd, goClause, doKind, plainFor, itemOf, itemIn, attributeBy, worded, itemized, typeFrom, headUpTo, headFrom}
 use Rattle.statements.proofs.Laws.{word-in, sign-in, sign-spelled, word-spelled}
 
 -- ---- the end of a clause

@@ -1,22 +1,18 @@
 -- A statement is read as the definition reads it: one law for each way out.
 -- Assumes nothing.
-use mathlib.Core.Path.{_≡_, refl, sym, ap, _∙_}
-use mathlib.Core.Bool.{Bool, true, false, cond, _&&_, _||_}
-use mathlib.Core.List.{List, [], _∷_, _++_}
-use Prim.Native.Nat.{ℕ, zero, suc, _+_, _-_, _<_, _≤_}
+use mathlib.Core.Path.{_≡_, refl, sym, _∙_}
+use mathlib.Core.Bool.{Bool, true, false, _&&_, _||_}
+use mathlib.Core.List.{List, [], _∷_}
+use Prim.Native.Nat.{ℕ, zero, suc, _-_, _<_, _≤_}
 use Prim.Native.String as Str
 use native.Mathlib.Omega.{arith}
 use native.Mathlib.Numerals.{sub-one}
 use lib.ListN.{length}
-use Rattle.definition.specs.Choice.{when}
 use Rattle.definition.specs.Lists.{same}
 use Rattle.definition.specs.Text.{bytesOf}
 use Rattle.definition.specs.Tokens.{Token, word, integer, string, bits, sign, nothing, wrong, isSign, isWord, tokenAt}
-use Rattle.definition.specs.Expressions.{Reading, read, refused, then, Tree, Parsed, parsed, expectSign, expectWord, Named, nameAt, wholeExpression}
-use Rattle.definition.specs.Program as P
-use Rattle.definition.specs.Statements as D
-use Rattle.definition.specs.declared.ValueType.{ValueType}
-use Rattle.definition.specs.declared.ValueType.the-variants.{FixedType, CharacterType}
+use Rattle.definition.specs.Expressions.{Reading, read, refused, Named, nameAt, wholeExpression}
+use Rattle.definition.specs.declared.ValueType.the-variants.{FixedType}
 use Rattle.definition.specs.declared.Why.{Why}
 use Rattle.definition.specs.declared.Why.the-variants.{Syntax}
 use Rattle.tokens.specs.declared.Kind.{Kind}
@@ -28,28 +24,17 @@ use Rattle.expressions.specs.declared.Expected.{Expected}
 use Rattle.expressions.specs.declared.Expected.the-variants.{Past, Refused}
 use Rattle.expressions.specs.declared.NamedAt.{NamedAt}
 use Rattle.expressions.specs.declared.NamedAt.the-variants as N
-use Rattle.expressions.specs.Check.{expectFor, isSpelled, expected, isWorded, expectedWord, namedFor, endFor}
-use Rattle.expressions.proofs.Laws.{told}
-use Rattle.expressions.proofs.Reading.{expected-is, expectedWord-is}
+use Rattle.expressions.specs.Check.{isSpelled, expected, isWorded, expectedWord, namedFor, endFor}
 use Rattle.rows.specs.declared.Statement.{Statement}
-use Rattle.rows.specs.declared.Statement.the-variants as S
-use Rattle.entering.specs.declared.Meaning.{Meaning}
 use Rattle.entering.specs.declared.Meaning.the-variants as M
 use Rattle.statements.specs.declared.Opens.{Opens}
-use Rattle.statements.specs.declared.Opens.the-variants as O
 use Rattle.statements.specs.declared.Keyword.{Keyword}
 use Rattle.statements.specs.declared.Keyword.the-variants as K
-use Rattle.statements.specs.declared.Clause.{Clause}
-use Rattle.statements.specs.declared.Read.{Read}
 use Rattle.statements.specs.declared.Read.the-variants as R
-use Rattle.statements.specs.declared.Item.{Item}
-use Rattle.statements.specs.declared.Attribute.{Attribute}
 use Rattle.statements.specs.declared.Attribute.the-variants as A
 use Rattle.statements.specs.declared.Itemized.{Itemized}
 use Rattle.statements.specs.declared.Itemized.the-variants as I
-use Rattle.statements.specs.declared.Typed.{Typed}
-use Rattle.statements.specs.declared.Typed.the-variants as T
-use Rattle.statements.specs.Clauses.{otherBy, keywordBy, opensFor, clauseOf, readFor, readUpTo, thenSign, thenWord, thenExpression, boundPast, boundsPast, nameEnd, rescanPast, rescanned, itemPast, listNext, listEnd, goClause, doKind, plainFor, isInside, itemOf, itemIn, attributeBy, worded, itemizedBy, itemized, meaningIn, typeBy, typeFrom, headUpTo, headFrom}
+use Rattle.statements.specs.Clauses.{otherBy, keywordBy, clauseOf, readUpTo, thenSign, thenWord, thenExpression, boundPast, boundsPast, nameEnd, rescanPast, itemPast, listNext, listEnd, meaningIn}
 
 -- ---- one answer after the other
 pub meaning-none : (x : Itemized) (w : Why) (p : ℕ) → x ≡ I.Refused w p → M.Variable FixedType ≡ meaningIn x

@@ -1,74 +1,49 @@
 -- The names of a DECLARE are entered while it is read, and they are those that the definition lists.
 -- Assumes nothing.
 use mathlib.Core.Path.{_≡_, refl, sym, ap, _∙_}
-use mathlib.Core.Bool.{Bool, true, false, cond, _&&_, _||_}
+use mathlib.Core.Bool.{Bool, true, false, cond}
 use mathlib.Core.List.{List, [], _∷_, _++_, append-assoc, append-nil}
 use Prim.Native.Nat.{ℕ, zero, suc, _+_, _-_, _<_, _≤_}
-use Prim.Native.String as Str
 use native.Mathlib.Omega.{arith}
 use native.Mathlib.Numerals.{sub-one}
 use lib.ListN.{length}
 use Rattle.definition.specs.Choice.{when}
 use Rattle.definition.specs.Lists.{same}
-use Rattle.definition.specs.Text.{bytesOf}
-use Rattle.definition.specs.Tokens.{Token, word, integer, string, bits, sign, nothing, wrong, isSign, isWord, tokenAt}
-use Rattle.definition.specs.Expressions.{Reading, read, refused, then, Tree, Parsed, parsed, expectSign, expectWord, Named, nameAt, wholeExpression}
+use Rattle.definition.specs.Tokens.{Token, tokenAt}
+use Rattle.definition.specs.Expressions.{Reading, read, refused, Named, nameAt}
 use Rattle.definition.specs.Program as P
 use Rattle.definition.specs.Statements as D
-use Rattle.definition.specs.declared.ValueType.{ValueType}
-use Rattle.definition.specs.declared.ValueType.the-variants.{FixedType, CharacterType}
 use Rattle.definition.specs.declared.Why.{Why}
-use Rattle.definition.specs.declared.Why.the-variants.{Syntax, OverLimit}
+use Rattle.definition.specs.declared.Why.the-variants.{OverLimit}
 use Rattle.tokens.specs.declared.Kind.{Kind}
 use Rattle.tokens.specs.declared.Kind.the-variants as Kd
 use Rattle.tokens.specs.declared.Lexeme.{Lexeme}
-use Rattle.tokens.specs.Answer.{Lexed, spelling, content, isSignIn, isSignKind, isWordIn, isWordKind, tokenFor}
+use Rattle.tokens.specs.Answer.{Lexed, spelling, content, isSignIn, tokenFor}
 use Rattle.tokens.proofs.Lexemes.{token-is}
-use Rattle.expressions.specs.declared.Expected.{Expected}
-use Rattle.expressions.specs.declared.Expected.the-variants.{Past, Refused}
+use Rattle.expressions.specs.declared.Expected.the-variants.{Refused}
 use Rattle.expressions.specs.declared.NamedAt.{NamedAt}
 use Rattle.expressions.specs.declared.NamedAt.the-variants as N
-use Rattle.expressions.specs.Check.{expectFor, isSpelled, expected, isWorded, expectedWord, namedFor, endFor}
-use Rattle.expressions.proofs.Laws.{told}
-use Rattle.expressions.proofs.Reading.{expected-is, expectedWord-is}
-use Rattle.rows.specs.declared.Statement.{Statement}
-use Rattle.rows.specs.declared.Statement.the-variants as S
+use Rattle.expressions.specs.Check.{namedFor}
 use Rattle.entering.specs.declared.Meaning.{Meaning}
 use Rattle.entering.specs.declared.Meaning.the-variants as M
-use Rattle.statements.specs.declared.Opens.{Opens}
-use Rattle.statements.specs.declared.Opens.the-variants as O
-use Rattle.statements.specs.declared.Keyword.{Keyword}
-use Rattle.statements.specs.declared.Keyword.the-variants as K
-use Rattle.statements.specs.declared.Clause.{Clause}
-use Rattle.statements.specs.declared.Read.{Read}
 use Rattle.statements.specs.declared.Read.the-variants as R
-use Rattle.statements.specs.declared.Item.{Item}
-use Rattle.statements.specs.declared.Attribute.{Attribute}
 use Rattle.statements.specs.declared.Attribute.the-variants as A
-use Rattle.statements.specs.declared.Itemized.{Itemized}
-use Rattle.statements.specs.declared.Itemized.the-variants as I
-use Rattle.statements.specs.declared.Typed.{Typed}
-use Rattle.statements.specs.declared.Typed.the-variants as T
-use Rattle.statements.specs.Clauses.{otherBy, keywordBy, opensFor, clauseOf, readFor, readUpTo, thenSign, thenWord, thenExpression, boundPast, boundsPast, nameEnd, rescanPast, rescanned, itemPast, listNext, listEnd, goClause, doKind, plainFor, isInside, itemOf, itemIn, attributeBy, worded, itemizedBy, itemized, meaningIn, namesNext, namesRead, scopeOf, clauseIn, namesIn, Lies, Own, Ready, NamedIf, Declares, typeBy, typeFrom, headUpTo, headFrom}
-use native.Mathlib.Nat.{add-suc}
+use Rattle.statements.specs.Clauses.{namesNext, namesRead, scopeOf, Lies, Own, Ready, NamedIf}
 use borrow.Author.Tests.{leb-true}
 use lib.Dec.{leb}
-use lib.ListN.{length-append, getD}
+use lib.ListN.{getD}
 use Rattle.definition.specs.Lists.{part}
 use Rattle.definition.specs.Expressions.{nameOf}
 use Rattle.definition.specs.Names as Nm
 use Rattle.definition.proofs.Parts.{length-part}
-use Rattle.tokens.specs.Answer.{lexemeFor, kindOf, isToken}
+use Rattle.tokens.specs.Answer.{lexemeFor, isToken}
 use Rattle.tokens.proofs.Reach.{token-low, token-past, token-inside}
 use Rattle.names.specs.Table.{ownerOf, denotationOf}
 use Rattle.names.specs.declared.Owner.{Owner}
 use Rattle.names.specs.declared.Owner.the-variants.{Everyone, Procedure}
 use Rattle.entering.specs.declared.Tally.{Tally}
-use Rattle.entering.specs.declared.Spelling.{Spelling}
 use Rattle.entering.specs.Book.{Book, bookOne, bookNew, bookAll, bookOf, Roomy, Spelled, Declarable, identifierAt, Entered, EnteredIf, newDenotation, meaningOf}
-use Rattle.statements.specs.declared.Declaring.{Declaring}
-use Rattle.statements.proofs.Laws.{word-in, sign-in, sign-spelled, word-spelled}
-use Rattle.statements.proofs.Clauses.{ended-is}
+use Rattle.statements.proofs.Laws.{sign-in}
 
 -- ---- books
 module _ (m : ℕ) where

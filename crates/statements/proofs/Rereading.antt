@@ -1,6 +1,6 @@
 -- A statement that was read is the one that is read again from where the answer says.
 -- Assumes nothing.
-use mathlib.Core.Path.{_≡_, refl, sym, ap, _∙_}
+use mathlib.Core.Path.{_≡_, ap}
 use mathlib.Core.Bool.{Bool, true, false, cond}
 use mathlib.Core.List.{List, []}
 use Prim.Native.Nat.{ℕ}
@@ -14,7 +14,7 @@ use Rattle.definition.specs.Statements as D
 use Rattle.definition.specs.declared.Why.the-variants.{Syntax}
 use Rattle.rows.specs.declared.Statement.the-variants as S
 use Rattle.statements.specs.Clauses.{goClause, doKind, clauseIn}
-use Rattle.statements.specs.Again.{statementIn, orElse, declareAgain, assignAgain, conditionAgain, statementAt}
+use Rattle.statements.specs.Again.{statementIn, declareAgain, assignAgain, conditionAgain, statementAt}
 
 module _ (s : List ℕ) (at : ℕ) (x : D.Clause) where
   pub again-goto : D.gotoClause s at ≡ read x → statementAt s S.Goto at ≡ x .statement

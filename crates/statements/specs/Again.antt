@@ -5,10 +5,9 @@ use lib.ListN.{length}
 use Rattle.definition.specs.Expressions.{Reading, read, refused, then, nameAt, expectSign, wholeExpression}
 use Rattle.definition.specs.Program as P
 use Rattle.definition.specs.Statements as D
-use Rattle.definition.specs.declared.ValueType.{ValueType}
 use Rattle.rows.specs.declared.Statement.{Statement}
 use Rattle.rows.specs.declared.Statement.the-variants as S
-use Rattle.statements.specs.Clauses.{clauseIn, goClause}
+use Rattle.statements.specs.Clauses.{clauseIn}
 
 abbrev pub statementIn : Reading D.Clause → P.Statement
 statementIn (read x) = x .statement

@@ -8,12 +8,11 @@ use lib.Dec.{leb, eqb}
 use lib.ListN.{length}
 use Rattle.definition.specs.Choice.{when}
 use Rattle.definition.specs.Text.{bytesOf}
-use Rattle.definition.specs.Tokens.{Token, isWord, isSign, tokenAt}
+use Rattle.definition.specs.Tokens.{Token, isSign, tokenAt}
 use Rattle.definition.specs.Expressions.{Reading, read, refused, then, expectWord, Named, nameAt, wholeExpression}
 use Rattle.definition.specs.Statements as D
 use Rattle.definition.specs.Program as P
 use Rattle.definition.specs.Lists.{part, same}
-use Rattle.definition.specs.declared.Why.{Why}
 use Rattle.definition.specs.declared.Why.the-variants.{Syntax}
 use Rattle.definition.specs.declared.ValueType.{ValueType}
 use Rattle.definition.specs.declared.ValueType.the-variants.{FixedType, CharacterType}

@@ -1,29 +1,25 @@
 -- One law for each way out of a function on values; what is stored is read back.
 -- Assumes nothing.
 use mathlib.Core.Path.{_≡_, refl, sym, ap, _∙_}
-use mathlib.Core.Bool.{Bool, true, false, cond}
+use mathlib.Core.Bool.{true}
 use mathlib.Core.List.{List, [], _∷_}
 use Prim.Native.Nat.{ℕ, zero, suc, _+_, _*_, _-_, _<_, _≤_}
 use native.Mathlib.Nat.{add-zero}
 use native.Mathlib.Omega.{arith}
 use borrow.Author.Tests.{lt-ltb, le-ltb}
-use lib.Dec.{ltb}
 use lib.ListN.{length, getD}
 use Rattle.definition.specs.Lists.{part}
 use Rattle.definition.specs.Room.{over}
 use Rattle.definition.specs.Fixed as F
-use Rattle.definition.specs.Values.{fixed, characters}
+use Rattle.definition.specs.Values.{fixed}
 use Rattle.definition.specs.World as W
-use Rattle.definition.specs.declared.ValueType.the-variants.{FixedType, CharacterType}
-use Rattle.definition.proofs.Parts.{length-part}
+use Rattle.definition.specs.declared.ValueType.the-variants.{FixedType}
 use Rattle.definition.proofs.Rooms.{getD-over-at}
 use Rattle.fixed.specs.declared.Fixed.{Fixed}
 use Rattle.fixed.specs.declared.Answer.{Answer}
-use Rattle.fixed.specs.declared.Answer.the-variants.{Is, OutOfRange, ZeroDivisor}
 use Rattle.fixed.specs.Answer.{resultOf}
 use Rattle.fixed.specs.Signed.{storedOf, fromStored}
 use Rattle.fixed.proofs.Magnitude.{stored-back}
-use Rattle.store.specs.declared.Length.{Length}
 use Rattle.store.specs.declared.Length.the-variants.{NoCharacters, Bytes}
 use Rattle.store.specs.Cells.{slot, half, fixedCell, characterCell, cellIn, lengthCell, LengthAt, Stored}
 

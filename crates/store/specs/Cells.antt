@@ -1,6 +1,6 @@
 -- What the rooms of values hold at an address: `cells` a number for each address, `low` and `high` 512 bytes for each of 128.
 use Prim.Native.Nat.{ℕ, zero, suc, _+_, _*_, _-_}
-use mathlib.Core.Bool.{Bool, true, false, cond}
+use mathlib.Core.Bool.{cond}
 use mathlib.Core.Path.{_≡_}
 use mathlib.Core.List.{List, [], _∷_}
 use lib.Dec.{ltb}
@@ -9,12 +9,12 @@ use Rattle.definition.specs.Lists.{part}
 use Rattle.definition.specs.Room.{over}
 use Rattle.definition.specs.Limits.{valueLength}
 use Rattle.definition.specs.Fixed as Fixed
-use Rattle.definition.specs.Values.{Value, fixed, characters}
+use Rattle.definition.specs.Values.{fixed, characters}
 use Rattle.definition.specs.World as W
 use Rattle.definition.specs.declared.ValueType.{ValueType}
 use Rattle.definition.specs.declared.ValueType.the-variants.{FixedType, CharacterType}
 use Rattle.fixed.specs.declared.Fixed.{Fixed}
-use Rattle.fixed.specs.Signed.{storedOf, fromStored}
+use Rattle.fixed.specs.Signed.{fromStored}
 use Rattle.store.specs.declared.Number.{Number}
 use Rattle.store.specs.declared.Number.the-variants.{NoNumber, Holds}
 use Rattle.store.specs.declared.Length.{Length}

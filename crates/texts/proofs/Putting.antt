@@ -3,7 +3,7 @@
 use mathlib.Core.Path.{_≡_, refl, sym, ap, subst, _∙_}
 use mathlib.Core.Bool.{Bool, true, false, _&&_}
 use mathlib.Core.List.{List}
-use Prim.Native.Nat.{ℕ, _+_, _-_, _%_, _<_, _≤_}
+use Prim.Native.Nat.{ℕ, _-_, _%_, _<_, _≤_}
 use native.Mathlib.Omega.{arith}
 use lib.Dec.{leb}
 use lib.ListN.{length}
@@ -28,7 +28,7 @@ use Rattle.texts.specs.declared.Passed.the-variants as Ps
 use Rattle.texts.specs.declared.Ran.{Ran}
 use Rattle.texts.specs.declared.Ran.the-variants as Rn
 use Rattle.texts.specs.Shown.{withOut, badAt, putFor, passFor, Onstage, RanAs}
-use Rattle.texts.specs.Contracts.{PutMore, PutAs, PutIs, LineIs}
+use Rattle.texts.specs.Contracts.{PutAs, PutIs, LineIs}
 use Rattle.texts.proofs.Common.{member-low, size-low, stage-event, goes-event}
 
 -- ---- answers by cases

@@ -1,14 +1,12 @@
 -- The replacement of an active name in program text: its line is asked for before it, and put behind its outcome.
 -- Assumes nothing.
 use mathlib.Core.Path.{_≡_, refl, sym, ap, subst, _∙_}
-use mathlib.Core.Bool.{Bool, true, false}
+use mathlib.Core.Bool.{false}
 use mathlib.Core.List.{List}
 use Prim.Native.Nat.{ℕ, _+_, _-_, _<_, _≤_}
 use native.Mathlib.Omega.{arith}
 use borrow.Author.Tests.{le-leb, lt-leb}
-use lib.Dec.{leb}
 use lib.ListN.{length}
-use Rattle.definition.specs.Choice.{when}
 use Rattle.definition.specs.Room.{over}
 use Rattle.definition.specs.Events.{replaced}
 use Rattle.definition.specs.World as W
@@ -16,7 +14,6 @@ use Rattle.definition.specs.World.{Pass, World, Res, good, bad, bind, placed, w
 use Rattle.definition.specs.Calls.{callOut}
 use Rattle.definition.specs.Evaluate.{Call}
 use Rattle.definition.specs.Scan as D
-use Rattle.definition.specs.Run as Run
 use Rattle.definition.specs.Expansion.{sizeIn}
 use Rattle.definition.specs.Run.{stop, replaceHere}
 use Rattle.definition.specs.declared.Why.{Why}
@@ -24,17 +21,15 @@ use Rattle.definition.specs.declared.Why.the-variants.{RoomFull}
 use Rattle.meter.specs.declared.Meter.{Meter}
 use Rattle.names.specs.declared.Activity.{Activity}
 use Rattle.names.specs.Table.{activityOf}
-use Rattle.output.specs.declared.Out.{Out}
 use Rattle.callees.specs.Shown.{worldIn}
 use Rattle.operands.specs.declared.Scene.{Scene}
-use Rattle.operands.specs.Answer.{runIn}
 use Rattle.outcomes.specs.declared.Src.{Src}
 use Rattle.outcomes.specs.declared.Dest.{Dest}
 use Rattle.outcomes.specs.declared.Replaced.{Replaced}
 use Rattle.outcomes.specs.declared.Replaced.the-variants as Rd
 use Rattle.outcomes.specs.Texts.{textOf}
 use Rattle.outcomes.specs.Places.{intoOf, outIn}
-use Rattle.scanning.specs.Cycle.{Stage, replacedIn, ReplacedPut, meterIn, Left, Gone, replacerIn, isOn, ReplaceIs}
+use Rattle.scanning.specs.Cycle.{Stage, replacedIn, ReplacedPut, meterIn, Left, Gone, replacerIn, ReplaceIs}
 use Rattle.scanning.proofs.Common.{with-text, out-length}
 use Rattle.sums.specs.Numbers.{greatest, sumTo}
 use Rattle.sums.proofs.Laws.{sum-fits}

@@ -1,14 +1,13 @@
 -- One token of program text: its step, then its copy or its replacement.
 -- Assumes nothing.
 use mathlib.Core.Path.{_≡_, refl, sym, ap, subst, _∙_}
-use mathlib.Core.Bool.{Bool, true, false}
+use mathlib.Core.Bool.{true, false}
 use mathlib.Core.List.{List}
 use Prim.Native.Nat.{ℕ, zero, suc, _+_, _-_, _<_, _≤_}
 use native.Mathlib.Omega.{arith}
 use lib.ListN.{length}
 use Rattle.definition.specs.Lists.{part}
-use Rattle.definition.specs.Events.{copied, bytesIn}
-use Rattle.definition.specs.Tokens as T
+use Rattle.definition.specs.Events.{copied}
 use Rattle.definition.specs.Tokens.{pieceAt}
 use Rattle.definition.specs.World as W
 use Rattle.definition.specs.World.{Pass, World, Res, good, bad, bind, placed}
@@ -28,14 +27,13 @@ use Rattle.names.specs.declared.Address.{Address}
 use Rattle.names.specs.Table.{activityOf, identifiersFrom}
 use Rattle.rows.specs.declared.Starts.{Starts}
 use Rattle.tokens.specs.declared.Piece.{Piece}
-use Rattle.tokens.specs.Answer.{pieceFor}
 use Rattle.definition.specs.declared.Layout.{Layout}
 use Rattle.definition.specs.Cards.{taking}
 use Rattle.callees.specs.Shown.{worldIn}
 use Rattle.outcomes.specs.declared.Src.{Src}
 use Rattle.outcomes.specs.declared.Active.{Active}
 use Rattle.outcomes.specs.declared.Active.the-variants.{NotActive, IsActive}
-use Rattle.outcomes.specs.Texts.{roomOf, stretchOf, textOf, PieceIn, activeFor, Awake, ActiveHere}
+use Rattle.outcomes.specs.Texts.{roomOf, textOf, PieceIn, activeFor, Awake, ActiveHere}
 use Rattle.outcomes.proofs.Sources.{stretch-length}
 use Rattle.scanning.specs.Cycle.{isOn}
 use Rattle.scanning.proofs.Tokens.{Awakened, awakened}
@@ -48,7 +46,7 @@ use Rattle.texts.specs.declared.Ran.{Ran}
 use Rattle.texts.specs.declared.Ran.the-variants as Rn
 use Rattle.texts.specs.declared.Passed.{Passed}
 use Rattle.texts.specs.declared.Passed.the-variants as Ps
-use Rattle.texts.specs.Shown.{withMeter, badAt, passFor, Onstage, After, RanAs, PassedAs, Lies}
+use Rattle.texts.specs.Shown.{withMeter, badAt, passFor, Onstage, RanAs, PassedAs, Lies}
 use Rattle.texts.specs.Contracts.{PutIs, ReplacingIs, turnHere, TokenIs}
 use Rattle.texts.proofs.Common.{body-text, body-within, stage-meter}
 use Rattle.texts.proofs.Putting.{put-ran}

@@ -2,8 +2,8 @@
 -- Assumes nothing.
 use mathlib.Core.Path.{_≡_, refl, sym, ap, subst, _∙_}
 use mathlib.Core.Bool.{Bool, true, false, not}
-use mathlib.Core.List.{List, [], _∷_, _++_, append-nil, append-assoc}
-use Prim.Native.Nat.{ℕ, zero, suc, _+_, _*_, _-_, _/_, _%_, _^_, _<_, _≤_}
+use mathlib.Core.List.{List, [], _∷_, _++_, append-assoc}
+use Prim.Native.Nat.{ℕ, zero, suc, _+_, _-_, _/_, _%_, _^_, _<_, _≤_}
 use native.Mathlib.Nat.{zero-add, suc-add, sub-self, div-one, pow-zero, pow-suc, div-div-eq-div-mul, mod-lt, mod-eq-of-lt}
 use native.Mathlib.Numerals.{add-one}
 use native.Mathlib.Omega.{arith}
@@ -16,7 +16,7 @@ use Rattle.definition.specs.Choice.{when}
 use Rattle.definition.specs.Room.{over}
 use Rattle.definition.specs.Values.{binary, decimalOn, shortest as signed, fixedText}
 use Rattle.definition.proofs.Ranges.{decimal-length}
-use Rattle.definition.proofs.Rooms.{length-over, over-nil, over-next-at}
+use Rattle.definition.proofs.Rooms.{length-over, over-nil, over-next-at, over-before, over-front}
 use Rattle.values.specs.declared.Base.{Base}
 use Rattle.values.specs.declared.Base.the-variants.{Two, Ten}
 use Rattle.values.specs.Digits.{baseOf, lastDigits}
@@ -41,12 +41,6 @@ pub length-digits : (base k n : ℕ) → length (lastDigits base k n) ≡ k
 unfolding lastDigits
 length-digits base zero n = refl
 length-digits base (suc k) n = ap suc (length-digits base k n)
-
--- what is written before what was written
-over-before : (r : List ℕ) (p x : ℕ) (xs : List ℕ) → over (over r (suc p) xs) p (x ∷ []) ≡ over r p (x ∷ xs)
-over-before [] p x xs = refl
-over-before (r ∷ rs) zero x xs = ap (λ (t : List ℕ). x ∷ t) (over-nil (over rs 0 xs) 0)
-over-before (r ∷ rs) (suc p) x xs = ap (λ (t : List ℕ). r ∷ t) (over-before rs p x xs)
 
 pub record Putting (b : Base) (n k : ℕ) (r₀ : List ℕ) (at : ℕ) (r : List ℕ) (rest j : ℕ) : Type 0 where
   pub low : j ≤ k
@@ -178,18 +172,6 @@ module _ (n : ℕ) (r₀ : List ℕ) (at : ℕ) (r : List ℕ) (j : ℕ) (p : Bl
       rw e at (p .is)
 
 -- ---- FIXED to CHARACTER: eight digits, then blanks and the sign over the first of them
--- what is written over the front of what was written
-front0 : (r l m : List ℕ) → over (over r 0 l) 0 m ≡ over r 0 (m ++ drop (length m) l)
-front0 [] l m = refl
-front0 (r ∷ rs) l [] = over-nil (over (r ∷ rs) 0 l) 0
-front0 (r ∷ rs) [] (x ∷ m) = ap (λ (t : List ℕ). x ∷ over rs 0 t) (sym (append-nil m))
-front0 (r ∷ rs) (y ∷ l) (x ∷ m) = ap (λ (t : List ℕ). x ∷ t) (front0 rs l m)
-
-over-front : (r : List ℕ) (at : ℕ) (l m : List ℕ) → over (over r at l) at m ≡ over r at (m ++ drop (length m) l)
-over-front r zero l m = front0 r l m
-over-front [] (suc at) l m = refl
-over-front (r ∷ rs) (suc at) l m = ap (λ (t : List ℕ). r ∷ t) (over-front rs at l m)
-
 -- the last digits are the end of more of them
 last-of-more : (base i k n : ℕ) → drop i (lastDigits base (i + k) n) ≡ lastDigits base k n
 unfolding lastDigits
