@@ -24,12 +24,12 @@ m1 = record {
   number = 0;
   member = 0;
   offset = 0;
-  steps = 8;
-  text = bytesOf "   X=7;";
-  lines = line 2 0 28 1 ∷ line 3 0 27 1 ∷ line 2 0 24 3 ∷ line 1 0 24 1 ∷ line 1 0 17 1 ∷ [];
+  steps = 15;
+  text = bytesOf "   X=       7;";
+  lines = line 2 0 28 1 ∷ line 3 0 27 8 ∷ line 2 0 24 3 ∷ line 1 0 24 1 ∷ line 1 0 17 1 ∷ [];
 }
 
-pub m1-printed : printed m1 ≡ page ("0 0 0 8 7 5" ∷ "B 0 17 1" ∷ "B 0 24 1" ∷ "C 0 24 3" ∷ "V 0 27 1" ∷ "C 0 28 1" ∷ "   X=7;" ∷ [])
+pub m1-printed : printed m1 ≡ page ("0 0 0 15 14 5" ∷ "B 0 17 1" ∷ "B 0 24 1" ∷ "C 0 24 3" ∷ "V 0 27 8" ∷ "C 0 28 1" ∷ "   X=       7;" ∷ [])
 unfolding printed numbersLine originLines originLine letter decimal decimalOn
 m1-printed = refl
 
