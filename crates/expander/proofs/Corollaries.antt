@@ -19,7 +19,7 @@ use Rattle.definition.specs.Limits.{includeLevels}
 use Rattle.definition.specs.Room.{over, zeros}
 use Rattle.definition.specs.Deck as Deck
 use Rattle.definition.specs.Deck.{isSound}
-use Rattle.definition.specs.Cards.{uneven, joined}
+use Rattle.definition.specs.Cards.{uneven, unevenIn, joined}
 use Rattle.definition.specs.Reading.{readMember}
 use Rattle.definition.specs.Events.{Line, listBytes, lineBytes}
 use Rattle.definition.specs.World.{Res, good, bad}
@@ -39,19 +39,19 @@ use Rattle.promises.specs.Origin as Origin
 use Rattle.promises.specs.Passes as Passes
 use Rattle.promises.specs.Passes.{passing}
 use Rattle.promises.specs.Unread.{withBody}
-use Rattle.promises.specs.Cards.{InRecords, rejoined}
+use Rattle.promises.specs.Cards.{InRecords, rejoined, rejoinedOf}
 use Rattle.promises.proofs.Cutting.{partition}
 use Rattle.promises.proofs.Passing.{honest}
 use Rattle.promises.proofs.Growing.{more-keeps-in}
 use Rattle.promises.proofs.Unread.{unread}
 use Rattle.promises.proofs.Tied.{tied-unless-short}
-use Rattle.promises.proofs.Rejoined.{rejoins}
+use Rattle.promises.proofs.Rejoined.{rejoins, honest-cards}
 use Rattle.promises.proofs.Edges.{as-given}
 use Rattle.promises.proofs.Bodies.{unread-cards}
 use Rattle.expander.specs.declared.Expansion.{Expansion}
 use Rattle.expander.specs.Answer.{numbersOf}
 use Rattle.expander.specs.Promise.{Working, isRoomy, answerOf, Expanded, sixOf, Told}
-use Rattle.expander.specs.Corollaries.{Call, Meets, Countable, definedFor, readOff, Numbered, Placed, Refused, Ended, ReadOff, Partitioned, Recorded, Honest, Longer, Same, MoreKeeps, Alike, NeverIn, UnreadBody, Determined, Beside, Tied}
+use Rattle.expander.specs.Corollaries.{Call, Meets, Countable, definedFor, readOff, Numbered, Placed, Refused, Ended, ReadOff, Partitioned, Recorded, Honest, HonestCards, Longer, Same, MoreKeeps, Alike, NeverIn, UnreadBody, Determined, Beside, Tied}
 use Rattle.expander.proofs.Laws.{all-true}
 use Rattle.stops.proofs.Stops.{one-malformed, twenty-uneven, two-short, place-within, offset-near}
 use Rattle.stops.proofs.Near.{lines-small}
@@ -144,6 +144,10 @@ records-in y roomy d t l steps e = rw e (as-given d roomy t l steps .records)
 honest-in : (y : Layout) (roomy : Bool) (d : List ℕ) (t l steps : ℕ) → y ≡ Plain → Passes.Honest d (passing roomy d t l steps) (expansionOf y roomy d t l steps)
 unfolding expansionOf
 honest-in y roomy d t l steps e = rw e (honest d roomy t l steps)
+
+honest-cards-in : (y : Layout) (roomy : Bool) (d : List ℕ) (t l steps : ℕ) → y ≡ Cards → roomy ≡ true → isSound d ≡ true → unevenIn y d ≡ Deck.none
+    → Passes.Honest (joined d) (Passes.mainPasses (enter 0 (readMember (bodyOf (joined d) 0)) (worldFor Cards t l steps)) (joined d)) (rejoinedOf (expansionOf y roomy d t l steps))
+honest-cards-in y roomy d t l steps e f sound even = rw (e, f) (honest-cards d t l steps sound (rw e at even))
 
 unread-in : (y : Layout) (roomy : Bool) (d : List ℕ) (k : ℕ) (b : List ℕ) (t l steps : ℕ) → isSound d ≡ true → 0 < k → k < Deck.count d → length b ≡ Deck.lineAt d k .size → NeverIn y k d t l steps
     → expansionOf y roomy (withBody k b d) t l steps ≡ expansionOf y roomy d t l steps
@@ -259,6 +263,11 @@ module _ (c : Call) (h : Meets c) where
   pub is-honest : Countable c → c .layout ≡ Plain → Honest c
   is-honest k e =
       let p = honest-in (c .layout) (isRoomy (c .working)) (c .deck) (length (c .text)) (length (c .list)) (c .steps) e in
+      record { told = rw (read-off .text, read-off .lines k) (p .told); scans = p .scans; listed = rw (read-off .lines k) (p .listed) }
+
+  pub is-honest-cards : Countable c → c .layout ≡ Cards → isRoomy (c .working) ≡ true → isSound (c .deck) ≡ true → unevenIn (c .layout) (c .deck) ≡ Deck.none → HonestCards c
+  is-honest-cards k e roomy sound even =
+      let p = honest-cards-in (c .layout) (isRoomy (c .working)) (c .deck) (length (c .text)) (length (c .list)) (c .steps) e roomy sound even in
       record { told = rw (read-off .text, read-off .lines k) (p .told); scans = p .scans; listed = rw (read-off .lines k) (p .listed) }
 
 -- ---- TWO CALLS

@@ -20,7 +20,7 @@ use Rattle.definition.specs.Expansion as X
 use Rattle.definition.specs.Expansion.{worldFor, told}
 use Rattle.printing.specs.Page.{linesIn, expansionIn}
 use Rattle.promises.specs.Origin.{Cuts, Longest}
-use Rattle.promises.specs.Passes.{Told, Scans, outside, passing, listedPlaces, activePlaces}
+use Rattle.promises.specs.Passes.{Told, Scans, outside, passing, mainPasses, listedPlaces, activePlaces}
 use Rattle.promises.specs.Unread.{MainAtBar, NeverIncluded, withBody}
 use Rattle.promises.specs.Cards.{InRecords, rejoined}
 use Rattle.expander.specs.declared.Expansion.{Expansion}
@@ -125,6 +125,19 @@ pub record Honest (c : Call) : Type 0 where
   pub told : Told (passesFor c) (linesOut c) (textOut c)
   pub scans : Scans (c .deck) (passesFor c) outside
   pub listed : listedPlaces (linesOut c) ≡ activePlaces (passesFor c)
+
+-- the same of card images, sound and of whole records, in rooms that are long enough: "Demands 2 and 3 then read over the
+-- joined columns" (C-11), the pieces of the list joined
+abbrev pub cardPasses : Call → List Pass
+cardPasses c =
+    mainPasses
+    (enter 0 (readMember (bodyOf (joined (c .deck)) 0)) (worldFor Cards (length (c .text)) (length (c .list)) (c .steps)))
+    (joined (c .deck))
+
+pub record HonestCards (c : Call) : Type 0 where
+  pub told : Told (cardPasses c) (rejoined (linesOut c)) (textOut c)
+  pub scans : Scans (joined (c .deck)) (cardPasses c) outside
+  pub listed : listedPlaces (rejoined (linesOut c)) ≡ activePlaces (cardPasses c)
 
 -- ---- C-16: of two calls with one deck, the second with no fewer steps and rooms no shorter
 pub record Longer (v w : Working) : Type 0 where
