@@ -29,8 +29,9 @@ use Rattle.operators.specs.declared.Value.the-variants.{Number, Characte
 use Rattle.operators.specs.declared.Given.{Given}
 use Rattle.operators.specs.declared.Given.the-variants.{Gives, Fails}
 use Rattle.operators.specs.Stands.{valueIn, givenIn, sizeFor, stacked, Ready, Stood, Gave, topOf, amongFor, limitedFor}
-use Rattle.operators.specs.Sides.{calcOf, wantedBy, Raised, textSize, numberText, firstText, WroteFirst, bothBits, joinedValue}
+use Rattle.operators.specs.Sides.{calcOf, wantedBy, Judged, Raised, textSize, numberText, firstText, WroteFirst, bothBits, joinedValue}
 use Rattle.operators.proofs.Room.{part-written, below-over, over-self, over-behind, top-in, top-out}
+use Rattle.operators.proofs.Sides.{judged-gave}
 use Rattle.operators.proofs.Texts.{never}
 
 -- ---- the bytes of a side as CHARACTER
@@ -239,37 +240,37 @@ module _ (w : List ℕ) (u n : ℕ) (o : Operator) (X Y : D.Value) (w′ : List 
   unfolding D.infixed wantedBy
   infix-and e h = rw e h
 
-  pub infix-greater : o ≡ O.Greater → Gave w u n (stacked u (D.comparing (wantedBy Greater) X Y)) w′ g → Gave w u n (stacked u (D.infixed u o X Y)) w′ g
+  pub infix-greater : o ≡ O.Greater → Judged w u n (stacked u (D.comparing (wantedBy Greater) X Y)) w′ g → Gave w u n (stacked u (D.infixed u o X Y)) w′ g
   unfolding D.infixed wantedBy
-  infix-greater e h = rw e h
+  infix-greater e h = rw e (judged-gave h)
 
-  pub infix-greaterequal : o ≡ O.GreaterEqual → Gave w u n (stacked u (D.comparing (wantedBy GreaterEqual) X Y)) w′ g → Gave w u n (stacked u (D.infixed u o X Y)) w′ g
+  pub infix-greaterequal : o ≡ O.GreaterEqual → Judged w u n (stacked u (D.comparing (wantedBy GreaterEqual) X Y)) w′ g → Gave w u n (stacked u (D.infixed u o X Y)) w′ g
   unfolding D.infixed wantedBy
-  infix-greaterequal e h = rw e h
+  infix-greaterequal e h = rw e (judged-gave h)
 
-  pub infix-equal : o ≡ O.Equal → Gave w u n (stacked u (D.comparing (wantedBy Equal) X Y)) w′ g → Gave w u n (stacked u (D.infixed u o X Y)) w′ g
+  pub infix-equal : o ≡ O.Equal → Judged w u n (stacked u (D.comparing (wantedBy Equal) X Y)) w′ g → Gave w u n (stacked u (D.infixed u o X Y)) w′ g
   unfolding D.infixed wantedBy
-  infix-equal e h = rw e h
+  infix-equal e h = rw e (judged-gave h)
 
-  pub infix-less : o ≡ O.Less → Gave w u n (stacked u (D.comparing (wantedBy Less) X Y)) w′ g → Gave w u n (stacked u (D.infixed u o X Y)) w′ g
+  pub infix-less : o ≡ O.Less → Judged w u n (stacked u (D.comparing (wantedBy Less) X Y)) w′ g → Gave w u n (stacked u (D.infixed u o X Y)) w′ g
   unfolding D.infixed wantedBy
-  infix-less e h = rw e h
+  infix-less e h = rw e (judged-gave h)
 
-  pub infix-lessequal : o ≡ O.LessEqual → Gave w u n (stacked u (D.comparing (wantedBy LessEqual) X Y)) w′ g → Gave w u n (stacked u (D.infixed u o X Y)) w′ g
+  pub infix-lessequal : o ≡ O.LessEqual → Judged w u n (stacked u (D.comparing (wantedBy LessEqual) X Y)) w′ g → Gave w u n (stacked u (D.infixed u o X Y)) w′ g
   unfolding D.infixed wantedBy
-  infix-lessequal e h = rw e h
+  infix-lessequal e h = rw e (judged-gave h)
 
-  pub infix-notgreater : o ≡ O.NotGreater → Gave w u n (stacked u (D.comparing (wantedBy NotGreater) X Y)) w′ g → Gave w u n (stacked u (D.infixed u o X Y)) w′ g
+  pub infix-notgreater : o ≡ O.NotGreater → Judged w u n (stacked u (D.comparing (wantedBy NotGreater) X Y)) w′ g → Gave w u n (stacked u (D.infixed u o X Y)) w′ g
   unfolding D.infixed wantedBy
-  infix-notgreater e h = rw e h
+  infix-notgreater e h = rw e (judged-gave h)
 
-  pub infix-notequal : o ≡ O.NotEqual → Gave w u n (stacked u (D.comparing (wantedBy NotEqual) X Y)) w′ g → Gave w u n (stacked u (D.infixed u o X Y)) w′ g
+  pub infix-notequal : o ≡ O.NotEqual → Judged w u n (stacked u (D.comparing (wantedBy NotEqual) X Y)) w′ g → Gave w u n (stacked u (D.infixed u o X Y)) w′ g
   unfolding D.infixed wantedBy
-  infix-notequal e h = rw e h
+  infix-notequal e h = rw e (judged-gave h)
 
-  pub infix-notless : o ≡ O.NotLess → Gave w u n (stacked u (D.comparing (wantedBy NotLess) X Y)) w′ g → Gave w u n (stacked u (D.infixed u o X Y)) w′ g
+  pub infix-notless : o ≡ O.NotLess → Judged w u n (stacked u (D.comparing (wantedBy NotLess) X Y)) w′ g → Gave w u n (stacked u (D.infixed u o X Y)) w′ g
   unfolding D.infixed wantedBy
-  infix-notless e h = rw e h
+  infix-notless e h = rw e (judged-gave h)
 
   pub infix-cat : o ≡ O.CatOp → Gave w u n (stacked u (D.joined X Y)) w′ g → Gave w u n (stacked u (D.infixed u o X Y)) w′ g
   unfolding D.infixed wantedBy

@@ -17,6 +17,7 @@ use Rattle.definition.specs.declared.Operator.{Operator}
 use Rattle.definition.specs.declared.Operator.the-variants as O
 use Rattle.definition.specs.Values as D
 use Rattle.definition.specs.Fixed as F
+use Rattle.definition.proofs.Rooms.{over-nil}
 use Rattle.fixed.specs.declared.Fixed.{Fixed}
 use Rattle.fixed.specs.declared.Answer.{Answer}
 use Rattle.fixed.specs.Answer.{resultOf}
@@ -35,7 +36,7 @@ use Rattle.operators.specs.declared.Pair.the-variants.{Are as arePair, F
 use Rattle.operators.specs.declared.OrderGiven.{OrderGiven}
 use Rattle.operators.specs.declared.OrderGiven.the-variants.{Is as isOrder, Fails as noOrder}
 use Rattle.operators.specs.Stands.{valueIn, givenIn, numberFor, sizeFor, stacked, Ready, Gave, topOf, numberValue}
-use Rattle.operators.specs.Sides.{calcOf, numbers, numbersIn, pairFor, orderAnswer, numericOf, bytesOrdered, wantedBy}
+use Rattle.operators.specs.Sides.{calcOf, numbers, numbersIn, pairFor, orderAnswer, numericOf, bytesOrdered, wantedBy, bitsGiven, Judged}
 use Rattle.operators.proofs.Room.{part-written, below-over, top-in}
 use Rattle.operators.proofs.Answers.{value-number}
 use Rattle.operators.proofs.Texts.{never}
@@ -255,33 +256,40 @@ wanted-is NotEqual o = refl
 wanted-is NotLess o = refl
 
 module _ (w : List ℕ) (u : ℕ) (c : Comparison) (x y : Value) (q : OrderGiven) (h : orderAnswer q ≡ D.compared (valueIn w u x) (valueIn w (topOf u (sizeFor x)) y)) where
-  pub comparing-not : (e : Why) → q ≡ noOrder e → Gave w u (sizeFor x + sizeFor y) (stacked u (D.comparing (wantedBy c) (valueIn w u x) (valueIn w (u + sizeFor x) y))) w (Fails e)
-  unfolding orderAnswer D.comparing givenIn stacked
-  comparing-not r e = record {
-    so = λ d.
-        let k : D.fails r ≡ D.compared (valueIn w u x) (valueIn w (u + sizeFor x) y) = rw (e, top-of w u x y d) at h in
-        record { is = rw (← k); below = refl };
-  }
+  pub comparing-not : (e : Why) → q ≡ noOrder e → Judged w u (sizeFor x + sizeFor y) (stacked u (D.comparing (wantedBy c) (valueIn w u x) (valueIn w (u + sizeFor x) y))) w (Fails e)
+  unfolding orderAnswer D.comparing givenIn stacked bitsGiven
+  comparing-not r e = record { so = λ d. record { is = rw (← k d); below = refl }; only = λ d. rw (← k d) (sym (over-nil w u)) }
+    where
+      k : Ready w u (sizeFor x + sizeFor y) → D.fails r ≡ D.compared (valueIn w u x) (valueIn w (u + sizeFor x) y)
+      k d = rw (e, top-of w u x y d) at h
 
   module _ (o : Order) (e : q ≡ isOrder o) (t : Bool) (f : t ≡ leb (u + 1) 65536) where
-    pub comparing-out : t ≡ false → Gave w u (sizeFor x + sizeFor y) (stacked u (D.comparing (wantedBy c) (valueIn w u x) (valueIn w (u + sizeFor x) y))) w (Fails tooLong)
-    unfolding orderAnswer D.comparing givenIn stacked D.unfinished
-    comparing-out g = record {
-      so = λ d.
-          let k : D.gives (orderIn o) ≡ D.compared (valueIn w u x) (valueIn w (u + sizeFor x) y) = rw (e, top-of w u x y d) at h in
-          let b : leb (u + 1) 65536 ≡ false = sym f ∙ g in
-          record { is = rw (← k, b); below = refl };
-    }
+    order-is : Ready w u (sizeFor x + sizeFor y) → D.gives (orderIn o) ≡ D.compared (valueIn w u x) (valueIn w (u + sizeFor x) y)
+    unfolding orderAnswer
+    order-is d = rw (e, top-of w u x y d) at h
+
+    pub comparing-out : t ≡ false → Judged w u (sizeFor x + sizeFor y) (stacked u (D.comparing (wantedBy c) (valueIn w u x) (valueIn w (u + sizeFor x) y))) w (Fails tooLong)
+    unfolding D.comparing givenIn stacked D.unfinished bitsGiven
+    comparing-out g =
+        let b : leb (u + 1) 65536 ≡ false = sym f ∙ g in
+        record {
+          so = λ d. record { is = rw (← order-is d, b); below = refl };
+          only = λ d. rw (← order-is d, b) (sym (over-nil w u));
+        }
 
     pub comparing-is : (s : Bool) (b : ℕ) (w′ : List ℕ) → t ≡ true → s ≡ isWanted c o → b ≡ D.bitOf s → w′ ≡ over w (u + 0) (b ∷ [])
-        → Gave w u (sizeFor x + sizeFor y) (stacked u (D.comparing (wantedBy c) (valueIn w u x) (valueIn w (u + sizeFor x) y))) w′ (Gives (Bits 1))
-    unfolding orderAnswer D.comparing givenIn valueIn stacked D.unfinished
-    comparing-is s b w′ g i j m = record {
-      so = λ d.
-          let k : D.gives (orderIn o) ≡ D.compared (valueIn w u x) (valueIn w (u + sizeFor x) y) = rw (e, top-of w u x y d) at h in
-          let z : leb (u + 1) 65536 ≡ true = sym f ∙ g in
-          let l : w′ ≡ over w u (b ∷ []) = rw add-zero at m in
-          let v : part 1 u w′ ≡ b ∷ [] = part-written 1 u w w′ (b ∷ []) refl l (omega (arith, leb-true (u + 1) 65536 z, d .room)) in
-          let a : b ≡ D.bitOf (wantedBy c (orderIn o)) = j ∙ ap D.bitOf (i ∙ wanted-is c o) in
-          record { is = rw (← k, z, v, a); below = below-over u u w w′ (b ∷ []) (omega arith) l };
-    }
+        → Judged w u (sizeFor x + sizeFor y) (stacked u (D.comparing (wantedBy c) (valueIn w u x) (valueIn w (u + sizeFor x) y))) w′ (Gives (Bits 1))
+    unfolding D.comparing givenIn valueIn stacked D.unfinished bitsGiven
+    comparing-is s b w′ g i j m =
+        let z : leb (u + 1) 65536 ≡ true = sym f ∙ g in
+        let l : w′ ≡ over w u (b ∷ []) = rw add-zero at m in
+        let a : b ≡ D.bitOf (wantedBy c (orderIn o)) = j ∙ ap D.bitOf (i ∙ wanted-is c o) in
+        record {
+          so = λ d.
+              let v : part 1 u w′ ≡ b ∷ [] = part-written 1 u w w′ (b ∷ []) refl l (omega (arith, leb-true (u + 1) 65536 z, d .room)) in
+              record { is = rw (← order-is d, z, v, a); below = below-over u u w w′ (b ∷ []) (omega arith) l };
+          only = λ d. rw (← order-is d, z) (rw a at l);
+        }
+
+pub judged-gave : {w w′ : List ℕ} {u n : ℕ} {a : D.Answer D.Value} {g : Given} → Judged w u n a w′ g → Gave w u n a w′ g
+judged-gave h = record { so = h .so }

@@ -81,6 +81,17 @@ wantedBy NotGreater = λ o. not (D.isAbove o)
 wantedBy NotEqual = λ o. not (D.isAlike o)
 wantedBy NotLess = λ o. not (D.isBelow o)
 
+-- THE CONTRACT of a comparison (C-13): of the work room nothing changes but where the bit goes that is given
+unfoldable pub bitsGiven : D.Answer D.Value → List ℕ
+bitsGiven (D.gives (D.fixed z)) = []
+bitsGiven (D.gives (D.characters l)) = []
+bitsGiven (D.gives (D.bitValue l)) = l
+bitsGiven (D.fails y) = []
+
+pub record Judged (w : List ℕ) (u n : ℕ) (a : D.Answer D.Value) (w′ : List ℕ) (g : Given) : Type 0 where
+  pub so : Ready w u n → Stood w u a w′ g
+  pub only : Ready w u n → w′ ≡ over w u (bitsGiven a)
+
 -- ---- bits: room is made below a second side of m bytes, where the first takes k
 pub record Raised (w : List ℕ) (u m k : ℕ) (w′ : List ℕ) : Type 0 where
   pub is : u + k ≤ unfinishedBytes → w′ ≡ over w (u + k) (part m u w)

@@ -13,7 +13,7 @@ ghost use Rattle.fixed.specs.Answer.{resultOf};
 ghost use Rattle.values.specs.Answers.{answerOf};
 ghost use Rattle.values.specs.Bits.{logicOf};
 ghost use Rattle.operators.specs.Stands.{valueIn, numberFor, sizeFor, stacked, Gave, Told, Made, topOf, amongFor, limitedFor, MovedDown, MovedUp, numberValue, asBit, asSubject, textPut, bitsPut};
-ghost use Rattle.operators.specs.Sides.{negatedFor, calcOf, numbersIn, pairFor, orderAnswer, numericOf, bytesOrdered, wantedBy, Raised, First, textSize, numberText, WroteFirst, bothBits, joinedValue, sameKind, Took};
+ghost use Rattle.operators.specs.Sides.{negatedFor, calcOf, numbersIn, pairFor, orderAnswer, numericOf, bytesOrdered, wantedBy, Judged, Raised, First, textSize, numberText, WroteFirst, bothBits, joinedValue, sameKind, Took};
 use definition::Operator;
 use definition::Prefix;
 use definition::ValueType;
@@ -385,9 +385,9 @@ fn compared(work: &[u8], u: usize, x: Value, y: Value) -> OrderGiven
     }
 }
 
-// The outcome of a comparison is one bit.
+// The outcome of a comparison is one bit, and nothing else is written.
 fn comparing(work: &mut [u8], u: usize, c: Comparison, x: Value, y: Value) -> Given
-    ensures { λ r. ⌜ Gave (now (work .entry)) u (sizeFor x + sizeFor y) (stacked u (D.comparing (wantedBy c) (valueIn (now (work .entry)) u x) (valueIn (now (work .entry)) (u + sizeFor x) y))) (now (work .exit)) r ⌝ }
+    ensures { λ r. ⌜ Judged (now (work .entry)) u (sizeFor x + sizeFor y) (stacked u (D.comparing (wantedBy c) (valueIn (now (work .entry)) u x) (valueIn (now (work .entry)) (u + sizeFor x) y))) (now (work .exit)) r ⌝ }
 {
     let o = compared(work, u, x, y);
     match o {
