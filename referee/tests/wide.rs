@@ -230,23 +230,32 @@ fn waiting(values: usize, long: usize, others: &str) -> String {
     format!("{variables}{procedure}{call}")
 }
 
-/// The number of its answer: 0, or 16 if these values and those of the others pass 65,536 bytes (reading 28).
-fn number_of(values: usize, long: usize, others: &str) -> u32 {
-    answer(&waiting(values, long, others), ROOMS, STEPS).number
+/// Values, how long W is, the others, and the number of the answer: 0, or 16 if all together pass 65,536 bytes (reading 28).
+type Waiting<'a> = (usize, usize, &'a str, u32);
+
+fn are_answered(rows: &[Waiting]) {
+    for &(values, long, others, number) in rows {
+        let found = answer(&waiting(values, long, others), ROOMS, STEPS).number;
+        assert_eq!(found, number, "{values} values, W {long}, {others}");
+    }
 }
 
 #[test]
 fn a_number_takes_eight_bytes_of_the_unfinished_values() {
     // 127 values leave 512 bytes.
-    assert_eq!(number_of(127, 504, "W,7"), 0);
-    assert_eq!(number_of(127, 505, "W,7"), 16);
-    assert_eq!(number_of(127, 504, "7,W"), 0);
-    assert_eq!(number_of(127, 505, "7,W"), 16);
+    are_answered(&[
+        (127, 504, "W,7", 0),
+        (127, 505, "W,7", 16),
+        (127, 504, "7,W", 0),
+        (127, 505, "7,W", 16),
+    ]);
     // While it waits as FIXED it takes nothing.
-    assert_eq!(number_of(127, 512, "'',7*(W='')"), 0);
-    assert_eq!(number_of(127, 512, "'',7||(W='')"), 0);
-    assert_eq!(number_of(127, 512, "'',''||7||(W='')"), 16);
-    assert_eq!(number_of(127, 504, "'',''||7||(W='')"), 0);
+    are_answered(&[
+        (127, 512, "'',7*(W='')", 0),
+        (127, 512, "'',7||(W='')", 0),
+        (127, 512, "'',''||7||(W='')", 16),
+        (127, 504, "'',''||7||(W='')", 0),
+    ]);
 }
 
 #[test]
@@ -304,12 +313,16 @@ fn the_shorter_side_is_padded() {
 #[test]
 fn two_long_sides_take_1024_bytes_and_their_outcome_one() {
     // 126 values leave 1,024 bytes.
-    assert_eq!(number_of(126, 512, "V=W,'',''"), 0);
-    assert_eq!(number_of(126, 512, "'x',V=W,''"), 16);
-    assert_eq!(number_of(126, 511, "V=W,V,W"), 0);
-    assert_eq!(number_of(126, 512, "V=W,V,W"), 16);
+    are_answered(&[
+        (126, 512, "V=W,'',''", 0),
+        (126, 512, "'x',V=W,''", 16),
+        (126, 511, "V=W,V,W", 0),
+        (126, 512, "V=W,V,W", 16),
+    ]);
     // What a side is padded with takes nothing.
-    assert_eq!(number_of(127, 512, "''=W,''"), 0);
-    assert_eq!(number_of(127, 511, "'v'=W,''"), 0);
-    assert_eq!(number_of(127, 512, "'v'=W,''"), 16);
+    are_answered(&[
+        (127, 512, "''=W,''", 0),
+        (127, 511, "'v'=W,''", 0),
+        (127, 512, "'v'=W,''", 16),
+    ]);
 }

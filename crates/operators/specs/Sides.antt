@@ -109,7 +109,7 @@ textSize (Number x) = fixedWidth
 textSize (Characters n) = n
 textSize (Bits n) = n
 
--- what is written for a side: the digits of a number; below a second side of m bytes, that side is written above them
+-- what is written for a side: the eight places of a number; below a second side of m bytes, that side is written above them
 unfoldable pub numberText : Value → List ℕ
 numberText (Number x) = D.fixedText (x .value)
 numberText (Characters n) = []

@@ -456,7 +456,7 @@ fn text_size(v: Value) -> usize
     }
 }
 
-// Writes the digits of a number, for which there is room.
+// Writes the eight places of a number, for which there is room.
 fn write_number(work: &mut [u8], u: usize, v: Value)
     ensures { λ _. ⌜ (now (work .exit)) ≡ over (now (work .entry)) u (numberText v) ⌝ }
 {

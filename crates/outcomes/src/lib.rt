@@ -527,7 +527,7 @@ fn copied_value(work: &[u8], text: &mut [u8], n: usize, d: Dest, u: usize, m: Me
     Scanned::Bad(full(d), m)
 }
 
-// A number, as its digits.
+// A number, as its eight places.
 fn copied_number(work: &mut [u8], text: &mut [u8], x: Fixed, d: Dest, u: usize, m: Meter) -> Scanned
     ensures { λ r. ⌜ CopiedValue (now (work .entry)) (now (text .entry)) (fixedText (x .value)) d u m (now (work .exit)) (now (text .exit)) r ⌝ }
 {

@@ -71,7 +71,7 @@ pub enum Cut {
 // The least magnitude that no FIXED has.
 const OVER: u32 = Fixed::MOST as u32 + 1;
 
-// How many digits FIXED to CHARACTER writes at most.
+// How many digits the shortest decimal of a FIXED has at most.
 const DECIMALS: usize = 6;
 
 // How many bits a FIXED has as BIT.
