@@ -255,7 +255,7 @@ module _ (a b : ℕ) (c : Extra) (gs : List Pass) (Short : Why → Type 0) (spar
 
   -- ---- a member, by what INCLUDE does in it
   module _ (d : List ℕ) where
-    pub act-as : (s : Statement) (i j : Level) (p m n : ℕ) (ps : List Place) → ((ns : List (List ℕ)) (w : World) → T (includeAll i d p m n ps ns w) (includeAll j d p m n ps ns (G w))) → (w : World) → T (actAs s i d p m n ps w) (actAs s j d p m n ps (G w))
+    pub act-as : (s : Statement) (i j : Level) (p m n : ℕ) (ps : List Place) → ((ns : List Deck.Sought) (w : World) → T (includeAll i d p m n ps ns w) (includeAll j d p m n ps ns (G w))) → (w : World) → T (actAs s i d p m n ps w) (actAs s j d p m n ps (G w))
     act-as null i j p m n ps h w = goes
     act-as (declare ns) i j p m n ps h w = at-place m p (bind-follows a b c gs Short spare _ _ (activate-all rescanned ns w) λ _ v. goes)
     act-as (procedure ns t) i j p m n ps h w = goes
@@ -289,7 +289,7 @@ module _ (a b : ℕ) (c : Extra) (gs : List Pass) (Short : Why → Type 0) (spar
     include-at (Deck.line q) noLevel h p m n ps x y k w = halts same
     include-at (Deck.line q) (level i) h p m n ps x y k w = include-entered x y k (enter-follows q (readMember (bodyOf d q)) w) i i q (h q) m n ps w
 
-    include-all : (l : Level) → Levels l → (p m n : ℕ) (ps : List Place) (xs : List (List ℕ)) (w : World) → T (includeAll l d p m n ps xs w) (includeAll l d p m n ps xs (G w))
+    include-all : (l : Level) → Levels l → (p m n : ℕ) (ps : List Place) (xs : List Deck.Sought) (w : World) → T (includeAll l d p m n ps xs w) (includeAll l d p m n ps xs (G w))
     unfolding includeAll
     include-all l h p m n ps [] w = goes
     include-all l h p m n ps (x ∷ xs) w = include-at (Deck.find x 0 (Deck.lines d)) l h p m n ps _ _ (include-all l h p m n ps xs) w

@@ -1,17 +1,17 @@
 -- The joined deck of a sound deck is sound: the same members in the same order, and each body is the joined columns.
 -- Assumes nothing.
 use Prim.Native.Nat.{ℕ, zero, suc, _+_, _*_, _-_, _/_, _%_, _<_, _≤_}
-use native.Mathlib.Nat.{not-suc-le-zero, zero-add, suc-add, add-zero}
+use native.Mathlib.Nat.{not-suc-le-zero, zero-add, suc-add, add-zero, suc-mul}
 use native.Mathlib.Omega.{arith}
 use mathlib.Core.Bool.{Bool, true, false, cond, _&&_, false≢true}
 use mathlib.Core.List.{List, [], _∷_, _++_, append-assoc}
-use mathlib.Core.Path.{_≡_, refl, sym, ap, _∙_}
+use mathlib.Core.Path.{_≡_, refl, sym, ap, subst, _∙_}
 use lib.Dec.{leb, eqb}
 use lib.ListN.{length, getD, length-append, List·getD-append}
 use borrow.Author.Tests.{leb-true, leb-false, le-leb, eqb-true, eq-eqb}
 use Rattle.definition.specs.Limits.{deckBytes, deckLines}
 use Rattle.definition.specs.Lists.{part, number, bytes}
-use Rattle.definition.specs.Deck.{Line, count, linePlace, lineAt, linesFrom, lines, areNamed, isCalled, none, line, find, areDistinct, follow, isSound}
+use Rattle.definition.specs.Deck.{Line, first, hasLibraries, count, libraryLength, linePlace, lineAt, linesFrom, lines, areNamed, isRepeated, areDistinct, Sought, bare, inLibrary, isCalled, none, line, find, follow, isSound}
 use Rattle.definition.specs.Cards.{uneven, columns, records, joinedSize, column, joinedLines, joinedBodies, joined}
 use Rattle.definition.specs.Run.{bodyOf}
 use Rattle.definition.proofs.Parts.{length-part, getD-part, part-of-part, number-bytes}
@@ -78,19 +78,47 @@ columns-part (suc n) at q size d h =
     let y : columns n (at + q + 80) d ≡ columns n (q + 80) (part size at d) = ap (λ (z : ℕ). columns n z d) f ∙ columns-part n at (q + 80) size d (omega arith) in
     λ i. x i ++ y i
 
+-- ---- where the lines of a layout stand; decks with the same first number have the same layout
+pub place-first : (d : List ℕ) → linePlace d 0 ≡ 2
+unfolding linePlace
+place-first d = by (hasLibraries d)
+  where
+    by : (b : Bool) → cond b (2 + 24 * 0) (2 + 16 * 0) ≡ 2
+    by true = refl
+    by false = refl
+
+pub place-next : (d : List ℕ) (k : ℕ) → linePlace d (suc k) ≡ linePlace d k + (libraryLength d + 16)
+unfolding linePlace libraryLength
+place-next d k = by (hasLibraries d)
+  where
+    by : (b : Bool) → cond b (2 + 24 * suc k) (2 + 16 * suc k) ≡ cond b (2 + 24 * k) (2 + 16 * k) + (cond b 8 0 + 16)
+    by true = omega arith
+    by false = omega arith
+
+pub place-more : (d : List ℕ) (k n : ℕ) → linePlace d k + n * (libraryLength d + 16) ≡ linePlace d (k + n)
+place-more d k zero = rw add-zero (omega arith)
+place-more d k (suc n) =
+    let e : suc k + n ≡ k + suc n = omega arith in
+    ap (λ (x : ℕ). linePlace d k + x) (suc-mul n (libraryLength d + 16)) ∙ omega (arith, place-next d k, place-more d (suc k) n, ap (linePlace d) e)
+
+-- lines lie in order
+pub place-up : (d : List ℕ) (k n : ℕ) → linePlace d k ≤ linePlace d (k + n)
+place-up d k n = omega (arith, place-more d k n)
+
 -- ---- the contents of the joined deck, whose next body begins at a place
 abbrev contentsFrom : ℕ → List Line → List Line
 contentsFrom at [] = []
-contentsFrom at (l ∷ ls) = record { name = l .name; offset = at; size = joinedSize l } ∷ contentsFrom (at + joinedSize l) ls
+contentsFrom at (l ∷ ls) = record { library = l .library; name = l .name; offset = at; size = joinedSize l } ∷ contentsFrom (at + joinedSize l) ls
 
-abbrev Eights : List Line → Type 0
-Eights [] = Unit {0}
-Eights (l ∷ ls) = (length (l .name) ≡ 8) × Eights ls
+-- names as long as those of a deck
+abbrev Named : List ℕ → List Line → Type 0
+Named d [] = Unit {0}
+Named d (l ∷ ls) = (length (l .library) ≡ libraryLength d) × (length (l .name) ≡ 8) × Named d ls
 
-eights : (d : List ℕ) (k n : ℕ) → Eights (linesFrom d k n)
+named-lines : (d : List ℕ) (k n : ℕ) → Named d (linesFrom d k n)
 unfolding linesFrom lineAt
-eights d k zero = tt
-eights d k (suc n) = (length-part 8 (linePlace k) d, eights d (suc k) n)
+named-lines d k zero = tt
+named-lines d k (suc n) = (length-part (libraryLength d) (linePlace d k) d, length-part 8 (linePlace d k + libraryLength d) d, named-lines d (suc k) n)
 
 pub length-lines : (d : List ℕ) (i n : ℕ) → length (linesFrom d i n) ≡ n
 unfolding linesFrom
@@ -102,55 +130,89 @@ unfolding follow
 follow-end b end [] f = omega (arith, eqb-true b end f)
 follow-end b end (l ∷ ls) f = omega (arith, follow-end (b + l .size) end ls (and-right (eqb (l .offset) b) _ f))
 
--- a line of sixteen bytes
-module _ (k : ℕ) (pre a b c rest : List ℕ) (p : length pre ≡ linePlace k) (x : length a ≡ 8) (y : length b ≡ 4) (z : length c ≡ 4) where
-  line-of : lineAt (pre ++ (a ++ b ++ c ++ rest)) k ≡ record { name = a; offset = number b; size = number c }
+-- ---- a deck e of the layout of d
+abbrev Alike : List ℕ → List ℕ → Type 0
+Alike d e = hasLibraries e ≡ hasLibraries d
+
+alike-length : (d e : List ℕ) → Alike d e → libraryLength e ≡ libraryLength d
+unfolding libraryLength
+alike-length d e h = rw h
+
+pub alike-place : (d e : List ℕ) (k : ℕ) → Alike d e → linePlace e k ≡ linePlace d k
+unfolding linePlace
+alike-place d e k h = rw h
+
+-- a line of the layout of d in a deck of that layout
+module _ (d : List ℕ) (k : ℕ) (pre w a b c rest : List ℕ) (like : Alike d (pre ++ (w ++ a ++ b ++ c ++ rest))) (p : length pre ≡ linePlace d k) (v : length w ≡ libraryLength d) (x : length a ≡ 8) (y : length b ≡ 4) (z : length c ≡ 4) where
+  abbrev whole : List ℕ
+  whole = pre ++ (w ++ a ++ b ++ c ++ rest)
+
+  line-of : lineAt whole k ≡ record { library = w; name = a; offset = number b; size = number c }
   unfolding lineAt
   line-of =
-      let s : List ℕ = a ++ b ++ c ++ rest in
-      let e : s ≡ a ++ (b ++ (c ++ rest)) = append-assoc (a ++ b) c rest ∙ append-assoc a b (c ++ rest) in
-      let u : part 8 (linePlace k) (pre ++ s) ≡ a = part-past 8 0 (linePlace k) pre s (omega (arith, p)) ∙ ap (part 8 0) e ∙ part-first-of 8 a _ (sym x) in
-      let v : part 4 (linePlace k + 8) (pre ++ s) ≡ b = part-past 4 8 (linePlace k + 8) pre s (omega (arith, p)) ∙ ap (part 4 8) e ∙ part-past 4 0 8 a _ (omega (arith, x)) ∙ part-first-of 4 b _ (sym y) in
-      let w : part 4 (linePlace k + 12) (pre ++ s) ≡ c = part-past 4 12 (linePlace k + 12) pre s (omega (arith, p)) ∙ ap (part 4 12) e ∙ part-past 4 4 12 a _ (omega (arith, x)) ∙ part-past 4 0 4 b _ (omega (arith, y)) ∙ part-first-of 4 c _ (sym z) in
-      λ i. record { name = u i; offset = number (v i); size = number (w i) }
+      let s : List ℕ = w ++ a ++ b ++ c ++ rest in
+      let n : ℕ = libraryLength whole in
+      let g : linePlace whole k ≡ length pre = omega (arith, alike-place d whole k like, p) in
+      let h : n ≡ length w = omega (arith, alike-length d whole like, v) in
+      let e : s ≡ w ++ (a ++ (b ++ (c ++ rest))) = append-assoc (w ++ a ++ b) c rest ∙ append-assoc (w ++ a) b (c ++ rest) ∙ append-assoc w a (b ++ (c ++ rest)) in
+      let t : part n (linePlace whole k) whole ≡ w = part-past n 0 (linePlace whole k) pre s (omega (arith, g)) ∙ ap (part n 0) e ∙ part-first-of n w _ h in
+      let u : part 8 (linePlace whole k + n) whole ≡ a = part-past 8 n (linePlace whole k + n) pre s (omega (arith, g)) ∙ ap (part 8 n) e ∙ part-past 8 0 n w _ (omega (arith, h)) ∙ part-first-of 8 a _ (sym x) in
+      let q : part 4 (linePlace whole k + (n + 8)) whole ≡ b =
+      part-past 4 (n + 8) (linePlace whole k + (n + 8)) pre s (omega (arith, g)) ∙ ap (part 4 (n + 8)) e ∙ part-past 4 8 (n + 8) w _ (omega (arith, h)) ∙ part-past 4 0 8 a _ (omega (arith, x)) ∙ part-first-of 4 b _ (sym y) in
+      let r : part 4 (linePlace whole k + (n + 12)) whole ≡ c =
+      part-past 4 (n + 12) (linePlace whole k + (n + 12)) pre s (omega (arith, g)) ∙ ap (part 4 (n + 12)) e ∙ part-past 4 12 (n + 12) w _ (omega (arith, h)) ∙ part-past 4 4 12 a _ (omega (arith, x)) ∙ part-past 4 0 4 b _ (omega (arith, y))
+      ∙ part-first-of 4 c _ (sym z) in
+      λ i. record { library = t i; name = u i; offset = number (q i); size = number (r i) }
 
 -- the lines that are read in the joined deck: `b` is where the body of the first stands in the deck as given
-lines-joined : (ls : List Line) (at b end k : ℕ) (pre rest : List ℕ) → length pre ≡ linePlace k → Eights ls → follow b ls end ≡ true → at ≤ b → end ≤ deckBytes → linesFrom (pre ++ joinedLines at ls ++ rest) k (length ls) ≡ contentsFrom at ls
-unfolding linesFrom joinedLines follow
-lines-joined [] at b end k pre rest p e f h i = refl
-lines-joined (l ∷ ls) at b end k pre rest p e f h i =
-    let n : List ℕ = bytes 4 at in
-    let s : List ℕ = bytes 4 (joinedSize l) in
-    let more : List ℕ = joinedLines (at + joinedSize l) ls in
-    let g : follow (b + l .size) ls end ≡ true = and-right (eqb (l .offset) b) _ f in
-    let j : b + l .size ≤ end = follow-end (b + l .size) end ls g in
-    let x : number n ≡ at = number-bytes 4 at (omega arith) in
-    let y : number s ≡ joinedSize l = number-bytes 4 (joinedSize l) (omega arith) in
-    let u : lineAt (pre ++ (l .name ++ n ++ s ++ more) ++ rest) k ≡ record { name = l .name; offset = number n; size = number s } =
-    ap (λ (t : List ℕ). lineAt t k) (append-assoc pre (l .name ++ n ++ s ++ more) rest ∙ ap (λ (t : List ℕ). pre ++ t) (append-assoc (l .name ++ n ++ s) more rest))
-    ∙ line-of k pre (l .name) n s (more ++ rest) p (e .0) (length-bytes 4 at) (length-bytes 4 (joinedSize l)) in
-    let q : length (pre ++ (l .name ++ n ++ s)) ≡ linePlace (suc k) = simp length-append (omega (arith, p, e .0, length-bytes 4 at, length-bytes 4 (joinedSize l))) in
-    let v : linesFrom (pre ++ (l .name ++ n ++ s ++ more) ++ rest) (suc k) (length ls) ≡ contentsFrom (at + joinedSize l) ls =
-    ap (λ (t : List ℕ). linesFrom (t ++ rest) (suc k) (length ls)) (sym (append-assoc pre (l .name ++ n ++ s) more))
-    ∙ lines-joined ls (at + joinedSize l) (b + l .size) end (suc k) (pre ++ (l .name ++ n ++ s)) rest q (e .1) g (omega arith) i in
-    let w : _≡_ {A = Line} (record { name = l .name; offset = number n; size = number s }) (record { name = l .name; offset = at; size = joinedSize l }) = λ i. record { name = l .name; offset = x i; size = y i } in
-    λ i. (u ∙ w) i ∷ v i
+module _ (d : List ℕ) where
+  lines-joined : (ls : List Line) (at b end k : ℕ) (pre rest : List ℕ) → Alike d (pre ++ joinedLines at ls ++ rest) → length pre ≡ linePlace d k → Named d ls → follow b ls end ≡ true → at ≤ b → end ≤ deckBytes
+      → linesFrom (pre ++ joinedLines at ls ++ rest) k (length ls) ≡ contentsFrom at ls
+  unfolding linesFrom joinedLines follow
+  lines-joined [] at b end k pre rest like p e f h i = refl
+  lines-joined (l ∷ ls) at b end k pre rest like p e f h i =
+      let n : List ℕ = bytes 4 at in
+      let s : List ℕ = bytes 4 (joinedSize l) in
+      let line′ : List ℕ = l .library ++ l .name ++ n ++ s in
+      let more : List ℕ = joinedLines (at + joinedSize l) ls in
+      let g : follow (b + l .size) ls end ≡ true = and-right (eqb (l .offset) b) _ f in
+      let j : b + l .size ≤ end = follow-end (b + l .size) end ls g in
+      let x : number n ≡ at = number-bytes 4 at (omega arith) in
+      let y : number s ≡ joinedSize l = number-bytes 4 (joinedSize l) (omega arith) in
+      let o : pre ++ (line′ ++ more) ++ rest ≡ pre ++ (line′ ++ (more ++ rest)) = append-assoc pre (line′ ++ more) rest ∙ ap (λ (t : List ℕ). pre ++ t) (append-assoc line′ more rest) in
+      let u : lineAt (pre ++ (line′ ++ more) ++ rest) k ≡ record { library = l .library; name = l .name; offset = number n; size = number s } =
+      ap (λ (t : List ℕ). lineAt t k) o
+      ∙ line-of d k pre (l .library) (l .name) n s (more ++ rest) (subst (Alike d) o like) p (e .0) (e .1) (length-bytes 4 at) (length-bytes 4 (joinedSize l)) in
+      let q : length (pre ++ line′) ≡ linePlace d (suc k) = simp length-append (omega (arith, p, place-next d k, e .0, e .1, length-bytes 4 at, length-bytes 4 (joinedSize l))) in
+      let r : pre ++ (line′ ++ more) ++ rest ≡ pre ++ line′ ++ more ++ rest = ap (λ (t : List ℕ). t ++ rest) (sym (append-assoc pre line′ more)) in
+      let v : linesFrom (pre ++ (line′ ++ more) ++ rest) (suc k) (length ls) ≡ contentsFrom (at + joinedSize l) ls =
+      ap (λ (t : List ℕ). linesFrom t (suc k) (length ls)) r
+      ∙ lines-joined ls (at + joinedSize l) (b + l .size) end (suc k) (pre ++ line′) rest (subst (Alike d) r like) q (e .2) g (omega arith) i in
+      let w : _≡_ {A = Line} (record { library = l .library; name = l .name; offset = number n; size = number s }) (record { library = l .library; name = l .name; offset = at; size = joinedSize l }) =
+      λ i. record { library = l .library; name = l .name; offset = x i; size = y i } in
+      λ i. (u ∙ w) i ∷ v i
 
 -- ---- what soundness asks of them
-named-joined : (at : ℕ) (ls : List Line) → areNamed (contentsFrom at ls) ≡ areNamed ls
+named-joined : (b : Bool) (at : ℕ) (ls : List Line) → areNamed b (contentsFrom at ls) ≡ areNamed b ls
 unfolding areNamed
-named-joined at [] = refl
-named-joined at (l ∷ ls) = rw (named-joined (at + joinedSize l) ls)
+named-joined b at [] = refl
+named-joined b at (l ∷ ls) = rw (named-joined b (at + joinedSize l) ls)
 
-find-joined : (x : List ℕ) (k at : ℕ) (ls : List Line) → find x k (contentsFrom at ls) ≡ find x k ls
+find-joined : (x : Sought) (k at : ℕ) (ls : List Line) → find x k (contentsFrom at ls) ≡ find x k ls
 unfolding find isCalled
 find-joined x k at [] = refl
-find-joined x k at (l ∷ ls) = rw (find-joined x (suc k) (at + joinedSize l) ls)
+find-joined (bare w) k at (l ∷ ls) = rw (find-joined (bare w) (suc k) (at + joinedSize l) ls)
+find-joined (inLibrary v w) k at (l ∷ ls) = rw (find-joined (inLibrary v w) (suc k) (at + joinedSize l) ls)
+
+repeated-joined : (b at z : ℕ) (l : Line) (ls : List Line) → isRepeated (record { library = l .library; name = l .name; offset = b; size = z }) (contentsFrom at ls) ≡ isRepeated l ls
+unfolding isRepeated
+repeated-joined b at z l [] = refl
+repeated-joined b at z l (m ∷ ms) = rw (repeated-joined b (at + joinedSize m) z l ms)
 
 distinct-joined : (at : ℕ) (ls : List Line) → areDistinct (contentsFrom at ls) ≡ areDistinct ls
 unfolding areDistinct
 distinct-joined at [] = refl
-distinct-joined at (l ∷ ls) = rw (find-joined (l .name) 0 (at + joinedSize l) ls, distinct-joined (at + joinedSize l) ls)
+distinct-joined at (l ∷ ls) = rw (repeated-joined at (at + joinedSize l) (joinedSize l) l ls, distinct-joined (at + joinedSize l) ls)
 
 both-true : (a b : Bool) → a ≡ true → b ≡ true → (a && b) ≡ true
 both-true true b h k = k
@@ -164,10 +226,12 @@ follow-joined at end (l ∷ ls) d e =
     (follow-joined (at + joinedSize l) end ls d (omega (arith, length-append (columns (records l) (l .offset) d) (joinedBodies ls d), length-columns (records l) (l .offset) d)))
 
 -- ---- lengths
-length-contents : (at : ℕ) (ls : List Line) → Eights ls → length (joinedLines at ls) ≡ 16 * length ls
+length-contents : (d : List ℕ) (k at : ℕ) (ls : List Line) → Named d ls → linePlace d k + length (joinedLines at ls) ≡ linePlace d (k + length ls)
 unfolding joinedLines
-length-contents at [] e = refl
-length-contents at (l ∷ ls) e = simp length-append (omega (arith, e .0, length-bytes 4 at, length-bytes 4 (joinedSize l), length-contents (at + joinedSize l) ls (e .1)))
+length-contents d k at [] e = add-zero (linePlace d k) ∙ ap (linePlace d) (sym (add-zero k))
+length-contents d k at (l ∷ ls) e =
+    let f : suc k + length ls ≡ k + suc (length ls) = omega arith in
+    simp length-append (omega (arith, place-next d k, e .0, e .1, length-bytes 4 at, length-bytes 4 (joinedSize l), length-contents d (suc k) (at + joinedSize l) ls (e .2), ap (linePlace d) f))
 
 length-bodies : (b end : ℕ) (ls : List Line) (d : List ℕ) → follow b ls end ≡ true → b + length (joinedBodies ls d) ≤ end
 unfolding follow joinedBodies
@@ -176,13 +240,18 @@ length-bodies b end (l ∷ ls) d f = simp length-append (omega (arith, length-co
 
 -- ---- the bodies
 abbrev at-line : List Line → ℕ → Line
-at-line ls m = getD ls m (record { name = []; offset = 0; size = 0 })
+at-line ls m = getD ls m (record { library = []; name = []; offset = 0; size = 0 })
 
 line-in : (d : List ℕ) (k n m : ℕ) → m < n → at-line (linesFrom d k n) m ≡ lineAt d (k + m)
 unfolding linesFrom
 line-in d k zero m h = absurd (not-suc-le-zero h)
 line-in d k (suc n) zero h = rw add-zero
 line-in d k (suc n) (suc m) h = let e : k + suc m ≡ suc k + m = omega arith in rw e (line-in d (suc k) n m (omega arith))
+
+library-in : (at : ℕ) (ls : List Line) (m : ℕ) → at-line (contentsFrom at ls) m .library ≡ at-line ls m .library
+library-in at [] m = refl
+library-in at (l ∷ ls) zero = refl
+library-in at (l ∷ ls) (suc m) = library-in (at + joinedSize l) ls m
 
 name-in : (at : ℕ) (ls : List Line) (m : ℕ) → at-line (contentsFrom at ls) m .name ≡ at-line ls m .name
 name-in at [] m = refl
@@ -209,10 +278,10 @@ pub record Sound (d : List ℕ) : Type 0 where
   pub few : length d ≤ deckBytes
   pub some : 1 ≤ count d
   pub members : count d ≤ deckLines
-  pub contents : linePlace (count d) ≤ length d
-  pub named : areNamed (lines d) ≡ true
+  pub contents : linePlace d (count d) ≤ length d
+  pub named : areNamed (hasLibraries d) (lines d) ≡ true
   pub distinct : areDistinct (lines d) ≡ true
-  pub following : follow (linePlace (count d)) (lines d) (length d) ≡ true
+  pub following : follow (linePlace d (count d)) (lines d) (length d) ≡ true
 
 pub sound-parts : (d : List ℕ) → isSound d ≡ true → Sound d
 unfolding isSound
@@ -220,10 +289,10 @@ sound-parts d h =
     let a : Bool = leb (length d) deckBytes in
     let b : Bool = leb 1 (count d) in
     let c : Bool = leb (count d) deckLines in
-    let e : Bool = leb (linePlace (count d)) (length d) in
-    let f : Bool = areNamed (lines d) in
+    let e : Bool = leb (linePlace d (count d)) (length d) in
+    let f : Bool = areNamed (hasLibraries d) (lines d) in
     let g : Bool = areDistinct (lines d) in
-    let t : Bool = follow (linePlace (count d)) (lines d) (length d) in
+    let t : Bool = follow (linePlace d (count d)) (lines d) (length d) in
     let h₆ : (a && b && c && e && f && g) ≡ true = and-left _ t h in
     let h₅ : (a && b && c && e && f) ≡ true = and-left _ g h₆ in
     let h₄ : (a && b && c && e) ≡ true = and-left _ f h₅ in
@@ -240,61 +309,78 @@ module _ (d : List ℕ) (sound : isSound d ≡ true) where
   parts : Sound d
   parts = sound-parts d sound
 
-  length-head : length (part 2 0 d ++ joinedLines (linePlace (count d)) (lines d)) ≡ linePlace (count d)
-  length-head = simp length-append (omega (arith, length-part 2 0 d, length-contents (linePlace (count d)) (lines d) (eights d 0 (count d)), length-lines d 0 (count d)))
+  length-head : length (part 2 0 d ++ joinedLines (linePlace d (count d)) (lines d)) ≡ linePlace d (count d)
+  length-head =
+      simp length-append
+      (omega (arith, length-part 2 0 d, place-first d, length-contents d 0 (linePlace d (count d)) (lines d) (named-lines d 0 (count d)), ap (λ (n : ℕ). linePlace d (0 + n)) (length-lines d 0 (count d)), ap (linePlace d) (zero-add (count d))))
 
-  pub count-joined : count (joined d) ≡ count d
+  first-joined : first (joined d) ≡ first d
   unfolding joined
-  count-joined =
-      let ls : List ℕ = joinedLines (linePlace (count d)) (lines d) in
+  first-joined =
+      let ls : List ℕ = joinedLines (linePlace d (count d)) (lines d) in
       let bs : List ℕ = joinedBodies (lines d) d in
       ap number (ap (part 2 0) (append-assoc (part 2 0 d) ls bs) ∙ part-first-of 2 (part 2 0 d) (ls ++ bs) (sym (length-part 2 0 d)))
 
-  contents-joined : lines (joined d) ≡ contentsFrom (linePlace (count d)) (lines d)
+  -- the deck's own layout
+  pub layout-joined : hasLibraries (joined d) ≡ hasLibraries d
+  unfolding hasLibraries
+  layout-joined = rw first-joined
+
+  pub place-joined : (k : ℕ) → linePlace (joined d) k ≡ linePlace d k
+  place-joined k = alike-place d (joined d) k layout-joined
+
+  pub count-joined : count (joined d) ≡ count d
+  unfolding count
+  count-joined = rw (layout-joined, first-joined)
+
+  contents-joined : lines (joined d) ≡ contentsFrom (linePlace d (count d)) (lines d)
   unfolding joined
   contents-joined =
       rw (count-joined)
       (ap (linesFrom (joined d) 0) (sym (length-lines d 0 (count d)))
-      ∙ lines-joined (lines d) (linePlace (count d)) (linePlace (count d)) (length d) 0 (part 2 0 d) (joinedBodies (lines d) d) (length-part 2 0 d) (eights d 0 (count d)) (parts .following) (omega arith) (parts .few))
+      ∙ lines-joined d (lines d) (linePlace d (count d)) (linePlace d (count d)) (length d) 0 (part 2 0 d) (joinedBodies (lines d) d) layout-joined (omega (arith, length-part 2 0 d, place-first d)) (named-lines d 0 (count d)) (parts .following) (omega arith) (parts .few))
 
-  length-joined : length (joined d) ≡ linePlace (count d) + length (joinedBodies (lines d) d)
+  length-joined : length (joined d) ≡ linePlace d (count d) + length (joinedBodies (lines d) d)
   unfolding joined
-  length-joined = length-append (part 2 0 d ++ joinedLines (linePlace (count d)) (lines d)) (joinedBodies (lines d) d) ∙ omega (arith, length-head)
+  length-joined = length-append (part 2 0 d ++ joinedLines (linePlace d (count d)) (lines d)) (joinedBodies (lines d) d) ∙ omega (arith, length-head)
 
   pub joined-shorter : length (joined d) ≤ length d
-  joined-shorter = omega (arith, length-joined, length-bodies (linePlace (count d)) (length d) (lines d) d (parts .following))
+  joined-shorter = omega (arith, length-joined, length-bodies (linePlace d (count d)) (length d) (lines d) d (parts .following))
 
   pub sound-joined : isSound (joined d) ≡ true
   sound-joined = sound-whole (joined d) (record {
     few = omega (arith, joined-shorter, parts .few);
     some = rw count-joined (parts .some);
     members = rw count-joined (parts .members);
-    contents = rw count-joined (omega (arith, length-joined));
-    named = rw contents-joined (named-joined (linePlace (count d)) (lines d) ∙ parts .named);
-    distinct = rw contents-joined (distinct-joined (linePlace (count d)) (lines d) ∙ parts .distinct);
-    following = rw (contents-joined, count-joined) (follow-joined (linePlace (count d)) (length (joined d)) (lines d) d length-joined);
+    contents = rw (count-joined, place-joined (count d)) (omega (arith, length-joined));
+    named = rw (contents-joined, layout-joined) (named-joined (hasLibraries d) (linePlace d (count d)) (lines d) ∙ parts .named);
+    distinct = rw contents-joined (distinct-joined (linePlace d (count d)) (lines d) ∙ parts .distinct);
+    following = rw (contents-joined, count-joined, place-joined (count d)) (follow-joined (linePlace d (count d)) (length (joined d)) (lines d) d length-joined);
   })
 
   -- how a member is found
-  pub found-joined : (x : List ℕ) (k : ℕ) → find x k (lines (joined d)) ≡ find x k (lines d)
-  found-joined x k = rw contents-joined (find-joined x k (linePlace (count d)) (lines d))
+  pub found-joined : (x : Sought) (k : ℕ) → find x k (lines (joined d)) ≡ find x k (lines d)
+  found-joined x k = rw contents-joined (find-joined x k (linePlace d (count d)) (lines d))
 
   module _ (m : ℕ) (h : m < count d) where
     line-given : at-line (lines d) m ≡ lineAt d m
     line-given = line-in d 0 (count d) m h ∙ rw zero-add
 
-    line-there : lineAt (joined d) m ≡ at-line (contentsFrom (linePlace (count d)) (lines d)) m
+    line-there : lineAt (joined d) m ≡ at-line (contentsFrom (linePlace d (count d)) (lines d)) m
     line-there = ap (lineAt (joined d)) (sym (zero-add m)) ∙ sym (line-in (joined d) 0 (count (joined d)) m (rw count-joined h)) ∙ ap (λ (ls : List Line). at-line ls m) contents-joined
 
+    pub library-joined : lineAt (joined d) m .library ≡ lineAt d m .library
+    library-joined = ap (λ (l : Line). l .library) line-there ∙ library-in (linePlace d (count d)) (lines d) m ∙ ap (λ (l : Line). l .library) line-given
+
     pub name-joined : lineAt (joined d) m .name ≡ lineAt d m .name
-    name-joined = ap (λ (l : Line). l .name) line-there ∙ name-in (linePlace (count d)) (lines d) m ∙ ap (λ (l : Line). l .name) line-given
+    name-joined = ap (λ (l : Line). l .name) line-there ∙ name-in (linePlace d (count d)) (lines d) m ∙ ap (λ (l : Line). l .name) line-given
 
     pub size-joined : lineAt (joined d) m .size ≡ joinedSize (lineAt d m)
-    size-joined = ap (λ (l : Line). l .size) line-there ∙ size-in (linePlace (count d)) (lines d) m ∙ ap (λ (l : Line). joinedSize l) line-given
+    size-joined = ap (λ (l : Line). l .size) line-there ∙ size-in (linePlace d (count d)) (lines d) m ∙ ap (λ (l : Line). joinedSize l) line-given
 
-    body-there : part (at-line (contentsFrom (linePlace (count d)) (lines d)) m .size) (at-line (contentsFrom (linePlace (count d)) (lines d)) m .offset) (joined d) ≡ columns (records (at-line (lines d) m)) (at-line (lines d) m .offset) d
+    body-there : part (at-line (contentsFrom (linePlace d (count d)) (lines d)) m .size) (at-line (contentsFrom (linePlace d (count d)) (lines d)) m .offset) (joined d) ≡ columns (records (at-line (lines d) m)) (at-line (lines d) m .offset) d
     unfolding joined
-    body-there = body-in (linePlace (count d)) (lines d) m (part 2 0 d ++ joinedLines (linePlace (count d)) (lines d)) d (omega (arith, length-lines d 0 (count d))) length-head
+    body-there = body-in (linePlace d (count d)) (lines d) m (part 2 0 d ++ joinedLines (linePlace d (count d)) (lines d)) d (omega (arith, length-lines d 0 (count d))) length-head
 
     pub body-joined : bodyOf (joined d) m ≡ columns (records (lineAt d m)) (lineAt d m .offset) d
     unfolding bodyOf
@@ -323,8 +409,10 @@ module _ (d : List ℕ) (sound : isSound d ≡ true) where
         (byte-in-columns (records (lineAt d m)) (lineAt d m .offset) p d j ∙ sym (getD-part (lineAt d m .size) (column p) (lineAt d m .offset) d (omega arith)))
 
 -- decks with the same contents, joined, have the same contents
-pub lines-alike : (d e : List ℕ) → isSound d ≡ true → isSound e ≡ true → lines e ≡ lines d → count e ≡ count d → lines (joined e) ≡ lines (joined d)
-lines-alike d e s t h k = contents-joined e t ∙ (λ i. contentsFrom (linePlace (k i)) (h i)) ∙ sym (contents-joined d s)
+pub lines-alike : (d e : List ℕ) → isSound d ≡ true → isSound e ≡ true → lines e ≡ lines d → count e ≡ count d → Alike d e → lines (joined e) ≡ lines (joined d)
+lines-alike d e s t h k like =
+    let p : linePlace e (count e) ≡ linePlace d (count d) = alike-place d e (count e) like ∙ ap (linePlace d) k in
+    contents-joined e t ∙ (λ i. contentsFrom (p i) (h i)) ∙ sym (contents-joined d s)
 
 -- ---- a deck of whole records
 even-at : (k : ℕ) (ls : List Line) (m : ℕ) → uneven k ls ≡ none → at-line ls m .size % 80 ≡ 0

@@ -123,7 +123,7 @@ module _ {Sound : World → Type 0} {Of : Value → Type 0} {Left : ℕ → Type
       text-leaves m (x .from) (part n (x .from) (bodyOf d m)) i (λ p q j k. (part-of-part (q - p) p n (x .from) (bodyOf d m) (omega (arith, length-part n (x .from) (bodyOf d m))), omega (arith, length-part n (x .from) (bodyOf d m)))) _ 0 v k
 
 -- ---- members, where program text keeps
-module _ {Sound : World → Type 0} {Of : Value → Type 0} {Left : ℕ → Type 0} (laws : Laws Sound Of Left) (d : List ℕ) (In : ℕ → Type 0) (founds : (x : List ℕ) (k : ℕ) → Deck.find x 0 (Deck.lines d) ≡ Deck.line k → In k) (texts : (m : ℕ) (x : Stretch) (w : World) → In m → TextOf (readMember (bodyOf d m)) x → Sound w → Leaves laws Any (textOut m (bodyOf d m) x w)) where
+module _ {Sound : World → Type 0} {Of : Value → Type 0} {Left : ℕ → Type 0} (laws : Laws Sound Of Left) (d : List ℕ) (In : ℕ → Type 0) (founds : (x : Deck.Sought) (k : ℕ) → Deck.find x 0 (Deck.lines d) ≡ Deck.line k → In k) (texts : (m : ℕ) (x : Stretch) (w : World) → In m → TextOf (readMember (bodyOf d m)) x → Sound w → Leaves laws Any (textOut m (bodyOf d m) x w)) where
   awaken : (x : Activity) (a : ℕ) {w : World} → Sound w → Sound (W.setActivity x a w)
   awaken x a {w} h = laws .changed (W.setActivity x a w) w h (record { limit = refl; used = refl; layout = refl; events = refl; textLeft = refl; linesLeft = refl; passes = refl }) refl
 
@@ -187,7 +187,7 @@ module _ {Sound : World → Type 0} {Of : Value → Type 0} {Left : ℕ → Type
     include-at (Deck.line k) j (level inner) is p m n ps {w} h = include-entered (enter-leaves laws k (readMember (bodyOf d k)) h) inner is k (j k refl) m n ps h
 
   module _ (l : Level) (is : KeepingLevel l) where
-    pub include-all-in : (p m n : ℕ) (ps : List Place) (xs : List (List ℕ)) (w : World) → Sound w → Leaves laws (OfDeed Of) (includeAll l d p m n ps xs w)
+    pub include-all-in : (p m n : ℕ) (ps : List Place) (xs : List Deck.Sought) (w : World) → Sound w → Leaves laws (OfDeed Of) (includeAll l d p m n ps xs w)
     unfolding includeAll
     include-all-in p m n ps [] w h = leaves tt h
     include-all-in p m n ps (x ∷ xs) w h = include-at (λ v. includeAll l d p m n ps xs v) (include-all-in p m n ps xs) (Deck.find x 0 (Deck.lines d)) (founds x) l is p m n ps h
@@ -234,7 +234,7 @@ module _ {Sound : World → Type 0} {Of : Value → Type 0} {Left : ℕ → Type
     KeepingEachLevel noLevel = Unit {0}
     KeepingEachLevel (level inner) = KeepingEach inner
 
-    pub include-all : (l : Level) → KeepingEachLevel l → (p m n : ℕ) (ps : List Place) (xs : List (List ℕ)) (w : World) → Sound w → Leaves laws (OfDeed Of) (includeAll l d p m n ps xs w)
+    pub include-all : (l : Level) → KeepingEachLevel l → (p m n : ℕ) (ps : List Place) (xs : List Deck.Sought) (w : World) → Sound w → Leaves laws (OfDeed Of) (includeAll l d p m n ps xs w)
     include-all noLevel is p m n ps xs w h = include-all-in laws d Any (λ x k e. tt) (λ m x w _. texts m x w) noLevel tt p m n ps xs w h
     include-all (level inner) is p m n ps xs w h = include-all-in laws d Any (λ x k e. tt) (λ m x w _. texts m x w) (level inner) (λ k _. is k) p m n ps xs w h
 

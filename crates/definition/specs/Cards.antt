@@ -38,10 +38,12 @@ records l = l .size / recordColumns
 abbrev pub joinedSize : Deck.Line → ℕ
 joinedSize l = sourceColumns * records l
 
--- the contents of the joined deck, whose next body begins at a place: "name (8, ..), offset (4), length (4)"
+-- the contents of the joined deck, whose next body begins at a place: "library name (8), member name, offset, length", in
+-- the deck's own layout
 unfoldable pub joinedLines : ℕ → List Deck.Line → List ℕ
 joinedLines at [] = []
-joinedLines at (l ∷ ls) = l .name ++ bytes 4 at ++ bytes 4 (joinedSize l) ++ joinedLines (at + joinedSize l) ls
+joinedLines at (l ∷ ls) =
+    l .library ++ l .name ++ bytes 4 at ++ bytes 4 (joinedSize l) ++ joinedLines (at + joinedSize l) ls
 
 unfoldable pub joinedBodies : List Deck.Line → List ℕ → List ℕ
 joinedBodies [] d = []
@@ -50,7 +52,7 @@ joinedBodies (l ∷ ls) d = columns (records l) (l .offset) d ++ joinedBodies ls
 -- THE JOINED DECK: the same members in the same order, each body its columns 2 to 72
 unfoldable pub joined : List ℕ → List ℕ
 joined d =
-    part 2 0 d ++ joinedLines (Deck.linePlace (Deck.count d)) (Deck.lines d) ++ joinedBodies (Deck.lines d) d
+    part 2 0 d ++ joinedLines (Deck.linePlace d (Deck.count d)) (Deck.lines d) ++ joinedBodies (Deck.lines d) d
 
 -- ---- places: "Offsets in answers and in the origin list stay offsets into the deck body as given"
 -- where byte p of the joined columns stands

@@ -1,6 +1,6 @@
 -- 01, "The deck": "Contents first, then bodies, numbers little-endian."
 use Prim.Native.Nat.{ℕ, zero, suc, _+_, _*_, _-_}
-use mathlib.Core.Bool.{Bool, true, false, cond, _&&_}
+use mathlib.Core.Bool.{Bool, true, false, cond, _&&_, not}
 use mathlib.Core.List.{List, [], _∷_, _++_}
 use lib.Dec.{leb, eqb}
 use lib.ListN.{getD, length, replicate}
@@ -8,8 +8,10 @@ use Rattle.definition.specs.Limits.{deckBytes, deckLines, memberNameLeng
 use Rattle.definition.specs.Lists.{part, number, all, past, same}
 use Rattle.definition.specs.Bytes.{isLetter, isAlphameric, isBlank}
 
--- a line of the contents: a member's name with its blanks, where its body begins, and how long it is
+-- a line of the contents: the names of its library and its member with their blanks, where the body begins, and how long
+-- it is; a line of 01's layout has no library
 pub record Line : Type 0 where
+  pub library : List ℕ
   pub name : List ℕ
   pub offset : ℕ
   pub size : ℕ
@@ -19,19 +21,31 @@ pub data Contents : Type 0 where
   holds : List Line → Contents
 
 -- "Two bytes: the count n"
-abbrev pub count : List ℕ → ℕ
-count d = number (part 2 0 d)
+abbrev pub first : List ℕ → ℕ
+first d = number (part 2 0 d)
 
--- where line k stands: after the count, "n lines of 16 bytes"
-abbrev pub linePlace : ℕ → ℕ
-linePlace k = 2 + 16 * k
+-- 02, C-14: "The first two bytes of such a deck hold the count plus 256, so 257 to 288"
+unfoldable pub hasLibraries : List ℕ → Bool
+hasLibraries d = leb 257 (first d)
 
--- "name (8, ..), offset (4), length (4)"
+unfoldable pub count : List ℕ → ℕ
+count d = cond (hasLibraries d) (first d - 256) (first d)
+
+-- 02, C-14: "library name (8)"
+unfoldable pub libraryLength : List ℕ → ℕ
+libraryLength d = cond (hasLibraries d) memberNameLength 0
+
+-- where line k stands: after the count, "n lines of 16 bytes"; 02, C-14: "A contents line grows to 24 bytes"
+unfoldable pub linePlace : List ℕ → ℕ → ℕ
+linePlace d k = cond (hasLibraries d) (2 + 24 * k) (2 + 16 * k)
+
+-- "name (8, ..), offset (4), length (4)"; 02, C-14: "library name (8), member name, offset, length"
 unfoldable pub lineAt : List ℕ → ℕ → Line
 lineAt d k = record {
-  name = part memberNameLength (linePlace k) d;
-  offset = number (part 4 (linePlace k + memberNameLength) d);
-  size = number (part 4 (linePlace k + (memberNameLength + 4)) d);
+  library = part (libraryLength d) (linePlace d k) d;
+  name = part memberNameLength (linePlace d k + libraryLength d) d;
+  offset = number (part 4 (linePlace d k + (libraryLength d + memberNameLength)) d);
+  size = number (part 4 (linePlace d k + (libraryLength d + (memberNameLength + 4))) d);
 }
 
 -- n lines from line k on
@@ -46,31 +60,44 @@ lines d = linesFrom d 0 (count d)
 unfoldable pub isMemberName : List ℕ → Bool
 isMemberName w = isLetter (getD w 0 0) && all isBlank (past isAlphameric w)
 
-unfoldable pub areNamed : List Line → Bool
-areNamed [] = true
-areNamed (l ∷ ls) = isMemberName (l .name) && areNamed ls
+-- the library's name follows the same rule, where the layout has one
+unfoldable pub areNamed : Bool → List Line → Bool
+areNamed b [] = true
+areNamed b (l ∷ ls) = cond b (isMemberName (l .library)) true && isMemberName (l .name) && areNamed b ls
 
--- whether the name of a line is the word w, padded with blanks
-unfoldable pub isCalled : List ℕ → Line → Bool
-isCalled w l = same (l .name) (w ++ replicate (memberNameLength - length w) 32)
+-- 02, C-14: "Names must be distinct as pairs."
+unfoldable pub isRepeated : Line → List Line → Bool
+isRepeated l [] = false
+isRepeated l (m ∷ ms) = cond (same (m .library) (l .library) && same (m .name) (l .name)) true (isRepeated l ms)
+
+unfoldable pub areDistinct : List Line → Bool
+areDistinct [] = true
+areDistinct (l ∷ ls) = not (isRepeated l ls) && areDistinct ls
+
+-- ---- how a member is looked up
+-- what INCLUDE names: a member, or 02, C-14: `library(member)`
+pub data Sought : Type 0 where
+  bare : List ℕ → Sought
+  inLibrary : List ℕ → List ℕ → Sought
+
+-- whether a name of the contents is the word w, padded with blanks
+unfoldable pub isPadded : List ℕ → List ℕ → Bool
+isPadded w n = same n (w ++ replicate (memberNameLength - length w) 32)
+
+-- "A bare member name means the first line with that member name, library ignored."; in a line of 01's layout "no line
+-- meets" a library, since it has none
+unfoldable pub isCalled : Sought → Line → Bool
+isCalled (bare w) l = isPadded w (l .name)
+isCalled (inLibrary k w) l = isPadded k (l .library) && isPadded w (l .name)
 
 pub data Found : Type 0 where
   none : Found
   line : ℕ → Found
 
--- how a member is looked up: the first line whose name is the word w; the lines are numbered from k on
-unfoldable pub find : List ℕ → ℕ → List Line → Found
-find w k [] = none
-find w k (l ∷ ls) = cond (isCalled w l) (line k) (find w (suc k) ls)
-
-abbrev pub isNone : Found → Bool
-isNone none = true
-isNone (line k) = false
-
--- "Names are distinct."
-unfoldable pub areDistinct : List Line → Bool
-areDistinct [] = true
-areDistinct (l ∷ ls) = isNone (find (l .name) 0 ls) && areDistinct ls
+-- the first line that is called so; the lines are numbered from k on
+unfoldable pub find : Sought → ℕ → List Line → Found
+find x k [] = none
+find x k (l ∷ ls) = cond (isCalled x l) (line k) (find x (suc k) ls)
 
 -- "Bodies follow in order without gaps; the deck ends with the last. Offsets .. must say just that."
 unfoldable pub follow : ℕ → List Line → ℕ → Bool
@@ -83,10 +110,10 @@ isSound d =
     leb (length d) deckBytes
     && leb 1 (count d)
     && leb (count d) deckLines
-    && leb (linePlace (count d)) (length d)
-    && areNamed (lines d)
+    && leb (linePlace d (count d)) (length d)
+    && areNamed (hasLibraries d) (lines d)
     && areDistinct (lines d)
-    && follow (linePlace (count d)) (lines d) (length d)
+    && follow (linePlace d (count d)) (lines d) (length d)
 
 unfoldable pub contents : List ℕ → Contents
 contents d = cond (isSound d) (holds (lines d)) malformed

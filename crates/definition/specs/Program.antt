@@ -7,6 +7,7 @@ pub use Rattle.definition.specs.declared.ValueType.{ValueType as Type′
 pub use Rattle.definition.specs.declared.ValueType.the-variants.{FixedType as fixedType, CharacterType as characterType}
 use Rattle.definition.specs.Refusal.{Why}
 use Rattle.definition.specs.Expressions.{Tree}
+use Rattle.definition.specs.Deck.{Sought}
 
 -- BY or TO of a DO, in the order in which they are written
 pub data Bound : Type 0 where
@@ -28,7 +29,7 @@ pub data Statement : Type 0 where
   group : Statement
   iterated : List ℕ → Tree → List Bound → Statement
   goto : List ℕ → Statement
-  include : List (List ℕ) → Statement
+  include : List Sought → Statement
   activate : List Activation → Statement
   deactivate : List (List ℕ) → Statement
   return : Tree → Statement

@@ -174,7 +174,7 @@ includeAt (Deck.line k) noLevel d p m n on w next = bad (stop m p tooDeep) (w .u
 includeAt (Deck.line k) (level inner) d p m n on w next =
     includeEntered (enter k (readMember (bodyOf d k)) w) inner k m n on w next
 
-unfoldable pub includeAll : Level → List ℕ → ℕ → ℕ → ℕ → List Place → List (List ℕ) → World → Res Stop Deed
+unfoldable pub includeAll : Level → List ℕ → ℕ → ℕ → ℕ → List Place → List Deck.Sought → World → Res Stop Deed
 includeAll inner d p m n on [] w = good passed w
 includeAll inner d p m n on (x ∷ xs) w =
     includeAt (Deck.find x 0 (Deck.lines d)) inner d p m n on w (λ v. includeAll inner d p m n on xs v)

@@ -9,6 +9,7 @@ use Rattle.definition.specs.Choice.{when}
 use Rattle.definition.specs.Refusal.{Why, syntax}
 use Rattle.definition.specs.Tokens.{Token, isWord, isSign, tokenAt}
 use Rattle.definition.specs.Expressions.{Reading, read, refused, then, Tree, expectSign, expectWord, Named, nameAt, wholeExpression}
+use Rattle.definition.specs.Deck.{Sought, bare, inLibrary}
 use Rattle.definition.specs.Program.{Type′, fixedType, characterType, Bound, by, upto, Activation, Statement, declare, procedure, assign, conditional, group, iterated, goto, include, activate, deactivate, return, Scope, global, inside, Meaning, variable, entry, builtin, parameter, Declared}
 
 -- what a statement opens: nothing, a group, a procedure's body, or the THEN alternative
@@ -86,9 +87,16 @@ listOf each make s (suc f) xs at =
 abbrev pub eachName : List ℕ → ℕ → (List ℕ → ℕ → Reading Clause) → Reading Clause
 eachName s at f = then (nameAt s at) λ n. f (n .spelling) (n .to)
 
--- (15) include-statement; `library(member)` is not covered
+-- (15), (16) include-statement: a member's name, or 02, C-14: `library(member)`
+abbrev pub eachMember : List ℕ → ℕ → (Sought → ℕ → Reading Clause) → Reading Clause
+eachMember s at f = then (nameAt s at) λ n.
+    when (isSign "(" (tokenAt s (n .to) .token))
+    (λ _. then (nameAt s (tokenAt s (n .to) .to)) λ m. then (expectSign ")" s (m .to)) λ e.
+    f (inLibrary (n .spelling) (m .spelling)) e)
+    (λ _. f (bare (n .spelling)) (n .to))
+
 unfoldable pub includeClause : List ℕ → ℕ → Reading Clause
-includeClause s at = listOf eachName include s (length s) [] at
+includeClause s at = listOf eachMember include s (length s) [] at
 
 -- (31) deactivate-statement
 unfoldable pub deactivateClause : List ℕ → ℕ → Reading Clause
