@@ -7,18 +7,24 @@ use Prim.Native.Nat.{ℕ, zero, suc, _+_, _*_, _-_, _<_, _≤_}
 use native.Mathlib.Nat.{add-zero, suc-add, add-suc}
 use native.Mathlib.Numerals.{add-one}
 use native.Mathlib.Omega.{arith}
+use mir.Syntax.{w64}
+use mir.Val.{Fits}
 use borrow.Author.Tests.{eq-eqb, ne-eqb, le-leb, lt-leb}
 use lib.Dec.{eqb, leb}
 use lib.ListN.{length, getD, replicate}
 use Rattle.definition.specs.Lists.{part, number, all, past, same}
 use Rattle.definition.specs.Bytes.{isLetter, isAlphameric, isBlank}
-use Rattle.definition.specs.Deck.{Line, linePlace, lineAt, linesFrom, lines, count, isMemberName, areNamed, isCalled, Found, none, line, find, isNone, areDistinct, follow, isSound, contents}
+use Rattle.definition.specs.Deck as D
+use Rattle.definition.specs.Deck.{Line, first, hasLibraries, count, libraryLength, linePlace, lineAt, linesFrom, lines, isMemberName, areNamed, isRepeated, areDistinct, isPadded, isCalled, find, follow, isSound, contents}
 use Rattle.definition.proofs.Parts.{part-first, length-part, same-length}
 use Rattle.member.specs.Body.{bodyBytes}
 use Rattle.deck.specs.Answer as A
 use Rattle.deck.specs.Word.{Word}
 use Rattle.deck.specs.declared.Contents as C
 use Rattle.deck.specs.declared.Found as F
+use Rattle.deck.specs.declared.Spelled.{Spelled}
+use Rattle.deck.specs.declared.Sought.{Sought}
+use Rattle.deck.specs.declared.Sought.the-variants as S
 
 -- ---- bytes at a place
 -- the first of the bytes from j to n past a place, and the others
@@ -71,18 +77,98 @@ module _ (d : List ℕ) (at n j : ℕ) (k : Passing d at n j) where
   pub passing-done : n ≤ j → Word d at n j
   passing-done h = record { low = k .low; is = rw (nothing d at n j h) (rw (nothing d at n j h) at (k .is)) }
 
--- ---- a line's numbers
-pub offset-is : (d : List ℕ) (k p r : ℕ) → p ≡ linePlace k → r ≡ number (part 4 (p + 8) d) → r ≡ lineAt d k .offset
-unfolding lineAt
-offset-is d k p r e f = f ∙ ap (λ (q : ℕ). number (part 4 (q + 8) d)) e
+-- ---- the layout, by the first number
+module _ (d : List ℕ) (n : ℕ) (e : n ≡ first d) where
+  pub with-libraries : 256 < n → true ≡ hasLibraries d
+  unfolding hasLibraries
+  with-libraries h = sym (le-leb 257 (first d) (omega (arith, e)))
 
-pub size-is : (d : List ℕ) (k p r : ℕ) → p ≡ linePlace k → r ≡ number (part 4 (p + 12) d) → r ≡ lineAt d k .size
-unfolding lineAt
-size-is d k p r e f = f ∙ ap (λ (q : ℕ). number (part 4 (q + 12) d)) e
+  pub without : n ≤ 256 → false ≡ hasLibraries d
+  unfolding hasLibraries
+  without h = sym (lt-leb 257 (first d) (omega (arith, e)))
 
-name-is : (d : List ℕ) (k p : ℕ) → p ≡ linePlace k → part 8 p d ≡ lineAt d k .name
+  pub count-less : (r : ℕ) → 256 < n → r ≡ n - 256 → r ≡ count d
+  unfolding count
+  count-less r h f = f ∙ rw (← with-libraries h, ← e)
+
+  pub count-first : n ≤ 256 → n ≡ count d
+  unfolding count
+  count-first h = rw (← without h) e
+
+-- ---- a line's names and numbers
+module _ (d : List ℕ) (t : Bool) (e : t ≡ hasLibraries d) where
+  pub length-some : t ≡ true → 8 ≡ libraryLength d
+  unfolding libraryLength
+  length-some h = rw (← e, h)
+
+  pub length-none : t ≡ false → 0 ≡ libraryLength d
+  unfolding libraryLength
+  length-none h = rw (← e, h)
+
+  pub place-wide : (k r : ℕ) → t ≡ true → r ≡ 2 + 24 * k → r ≡ linePlace d k
+  unfolding linePlace
+  place-wide k r h f = f ∙ rw (← e, h)
+
+  pub place-short : (k r : ℕ) → t ≡ false → r ≡ 2 + 16 * k → r ≡ linePlace d k
+  unfolding linePlace
+  place-short k r h f = f ∙ rw (← e, h)
+
+place-most : (d : List ℕ) (k : ℕ) → linePlace d k ≤ 2 + 24 * k
+unfolding linePlace
+place-most d k = by (hasLibraries d)
+  where
+    by : (b : Bool) → cond b (2 + 24 * k) (2 + 16 * k) ≤ 2 + 24 * k
+    by true = omega arith
+    by false = omega arith
+
+length-most : (d : List ℕ) → libraryLength d ≤ 8
+unfolding libraryLength
+length-most d = by (hasLibraries d)
+  where
+    by : (b : Bool) → cond b 8 0 ≤ 8
+    by true = omega arith
+    by false = omega arith
+
+-- the places fit into a number
+pub place-fits : (d : List ℕ) (k p n : ℕ) → k < 65536 → p ≡ linePlace d k → n ≡ libraryLength d → Fits w64 (p + n)
+place-fits d k p n h e f = omega (arith, place-most d k, length-most d)
+
+pub behind : (d : List ℕ) (k p n : ℕ) → p ≡ linePlace d k → n ≡ libraryLength d → p + n ≡ linePlace d k + libraryLength d
+behind d k p n e f = rw (e, f)
+
+pub offset-fits : (d : List ℕ) (k p : ℕ) → k < 65536 → p ≡ linePlace d k + libraryLength d → Fits w64 (p + 8)
+offset-fits d k p h e = omega (arith, place-most d k, length-most d)
+
+pub size-fits : (d : List ℕ) (k p : ℕ) → k < 65536 → p ≡ linePlace d k + libraryLength d → Fits w64 (p + 12)
+size-fits d k p h e = omega (arith, place-most d k, length-most d)
+
+pub names-fit : (d : List ℕ) (n : ℕ) → n ≡ libraryLength d → Fits w64 (n + 8)
+names-fit d n e = omega (arith, length-most d)
+
+module _ (d : List ℕ) (k p r : ℕ) (e : p ≡ linePlace d k + libraryLength d) where
+  pub offset-is : r ≡ number (part 4 (p + 8) d) → r ≡ lineAt d k .offset
+  unfolding lineAt
+  offset-is f =
+      let g : p + 8 ≡ linePlace d k + (libraryLength d + 8) = omega (arith, e) in
+      f ∙ ap (λ (q : ℕ). number (part 4 q d)) g
+
+  pub size-is : r ≡ number (part 4 (p + 12) d) → r ≡ lineAt d k .size
+  unfolding lineAt
+  size-is f =
+      let g : p + 12 ≡ linePlace d k + (libraryLength d + 12) = omega (arith, e) in
+      f ∙ ap (λ (q : ℕ). number (part 4 q d)) g
+
+name-is : (d : List ℕ) (k p : ℕ) → p ≡ linePlace d k + libraryLength d → part 8 p d ≡ lineAt d k .name
 unfolding lineAt
 name-is d k p e = ap (λ (q : ℕ). part 8 q d) e
+
+library-is : (d : List ℕ) (k p : ℕ) → hasLibraries d ≡ true → p ≡ linePlace d k → part 8 p d ≡ lineAt d k .library
+unfolding lineAt
+library-is d k p h e = (λ i. part (length-some d true (sym h) refl i) (e i) d)
+
+library-none : (d : List ℕ) (k : ℕ) → hasLibraries d ≡ false → lineAt d k .library ≡ []
+unfolding lineAt
+library-none d k h = ap (λ (n : ℕ). part n (linePlace d k) d) (sym (length-none d false (sym h) refl))
 
 -- ---- a member's name
 module _ (d : List ℕ) (at b : ℕ) (t : Bool) (e : b ≡ getD d (at + 0) 0) (f : t ≡ isLetter b) where
@@ -113,26 +199,41 @@ unfolding linesFrom
 length-lines d k zero = refl
 length-lines d k (suc n) = ap suc (length-lines d (suc k) n)
 
+-- ---- the names of a line
+module _ (d : List ℕ) (k : ℕ) (b : Bool) (lib : b ≡ hasLibraries d) where
+  module _ (p : ℕ) (t : Bool) (has : b ≡ true) (e : p ≡ linePlace d k) (f : t ≡ isMemberName (part 8 p d)) where
+    of-library : t ≡ isMemberName (lineAt d k .library)
+    of-library = f ∙ ap isMemberName (library-is d k p (sym lib ∙ has) e)
+
+    pub library-wrong : t ≡ false → false ≡ A.isNamed d k
+    unfolding A.isNamed
+    library-wrong g = rw (← lib, has, ← of-library, g)
+
+    pub both-named : t ≡ true → (q : ℕ) → q ≡ linePlace d k + libraryLength d → (r : Bool) → r ≡ isMemberName (part 8 q d) → r ≡ A.isNamed d k
+    unfolding A.isNamed
+    both-named g q h r i = i ∙ rw (← lib, has, ← of-library, g, name-is d k q h)
+
+  pub alone-named : b ≡ false → (q : ℕ) → q ≡ linePlace d k + libraryLength d → (r : Bool) → r ≡ isMemberName (part 8 q d) → r ≡ A.isNamed d k
+  unfolding A.isNamed
+  alone-named g q h r i = i ∙ rw (← lib, g, name-is d k q h)
+
 pub record Naming (d : List ℕ) (n k : ℕ) : Type 0 where
   pub low : k ≤ n
-  pub is : areNamed (linesFrom d k (n - k)) ≡ areNamed (linesFrom d 0 n)
+  pub is : areNamed (hasLibraries d) (linesFrom d k (n - k)) ≡ areNamed (hasLibraries d) (linesFrom d 0 n)
 
 pub naming-start : (d : List ℕ) (n : ℕ) → Naming d n 0
 naming-start d n = let e : n - 0 ≡ n = omega arith in record { low = omega arith; is = rw e }
 
-module _ (d : List ℕ) (n k : ℕ) (i : Naming d n k) (h : k < n) (p : ℕ) (t : Bool) (e : p ≡ linePlace k) (f : t ≡ isMemberName (part 8 p d)) where
-  named : t ≡ isMemberName (lineAt d k .name)
-  named = f ∙ ap isMemberName (name-is d k p e)
-
+module _ (d : List ℕ) (n k : ℕ) (i : Naming d n k) (h : k < n) (t : Bool) (f : t ≡ A.isNamed d k) where
   pub naming-more : t ≡ true → Naming d n (k + 1)
-  unfolding areNamed
-  naming-more g = record { low = omega arith; is = rw (lines-next d n k h, ← named, g) at (i .is) }
+  unfolding areNamed A.isNamed
+  naming-more g = record { low = omega arith; is = rw (lines-next d n k h, ← f, g) at (i .is) }
 
-  pub naming-no : t ≡ false → false ≡ areNamed (linesFrom d 0 n)
-  unfolding areNamed
-  naming-no g = rw (lines-next d n k h, ← named, g) at (i .is)
+  pub naming-no : t ≡ false → false ≡ areNamed (hasLibraries d) (linesFrom d 0 n)
+  unfolding areNamed A.isNamed
+  naming-no g = rw (lines-next d n k h, ← f, g) at (i .is)
 
-pub naming-done : (d : List ℕ) (n k : ℕ) → Naming d n k → n ≤ k → true ≡ areNamed (linesFrom d 0 n)
+pub naming-done : (d : List ℕ) (n k : ℕ) → Naming d n k → n ≤ k → true ≡ areNamed (hasLibraries d) (linesFrom d 0 n)
 unfolding areNamed
 naming-done d n k i h = rw (lines-none d n k h) at (i .is)
 
@@ -162,56 +263,108 @@ length-padded : (m at : ℕ) (s : List ℕ) (xs : List ℕ) → m ≤ length (pa
 length-padded zero at s xs = omega arith
 length-padded (suc m) at s xs = let h : m ≤ length (part m (suc at) s ++ xs) = length-padded m (suc at) s xs in omega arith
 
-module _ (d : List ℕ) (k from len : ℕ) where
-  pub too-long : 8 < len → false ≡ isCalled (part len from d) (lineAt d k)
-  unfolding isCalled lineAt
+-- of a name that is spelled elsewhere, padded with blanks at a place
+module _ (d : List ℕ) (at from len : ℕ) where
+  pub too-long : 8 < len → false ≡ isPadded (part len from d) (part 8 at d)
+  unfolding isPadded
   too-long h =
-      same-length (part 8 (linePlace k) d) (part len from d ++ replicate (8 - length (part len from d)) 32)
-      λ e. omega (arith, e, length-padded len from d (replicate (8 - length (part len from d)) 32), length-part 8 (linePlace k) d)
+      same-length (part 8 at d) (part len from d ++ replicate (8 - length (part len from d)) 32)
+      λ e. omega (arith, e, length-padded len from d (replicate (8 - length (part len from d)) 32), length-part 8 at d)
 
-  called : len ≤ 8 → isCalled (part len from d) (lineAt d k) ≡ (same (part len (linePlace k) d) (part len from d) && all isBlank (part (8 - len) (linePlace k + len) d))
-  unfolding isCalled lineAt
-  called h =
+  padded : len ≤ 8 → isPadded (part len from d) (part 8 at d) ≡ (same (part len at d) (part len from d) && all isBlank (part (8 - len) (at + len) d))
+  unfolding isPadded
+  padded h =
       let e : len + (8 - len) ≡ 8 = omega arith in
-      let g : part 8 (linePlace k) d ≡ part len (linePlace k) d ++ part (8 - len) (linePlace k + len) d = rw e at (part-add len (8 - len) (linePlace k) d) in
+      let g : part 8 at d ≡ part len at d ++ part (8 - len) (at + len) d = rw e at (part-add len (8 - len) at d) in
       rw (g, length-part len from d)
-      (same-append (part len (linePlace k) d) (part len from d) (part (8 - len) (linePlace k + len) d) (replicate (8 - len) 32) (length-part len (linePlace k) d ∙ sym (length-part len from d))
-      ∙ rw (blank-same (8 - len) (linePlace k + len) d))
+      (same-append (part len at d) (part len from d) (part (8 - len) (at + len) d) (replicate (8 - len) 32) (length-part len at d ∙ sym (length-part len from d))
+      ∙ rw (blank-same (8 - len) (at + len) d))
 
-  module _ (p : ℕ) (t : Bool) (h : len ≤ 8) (e : p ≡ linePlace k) (f : t ≡ same (part len p d) (part len from d)) where
-    begun : t ≡ same (part len (linePlace k) d) (part len from d)
-    begun = f ∙ rw e
+  module _ (t : Bool) (h : len ≤ 8) (f : t ≡ same (part len at d) (part len from d)) where
+    pub padded-as : (r : Bool) → t ≡ true → r ≡ all isBlank (part (8 - len) (at + len) d) → r ≡ isPadded (part len from d) (part 8 at d)
+    padded-as r g q = q ∙ rw (padded h, ← f, g)
 
-    pub called-as : (r : Bool) → t ≡ true → r ≡ all isBlank (part (8 - len) (p + len) d) → r ≡ isCalled (part len from d) (lineAt d k)
-    called-as r g q = q ∙ rw (called h, ← begun, g, e)
+    pub padded-not : t ≡ false → false ≡ isPadded (part len from d) (part 8 at d)
+    padded-not g = rw (padded h, ← f, g)
 
-    pub called-not : t ≡ false → false ≡ isCalled (part len from d) (lineAt d k)
-    called-not g = rw (called h, ← begun, g)
+-- no library is nothing padded
+padded-none : (w : List ℕ) → false ≡ isPadded w []
+unfolding isPadded
+padded-none [] = refl
+padded-none (x ∷ w) = refl
 
--- ---- the line of a name
-pub record Finding (d w : List ℕ) (i n k : ℕ) : Type 0 where
-  pub is : find w k (linesFrom d k (n - k)) ≡ find w i (linesFrom d i (n - i))
+module _ (d : List ℕ) (k : ℕ) (w : List ℕ) (b : Bool) (lib : b ≡ hasLibraries d) where
+  pub in-library : (p : ℕ) (r : Bool) → b ≡ true → p ≡ linePlace d k → r ≡ isPadded w (part 8 p d) → r ≡ isPadded w (lineAt d k .library)
+  in-library p r h e f = f ∙ ap (isPadded w) (library-is d k p (sym lib ∙ h) e)
 
-pub finding-start : (d w : List ℕ) (i n : ℕ) → Finding d w i n i
-finding-start d w i n = record { is = refl }
+  pub in-none : b ≡ false → false ≡ isPadded w (lineAt d k .library)
+  in-none h = padded-none w ∙ ap (isPadded w) (sym (library-none d k (sym lib ∙ h)))
 
-module _ (d w : List ℕ) (i n k : ℕ) (s : Finding d w i n k) where
-  pub finding-more : (t : Bool) → k < n → t ≡ isCalled w (lineAt d k) → t ≡ false → Finding d w i n (k + 1)
+module _ (d : List ℕ) (k : ℕ) (x : Sought) where
+  pub called-bare : (w : Spelled) (p : ℕ) (r : Bool) → x ≡ S.Bare w → p ≡ linePlace d k + libraryLength d → r ≡ isPadded (A.spelled d w) (part 8 p d) → r ≡ isCalled (A.soughtIn d x) (lineAt d k)
+  unfolding A.soughtIn isCalled
+  called-bare w p r i e f = f ∙ rw i (ap (isPadded (A.spelled d w)) (name-is d k p e))
+
+  module _ (l w : Spelled) (t : Bool) (i : x ≡ S.InLibrary l w) (f : t ≡ isPadded (A.spelled d l) (lineAt d k .library)) where
+    pub called-pair : (p : ℕ) (r : Bool) → t ≡ true → p ≡ linePlace d k + libraryLength d → r ≡ isPadded (A.spelled d w) (part 8 p d) → r ≡ isCalled (A.soughtIn d x) (lineAt d k)
+    unfolding A.soughtIn isCalled
+    called-pair p r g e h = h ∙ rw (i, ← f, g, name-is d k p e)
+
+    pub called-other : t ≡ false → false ≡ isCalled (A.soughtIn d x) (lineAt d k)
+    unfolding A.soughtIn isCalled
+    called-other g = rw (i, ← f, g)
+
+-- ---- the line that is sought
+pub record Finding (d : List ℕ) (x : D.Sought) (n k : ℕ) : Type 0 where
+  pub all : n ≡ count d
+  pub is : find x k (linesFrom d k (n - k)) ≡ find x 0 (lines d)
+
+pub finding-start : (d : List ℕ) (x : D.Sought) (n : ℕ) → n ≡ count d → Finding d x n 0
+finding-start d x n e = let f : n - 0 ≡ count d = omega arith in record { all = e; is = rw f }
+
+module _ (d : List ℕ) (x : D.Sought) (n k : ℕ) (s : Finding d x n k) where
+  pub finding-more : (t : Bool) → k < n → t ≡ isCalled x (lineAt d k) → t ≡ false → Finding d x n (k + 1)
   unfolding find
-  finding-more t h e f = record { is = rw (add-one k) (rw (add-one k) at (rw (lines-next d n k h, ← e, f) at (s .is))) }
+  finding-more t h e f = record { all = s .all; is = rw (add-one k) (rw (add-one k) at (rw (lines-next d n k h, ← e, f) at (s .is))) }
 
-  pub finding-here : (t : Bool) → k < n → t ≡ isCalled w (lineAt d k) → t ≡ true → F.the-variants.Line k ≡ A.foundFor (find w i (linesFrom d i (n - i)))
+  pub finding-here : (t : Bool) → k < n → t ≡ isCalled x (lineAt d k) → t ≡ true → F.the-variants.Line k ≡ A.foundFor (find x 0 (lines d))
   unfolding find
   finding-here t h e f = ap A.foundFor (rw (lines-next d n k h, ← e, f) at (s .is))
 
-  pub finding-none : n ≤ k → F.the-variants.Nothing ≡ A.foundFor (find w i (linesFrom d i (n - i)))
+  pub finding-none : n ≤ k → F.the-variants.Nothing ≡ A.foundFor (find x 0 (lines d))
   unfolding find
   finding-none h = ap A.foundFor (rw (lines-none d n k h) at (s .is))
 
-pub find-all : (d w : List ℕ) (n : ℕ) (r : F.Found) → n ≡ count d → r ≡ A.foundFor (find w 0 (linesFrom d 0 (n - 0))) → r ≡ A.foundFor (find w 0 (lines d))
-find-all d w n r e f = let g : n - 0 ≡ count d = omega arith in f ∙ rw g
+-- ---- no names twice
+-- the names of a line stand one behind the other
+pub alike : (d : List ℕ) (j k p q n : ℕ) (r : Bool) → p ≡ linePlace d j → q ≡ linePlace d k → n ≡ libraryLength d → r ≡ same (part (n + 8) p d) (part (n + 8) q d)
+    → r ≡ (same (lineAt d j .library) (lineAt d k .library) && same (lineAt d j .name) (lineAt d k .name))
+unfolding lineAt
+alike d j k p q n r e f g h =
+    h
+    ∙ rw (part-add n 8 p d, part-add n 8 q d)
+    (same-append (part n p d) (part n q d) (part 8 (p + n) d) (part 8 (q + n) d) (length-part n p d ∙ sym (length-part n q d)) ∙ rw (e, f, g))
 
--- ---- no name twice
+pub record Repeating (d : List ℕ) (k i n j : ℕ) : Type 0 where
+  pub is : isRepeated (lineAt d k) (linesFrom d j (n - j)) ≡ isRepeated (lineAt d k) (linesFrom d i (n - i))
+
+pub repeating-start : (d : List ℕ) (k i n : ℕ) → Repeating d k i n i
+repeating-start d k i n = record { is = refl }
+
+module _ (d : List ℕ) (k i n j : ℕ) (s : Repeating d k i n j) where
+  module _ (h : j < n) (t : Bool) (e : t ≡ (same (lineAt d j .library) (lineAt d k .library) && same (lineAt d j .name) (lineAt d k .name))) where
+    pub repeating-more : t ≡ false → Repeating d k i n (j + 1)
+    unfolding isRepeated
+    repeating-more f = record { is = rw (lines-next d n j h, ← e, f) at (s .is) }
+
+    pub repeating-here : t ≡ true → true ≡ isRepeated (lineAt d k) (linesFrom d i (n - i))
+    unfolding isRepeated
+    repeating-here f = rw (lines-next d n j h, ← e, f) at (s .is)
+
+  pub repeating-none : n ≤ j → false ≡ isRepeated (lineAt d k) (linesFrom d i (n - i))
+  unfolding isRepeated
+  repeating-none h = rw (lines-none d n j h) at (s .is)
+
 pub record Differing (d : List ℕ) (n k : ℕ) : Type 0 where
   pub low : k ≤ n
   pub is : areDistinct (linesFrom d k (n - k)) ≡ areDistinct (linesFrom d 0 n)
@@ -219,42 +372,14 @@ pub record Differing (d : List ℕ) (n k : ℕ) : Type 0 where
 pub differing-start : (d : List ℕ) (n : ℕ) → Differing d n 0
 differing-start d n = let e : n - 0 ≡ n = omega arith in record { low = omega arith; is = rw e }
 
--- the numbers of the lines do not matter to whether one is found
-none-either : (t : Bool) (i j : ℕ) (f g : Found) → isNone f ≡ isNone g → isNone (cond t (line i) f) ≡ isNone (cond t (line j) g)
-none-either true i j f g e = refl
-none-either false i j f g e = e
-
-none-any : (w : List ℕ) (i j : ℕ) (ls : List Line) → isNone (find w i ls) ≡ isNone (find w j ls)
-unfolding find
-none-any w i j [] = refl
-none-any w i j (l ∷ ls) = none-either (isCalled w l) i j (find w (suc i) ls) (find w (suc j) ls) (none-any w (suc i) (suc j) ls)
-
-told-none : (f : Found) → F.the-variants.Nothing ≡ A.foundFor f → isNone f ≡ true
-told-none none e = refl
-told-none (line k) e = let z : _≡_ {A = ℕ} 0 1 = cc in absurd (omega arith)
-
-told-line : (f : Found) (k : ℕ) → F.the-variants.Line k ≡ A.foundFor f → isNone f ≡ false
-told-line none k e = let z : _≡_ {A = ℕ} 0 1 = cc in absurd (omega arith)
-told-line (line j) k e = refl
-
-module _ (d : List ℕ) (n k : ℕ) (i : Differing d n k) (h : k < n) (p : ℕ) (r : F.Found) (e : p ≡ linePlace k)
-    (f : r ≡ A.foundFor (find (part 8 p d) (k + 1) (linesFrom d (k + 1) (n - (k + 1))))) where
-  again : r ≡ A.foundFor (find (lineAt d k .name) (k + 1) (linesFrom d (k + 1) (n - (k + 1))))
-  again = f ∙ rw (name-is d k p e)
-
-  pub differing-more : r ≡ F.the-variants.Nothing → Differing d n (k + 1)
+module _ (d : List ℕ) (n k : ℕ) (i : Differing d n k) (h : k < n) (t : Bool) (e : t ≡ isRepeated (lineAt d k) (linesFrom d (k + 1) (n - (k + 1)))) where
+  pub differing-more : t ≡ false → Differing d n (k + 1)
   unfolding areDistinct
-  differing-more g =
-      let q : isNone (find (lineAt d k .name) 0 (linesFrom d (k + 1) (n - (k + 1)))) ≡ true =
-      none-any (lineAt d k .name) 0 (k + 1) (linesFrom d (k + 1) (n - (k + 1))) ∙ told-none (find (lineAt d k .name) (k + 1) (linesFrom d (k + 1) (n - (k + 1)))) (sym g ∙ again) in
-      record { low = omega arith; is = rw (lines-next d n k h, q) at (i .is) }
+  differing-more g = record { low = omega arith; is = rw (lines-next d n k h, ← e, g) at (i .is) }
 
-  pub differing-no : (x : ℕ) → r ≡ F.the-variants.Line x → false ≡ areDistinct (linesFrom d 0 n)
+  pub differing-no : t ≡ true → false ≡ areDistinct (linesFrom d 0 n)
   unfolding areDistinct
-  differing-no x g =
-      let q : isNone (find (lineAt d k .name) 0 (linesFrom d (k + 1) (n - (k + 1)))) ≡ false =
-      none-any (lineAt d k .name) 0 (k + 1) (linesFrom d (k + 1) (n - (k + 1))) ∙ told-line (find (lineAt d k .name) (k + 1) (linesFrom d (k + 1) (n - (k + 1)))) x (sym g ∙ again) in
-      rw (lines-next d n k h, q) at (i .is)
+  differing-no g = rw (lines-next d n k h, ← e, g) at (i .is)
 
 pub differing-done : (d : List ℕ) (n k : ℕ) → Differing d n k → n ≤ k → true ≡ areDistinct (linesFrom d 0 n)
 unfolding areDistinct
@@ -263,11 +388,11 @@ differing-done d n k i h = rw (lines-none d n k h) at (i .is)
 -- ---- bodies follow each other
 pub record Following (d : List ℕ) (n at k : ℕ) : Type 0 where
   pub low : k ≤ n
-  pub fits : at ≤ 1048562 + 4294967295 * k
-  pub is : follow at (linesFrom d k (n - k)) (length d) ≡ follow (linePlace n) (linesFrom d 0 n) (length d)
+  pub fits : at ≤ 1572842 + 4294967295 * k
+  pub is : follow at (linesFrom d k (n - k)) (length d) ≡ follow (linePlace d n) (linesFrom d 0 n) (length d)
 
-pub following-start : (d : List ℕ) (n at : ℕ) → n < 65536 → at ≡ linePlace n → Following d n at 0
-following-start d n at h e = let f : n - 0 ≡ n = omega arith in record { low = omega arith; fits = omega arith; is = rw (e, f) }
+pub following-start : (d : List ℕ) (n at : ℕ) → n < 65536 → at ≡ linePlace d n → Following d n at 0
+following-start d n at h e = let f : n - 0 ≡ n = omega arith in record { low = omega arith; fits = omega (arith, e, place-most d n); is = rw (e, f) }
 
 module _ (d : List ℕ) (n at k : ℕ) (i : Following d n at k) where
   pub following-more : (o z : ℕ) → k < n → z < 4294967296 → o ≡ lineAt d k .offset → z ≡ lineAt d k .size → o ≡ at → Following d n (at + z) (k + 1)
@@ -276,13 +401,13 @@ module _ (d : List ℕ) (n at k : ℕ) (i : Following d n at k) where
       let q : eqb (lineAt d k .offset) at ≡ true = eq-eqb _ _ (sym e ∙ g) in
       record { low = omega arith; fits = omega (arith, i .fits); is = rw f (rw (lines-next d n k h, q) at (i .is)) }
 
-  pub following-no : (o : ℕ) → k < n → o ≡ lineAt d k .offset → (o ≡ at → ⊥) → false ≡ follow (linePlace n) (linesFrom d 0 n) (length d)
+  pub following-no : (o : ℕ) → k < n → o ≡ lineAt d k .offset → (o ≡ at → ⊥) → false ≡ follow (linePlace d n) (linesFrom d 0 n) (length d)
   unfolding follow
   following-no o h e g =
       let q : eqb (lineAt d k .offset) at ≡ false = ne-eqb _ _ (λ f. g (e ∙ f)) in
       rw (lines-next d n k h, q) at (i .is)
 
-  pub following-done : n ≤ k → eqb at (length d) ≡ follow (linePlace n) (linesFrom d 0 n) (length d)
+  pub following-done : n ≤ k → eqb at (length d) ≡ follow (linePlace d n) (linesFrom d 0 n) (length d)
   unfolding follow
   following-done h = rw (lines-none d n k h) at (i .is)
 
@@ -307,7 +432,7 @@ module _ (d : List ℕ) (n : ℕ) (e : n ≡ count d) (small : length d ≤ 6553
     unfolding contents isSound
     of-many h = rw (size-ok, ← e, some-ok, lt-leb n 32 h)
 
-    module _ (few : n ≤ 32) (p : ℕ) (at : p ≡ linePlace n) where
+    module _ (few : n ≤ 32) (p : ℕ) (at : p ≡ linePlace d n) where
       few-ok : leb n 32 ≡ true
       few-ok = le-leb n 32 few
 
@@ -315,8 +440,8 @@ module _ (d : List ℕ) (n : ℕ) (e : n ≡ count d) (small : length d ≤ 6553
       unfolding contents isSound
       of-cut h = rw (size-ok, ← e, some-ok, few-ok, ← at, lt-leb p (length d) h)
 
-      module _ (there : p ≤ length d) (t : Bool) (f : t ≡ areNamed (linesFrom d 0 n)) where
-        there-ok : leb (linePlace n) (length d) ≡ true
+      module _ (there : p ≤ length d) (t : Bool) (f : t ≡ areNamed (hasLibraries d) (linesFrom d 0 n)) where
+        there-ok : leb (linePlace d n) (length d) ≡ true
         there-ok = rw (← at) (le-leb p (length d) there)
 
         pub of-unnamed : t ≡ false → C.the-variants.Malformed ≡ A.answerFor (contents d)
@@ -328,7 +453,7 @@ module _ (d : List ℕ) (n : ℕ) (e : n ≡ count d) (small : length d ≤ 6553
           unfolding contents isSound
           of-twice g = rw (size-ok, ← e, some-ok, few-ok, there-ok, ← f, named, ← i, g)
 
-          module _ (distinct : u ≡ true) (v : Bool) (k : v ≡ follow (linePlace n) (linesFrom d 0 n) (length d)) where
+          module _ (distinct : u ≡ true) (v : Bool) (k : v ≡ follow (linePlace d n) (linesFrom d 0 n) (length d)) where
             pub of-gap : v ≡ false → C.the-variants.Malformed ≡ A.answerFor (contents d)
             unfolding contents isSound
             of-gap g = rw (size-ok, ← e, some-ok, few-ok, there-ok, ← f, named, ← i, distinct, ← k, g)

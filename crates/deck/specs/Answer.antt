@@ -1,13 +1,18 @@
 -- What the answers about a deck stand for in the definition.
 use Prim.Native.Nat.{ℕ}
 use mathlib.Core.List.{List}
+use mathlib.Core.Bool.{Bool, true, cond, _&&_}
 use lib.ListN.{length}
+use Rattle.definition.specs.Lists.{part}
 use Rattle.definition.specs.Deck as D
 use Rattle.member.specs.Body.{bodyBytes}
 use Rattle.deck.specs.declared.Contents.{Contents}
 use Rattle.deck.specs.declared.Contents.the-variants.{Malformed, Sound}
 use Rattle.deck.specs.declared.Found.{Found}
 use Rattle.deck.specs.declared.Found.the-variants.{Line, Nothing}
+use Rattle.deck.specs.declared.Spelled.{Spelled}
+use Rattle.deck.specs.declared.Sought.{Sought}
+use Rattle.deck.specs.declared.Sought.the-variants.{Bare, InLibrary}
 
 -- the answer for the contents of a deck: its lines can be read off the deck, so their number is enough
 abbrev pub answerFor : D.Contents → Contents
@@ -22,6 +27,18 @@ refusalOf (Sound d) = 0
 abbrev pub foundFor : D.Found → Found
 foundFor D.none = Nothing
 foundFor (D.line k) = Line k
+
+-- line k, of those that `areNamed` tests
+unfoldable pub isNamed : List ℕ → ℕ → Bool
+isNamed d k = cond (D.hasLibraries d) (D.isMemberName (D.lineAt d k .library)) true && D.isMemberName (D.lineAt d k .name)
+
+-- the names that are spelled in the deck
+abbrev pub spelled : List ℕ → Spelled → List ℕ
+spelled d w = part (w .len) (w .from) d
+
+unfoldable pub soughtIn : List ℕ → Sought → D.Sought
+soughtIn d (Bare w) = D.bare (spelled d w)
+soughtIn d (InLibrary l w) = D.inLibrary (spelled d l) (spelled d w)
 
 -- the bytes of line k; none where the deck does not have them all
 unfoldable pub bodyIn : List ℕ → ℕ → List ℕ

@@ -1,12 +1,14 @@
-// The deck: bytes to contents, or malformed; a line's numbers; the line of a name.
+// The deck: bytes to contents, or malformed; a line's numbers; the line of a member that is sought. Lines are of 16 bytes, or
+// with libraries of 24 (C-14); who looks through these functions does not see which.
 ghost use mathlib.Core.Path.{_≡_};
+ghost use mathlib.Core.Bool.{_&&_};
 ghost use Prim.Native.Nat.{_+_, _-_, _*_, _≤_};
 ghost use lib.ListN.{length};
-ghost use Rattle.definition.specs.Lists.{part, all};
+ghost use Rattle.definition.specs.Lists.{part, all, same};
 ghost use Rattle.definition.specs.Bytes.{isBlank};
-ghost use Rattle.definition.specs.Deck.{linePlace, lineAt, linesFrom, isMemberName, areNamed, isCalled, areDistinct, follow};
+ghost use Rattle.definition.specs.Deck.{hasLibraries, libraryLength, linePlace, lineAt, linesFrom, isMemberName, areNamed, isRepeated, areDistinct, isPadded, isCalled, follow};
 ghost use Rattle.definition.specs.Deck as D;
-ghost use Rattle.deck.specs.Answer.{answerFor, foundFor, refusalOf, bodyIn};
+ghost use Rattle.deck.specs.Answer.{answerFor, foundFor, refusalOf, bodyIn, isNamed, soughtIn};
 ghost use Rattle.deck.specs.Word.{Word};
 use chars::is_alphameric;
 use chars::is_letter;
@@ -26,38 +28,84 @@ pub enum Contents {
     Sound(Deck),
 }
 
-// Which line has a name.
+// Where a name is spelled in the deck.
+pub struct Spelled {
+    pub from: usize,
+    pub len: usize,
+}
+
+// What INCLUDE names: a member, or a library and a member of it.
+pub enum Sought {
+    Bare(Spelled),
+    InLibrary(Spelled, Spelled),
+}
+
+// Which line is sought.
 pub enum Found {
     Line(u16),
     Nothing,
+}
+
+// Whether the lines name libraries.
+pub fn has_libraries(d: &[u8]) -> bool
+    ensures { λ r. ⌜ r ≡ hasLibraries (now (d .entry)) ⌝ }
+{
+    if Deck::LIBRARIES < get_u16(d, 0) {
+        return true;
+    }
+    false
 }
 
 // The count, which says how many lines the contents have.
 pub fn count(d: &[u8]) -> u16
     ensures { λ r. ⌜ r ≡ D.count (now (d .entry)) ⌝ }
 {
-    get_u16(d, 0)
+    let n = get_u16(d, 0);
+    if Deck::LIBRARIES < n {
+        return n - Deck::LIBRARIES;
+    }
+    n
+}
+
+// How many bytes of a line name its library.
+pub fn library_length(d: &[u8]) -> usize
+    ensures { λ r. ⌜ r ≡ libraryLength (now (d .entry)) ⌝ }
+{
+    if has_libraries(d) {
+        return Deck::NAME;
+    }
+    0
 }
 
 // Where line k stands.
-pub fn line_place(k: u16) -> usize
-    ensures { λ r. ⌜ r ≡ linePlace k ⌝ }
+pub fn line_place(d: &[u8], k: u16) -> usize
+    ensures { λ r. ⌜ r ≡ linePlace (now (d .entry)) k ⌝ }
 {
+    if has_libraries(d) {
+        return 2 + 24 * (k as usize);
+    }
     2 + 16 * (k as usize)
+}
+
+// Where the name of line k's member stands.
+pub fn name_place(d: &[u8], k: u16) -> usize
+    ensures { λ r. ⌜ r ≡ linePlace (now (d .entry)) k + libraryLength (now (d .entry)) ⌝ }
+{
+    line_place(d, k) + library_length(d)
 }
 
 // Where the body of line k begins.
 pub fn offset(d: &[u8], k: u16) -> u32
     ensures { λ r. ⌜ r ≡ lineAt (now (d .entry)) k .offset ⌝ }
 {
-    get_u32(d, line_place(k) + 8)
+    get_u32(d, name_place(d, k) + 8)
 }
 
 // How long the body of line k is.
 pub fn size(d: &[u8], k: u16) -> u32
     ensures { λ r. ⌜ r ≡ lineAt (now (d .entry)) k .size ⌝ }
 {
-    get_u32(d, line_place(k) + 12)
+    get_u32(d, name_place(d, k) + 12)
 }
 
 // How many of the n bytes at a place a name goes on with.
@@ -100,13 +148,26 @@ fn is_member_name(d: &[u8], at: usize) -> bool
     false
 }
 
-// Whether each of n lines has the name of a member.
+// Whether line k has the name of a member, and of a library where lines have one.
+fn is_named(d: &[u8], k: u16) -> bool
+    ensures { λ r. ⌜ r ≡ isNamed (now (d .entry)) k ⌝ }
+{
+    if has_libraries(d) {
+        if is_member_name(d, line_place(d, k)) {
+            return is_member_name(d, name_place(d, k));
+        }
+        return false;
+    }
+    is_member_name(d, name_place(d, k))
+}
+
+// Whether each of n lines is named so.
 fn are_named(d: &[u8], n: u16) -> bool
-    ensures { λ r. ⌜ r ≡ areNamed (linesFrom (now (d .entry)) 0 n) ⌝ }
+    ensures { λ r. ⌜ r ≡ areNamed (hasLibraries (now (d .entry))) (linesFrom (now (d .entry)) 0 n) ⌝ }
 {
     let mut k = 0;
     while k < n {
-        if is_member_name(d, line_place(k)) {
+        if is_named(d, k) {
             k += 1;
         } else {
             return false;
@@ -115,65 +176,106 @@ fn are_named(d: &[u8], n: u16) -> bool
     true
 }
 
-// Whether line k has the name that stands at a place, padded with blanks.
-fn is_called(d: &[u8], k: u16, from: usize, len: usize) -> bool
-    ensures { λ r. ⌜ r ≡ isCalled (part len from (now (d .entry))) (lineAt (now (d .entry)) k) ⌝ }
+// Whether the name at a place is the one that is spelled elsewhere, padded with blanks.
+fn is_padded(d: &[u8], at: usize, w: Spelled) -> bool
+    ensures { λ r. ⌜ r ≡ isPadded (part (w .len) (w .from) (now (d .entry))) (part 8 at (now (d .entry))) ⌝ }
 {
+    let len = w.len;
     if Deck::NAME < len {
         return false;
     }
-    let at = line_place(k);
-    if is_same(d, at, d, from, len) {
+    if is_same(d, at, d, w.from, len) {
         return is_blank_part(d, at, len, Deck::NAME);
     }
     false
 }
 
-// The first of the lines k to n that has the name that stands at a place.
-fn find_from(d: &[u8], k: u16, n: u16, from: usize, len: usize) -> Found
-    ensures { λ r. ⌜ r ≡ foundFor (D.find (part len from (now (d .entry))) k (linesFrom (now (d .entry)) k (n - k))) ⌝ }
+// Whether line k is in the library that is spelled elsewhere.
+fn is_in_library(d: &[u8], k: u16, w: Spelled) -> bool
+    ensures { λ r. ⌜ r ≡ isPadded (part (w .len) (w .from) (now (d .entry))) (lineAt (now (d .entry)) k .library) ⌝ }
 {
-    let mut j = k;
-    while j < n {
-        if is_called(d, j, from, len) {
-            return Found::Line(j);
+    if has_libraries(d) {
+        return is_padded(d, line_place(d, k), w);
+    }
+    false
+}
+
+// Whether line k is called so.
+fn is_called(d: &[u8], k: u16, x: Sought) -> bool
+    ensures { λ r. ⌜ r ≡ isCalled (soughtIn (now (d .entry)) x) (lineAt (now (d .entry)) k) ⌝ }
+{
+    match x {
+        Sought::Bare(w) => is_padded(d, name_place(d, k), w),
+        Sought::InLibrary(l, w) => {
+            if is_in_library(d, k, l) {
+                return is_padded(d, name_place(d, k), w);
+            }
+            false
         }
-        j += 1;
+    }
+}
+
+// The line of the member that is sought: the first that is called so.
+pub fn find(d: &[u8], x: Sought) -> Found
+    ensures { λ r. ⌜ r ≡ foundFor (D.find (soughtIn (now (d .entry)) x) 0 (D.lines (now (d .entry)))) ⌝ }
+{
+    let n = count(d);
+    let mut k = 0;
+    while k < n {
+        if is_called(d, k, x) {
+            return Found::Line(k);
+        }
+        k += 1;
     }
     Found::Nothing
 }
 
-// The line of the member whose name stands at a place of the deck.
-pub fn find(d: &[u8], from: usize, len: usize) -> Found
-    ensures { λ r. ⌜ r ≡ foundFor (D.find (part len from (now (d .entry))) 0 (D.lines (now (d .entry)))) ⌝ }
+// Whether line j has the names of line k.
+fn is_alike(d: &[u8], j: u16, k: u16) -> bool
+    ensures { λ r. ⌜ r ≡ (same (lineAt (now (d .entry)) j .library) (lineAt (now (d .entry)) k .library) && same (lineAt (now (d .entry)) j .name) (lineAt (now (d .entry)) k .name)) ⌝ }
 {
-    find_from(d, 0, count(d), from, len)
+    is_same(
+        d,
+        line_place(d, j),
+        d,
+        line_place(d, k),
+        library_length(d) + Deck::NAME,
+    )
 }
 
-// Whether no two of n lines have the same name.
+// Whether one of the lines i to n has the names of line k.
+fn is_repeated(d: &[u8], k: u16, i: u16, n: u16) -> bool
+    ensures { λ r. ⌜ r ≡ isRepeated (lineAt (now (d .entry)) k) (linesFrom (now (d .entry)) i (n - i)) ⌝ }
+{
+    let mut j = i;
+    while j < n {
+        if is_alike(d, j, k) {
+            return true;
+        }
+        j += 1;
+    }
+    false
+}
+
+// Whether no two of n lines have the same names.
 fn are_distinct(d: &[u8], n: u16) -> bool
     ensures { λ r. ⌜ r ≡ areDistinct (linesFrom (now (d .entry)) 0 n) ⌝ }
 {
     let mut k = 0;
     while k < n {
-        let again = find_from(d, k + 1, n, line_place(k), Deck::NAME);
-        match again {
-            Found::Line(_) => {
-                return false;
-            }
-            Found::Nothing => {
-                k += 1;
-            }
+        if is_repeated(d, k, k + 1, n) {
+            return false;
         }
+        k += 1;
     }
     true
 }
 
 // Whether the bodies of n lines follow the contents and each other, and the deck ends with the last.
 fn do_follow(d: &[u8], n: u16) -> bool
-    ensures { λ r. ⌜ r ≡ follow (linePlace n) (linesFrom (now (d .entry)) 0 n) (length (now (d .entry))) ⌝ }
+    ensures { λ r. ⌜ r ≡ follow (linePlace (now (d .entry)) n) (linesFrom (now (d .entry)) 0 n) (length (now (d .entry))) ⌝ }
 {
-    let mut at = line_place(n);
+    let mut at = line_place(d, n);
     let mut k = 0;
     while k < n {
         if (offset(d, k) as usize) != at {
@@ -192,6 +294,9 @@ impl Deck {
 
     pub const NAME: usize = 8;
 
+    // The first number of a deck whose lines name libraries is its count and this.
+    pub const LIBRARIES: u16 = 256;
+
     // The contents of a deck of any bytes.
     pub fn of(d: &[u8]) -> Contents
         ensures { λ r. ⌜ r ≡ answerFor (D.contents (now (d .entry))) ⌝ }
@@ -206,7 +311,7 @@ impl Deck {
         if Deck::LINES < n {
             return Contents::Malformed;
         }
-        if d.len() < line_place(n) {
+        if d.len() < line_place(d, n) {
             return Contents::Malformed;
         }
         if are_named(d, n) {

@@ -4,8 +4,7 @@ use Rattle.deck.proofs.are_distinct.Statement.{statement}
 use Rattle.deck.proofs.are_distinct.Tie as tie
 use Rattle.deck.proofs.are_distinct.Reads as reads
 use Rattle.deck.proofs.are_distinct.Lts as lts
-use Rattle.deck.proofs.find_from.Reads as find-from-reads
-use Rattle.deck.proofs.line_place.Reads as line-place-reads
+use Rattle.deck.proofs.is_repeated.Reads as is-repeated-reads
 use Prim.Native.Nat.{_-_}
 use Rattle.deck.proofs.Laws.{Differing, differing-start, differing-more, differing-no, differing-done}
 
@@ -18,23 +17,14 @@ abbrev μ-loop : tie.MeasureT-loop
 loop-holds : tie.Need-loop-holds Inv-loop μ-loop
 loop-holds c = differing-start _ _
 
-add-find-from : tie.Need-add-find-from Inv-loop μ-loop
-add-find-from c = search needs
+add-is-repeated : tie.Need-add-is-repeated Inv-loop μ-loop
+add-is-repeated c = search needs
 
-line-place-requires : tie.Need-line-place-requires Inv-loop μ-loop
-line-place-requires c κs = search needs
-
-find-from-requires : tie.Need-find-from-requires Inv-loop μ-loop
-find-from-requires c κs = search needs
-
-enum-told : tie.Need-enum-told Inv-loop μ-loop
-enum-told c = search needs
+is-repeated-requires : tie.Need-is-repeated-requires Inv-loop μ-loop
+is-repeated-requires c κs = search needs
 
 returns : tie.Need-returns Inv-loop μ-loop
 returns c = search differing-no
-
-enum-told-2 : tie.Need-enum-told-2 Inv-loop μ-loop
-enum-told-2 c = search needs
 
 add-k : tie.Need-add-k Inv-loop μ-loop
 add-k c = search needs
@@ -55,12 +45,9 @@ are-distinct-spec =
     Inv-loop
     μ-loop
     loop-holds
-    add-find-from
-    line-place-requires
-    find-from-requires
-    enum-told
+    add-is-repeated
+    is-repeated-requires
     returns
-    enum-told-2
     add-k
     loop-less
     loop-again

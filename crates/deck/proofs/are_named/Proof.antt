@@ -4,8 +4,7 @@ use Rattle.deck.proofs.are_named.Statement.{statement}
 use Rattle.deck.proofs.are_named.Tie as tie
 use Rattle.deck.proofs.are_named.Reads as reads
 use Rattle.deck.proofs.are_named.Lts as lts
-use Rattle.deck.proofs.is_member_name.Reads as is-member-name-reads
-use Rattle.deck.proofs.line_place.Reads as line-place-reads
+use Rattle.deck.proofs.is_named.Reads as is-named-reads
 use Prim.Native.Nat.{_-_}
 use Rattle.deck.proofs.Laws.{Naming, naming-start, naming-more, naming-no, naming-done}
 
@@ -18,11 +17,8 @@ abbrev μ-loop : tie.MeasureT-loop
 loop-holds : tie.Need-loop-holds Inv-loop μ-loop
 loop-holds c = naming-start _ _
 
-line-place-requires : tie.Need-line-place-requires Inv-loop μ-loop
-line-place-requires c κs = search needs
-
-is-member-name-requires : tie.Need-is-member-name-requires Inv-loop μ-loop
-is-member-name-requires c κs = search needs
+is-named-requires : tie.Need-is-named-requires Inv-loop μ-loop
+is-named-requires c κs = search needs
 
 add-k : tie.Need-add-k Inv-loop μ-loop
 add-k c = search needs
@@ -46,8 +42,7 @@ are-named-spec =
     Inv-loop
     μ-loop
     loop-holds
-    line-place-requires
-    is-member-name-requires
+    is-named-requires
     add-k
     loop-less
     loop-again
