@@ -1,29 +1,22 @@
 -- The joined deck in a room: how long its lines are, and where it stands.
 -- Assumes nothing.
-use mathlib.Core.Path.{_≡_, refl, ap, _∙_}
+use mathlib.Core.Path.{_≡_, refl, ap}
 use mathlib.Core.Bool.{true}
 use mathlib.Core.List.{List, [], _∷_}
-use Prim.Native.Nat.{ℕ, zero, suc, _+_, _*_, _≤_}
+use Prim.Native.Nat.{ℕ, _+_, _≤_}
 use native.Mathlib.Nat.{not-suc-le-zero, le-of-suc-le-suc}
 use native.Mathlib.Omega.{arith}
 use lib.ListN.{length, take, length-append}
 use Rattle.definition.specs.Room.{over}
-use Rattle.definition.specs.Deck.{lineAt, linesFrom, isSound}
-use Rattle.definition.specs.Cards.{joinedSize, joinedLines, joined}
+use Rattle.definition.specs.Deck.{libraryLength, linePlace, lineAt, isSound}
+use Rattle.definition.specs.Cards.{joined}
 use Rattle.definition.proofs.Joined.{sound-parts, joined-shorter}
+use Rattle.definition.proofs.Parts.{length-part}
 use Rattle.cards.specs.Joins.{joinedLine, Joins}
 
-pub length-line : (at : ℕ) (d : List ℕ) (k : ℕ) → length (joinedLine at (lineAt d k)) ≡ 16
+pub length-line : (at : ℕ) (d : List ℕ) (k : ℕ) → length (joinedLine at (lineAt d k)) ≡ libraryLength d + 16
 unfolding joinedLine lineAt
-length-line at d k = simp length-append
-
-pub length-lines : (at : ℕ) (d : List ℕ) (k n : ℕ) → length (joinedLines at (linesFrom d k n)) ≡ 16 * n
-unfolding joinedLines linesFrom joinedLine
-length-lines at d k zero = refl
-length-lines at d k (suc n) =
-    let z : ℕ = joinedSize (lineAt d k) in
-    length-append (joinedLine at (lineAt d k)) (joinedLines (at + z) (linesFrom d (suc k) n))
-    ∙ omega (arith, length-line at d k, length-lines (at + z) d (suc k) n)
+length-line at d k = simp length-append (omega (arith, length-part (libraryLength d) (linePlace d k) d))
 
 joined-small : (d : List ℕ) → isSound d ≡ true → length (joined d) ≤ 65536
 joined-small d h = omega (arith, joined-shorter d h, sound-parts d h .few)

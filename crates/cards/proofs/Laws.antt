@@ -5,7 +5,7 @@ use mathlib.Core.Path.{_≡_, refl, sym, ap, _∙_}
 use mathlib.Core.Bool.{true, false}
 use mathlib.Core.List.{List, _∷_, _++_}
 use Prim.Native.Nat.{ℕ, zero, suc, _+_, _*_, _-_, _/_, _%_, _^_, _<_, _≤_}
-use native.Mathlib.Nat.{mod-eq-of-lt, mod-add-div, add-mul-mod-self-left, add-mul-div-left, mul-assoc, pow-succ'}
+use native.Mathlib.Nat.{zero-add, mod-eq-of-lt, mod-add-div, add-mul-mod-self-left, add-mul-div-left, mul-assoc, pow-succ'}
 use native.Mathlib.Numerals.{add-one}
 use native.Mathlib.Omega.{arith}
 use borrow.Author.Tests.{eq-eqb, ne-eqb}
@@ -13,16 +13,16 @@ use lib.Dec.{eqb}
 use lib.ListN.{length, length-append}
 use Rattle.definition.specs.Lists.{part, bytes}
 use Rattle.definition.specs.Room.{over}
-use Rattle.definition.specs.Deck.{Line, linePlace, lineAt, linesFrom, lines, count}
+use Rattle.definition.specs.Deck.{Line, libraryLength, linePlace, lineAt, linesFrom, lines, count}
 use Rattle.definition.specs.Cards.{uneven, columns, records, joinedSize, joinedLines, joinedBodies, joined}
 use Rattle.definition.proofs.Rooms.{length-over, over-nil, over-next-at}
 use Rattle.definition.proofs.Parts.{length-part}
 use Rattle.deck.specs.Answer as A
 use Rattle.deck.specs.declared.Found as F
-use Rattle.deck.proofs.Laws.{lines-next, lines-none}
+use Rattle.deck.proofs.Laws.{lines-next, lines-none, part-add, place-most}
 use Rattle.cards.specs.Joins.{joinedLine, PutsBodies, Joins}
-use Rattle.definition.proofs.Joined.{length-columns}
-use Rattle.cards.proofs.Joined.{length-line, length-lines}
+use Rattle.definition.proofs.Joined.{place-first, place-next, length-columns, length-joined-lines}
+use Rattle.cards.proofs.Joined.{length-line}
 
 -- ---- the first uneven body
 pub record Looking (d : List ℕ) (n k : ℕ) : Type 0 where
@@ -61,39 +61,46 @@ low-bytes (suc k) n q =
 low4 : (n : ℕ) → bytes 4 (n % 4294967296) ≡ bytes 4 n
 low4 n = sym (low-bytes 4 (n % 4294967296) (n / 4294967296)) ∙ ap (bytes 4) (mod-add-div n 4294967296)
 
-pub line-put : (d t t₁ t₂ t₃ : List ℕ) (k at p z : ℕ) → p ≡ linePlace k → t₁ ≡ over t p (part 8 p d) → t₂ ≡ over t₁ (p + 8) (bytes 4 (at % 4294967296))
-    → z ≡ joinedSize (lineAt d k) → t₃ ≡ over t₂ (p + 12) (bytes 4 z) → t₃ ≡ over t (linePlace k) (joinedLine at (lineAt d k))
-unfolding joinedLine lineAt
-line-put d t t₁ t₂ t₃ k at p z e f g h q =
-    let a : t₂ ≡ over t p (part 8 p d ++ bytes 4 at) =
-    g ∙ rw (f, low4 at) (over-next-at t p (p + 8) (part 8 p d) (bytes 4 at) (omega (arith, length-part 8 p d))) in
-    let b : t₃ ≡ over t p (part 8 p d ++ bytes 4 at ++ bytes 4 z) =
-    q ∙ rw a (over-next-at t p (p + 12) (part 8 p d ++ bytes 4 at) (bytes 4 z) (omega (arith, length-part 8 p d, length-append (part 8 p d) (bytes 4 at)))) in
-    b ∙ rw (h, e)
+-- both names stand one behind the other
+module _ (d : List ℕ) (k p q n : ℕ) (e : p ≡ linePlace d k) (e′ : q ≡ linePlace d k + libraryLength d) (v : n ≡ libraryLength d) where
+  names-put : part (n + 8) p d ≡ lineAt d k .library ++ lineAt d k .name
+  unfolding lineAt
+  names-put = part-add n 8 p d ∙ rw (e, v)
+
+  pub line-put : (t t₁ t₂ t₃ : List ℕ) (at z : ℕ) → t₁ ≡ over t p (part (n + 8) p d) → t₂ ≡ over t₁ (q + 8) (bytes 4 (at % 4294967296))
+      → z ≡ joinedSize (lineAt d k) → t₃ ≡ over t₂ (q + 12) (bytes 4 z) → t₃ ≡ over t (linePlace d k) (joinedLine at (lineAt d k))
+  unfolding joinedLine
+  line-put t t₁ t₂ t₃ at z f g h i =
+      let w : List ℕ = part (n + 8) p d in
+      let l : length w ≡ n + 8 = length-part (n + 8) p d in
+      let a : t₂ ≡ over t p (w ++ bytes 4 at) = g ∙ rw (f, low4 at) (over-next-at t p (q + 8) w (bytes 4 at) (omega (arith, l, e, e′, v))) in
+      let b : t₃ ≡ over t p (w ++ bytes 4 at ++ bytes 4 z) = i ∙ rw a (over-next-at t p (q + 12) (w ++ bytes 4 at) (bytes 4 z) (omega (arith, l, e, e′, v, length-append w (bytes 4 at)))) in
+      b ∙ (λ j. over t (e j) (names-put j ++ bytes 4 at ++ bytes 4 (h j)))
 
 -- ---- the contents
 pub record Lining (d : List ℕ) (n : ℕ) (t₀ t : List ℕ) (at k : ℕ) : Type 0 where
   pub low : k ≤ n
-  pub fits : at ≤ 1048562 + 4294967295 * k
-  pub is : over t (linePlace k) (joinedLines at (linesFrom d k (n - k))) ≡ over t₀ 2 (joinedLines (linePlace n) (linesFrom d 0 n))
+  pub fits : at ≤ 1572842 + 4294967295 * k
+  pub is : over t (linePlace d k) (joinedLines at (linesFrom d k (n - k))) ≡ over t₀ 2 (joinedLines (linePlace d n) (linesFrom d 0 n))
   pub size : length t ≡ length t₀
 
-pub lining-start : (d : List ℕ) (n : ℕ) (t : List ℕ) (at : ℕ) → n < 65536 → at ≡ linePlace n → Lining d n t t at 0
-lining-start d n t at h e = let f : n - 0 ≡ n = omega arith in record { low = omega arith; fits = omega arith; is = rw (e, f); size = refl }
+pub lining-start : (d : List ℕ) (n : ℕ) (t : List ℕ) (at : ℕ) → n < 65536 → at ≡ linePlace d n → Lining d n t t at 0
+lining-start d n t at h e = let f : n - 0 ≡ n = omega arith in record { low = omega arith; fits = omega (arith, e, place-most d n); is = rw (e, f, place-first d); size = refl }
 
 module _ (d : List ℕ) (n : ℕ) (t₀ t : List ℕ) (at k : ℕ) (i : Lining d n t₀ t at k) where
-  pub lining-more : (t′ : List ℕ) (z : ℕ) → k < n → z < 4294967296 → t′ ≡ over t (linePlace k) (joinedLine at (lineAt d k)) → z ≡ joinedSize (lineAt d k) → Lining d n t₀ t′ (at + z) (k + 1)
+  pub lining-more : (t′ : List ℕ) (z : ℕ) → k < n → z < 4294967296 → t′ ≡ over t (linePlace d k) (joinedLine at (lineAt d k)) → z ≡ joinedSize (lineAt d k) → Lining d n t₀ t′ (at + z) (k + 1)
   unfolding joinedLines joinedLine
   lining-more t′ z h b e f =
       let l : Line = lineAt d k in
       let rest : List ℕ = joinedLines (at + z) (linesFrom d (k + 1) (n - (k + 1))) in
-      let p : over t′ (linePlace (k + 1)) rest ≡ over t (linePlace k) (joinedLine at l ++ rest) =
-      rw e (over-next-at t (linePlace k) (linePlace (k + 1)) (joinedLine at l) rest (omega (arith, length-line at d k))) in
-      record { low = omega arith; fits = omega (arith, i .fits); is = p ∙ rw f (rw (lines-next d n k h) at (i .is)); size = ap length e ∙ length-over t (linePlace k) (joinedLine at l) ∙ i .size }
+      let q : linePlace d (k + 1) ≡ linePlace d k + (libraryLength d + 16) = rw (add-one k) (place-next d k) in
+      let p : over t′ (linePlace d (k + 1)) rest ≡ over t (linePlace d k) (joinedLine at l ++ rest) =
+      rw e (over-next-at t (linePlace d k) (linePlace d (k + 1)) (joinedLine at l) rest (omega (arith, length-line at d k))) in
+      record { low = omega arith; fits = omega (arith, i .fits); is = p ∙ rw f (rw (lines-next d n k h) at (i .is)); size = ap length e ∙ length-over t (linePlace d k) (joinedLine at l) ∙ i .size }
 
-  pub lining-done : n ≤ k → t ≡ over t₀ 2 (joinedLines (linePlace n) (linesFrom d 0 n))
+  pub lining-done : n ≤ k → t ≡ over t₀ 2 (joinedLines (linePlace d n) (linesFrom d 0 n))
   unfolding joinedLines
-  lining-done h = sym (over-nil t (linePlace k)) ∙ rw (lines-none d n k h) at (i .is)
+  lining-done h = sym (over-nil t (linePlace d k)) ∙ rw (lines-none d n k h) at (i .is)
 
 -- ---- the columns of one body
 pub record Cards (d : List ℕ) (from n : ℕ) (t₀ : List ℕ) (to : ℕ) (t : List ℕ) (card at j : ℕ) : Type 0 where
@@ -127,13 +134,13 @@ module _ (d : List ℕ) (from n : ℕ) (t₀ : List ℕ) (to : ℕ) (t : List �
 -- ---- the bodies
 pub record Joining (d : List ℕ) (n : ℕ) (t₀ t : List ℕ) (at k : ℕ) : Type 0 where
   pub low : k ≤ n
-  pub fits : at ≤ 1048562 + 4294967295 * k
-  pub is : over t at (joinedBodies (linesFrom d k (n - k)) d) ≡ over t₀ (linePlace n) (joinedBodies (linesFrom d 0 n) d)
-  pub end : at + length (joinedBodies (linesFrom d k (n - k)) d) ≡ linePlace n + length (joinedBodies (linesFrom d 0 n) d)
+  pub fits : at ≤ 1572842 + 4294967295 * k
+  pub is : over t at (joinedBodies (linesFrom d k (n - k)) d) ≡ over t₀ (linePlace d n) (joinedBodies (linesFrom d 0 n) d)
+  pub end : at + length (joinedBodies (linesFrom d k (n - k)) d) ≡ linePlace d n + length (joinedBodies (linesFrom d 0 n) d)
   pub size : length t ≡ length t₀
 
-pub joining-start : (d : List ℕ) (n : ℕ) (t : List ℕ) (at : ℕ) → n < 65536 → at ≡ linePlace n → Joining d n t t at 0
-joining-start d n t at h e = let f : n - 0 ≡ n = omega arith in record { low = omega arith; fits = omega arith; is = rw (e, f); end = rw (e, f); size = refl }
+pub joining-start : (d : List ℕ) (n : ℕ) (t : List ℕ) (at : ℕ) → n < 65536 → at ≡ linePlace d n → Joining d n t t at 0
+joining-start d n t at h e = let f : n - 0 ≡ n = omega arith in record { low = omega arith; fits = omega (arith, e, place-most d n); is = rw (e, f); end = rw (e, f); size = refl }
 
 module _ (d : List ℕ) (n : ℕ) (t₀ t : List ℕ) (at k : ℕ) (i : Joining d n t₀ t at k) where
   pub joining-more : (t′ : List ℕ) (o m z : ℕ) → k < n → n < 65536 → z < 4294967296 → o ≡ lineAt d k .offset → m ≡ records (lineAt d k)
@@ -162,16 +169,16 @@ module _ (d : List ℕ) (n : ℕ) (t₀ t : List ℕ) (at k : ℕ) (i : Joining 
   }
 
 -- ---- the whole deck: count, contents and bodies, each behind the other
-pub joins : (d t t₁ t₂ t₃ : List ℕ) (n r : ℕ) → n ≡ count d → t₁ ≡ over t 0 (part 2 0 d) → t₂ ≡ over t₁ 2 (joinedLines (linePlace n) (linesFrom d 0 n))
+pub joins : (d t t₁ t₂ t₃ : List ℕ) (n r : ℕ) → n ≡ count d → t₁ ≡ over t 0 (part 2 0 d) → t₂ ≡ over t₁ 2 (joinedLines (linePlace d n) (linesFrom d 0 n))
     → PutsBodies d n t₂ t₃ r → Joins d t t₃ r
 unfolding joined
 joins d t t₁ t₂ t₃ n r e f g h =
     let head : List ℕ = part 2 0 d in
-    let table : List ℕ = joinedLines (linePlace n) (linesFrom d 0 n) in
+    let table : List ℕ = joinedLines (linePlace d n) (linesFrom d 0 n) in
     let bodies : List ℕ = joinedBodies (linesFrom d 0 n) d in
     let a : t₂ ≡ over t 0 (head ++ table) = g ∙ rw f (over-next-at t 0 2 head table (omega (arith, length-part 2 0 d))) in
-    let s : length (head ++ table) ≡ linePlace n = length-append head table ∙ omega (arith, length-part 2 0 d, length-lines (linePlace n) d 0 n) in
-    let b : t₃ ≡ over t 0 (head ++ table ++ bodies) = h .is ∙ rw a (over-next-at t 0 (linePlace n) (head ++ table) bodies (omega (arith, s))) in
+    let s : length (head ++ table) ≡ linePlace d n = length-append head table ∙ omega (arith, length-part 2 0 d, place-first d, length-joined-lines d 0 n (linePlace d n), ap (linePlace d) (zero-add n)) in
+    let b : t₃ ≡ over t 0 (head ++ table ++ bodies) = h .is ∙ rw a (over-next-at t 0 (linePlace d n) (head ++ table) bodies (omega (arith, s))) in
     let is : t₃ ≡ over t 0 (joined d) = b ∙ rw e in
     let c : r ≡ length (head ++ table ++ bodies) = omega (arith, h .end, s, length-append (head ++ table) bodies) in
     record { is = is; size = c ∙ rw e; room = ap length is ∙ length-over t 0 (joined d) }

@@ -10,12 +10,12 @@ use Rattle.definition.specs.Cards.{joined, joinedSize, joinedBodies}
 
 -- a line of the joined contents, whose body begins at a place
 unfoldable pub joinedLine : ℕ → Line → List ℕ
-joinedLine at l = l .name ++ bytes 4 at ++ bytes 4 (joinedSize l)
+joinedLine at l = l .library ++ l .name ++ bytes 4 at ++ bytes 4 (joinedSize l)
 
 -- the bodies of n lines, joined, stand behind as many contents lines of the room, which was t and is t′, and end at r
 pub record PutsBodies (d : List ℕ) (n : ℕ) (t t′ : List ℕ) (r : ℕ) : Type 0 where
-  pub is : t′ ≡ over t (linePlace n) (joinedBodies (linesFrom d 0 n) d)
-  pub end : r ≡ linePlace n + length (joinedBodies (linesFrom d 0 n) d)
+  pub is : t′ ≡ over t (linePlace d n) (joinedBodies (linesFrom d 0 n) d)
+  pub end : r ≡ linePlace d n + length (joinedBodies (linesFrom d 0 n) d)
 
 -- the joined deck stands over the start of the room, and has r bytes
 pub record Joins (d t t′ : List ℕ) (r : ℕ) : Type 0 where

@@ -11,7 +11,9 @@ ghost use Rattle.cards.specs.Joins.{joinedLine, PutsBodies, Joins};
 use deck::Deck;
 use deck::Found;
 use deck::count;
+use deck::library_length;
 use deck::line_place;
+use deck::name_place;
 use deck::offset;
 use deck::size;
 use limits::Record;
@@ -52,19 +54,20 @@ fn joined_size(d: &[u8], k: u16) -> u32
 
 // Writes line k of the joined contents, whose body begins at a place; the cut changes none of its four bytes.
 fn put_line(d: &[u8], k: u16, room: &mut [u8], at: usize)
-    ensures { λ _. ⌜ now (room .exit) ≡ over (now (room .entry)) (linePlace k) (joinedLine at (lineAt (now (d .entry)) k)) ⌝ }
+    ensures { λ _. ⌜ now (room .exit) ≡ over (now (room .entry)) (linePlace (now (d .entry)) k) (joinedLine at (lineAt (now (d .entry)) k)) ⌝ }
 {
-    let place = line_place(k);
-    copy(d, place, Deck::NAME, room, place);
-    put_u32(room, place + 8, (at % 4_294_967_296) as u32);
-    put_u32(room, place + 12, joined_size(d, k));
+    let place = line_place(d, k);
+    let name = name_place(d, k);
+    copy(d, place, library_length(d) + Deck::NAME, room, place);
+    put_u32(room, name + 8, (at % 4_294_967_296) as u32);
+    put_u32(room, name + 12, joined_size(d, k));
 }
 
 // Writes the n lines of the joined contents, which its bodies follow.
 fn put_lines(d: &[u8], n: u16, room: &mut [u8])
-    ensures { λ _. ⌜ now (room .exit) ≡ over (now (room .entry)) 2 (joinedLines (linePlace n) (linesFrom (now (d .entry)) 0 n)) ⌝ }
+    ensures { λ _. ⌜ now (room .exit) ≡ over (now (room .entry)) 2 (joinedLines (linePlace (now (d .entry)) n) (linesFrom (now (d .entry)) 0 n)) ⌝ }
 {
-    let mut at = line_place(n);
+    let mut at = line_place(d, n);
     let mut k = 0;
     while k < n {
         put_line(d, k, room, at);
@@ -92,7 +95,7 @@ fn put_columns(d: &[u8], from: u32, n: u32, room: &mut [u8], to: usize)
 fn put_bodies(d: &[u8], n: u16, room: &mut [u8]) -> usize
     ensures { λ r. ⌜ PutsBodies (now (d .entry)) n (now (room .entry)) (now (room .exit)) r ⌝ }
 {
-    let mut to = line_place(n);
+    let mut to = line_place(d, n);
     let mut k = 0;
     while k < n {
         put_columns(d, offset(d, k), records(d, k), room, to);

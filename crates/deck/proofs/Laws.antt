@@ -113,7 +113,7 @@ module _ (d : List ℕ) (t : Bool) (e : t ≡ hasLibraries d) where
   unfolding linePlace
   place-short k r h f = f ∙ rw (← e, h)
 
-place-most : (d : List ℕ) (k : ℕ) → linePlace d k ≤ 2 + 24 * k
+pub place-most : (d : List ℕ) (k : ℕ) → linePlace d k ≤ 2 + 24 * k
 unfolding linePlace
 place-most d k = by (hasLibraries d)
   where
@@ -250,7 +250,7 @@ same-append (u ∷ us) (v ∷ vs) xs ys h =
     let z : suc (length us) ≡ suc (length vs) = h in
     rw (same-append us vs xs ys (omega arith)) (sym (and-assoc (eqb u v) (same us vs) (same xs ys)))
 
-part-add : (n m at : ℕ) (s : List ℕ) → part (n + m) at s ≡ part n at s ++ part m (at + n) s
+pub part-add : (n m at : ℕ) (s : List ℕ) → part (n + m) at s ≡ part n at s ++ part m (at + n) s
 part-add zero m at s = let e : 0 + m ≡ m = omega arith in rw (e, add-zero)
 part-add (suc n) m at s = rw suc-add (ap (λ (t : List ℕ). getD s at 0 ∷ t) (part-add n m (suc at) s ∙ rw (suc-add, add-suc)))
 

@@ -1,7 +1,7 @@
 -- The joined deck of a sound deck is sound: the same members in the same order, and each body is the joined columns.
 -- Assumes nothing.
 use Prim.Native.Nat.{ℕ, zero, suc, _+_, _*_, _-_, _/_, _%_, _<_, _≤_}
-use native.Mathlib.Nat.{not-suc-le-zero, zero-add, suc-add, add-zero, suc-mul}
+use native.Mathlib.Nat.{not-suc-le-zero, zero-add, suc-add, add-zero}
 use native.Mathlib.Omega.{arith}
 use mathlib.Core.Bool.{Bool, true, false, cond, _&&_, false≢true}
 use mathlib.Core.List.{List, [], _∷_, _++_, append-assoc}
@@ -95,15 +95,10 @@ place-next d k = by (hasLibraries d)
     by true = omega arith
     by false = omega arith
 
-pub place-more : (d : List ℕ) (k n : ℕ) → linePlace d k + n * (libraryLength d + 16) ≡ linePlace d (k + n)
-place-more d k zero = rw add-zero (omega arith)
-place-more d k (suc n) =
-    let e : suc k + n ≡ k + suc n = omega arith in
-    ap (λ (x : ℕ). linePlace d k + x) (suc-mul n (libraryLength d + 16)) ∙ omega (arith, place-next d k, place-more d (suc k) n, ap (linePlace d) e)
-
 -- lines lie in order
 pub place-up : (d : List ℕ) (k n : ℕ) → linePlace d k ≤ linePlace d (k + n)
-place-up d k n = omega (arith, place-more d k n)
+place-up d k zero = rw add-zero (omega arith)
+place-up d k (suc n) = let e : suc k + n ≡ k + suc n = omega arith in omega (arith, place-next d k, place-up d (suc k) n, ap (linePlace d) e)
 
 -- ---- the contents of the joined deck, whose next body begins at a place
 abbrev contentsFrom : ℕ → List Line → List Line
@@ -134,7 +129,7 @@ follow-end b end (l ∷ ls) f = omega (arith, follow-end (b + l .size) end ls (a
 abbrev Alike : List ℕ → List ℕ → Type 0
 Alike d e = hasLibraries e ≡ hasLibraries d
 
-alike-length : (d e : List ℕ) → Alike d e → libraryLength e ≡ libraryLength d
+pub alike-length : (d e : List ℕ) → Alike d e → libraryLength e ≡ libraryLength d
 unfolding libraryLength
 alike-length d e h = rw h
 
@@ -233,6 +228,10 @@ length-contents d k at (l ∷ ls) e =
     let f : suc k + length ls ≡ k + suc (length ls) = omega arith in
     simp length-append (omega (arith, place-next d k, e .0, e .1, length-bytes 4 at, length-bytes 4 (joinedSize l), length-contents d (suc k) (at + joinedSize l) ls (e .2), ap (linePlace d) f))
 
+-- the lines that are read in d take as many bytes as there
+pub length-joined-lines : (d : List ℕ) (k n at : ℕ) → linePlace d k + length (joinedLines at (linesFrom d k n)) ≡ linePlace d (k + n)
+length-joined-lines d k n at = length-contents d k at (linesFrom d k n) (named-lines d k n) ∙ ap (λ (i : ℕ). linePlace d (k + i)) (length-lines d k n)
+
 length-bodies : (b end : ℕ) (ls : List Line) (d : List ℕ) → follow b ls end ≡ true → b + length (joinedBodies ls d) ≤ end
 unfolding follow joinedBodies
 length-bodies b end [] d f = omega (arith, eqb-true b end f)
@@ -312,7 +311,7 @@ module _ (d : List ℕ) (sound : isSound d ≡ true) where
   length-head : length (part 2 0 d ++ joinedLines (linePlace d (count d)) (lines d)) ≡ linePlace d (count d)
   length-head =
       simp length-append
-      (omega (arith, length-part 2 0 d, place-first d, length-contents d 0 (linePlace d (count d)) (lines d) (named-lines d 0 (count d)), ap (λ (n : ℕ). linePlace d (0 + n)) (length-lines d 0 (count d)), ap (linePlace d) (zero-add (count d))))
+      (omega (arith, length-part 2 0 d, place-first d, length-joined-lines d 0 (count d) (linePlace d (count d)), ap (linePlace d) (zero-add (count d))))
 
   first-joined : first (joined d) ≡ first d
   unfolding joined

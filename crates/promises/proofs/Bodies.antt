@@ -21,7 +21,7 @@ use Rattle.definition.proofs.Joined.{sound-parts, sound-joined, count-joined, s
 use Rattle.promises.specs.Unread.{MainAtBar, withBody}
 use Rattle.promises.specs.Cards.{UnreadCards}
 use Rattle.promises.proofs.Cutting.{Cut, run-cut}
-use Rattle.promises.proofs.Deck.{count-same, line-same, lines-same, sound-same, body-same}
+use Rattle.promises.proofs.Deck.{count-same, layout-same, line-same, lines-same, sound-same, body-same}
 use Rattle.promises.proofs.Unread.{runs-same, answer-listed}
 
 -- ---- what is told depends on the sizes of the deck's members alone
@@ -47,7 +47,7 @@ module _ (d : List ℕ) (k : ℕ) (b : List ℕ) (sound : isSound d ≡ true) (m
   sound-there = sound-same d k b sound member fits ∙ sound
 
   contents : Deck.lines (joined (withBody k b d)) ≡ Deck.lines (joined d)
-  contents = lines-alike d (withBody k b d) sound sound-there (lines-same d k b sound member fits) (count-same d k b sound member fits)
+  contents = lines-alike d (withBody k b d) sound sound-there (lines-same d k b sound member fits) (count-same d k b sound member fits) (layout-same d k b sound member fits)
 
   bodies : (m : ℕ) → m < count (joined d) → (m ≡ k → ⊥) → bodyOf (joined d) m ≡ bodyOf (joined (withBody k b d)) m
   bodies m h n =

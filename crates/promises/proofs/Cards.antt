@@ -12,7 +12,7 @@ use Rattle.definition.specs.Cards.{uneven, joined, column, given}
 use Rattle.definition.specs.Run.{bodyOf}
 use Rattle.definition.specs.Expansion.{sizeIn}
 use Rattle.definition.proofs.Parts.{length-part}
-use Rattle.definition.proofs.Joined.{sound-joined, joined-shorter, count-joined, name-joined, size-joined, length-body, byte-joined, whole-records}
+use Rattle.definition.proofs.Joined.{sound-joined, joined-shorter, count-joined, library-joined, name-joined, size-joined, length-body, byte-joined, whole-records}
 use Rattle.definition.proofs.Layouts.{main-layout}
 use Rattle.definition.proofs.Fits.{fitting}
 use Rattle.promises.proofs.Rejoined.{back-given, whole-joined}
@@ -24,6 +24,7 @@ joins d s = record {
   sound = sound-joined d s;
   shorter = joined-shorter d s;
   counts = count-joined d s;
+  libraries = library-joined d s;
   names = name-joined d s;
   lengths = length-body d s;
   bytes = λ m p h i. byte-joined d s m h p i;

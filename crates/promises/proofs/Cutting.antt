@@ -186,7 +186,7 @@ module _ (d : List ℕ) where
   happens : (e : Event) (g : Pass) (n : ℕ) (w : World) → In (memberOf e) → Takes d e n w → Fair w → Fair (withEvent e g n w)
   happens e g n w i t h = record { full = full-more e (w .events) (t .full) (h .full); copies = (t .true, h .copies); listed = (i, h .listed) }
 
-  founds : (x : List ℕ) (k : ℕ) → Deck.find x 0 (Deck.lines d) ≡ Deck.line k → In k
+  founds : (x : Deck.Sought) (k : ℕ) → Deck.find x 0 (Deck.lines d) ≡ Deck.line k → In k
   founds x k e = omega (arith, find-range x 0 (Deck.lines d) k e, length-lines d 0 (count d))
 
   result-cut : {r : Res Stop End} → Leaves fair (OfEnd Any) r → Cut d (result r .lines) (result r .text)

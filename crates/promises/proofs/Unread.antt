@@ -119,10 +119,10 @@ module _ (k : ℕ) (d e : List ℕ) (contents : Deck.lines e ≡ Deck.lines d) (
         go true y = lacks bar
         go false y = include-line j (i j refl) (eqb-false j k y) l r z p m n b ps w
 
-  found : (x : List ℕ) (j : ℕ) → Deck.find x 0 (Deck.lines d) ≡ Deck.line j → j < Deck.count d
+  found : (x : Deck.Sought) (j : ℕ) → Deck.find x 0 (Deck.lines d) ≡ Deck.line j → j < Deck.count d
   found x j z = omega (arith, find-range x 0 (Deck.lines d) j z, length-lines d 0 (Deck.count d))
 
-  include-all : (l : LevelBut) (r : Level) → Levels l r → (p m n : ℕ) → m < Deck.count d → (ps : List Place) (xs : List (List ℕ)) (w : World) → T₀ (includeAllBut k l d p m n ps xs w) (includeAll r e p m n ps xs (G₀ w))
+  include-all : (l : LevelBut) (r : Level) → Levels l r → (p m n : ℕ) → m < Deck.count d → (ps : List Place) (xs : List Deck.Sought) (w : World) → T₀ (includeAllBut k l d p m n ps xs w) (includeAll r e p m n ps xs (G₀ w))
   unfolding includeAllBut includeAll
   include-all l r h p m n b ps [] w = goes
   include-all l r h p m n b ps (x ∷ xs) w = rw contents (include-at _ _ (include-all l r h p m n b ps xs) (Deck.find x 0 (Deck.lines d)) (found x) l r h p m n b ps w)

@@ -28,6 +28,7 @@ pub record Joins (d : List ℕ) : Type 0 where
   pub sound : isSound (joined d) ≡ true
   pub shorter : length (joined d) ≤ length d
   pub counts : count (joined d) ≡ count d
+  pub libraries : (m : ℕ) → m < count d → lineAt (joined d) m .library ≡ lineAt d m .library
   pub names : (m : ℕ) → m < count d → lineAt (joined d) m .name ≡ lineAt d m .name
   pub lengths : (m : ℕ) → m < count d → length (bodyOf (joined d) m) ≡ joinedSize (lineAt d m)
   pub bytes : (m p : ℕ) → m < count d → p < length (bodyOf (joined d) m)

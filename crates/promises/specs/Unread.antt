@@ -57,7 +57,7 @@ includeAtBut k Deck.none inner d p m n on w next = bad (halted (stop m p unknown
 includeAtBut k (Deck.line j) inner d p m n on w next =
     when (eqb j k) (λ _. bad barred (w .used)) (λ _. includeLineBut inner j d p m n on w next)
 
-unfoldable pub includeAllBut : ℕ → LevelBut → List ℕ → ℕ → ℕ → ℕ → List Place → List (List ℕ) → World → Res Halt Deed
+unfoldable pub includeAllBut : ℕ → LevelBut → List ℕ → ℕ → ℕ → ℕ → List Place → List Deck.Sought → World → Res Halt Deed
 includeAllBut k inner d p m n on [] w = good passed w
 includeAllBut k inner d p m n on (x ∷ xs) w =
     includeAtBut k (Deck.find x 0 (Deck.lines d)) inner d p m n on w (λ v. includeAllBut k inner d p m n on xs v)
