@@ -1,9 +1,12 @@
 -- What is left of the path falls.
-use Prim.Native.Nat.{_-_}
-use lib.ListN.{length}
 use borrow.Author.Needs.{needs}
 use Rattle.pack.proofs.base_place.Statement.{statement}
 use Rattle.pack.proofs.base_place.Tie as tie
+use Rattle.pack.proofs.base_place.Reads as reads
+use Rattle.pack.proofs.base_place.Lts as lts
+use Rattle.rooms.proofs.byte.Reads as byte-reads
+use Prim.Native.Nat.{_-_}
+use lib.ListN.{length}
 
 abbrev Inv-loop : tie.InvT-loop
 Inv-loop path place₀ k₀ place k = Unit {0}

@@ -1,8 +1,12 @@
 -- What is left of the word falls.
-use Prim.Native.Nat.{_-_}
 use borrow.Author.Needs.{needs}
 use Rattle.pack.proofs.is_word.Statement.{statement}
 use Rattle.pack.proofs.is_word.Tie as tie
+use Rattle.pack.proofs.is_word.Reads as reads
+use Rattle.pack.proofs.is_word.Lts as lts
+use Rattle.chars.proofs.is_alphameric.Reads as is-alphameric-reads
+use Rattle.rooms.proofs.byte.Reads as byte-reads
+use Prim.Native.Nat.{_-_}
 
 abbrev Inv-loop : tie.InvT-loop
 Inv-loop s at n j₀ j = Unit {0}

@@ -1,9 +1,12 @@
 -- A path begins within the argument; what is left of that falls.
-use Prim.Native.Nat.{_≤_, _-_}
-use lib.ListN.{length}
 use borrow.Author.Needs.{needs}
 use Rattle.pack.proofs.path_place.Statement.{statement}
 use Rattle.pack.proofs.path_place.Tie as tie
+use Rattle.pack.proofs.path_place.Reads as reads
+use Rattle.pack.proofs.path_place.Lts as lts
+use Rattle.rooms.proofs.byte.Reads as byte-reads
+use Prim.Native.Nat.{_-_, _≤_}
+use lib.ListN.{length}
 
 abbrev Inv-loop : tie.InvT-loop
 Inv-loop arg k₀ k = k ≤ length arg

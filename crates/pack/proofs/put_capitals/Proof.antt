@@ -1,10 +1,15 @@
 -- The deck keeps its length; what is left of the name falls.
-use mathlib.Core.Path.{_≡_}
-use Prim.Native.Nat.{_-_}
-use lib.ListN.{length}
 use borrow.Author.Needs.{needs}
 use Rattle.pack.proofs.put_capitals.Statement.{statement}
 use Rattle.pack.proofs.put_capitals.Tie as tie
+use Rattle.pack.proofs.put_capitals.Reads as reads
+use Rattle.pack.proofs.put_capitals.Lts as lts
+use Rattle.pack.proofs.capital.Reads as capital-reads
+use Rattle.rooms.proofs.byte.Reads as byte-reads
+use Rattle.rooms.proofs.put_byte.Reads as put-byte-reads
+use Prim.Native.Nat.{_-_}
+use lib.ListN.{length}
+use mathlib.Core.Path.{_≡_}
 
 abbrev Inv-loop : tie.InvT-loop
 Inv-loop deck₀ line j₀ deck j = length deck ≡ length deck₀

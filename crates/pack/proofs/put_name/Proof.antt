@@ -1,10 +1,14 @@
 -- The deck keeps its length; what is left of the name falls.
-use mathlib.Core.Path.{_≡_}
-use Prim.Native.Nat.{_-_}
-use lib.ListN.{length}
 use borrow.Author.Needs.{needs}
 use Rattle.pack.proofs.put_name.Statement.{statement}
 use Rattle.pack.proofs.put_name.Tie as tie
+use Rattle.pack.proofs.put_name.Reads as reads
+use Rattle.pack.proofs.put_name.Lts as lts
+use Rattle.pack.proofs.padded.Reads as padded-reads
+use Rattle.rooms.proofs.put_byte.Reads as put-byte-reads
+use Prim.Native.Nat.{_-_}
+use lib.ListN.{length}
+use mathlib.Core.Path.{_≡_}
 
 abbrev Inv-loop : tie.InvT-loop
 Inv-loop deck₀ line arg at n j₀ deck j = length deck ≡ length deck₀

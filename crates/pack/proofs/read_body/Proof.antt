@@ -1,9 +1,13 @@
 -- The deck keeps its length; the turns left fall.
-use mathlib.Core.Path.{_≡_}
-use lib.ListN.{length}
 use borrow.Author.Needs.{needs}
 use Rattle.pack.proofs.read_body.Statement.{statement}
 use Rattle.pack.proofs.read_body.Tie as tie
+use Rattle.pack.proofs.read_body.Reads as reads
+use Rattle.pack.proofs.read_body.Lts as lts
+use Rattle.pack.proofs.read_some.Reads as read-some-reads
+use Prim.Native.Nat.{_-_}
+use lib.ListN.{length}
+use mathlib.Core.Path.{_≡_}
 
 abbrev Inv-loop : tie.InvT-loop
 Inv-loop fd path deck₀ from at₀ turns₀ deck at turns = length deck ≡ length deck₀

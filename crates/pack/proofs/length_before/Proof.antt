@@ -1,15 +1,18 @@
--- What is left of the path falls.
+-- What is left of the argument falls.
+use borrow.Author.Needs.{needs}
+use Rattle.pack.proofs.length_before.Statement.{statement}
+use Rattle.pack.proofs.length_before.Tie as tie
+use Rattle.pack.proofs.length_before.Reads as reads
+use Rattle.pack.proofs.length_before.Lts as lts
+use Rattle.rooms.proofs.byte.Reads as byte-reads
 use Prim.Native.Nat.{_-_}
 use lib.ListN.{length}
-use borrow.Author.Needs.{needs}
-use Rattle.pack.proofs.stem_length.Statement.{statement}
-use Rattle.pack.proofs.stem_length.Tie as tie
 
 abbrev Inv-loop : tie.InvT-loop
-Inv-loop path from n₀ n = Unit {0}
+Inv-loop arg from stop n₀ n = Unit {0}
 
 abbrev μ-loop : tie.MeasureT-loop
-μ-loop path from n₀ n = length path - n
+μ-loop arg from stop n₀ n = length arg - n
 
 loop-holds : tie.Need-loop-holds Inv-loop μ-loop
 loop-holds c = search needs
@@ -35,8 +38,8 @@ loop-again c = search needs
 returns-3 : tie.Need-returns-3 Inv-loop μ-loop
 returns-3 c = search needs
 
-pub stem-length-spec : {M : Type 1} → statement M
-stem-length-spec =
+pub length-before-spec : {M : Type 1} → statement M
+length-before-spec =
     tie.close
     (tie.spec
     Inv-loop

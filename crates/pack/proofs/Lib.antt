@@ -1,0 +1,2 @@
+-- What bytes at the start of a room are counted.
+mod Counting
