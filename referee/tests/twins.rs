@@ -17,19 +17,20 @@ fn joined(body: &[u8]) -> Vec<u8> {
     records.flat_map(|record| &record[1..72]).copied().collect()
 }
 
-/// The plain deck with the joined columns of cards; none if a body is no multiple of 80.
+/// The plain deck with the joined columns of cards, in the same layout of contents; none if a body is no multiple of 80.
 fn plain_twin(members: &[Member]) -> Option<Vec<u8>> {
-    let mut deck = vec![members.len() as u8, 0];
+    let libraries = members.iter().any(|member| member.library.is_some());
+    let mut deck = vec![members.len() as u8, u8::from(libraries)];
     let mut bodies = Vec::new();
-    let start = 2 + 16 * members.len();
+    let start = 2 + if libraries { 24 } else { 16 } * members.len();
     for member in members {
         if member.body.len() % 80 != 0 {
             return None;
         }
         let body = joined(member.body);
-        let mut name = member.name.to_vec();
-        name.resize(8, b' ');
-        deck.extend(name);
+        for name in member.library.into_iter().chain([member.name]) {
+            deck.extend(format!("{:8}", String::from_utf8_lossy(name)).bytes());
+        }
         deck.extend(((start + bodies.len()) as u32).to_le_bytes());
         deck.extend((body.len() as u32).to_le_bytes());
         bodies.extend(body);
