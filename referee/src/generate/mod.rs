@@ -145,12 +145,33 @@ fn named(bodies: &[String]) -> Bodies {
 
 /// The same as card images, with a sequence number in each record.
 pub fn cards_of(bodies: &[String]) -> Vec<u8> {
+    on_cards(named(bodies))
+}
+
+/// A deck of the second layout out of libraries, names and bodies. Without a line it says that it has none.
+pub fn library_deck_of(layout: Layout, lines: &[(String, String, String)]) -> Vec<u8> {
+    let column = |of: fn(&(String, String, String)) -> &String| {
+        let column = lines.iter().map(of);
+        column.map(|text| text.clone().into_bytes()).collect()
+    };
+    let bodies = Bodies {
+        libraries: column(|line| &line.0),
+        names: column(|line| &line.1),
+        bodies: column(|line| &line.2),
+    };
+    match layout {
+        _ if lines.is_empty() => vec![0, 1],
+        Layout::Plain => contents::assemble(&bodies),
+        Layout::Cards => on_cards(bodies),
+    }
+}
+
+fn on_cards(mut deck: Bodies) -> Vec<u8> {
     let mut numbers = (10..).step_by(10);
     let mut sequence = || {
         let number = format!("{:08}", numbers.next().unwrap_or(0));
         (b' ', array::from_fn(|at| number.as_bytes()[at]))
     };
-    let mut deck = named(bodies);
     for body in &mut deck.bodies {
         *body = cards::records(body, &mut sequence);
     }
