@@ -183,12 +183,7 @@ const LIBRARY_DECKS: &[LibraryDeck] = &[
     ),
     ("libraries-levels-8", 0, Layout::Plain, || levels(8)),
     ("libraries-levels-9", 15, Layout::Plain, || levels(9)),
-    (
-        "libraries-main-by-both-names",
-        15,
-        Layout::Plain,
-        main_again,
-    ),
+    ("libraries-main-again", 15, Layout::Plain, main_again),
     ("libraries-sentences-2048", 0, Layout::Plain, || {
         many_sentences("")
     }),
@@ -825,12 +820,12 @@ fn levels(count: usize) -> Vec<Shelved> {
         .collect()
 }
 
-/// The main program by its bare name and by its pair, each in the other's place in turn, up to the ninth level.
+/// Three members of one name that include one another, the main program by its bare name, up to the ninth level.
 fn main_again() -> Vec<Shelved> {
     vec![
         line(1, "MAIN", "%INCLUDE L2(MAIN);"),
-        line(2, "MAIN", "%INCLUDE L3(MAIN),MAIN;"),
-        line(3, "MAIN", "%INCLUDE L1(MAIN);"),
+        line(2, "MAIN", "%INCLUDE L3(MAIN);"),
+        line(3, "MAIN", "%INCLUDE MAIN;"),
     ]
 }
 
