@@ -784,7 +784,7 @@ fn every_pair(count: usize) -> Vec<Shelved> {
         .collect()
 }
 
-/// A bare name that 31 lines have, and one that only the last has.
+/// A bare name that 30 lines have, and one that only the last has.
 fn bare_names() -> Vec<Shelved> {
     let mut lines = shelf(&["%INCLUDE M,N,M,N;"]);
     lines.extend((2..=31).map(|number| line(number, "M", if number == 2 { "m" } else { "%" })));
