@@ -38,6 +38,7 @@ pub struct Answer {
 
 /// A member of a deck with its body as 01 reads it.
 struct Joined<'d> {
+    library: Option<&'d [u8]>,
     name: &'d [u8],
     body: Body,
 }
@@ -52,6 +53,7 @@ fn members_of<'d>(deck: &'d [u8], layout: Layout) -> Result<Vec<Joined<'d>>, Ans
         return Err(refused(Refusal::Cards, Place { member, offset: 0 }, 0));
     }
     let joined = |member: &deck::Member<'d>| Joined {
+        library: member.library,
         name: member.name,
         body: Body::new(layout, member.body),
     };

@@ -74,9 +74,16 @@ pub enum Action {
         body: Block,
     },
     Goto(Name),
-    Include(Vec<Name>),
+    Include(Vec<Included>),
     Activate(Vec<(Name, Active)>),
     Return(Expression),
+}
+
+/// What one item of an INCLUDE names: `member` or `library(member)` (request C-14).
+#[derive(Debug)]
+pub struct Included {
+    pub library: Option<Name>,
+    pub member: Name,
 }
 
 /// An IF with its alternatives.

@@ -149,6 +149,13 @@ fn about_one_deck_of_three_is_cards() {
 }
 
 #[test]
+fn about_one_deck_of_three_has_libraries() {
+    let wide = |number: &u64| matches!(record(SEED, *number).deck[..], [1..=32, 1, ..]);
+    let count = (0..3_000).filter(wide).count();
+    assert!((900..1_300).contains(&count), "{count} of 3000");
+}
+
+#[test]
 fn decks_keep_within_their_bounds() {
     for number in 0..5_000 {
         let record = record(SEED + 1, number);

@@ -1,5 +1,7 @@
 //! A plain deck and the deck of cards with the same joined columns have the same answer but for places, and the same
 //! list once places are mapped and pieces joined. The map is the formula, which the referee does not use.
+//!
+//! A deck of the first layout keeps its answer, text and list when its lines get a library that nothing names.
 
 use referee::cards::Layout;
 use referee::deck::{self, Member};
@@ -10,32 +12,49 @@ use referee::{expand, Answer, Line, LineKind, Rooms};
 
 const SEED: u64 = 1972;
 const DECKS: u64 = 30_000;
+const SHELVED: u64 = 8_000;
 
 /// The columns 2 to 72 of all records, joined.
 fn joined(body: &[u8]) -> Vec<u8> {
     let records = body.chunks(80);
-    records.flat_map(|record| &record[1..72]).copied().collect()
+    let source = records.flat_map(|record| record.get(1..72).unwrap_or(&[]));
+    source.copied().collect()
+}
+
+/// A deck of these lines with these bodies, in the layout that the lines have.
+fn assembled(members: &[Member], bodies: &[Vec<u8>]) -> Vec<u8> {
+    let libraries = members.iter().any(|member| member.library.is_some());
+    let mut deck = vec![members.len() as u8, u8::from(libraries)];
+    let mut offset = 2 + if libraries { 24 } else { 16 } * members.len();
+    for (member, body) in members.iter().zip(bodies) {
+        for name in member.library.into_iter().chain([member.name]) {
+            deck.extend(format!("{:8}", String::from_utf8_lossy(name)).bytes());
+        }
+        deck.extend((offset as u32).to_le_bytes());
+        deck.extend((body.len() as u32).to_le_bytes());
+        offset += body.len();
+    }
+    deck.extend(bodies.concat());
+    deck
 }
 
 /// The plain deck with the joined columns of cards; none if a body is no multiple of 80.
 fn plain_twin(members: &[Member]) -> Option<Vec<u8>> {
-    let mut deck = vec![members.len() as u8, 0];
-    let mut bodies = Vec::new();
-    let start = 2 + 16 * members.len();
-    for member in members {
-        if member.body.len() % 80 != 0 {
-            return None;
-        }
-        let body = joined(member.body);
-        let mut name = member.name.to_vec();
-        name.resize(8, b' ');
-        deck.extend(name);
-        deck.extend(((start + bodies.len()) as u32).to_le_bytes());
-        deck.extend((body.len() as u32).to_le_bytes());
-        bodies.extend(body);
+    let whole = members.iter().all(|member| member.body.len() % 80 == 0);
+    let bodies: Vec<Vec<u8>> = members.iter().map(|member| joined(member.body)).collect();
+    whole.then(|| assembled(members, &bodies))
+}
+
+/// The deck with lines of 24 bytes, all in one library; none if it has libraries or would be too long.
+fn shelved(deck: &[u8]) -> Option<Vec<u8>> {
+    let mut members = deck::open(deck)?;
+    let first_layout = members.iter().all(|member| member.library.is_none());
+    let fits = deck.len() + 8 * members.len() <= 65_536;
+    let bodies: Vec<Vec<u8>> = members.iter().map(|one| one.body.to_vec()).collect();
+    for member in &mut members {
+        member.library = Some(b"NO_PAIR_");
     }
-    deck.extend(bodies);
-    Some(deck)
+    (first_layout && fits).then(|| assembled(&members, &bodies))
 }
 
 /// The place in a body of so many bytes for a place of its joined columns.
@@ -137,4 +156,29 @@ fn cards_and_plain_twins_have_the_same_answer() {
     println!("{compared} decks of cards compared, {finished} of them finished");
     assert!(compared >= 8_000, "only {compared} decks of cards");
     assert!(finished >= 2_000, "only {finished} of them finish");
+}
+
+/// How many decks were compared, and how many of them finished.
+fn shelve_all() -> (usize, usize) {
+    let (mut compared, mut finished) = (0, 0);
+    for number in 0..SHELVED {
+        let record = record(SEED + 1, number);
+        let Some(deck) = shelved(&record.deck) else {
+            continue;
+        };
+        let answer = record.expand();
+        let wide = expand(&deck, record.layout, record.rooms, record.steps);
+        assert_eq!(answer, wide, "deck {number} of seed {}", SEED + 1);
+        compared += 1;
+        finished += usize::from(answer.number == 0);
+    }
+    (compared, finished)
+}
+
+#[test]
+fn a_library_that_nothing_names_changes_nothing() {
+    let (compared, finished) = with_large_stack(shelve_all).expect("every deck is answered");
+    println!("{compared} decks compared, {finished} of them finished");
+    assert!(compared >= 4_000, "only {compared} decks");
+    assert!(finished >= 1_000, "only {finished} of them finish");
 }

@@ -8,7 +8,7 @@ use std::io::{self, Write};
 use std::process::ExitCode;
 
 use referee::cards::Layout;
-use referee::generate::{cards_of, deck_of, AMPLE, MOST_STEPS};
+use referee::generate::{cards_of, deck_of, library_deck_of, AMPLE, MOST_STEPS};
 use referee::record::Record;
 
 /// The main program, then the members M1, M2 and so on.
@@ -156,6 +156,65 @@ const CARD_DECKS: &[Deck] = &[
     ("cards-waiting-65537", 16, || waiting("'x'=")),
 ];
 
+/// A line of contents with a library, and its body.
+type Shelved = (String, String, String);
+
+/// Name, number of the answer, layout of the bodies, and what writes the deck.
+type LibraryDeck = (&'static str, u32, Layout, fn() -> Vec<Shelved>);
+
+/// Decks with libraries (request C-14).
+const LIBRARY_DECKS: &[LibraryDeck] = &[
+    ("libraries-32", 0, Layout::Plain, || one_name(32)),
+    ("libraries-33", 1, Layout::Plain, || one_name(33)),
+    ("libraries-256", 1, Layout::Plain, Vec::new),
+    ("libraries-of-32-names", 0, Layout::Plain, || every_pair(32)),
+    ("libraries-bare-names", 0, Layout::Plain, bare_names),
+    (
+        "libraries-again-and-again",
+        0,
+        Layout::Plain,
+        again_and_again,
+    ),
+    (
+        "libraries-unknown-at-last",
+        14,
+        Layout::Plain,
+        unknown_at_last,
+    ),
+    ("libraries-levels-8", 0, Layout::Plain, || levels(8)),
+    ("libraries-levels-9", 15, Layout::Plain, || levels(9)),
+    ("libraries-main-again", 15, Layout::Plain, main_again),
+    ("libraries-sentences-2048", 0, Layout::Plain, || {
+        many_sentences("")
+    }),
+    ("libraries-sentences-2049", 4, Layout::Plain, || {
+        many_sentences("%;")
+    }),
+    ("libraries-names-256", 0, Layout::Plain, || many_names(256)),
+    ("libraries-names-257", 4, Layout::Plain, || many_names(257)),
+    ("libraries-spaces", 0, Layout::Plain, far_parentheses),
+    ("libraries-parentheses", 3, Layout::Plain, || {
+        shelf(&[&format!("%INCLUDE L{}", "(".repeat(60_000))])
+    }),
+    ("libraries-deck-65536", 0, Layout::Plain, || {
+        filled_up(65_536)
+    }),
+    ("libraries-deck-65537", 1, Layout::Plain, || {
+        filled_up(65_537)
+    }),
+    ("cards-libraries-32", 0, Layout::Cards, || one_name(32)),
+    ("cards-libraries-33", 1, Layout::Cards, || one_name(33)),
+    (
+        "cards-libraries-again-and-again",
+        0,
+        Layout::Cards,
+        again_and_again,
+    ),
+    ("cards-libraries-spaces", 0, Layout::Cards, far_parentheses),
+    ("cards-libraries-full", 0, Layout::Cards, || records_of(809)),
+    ("cards-libraries-past", 1, Layout::Cards, || records_of(810)),
+];
+
 fn main() -> ExitCode {
     let arguments: Vec<String> = env::args().skip(1).collect();
     let outcome = match arguments.as_slice() {
@@ -174,19 +233,33 @@ fn main() -> ExitCode {
 
 fn print_names() -> io::Result<()> {
     let mut output = io::stdout().lock();
-    for (name, number, _) in DECKS.iter().chain(CARD_DECKS) {
+    let decks = DECKS.iter().chain(CARD_DECKS);
+    let names = decks.map(|(name, number, _)| (name, number));
+    let more = LIBRARY_DECKS
+        .iter()
+        .map(|(name, number, ..)| (name, number));
+    for (name, number) in names.chain(more) {
         writeln!(output, "{name} {number}")?;
     }
     Ok(())
 }
 
-fn write_deck(wanted: &str) -> io::Result<()> {
+/// The deck of this name, and how its bodies are laid out.
+fn deck_named(wanted: &str) -> Option<(Layout, Vec<u8>)> {
     let find = |decks: &'static [Deck]| decks.iter().find(|(name, _, _)| *name == wanted);
-    let (layout, deck) = match (find(DECKS), find(CARD_DECKS)) {
-        (Some((_, _, bodies)), _) => (Layout::Plain, deck_of(&bodies())),
-        (None, Some((_, _, bodies))) => (Layout::Cards, cards_of(&bodies())),
-        _ => return Err(io::Error::other(format!("no deck is named {wanted}"))),
-    };
+    if let Some((_, _, bodies)) = find(DECKS) {
+        return Some((Layout::Plain, deck_of(&bodies())));
+    }
+    if let Some((_, _, bodies)) = find(CARD_DECKS) {
+        return Some((Layout::Cards, cards_of(&bodies())));
+    }
+    let (_, _, layout, lines) = LIBRARY_DECKS.iter().find(|(name, ..)| *name == wanted)?;
+    Some((*layout, library_deck_of(*layout, &lines())))
+}
+
+fn write_deck(wanted: &str) -> io::Result<()> {
+    let unknown = || io::Error::other(format!("no deck is named {wanted}"));
+    let (layout, deck) = deck_named(wanted).ok_or_else(unknown)?;
     let record = Record {
         layout,
         rooms: AMPLE,
@@ -652,4 +725,158 @@ fn text_of_names() -> Bodies {
     let all: Vec<String> = (1..=256).map(long).collect();
     let text = (long(999) + " ").repeat(1_700);
     vec![format!("%DCL ({}) FIXED;{text}", all.join(","))]
+}
+
+/// A line of the library L1, L2 and so on.
+fn line(library: usize, name: &str, body: &str) -> Shelved {
+    (format!("L{library}"), name.to_string(), body.to_string())
+}
+
+/// A main program and the members M1, M2 and so on, all in the library L1.
+fn shelf(bodies: &[&str]) -> Vec<Shelved> {
+    let name = |number: usize| match number {
+        0 => "MAIN".to_string(),
+        _ => format!("M{number}"),
+    };
+    (0..)
+        .zip(bodies)
+        .map(|(number, body)| line(1, &name(number), body))
+        .collect()
+}
+
+/// Pairs of one member with the libraries from the second on, with commas between.
+fn pairs_of(name: &str, count: usize) -> String {
+    let pairs: Vec<String> = (2..=count)
+        .map(|number| format!("L{number}({name})"))
+        .collect();
+    pairs.join(",")
+}
+
+/// One member name in so many libraries; the first line includes all others.
+fn one_name(count: usize) -> Vec<Shelved> {
+    let mut lines = vec![line(
+        1,
+        "LIMITS",
+        &format!("%INCLUDE {};", pairs_of("LIMITS", count)),
+    )];
+    let body = "x%;".repeat(60);
+    lines.extend((2..=count).map(|number| line(number, "LIMITS", &body)));
+    lines
+}
+
+/// Names of eight bytes in both places that differ in their ends, included in the opposite order.
+fn every_pair(count: usize) -> Vec<Shelved> {
+    let name = |number: usize| format!("NAMES_{number:02}");
+    let items: Vec<String> = (1..count)
+        .rev()
+        .map(|number| format!("{}({})", name(number % 4), name(number)))
+        .collect();
+    let main = format!("%INCLUDE {};", items.join(","));
+    let body = |number: usize| {
+        if number == 0 {
+            main.clone()
+        } else {
+            format!("{number};")
+        }
+    };
+    (0..count)
+        .map(|number| (name(number % 4), name(number), body(number)))
+        .collect()
+}
+
+/// A bare name that 30 lines have, and one that only the last has.
+fn bare_names() -> Vec<Shelved> {
+    let mut lines = shelf(&["%INCLUDE M,N,M,N;"]);
+    lines.extend((2..=31).map(|number| line(number, "M", if number == 2 { "m" } else { "%" })));
+    lines.push(line(32, "N", "n"));
+    lines
+}
+
+/// The pair of the last of 32 lines 3,000 times in one INCLUDE, and that 100 times. Its body is empty, so there is one
+/// blank for each INCLUDE.
+fn again_and_again() -> Vec<Shelved> {
+    let items = vec!["L9(M)"; 3_000].join(",");
+    let main = format!("%DCL I FIXED;%DO I=1 TO 100;%INCLUDE {items};%END;");
+    let mut lines = shelf(&[&main]);
+    lines.extend((10..40).map(|number| line(number, "M", "%")));
+    lines.push(line(9, "M", ""));
+    lines
+}
+
+/// All but the last of 9,000 items meet a line.
+fn unknown_at_last() -> Vec<Shelved> {
+    let items = "L1(M1),".repeat(9_000);
+    shelf(&[&format!("%INCLUDE {items}L1(M2);"), ""])
+}
+
+/// Members of one name that include that of the next library.
+fn levels(count: usize) -> Vec<Shelved> {
+    let body = |number: usize| match number > count {
+        true => "c".to_string(),
+        false => format!("a%INCLUDE L{}(M);b", number + 1),
+    };
+    (1..=count + 1)
+        .map(|number| line(number, "M", &body(number)))
+        .collect()
+}
+
+/// Three members of one name that include one another, the main program by its bare name, up to the ninth level.
+fn main_again() -> Vec<Shelved> {
+    vec![
+        line(1, "MAIN", "%INCLUDE L2(MAIN);"),
+        line(2, "MAIN", "%INCLUDE L3(MAIN);"),
+        line(3, "MAIN", "%INCLUDE MAIN;"),
+    ]
+}
+
+/// 31 members of one name with 66 sentences each, one sentence of the main program, and one null statement more.
+fn many_sentences(more: &str) -> Vec<Shelved> {
+    let mut lines = one_name(32);
+    for (_, _, body) in lines.iter_mut().skip(1) {
+        *body = "%;".repeat(66);
+    }
+    lines[31].2.push_str("%;");
+    lines[31].2.push_str(more);
+    lines
+}
+
+/// So many names in 31 members of one name.
+fn many_names(count: usize) -> Vec<Shelved> {
+    let mut lines = one_name(32);
+    for (number, (_, _, body)) in lines.iter_mut().enumerate().skip(1) {
+        let names: Vec<String> = (0..count)
+            .filter(|name| name % 31 == number - 1)
+            .map(|name| format!("V{name}"))
+            .collect();
+        *body = format!("%DCL ({}) FIXED;", names.join(","));
+    }
+    lines
+}
+
+/// Spaces of 13,000 bytes on both sides of both parentheses.
+fn far_parentheses() -> Vec<Shelved> {
+    let (blanks, comment) = (" ".repeat(13_000), comment_of(13_000));
+    shelf(&[
+        &format!("%INCLUDE L1{blanks}({comment}M1{comment}){blanks};"),
+        "x",
+    ])
+}
+
+/// 32 lines and a deck of so many bytes.
+fn filled_up(size: usize) -> Vec<Shelved> {
+    let mut lines = one_name(32);
+    let rest: usize = lines.iter().map(|line| line.2.len()).sum();
+    lines[31].2.push_str(&"x".repeat(size - 2 - 24 * 32 - rest));
+    lines
+}
+
+/// 32 lines and so many records in all.
+fn records_of(records: usize) -> Vec<Shelved> {
+    let mut lines = one_name(32);
+    for (_, _, body) in lines.iter_mut().skip(1) {
+        *body = "x".repeat(71);
+    }
+    let others = 30 + lines[0].2.len().div_ceil(71);
+    lines[31].2 = "x".repeat(71 * (records - others));
+    lines
 }

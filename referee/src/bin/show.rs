@@ -6,7 +6,7 @@ use std::process::ExitCode;
 
 use referee::cards::Layout;
 use referee::cases::{folder, load, Case};
-use referee::deck;
+use referee::deck::{self, Member};
 use referee::stack::with_large_stack;
 
 fn main() -> ExitCode {
@@ -51,6 +51,15 @@ fn layout_name(layout: Layout) -> &'static str {
     }
 }
 
+/// `member`, or `library(member)` in a deck of the second layout.
+fn full_name(member: &Member) -> String {
+    let name = String::from_utf8_lossy(member.name);
+    match member.library {
+        Some(library) => format!("{}({name})", String::from_utf8_lossy(library)),
+        None => name.to_string(),
+    }
+}
+
 /// A body as it is; of cards one record a line, its source between bars.
 fn show_body(layout: Layout, body: &[u8], output: &mut impl Write) -> io::Result<()> {
     if layout == Layout::Plain {
@@ -79,7 +88,7 @@ fn show_case(case: &Case, output: &mut impl Write) -> io::Result<()> {
     match deck::open(&record.deck) {
         Some(members) => {
             for (number, member) in members.iter().enumerate() {
-                let name = String::from_utf8_lossy(member.name);
+                let name = full_name(member);
                 let bytes = member.body.len();
                 writeln!(output, "--- member {number}, {name}, {bytes} bytes")?;
                 show_body(record.layout, member.body, output)?;

@@ -28,6 +28,7 @@ fn main(body: Vec<u8>) -> Bodies {
     Bodies {
         names: vec![b"MAIN".to_vec()],
         bodies: vec![body],
+        ..Bodies::default()
     }
 }
 
@@ -35,6 +36,7 @@ fn two(body: Vec<u8>, second: Vec<u8>) -> Bodies {
     Bodies {
         names: vec![b"MAIN".to_vec(), b"A".to_vec()],
         bodies: vec![body, second],
+        ..Bodies::default()
     }
 }
 
@@ -126,6 +128,9 @@ const NAME_PLACES: &[&[u8]] = &[
     b"%~:DO;%END ~;",
     b"%GO ~;",
     b"%INCLUDE ~;",
+    b"%INCLUDE ~(A);",
+    b"%INCLUDE A(~);",
+    b"%INCLUDE A(A ~);",
     b"%ACT ~;",
     b"%DCL A CHAR;%ACT A ~;",
     b"%DCL A ~;",
@@ -231,6 +236,7 @@ fn many_sentences(random: &mut Random) -> Bodies {
     Bodies {
         names: vec![b"MAIN".to_vec(), b"A".to_vec(), b"B".to_vec()],
         bodies: vec![body, b"%;".repeat(inside), b"%;".repeat(others)],
+        ..Bodies::default()
     }
 }
 
@@ -376,6 +382,7 @@ fn include_levels(random: &mut Random) -> Bodies {
     Bodies {
         names: (0..count).map(name).collect(),
         bodies,
+        ..Bodies::default()
     }
 }
 
@@ -532,7 +539,11 @@ fn many_members(random: &mut Random) -> Bodies {
     let mut bodies: Vec<Vec<u8>> = (0..count).map(|n| format!("{n}").into_bytes()).collect();
     let list = names.get(1..).unwrap_or(&[]).join(&b","[..]);
     bodies[0] = [b"%INCLUDE ", &list[..], b";"].concat();
-    Bodies { names, bodies }
+    Bodies {
+        names,
+        bodies,
+        ..Bodies::default()
+    }
 }
 
 /// SUBSTR around the ends of its string, or of the eight characters of a number.

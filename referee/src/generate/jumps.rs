@@ -42,6 +42,7 @@ pub fn maze(random: &mut Random) -> Bodies {
     Bodies {
         names: names.map(|name| name.as_bytes().to_vec()).collect(),
         bodies,
+        ..Bodies::default()
     }
 }
 

@@ -7,6 +7,7 @@ mod damage;
 mod edges;
 mod expressions;
 mod jumps;
+mod libraries;
 mod limits;
 mod mutated;
 mod numbers;
@@ -45,7 +46,9 @@ pub fn record(seed: u64, number: u64) -> Record {
 }
 
 fn made(random: &mut Random) -> Record {
-    let kind = random.weighted(&[50, 6, 3, 3, 2, 10, 11, 4, 3, 5, 10, 2, 1, 5, 4, 20, 8, 7]);
+    let kind = random.weighted(&[
+        50, 6, 3, 3, 2, 10, 11, 4, 3, 5, 10, 2, 1, 5, 4, 20, 8, 7, 12,
+    ]);
     let mut record = of_kind(random, kind);
     if record.layout == Layout::Plain && random.percent(28) {
         cards::punch(random, &mut record);
@@ -71,19 +74,20 @@ fn of_kind(random: &mut Random, kind: usize) -> Record {
             record
         }
         4 => with_rooms(random, soup),
-        5 => ample(&edges::edge(random)),
+        5 => ample(random, edges::edge),
         TIGHT => to_be_tight(random),
-        7 => ample(&pairs::misplaced(random)),
-        8 => ample(&pairs::declared_twice(random)),
+        7 => ample(random, pairs::misplaced),
+        8 => ample(random, pairs::declared_twice),
         9 => ample_or_cramped(random),
         10 => mutated::mutated(random),
         11 => with_rooms(random, damaged_edge),
         12 => nonsense(random),
         13 => with_rooms(random, jumps::maze),
-        14 => ample(&operations::operations(random)),
-        15 => ample(&limits::limit(random)),
+        14 => ample(random, operations::operations),
+        15 => ample(random, limits::limit),
         16 => pages_on_cards(random),
-        _ => with_rooms(random, numbers::numbers),
+        17 => with_rooms(random, numbers::numbers),
+        _ => with_rooms(random, libraries::forms),
     }
 }
 
@@ -98,7 +102,7 @@ fn pages_on_cards(random: &mut Random) -> Record {
 fn nonsense(random: &mut Random) -> Record {
     let mut deck: Vec<u8> = (0..random.below(200)).map(|_| random.byte()).collect();
     if random.percent(50) {
-        deck.splice(..deck.len().min(2), [1, 0]);
+        deck.splice(..deck.len().min(2), [1, u8::from(random.percent(50))]);
     }
     Record {
         layout: Layout::Plain,
@@ -135,36 +139,65 @@ fn named(bodies: &[String]) -> Bodies {
             .iter()
             .map(|body| body.clone().into_bytes())
             .collect(),
+        ..Bodies::default()
     }
 }
 
 /// The same as card images, with a sequence number in each record.
 pub fn cards_of(bodies: &[String]) -> Vec<u8> {
+    on_cards(named(bodies))
+}
+
+/// A deck of the second layout out of libraries, names and bodies. Without a line it says that it has none.
+pub fn library_deck_of(layout: Layout, lines: &[(String, String, String)]) -> Vec<u8> {
+    let column = |of: fn(&(String, String, String)) -> &String| {
+        let column = lines.iter().map(of);
+        column.map(|text| text.clone().into_bytes()).collect()
+    };
+    let bodies = Bodies {
+        libraries: column(|line| &line.0),
+        names: column(|line| &line.1),
+        bodies: column(|line| &line.2),
+    };
+    match layout {
+        _ if lines.is_empty() => vec![0, 1],
+        Layout::Plain => contents::assemble(&bodies),
+        Layout::Cards => on_cards(bodies),
+    }
+}
+
+fn on_cards(mut deck: Bodies) -> Vec<u8> {
     let mut numbers = (10..).step_by(10);
     let mut sequence = || {
         let number = format!("{:08}", numbers.next().unwrap_or(0));
         (b' ', array::from_fn(|at| number.as_bytes()[at]))
     };
-    let mut deck = named(bodies);
     for body in &mut deck.bodies {
         *body = cards::records(body, &mut sequence);
     }
     contents::assemble(&deck)
 }
 
-/// Bodies put together, with rooms that hold what they make.
-fn ample(bodies: &Bodies) -> Record {
+/// Bodies put together, with libraries or without.
+fn assembled(random: &mut Random, mut bodies: Bodies) -> Vec<u8> {
+    libraries::perhaps(random, &mut bodies);
+    contents::assemble(&bodies)
+}
+
+/// Some bodies, put together, with rooms that hold what they make.
+fn ample(random: &mut Random, write: fn(&mut Random) -> Bodies) -> Record {
+    let bodies = write(random);
     Record {
         layout: Layout::Plain,
         rooms: AMPLE,
         steps: 150_000,
-        deck: contents::assemble(bodies),
+        deck: assembled(random, bodies),
     }
 }
 
 /// Several errors, to which steps or a room that ends may come.
 fn ample_or_cramped(random: &mut Random) -> Record {
-    let mut record = ample(&pairs::several_errors(random));
+    let mut record = ample(random, pairs::several_errors);
     match random.below(8) {
         0 => record.steps = 14 + small(random, 12),
         1 => record.rooms.list = 12 * (8 + small(random, 8)),
@@ -177,7 +210,7 @@ fn ample_or_cramped(random: &mut Random) -> Record {
 /// Some bodies, put together, with rooms of some size.
 fn with_rooms(random: &mut Random, write: fn(&mut Random) -> Bodies) -> Record {
     let bodies = write(random);
-    let deck = contents::assemble(&bodies);
+    let deck = assembled(random, bodies);
     let mut rooms = AMPLE;
     let mut steps = 3_000;
     match random.weighted(&[80, 5, 5, 5, 5]) {
@@ -201,19 +234,20 @@ fn small(random: &mut Random, bound: usize) -> u32 {
 
 /// A deck that [`tighten`] gives its steps and rooms.
 fn to_be_tight(random: &mut Random) -> Record {
-    let bodies = match random.weighted(&[60, 15, 10, 10, 25, 30]) {
+    let bodies = match random.weighted(&[60, 15, 10, 10, 25, 30, 10]) {
         0 => programs(random),
         1 => pairs::several_errors(random),
         2 => damaged_by_tokens(random),
         3 => edges::edge(random),
         4 => return pages_on_cards(random),
-        _ => numbers::numbers(random),
+        5 => numbers::numbers(random),
+        _ => libraries::forms(random),
     };
     Record {
         layout: Layout::Plain,
         rooms: AMPLE,
         steps: 3_000,
-        deck: contents::assemble(&bodies),
+        deck: assembled(random, bodies),
     }
 }
 

@@ -6,6 +6,7 @@ use std::sync::OnceLock;
 use super::cards;
 use super::contents;
 use super::damage;
+use super::libraries;
 use super::programs::Bodies;
 use super::random::Random;
 use super::{small, AMPLE, MOST_STEPS};
@@ -36,6 +37,7 @@ pub fn mutated(random: &mut Random) -> Record {
             for _ in 0..random.weighted(&[5, 60, 25, 10]) {
                 mutate(random, &mut bodies);
             }
+            libraries::perhaps(random, &mut bodies);
             if record.layout == Layout::Cards {
                 cards::lay_out(random, &mut bodies);
             }
@@ -67,9 +69,11 @@ fn other_main(random: &mut Random) -> Vec<u8> {
 }
 
 fn mutate(random: &mut Random, bodies: &mut Bodies) {
-    let how = random.weighted(&[30, 15, 10, 15, 10, 12, 8]);
-    if how == 6 {
-        return include_main(bodies);
+    let how = random.weighted(&[30, 15, 10, 15, 10, 12, 8, 5]);
+    match how {
+        6 => return include_main(bodies),
+        7 => return libraries::write_pairs(random, bodies),
+        _ => {}
     }
     super::change(random, bodies, |random, body| match how {
         0 => *body = damage::damage_tokens(random, body),
@@ -131,4 +135,7 @@ fn include_main(bodies: &mut Bodies) {
     let include = [b"a%INCLUDE ", &name[..], b";b"].concat();
     bodies.names.insert(0, b"OUTER_".to_vec());
     bodies.bodies.insert(0, include);
+    if !bodies.libraries.is_empty() {
+        bodies.libraries.insert(0, b"OUTER_".to_vec());
+    }
 }

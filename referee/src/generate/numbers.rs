@@ -70,6 +70,7 @@ pub fn numbers(random: &mut Random) -> Bodies {
     Bodies {
         names: vec![b"MAIN".to_vec()],
         bodies: vec![body.into_bytes()],
+        ..Bodies::default()
     }
 }
 

@@ -35,6 +35,7 @@ pub fn operations(random: &mut Random) -> Bodies {
     Bodies {
         names: vec![b"MAIN".to_vec()],
         bodies: vec![body],
+        ..Bodies::default()
     }
 }
 

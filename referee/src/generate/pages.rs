@@ -61,6 +61,7 @@ pub fn pages(random: &mut Random) -> Bodies {
     Bodies {
         names: vec![b"MAIN".to_vec(), b"M".to_vec()],
         bodies: vec![main, member],
+        ..Bodies::default()
     }
 }
 

@@ -155,6 +155,7 @@ fn with_member(main: Vec<u8>, member: Vec<u8>) -> Bodies {
     Bodies {
         names: vec![b"MAIN".to_vec(), b"A".to_vec()],
         bodies: vec![main, member],
+        ..Bodies::default()
     }
 }
 

@@ -5,9 +5,12 @@ use super::random::Random;
 use super::world::{Procedure, Variable};
 
 /// A deck before it is put together: names and bodies.
+#[derive(Default)]
 pub struct Bodies {
     pub names: Vec<Vec<u8>>,
     pub bodies: Vec<Vec<u8>>,
+    /// The library of each member; none in a deck of the first layout.
+    pub libraries: Vec<Vec<u8>>,
 }
 
 /// Random programs that mostly run to their end.
@@ -34,6 +37,7 @@ pub fn programs(random: &mut Random) -> Bodies {
     Bodies {
         names: author.world.members,
         bodies,
+        ..Bodies::default()
     }
 }
 

@@ -7,7 +7,9 @@ use super::sentences::Inside;
 use super::{Label, Reader};
 use crate::refusal::{syntax, Read};
 use crate::tokens::{Kind, Mark};
-use crate::tree::{Action, Active, Declared, Expression, Iteration, Name, Procedure, Type};
+use crate::tree::{
+    Action, Active, Declared, Expression, Included, Iteration, Name, Procedure, Type,
+};
 
 const CHARACTER: &[&[u8]] = &[b"CHARACTER", b"CHAR"];
 const FIXED: &[&[u8]] = &[b"FIXED"];
@@ -107,7 +109,27 @@ impl Reader<'_, '_> {
     }
 
     pub(super) fn include(&mut self) -> Read<Action> {
-        Ok(Action::Include(self.names()?))
+        let items = self.list(Reader::included)?;
+        self.expect(Mark::Semicolon)?;
+        Ok(Action::Include(items))
+    }
+
+    /// `member` or `library(member)`; no other form of 000 is added (reading 3 of
+    /// the requests). Its `(` is no expression's.
+    fn included(&mut self) -> Read<Included> {
+        let first = self.name()?.name;
+        if !self.accept(Mark::Open) {
+            return Ok(Included {
+                library: None,
+                member: first,
+            });
+        }
+        let member = self.name()?.name;
+        self.expect(Mark::Close)?;
+        Ok(Included {
+            library: Some(first),
+            member,
+        })
     }
 
     pub(super) fn deactivate(&mut self) -> Read<Action> {

@@ -12,7 +12,7 @@ use crate::names::{Denotation, Home, Names};
 use crate::output::{Output, Rooms};
 use crate::reading::{count_again, read, Entered};
 use crate::refusal::{Outcome, Place, Refusal};
-use crate::tree::{Name, Path, Reading};
+use crate::tree::{Included, Path, Reading};
 use crate::values::Value;
 use crate::Joined;
 
@@ -122,13 +122,11 @@ impl<'d> Run<'d> {
     }
 
     /// "INCLUDE tests 14, 15, then the member."
-    fn include(&mut self, names: &[Name]) -> Outcome<Flow> {
+    fn include(&mut self, items: &[Included]) -> Outcome<Flow> {
         let statement = self.place;
-        for name in names {
+        for item in items {
             self.place = statement;
-            let known = |source: &Source| source.member.name == &**name;
-            let member = self.sources.iter().position(known);
-            let member = member.ok_or(Refusal::Member)?;
+            let member = self.line_of(item).ok_or(Refusal::Member)?;
             if self.frames.len() > Self::MOST_INCLUDE_LEVEL {
                 return Err(Refusal::Level);
             }
@@ -138,6 +136,17 @@ impl<'d> Run<'d> {
             }
         }
         Ok(Flow::On)
+    }
+
+    /// "A bare member name means the first line with that member name, library
+    /// ignored." A pair meets the line that has both, in a deck without libraries none.
+    fn line_of(&self, item: &Included) -> Option<usize> {
+        let meant = |source: &Source| match &item.library {
+            None => true,
+            Some(library) => source.member.library == Some(&**library),
+        };
+        let found = |source: &Source| source.member.name == &*item.member && meant(source);
+        self.sources.iter().position(found)
     }
 
     /// The procedure body that is running, if the run is inside one.

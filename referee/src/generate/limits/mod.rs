@@ -29,6 +29,7 @@ fn with_members(body: Vec<u8>, first: Vec<u8>, second: Vec<u8>) -> Bodies {
     Bodies {
         names: vec![b"MAIN".to_vec(), b"A".to_vec(), b"B".to_vec()],
         bodies: vec![body, first, second],
+        ..Bodies::default()
     }
 }
 
@@ -125,6 +126,8 @@ const PLACES: &[&[u8]] = &[
     b"%GO TO ~;",
     b"%INCLUDE A,~;",
     b"%INCLUDE ~,A;",
+    b"%INCLUDE A(~),~(B);",
+    b"%INCLUDE B,~(~",
     b"%ACT A,~ NORESCAN;",
     b"%ACTIVATE ~ ~;",
     b"%DEACT A,~;",

@@ -64,6 +64,7 @@ pub fn names(random: &mut Random) -> Bodies {
     Bodies {
         names: vec![b"MAIN".to_vec(), b"A".to_vec(), b"B".to_vec()],
         bodies,
+        ..Bodies::default()
     }
 }
 
