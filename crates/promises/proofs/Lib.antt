@@ -6,6 +6,7 @@ pub mod Unread
 pub mod Ghost
 pub mod Seen
 pub mod Cards
+pub mod FirstLayout
 pub mod Tied
 pub mod Rejoined
 pub mod Edges

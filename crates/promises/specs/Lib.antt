@@ -5,3 +5,4 @@ pub mod Passes
 pub mod Unread
 pub mod Ghost
 pub mod Cards
+pub mod FirstLayout
