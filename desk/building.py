@@ -54,7 +54,10 @@ def kit():
     rt = toolchain()
     if rt is None:
         return ''
-    ended = subprocess.run([rt, 'version'], stdin=subprocess.DEVNULL, capture_output=True, check=False)
+    try:
+        ended = subprocess.run([rt, 'version'], stdin=subprocess.DEVNULL, capture_output=True, check=False)
+    except OSError:
+        return ''
     return ' '.join(ended.stdout.decode(errors='replace').split()) if ended.returncode == 0 else ''
 
 

@@ -128,11 +128,12 @@ def pack(program, arguments, is_cards):
         given = [punched(argument, files) if is_cards else Given(argument, '', argument, '') for argument in arguments]
         errors = files.enter_context(in_memory(b''))
         words = on_this_machine(program) + [one.word for one in given]
-        # a path may be /dev/fd/N of the caller
-        content = output_of('pack', words, stderr=errors, close_fds=False)
-        said = os.pread(errors.fileno(), BYTES, 0)
+        try:
+            content = output_of('pack', words, stderr=errors, close_fds=False)    # a path may be /dev/fd/N of the caller
+        finally:
+            said = os.pread(errors.fileno(), BYTES, 0)
+            standard.show(in_words_of_user(said, given))
     if said:
-        standard.show(in_words_of_user(said, given))
         raise Stop    # pack has no exit status: it says why there is no deck
     return sound(content, len(given), is_cards)
 

@@ -55,7 +55,7 @@ def answer_to(deck, words):
     try:
         return read_answer(content, deck)
     except Unbelievable as reason:
-        raise Stop(f'the answer of the expander is not whole: {reason}') from None
+        raise Stop(f'the answer of the expander cannot be believed: {reason}') from None
 
 
 def expansion(arguments, is_cards):

@@ -1,6 +1,7 @@
 """Standard output and standard error: what goes there is written whole, or Stop says that it is not."""
 import contextlib
 import os
+import select
 import stat
 
 from desk.errors import Stop
@@ -29,7 +30,10 @@ def is_open(number):
 def write_all(number, content):
     left = memoryview(content)
     while left:
-        left = left[os.write(number, left):]
+        try:
+            left = left[os.write(number, left):]
+        except BlockingIOError:    # a pipe or terminal that somebody has set so
+            select.select([], [number], [])
 
 
 def settle(number):

@@ -211,8 +211,8 @@ class Together(Building):
             self.clone.drop('hold')
         ended = [(*call.communicate(timeout=30), call.returncode) for call in calls]
         self.assertEqual([(wrote, status) for wrote, _, status in ended], [(WHOLE, 0)] * 2, ended)
-        self.assertEqual(sorted(said)[0], b'expand: another call is building; this one waits for it\n')
         self.built('pack expand')
+        self.assertEqual(sorted(said)[0], b'expand: another call is building; this one waits for it\n')
 
     def first_words(self, calls):
         """The first line that each call says: both have come to the build."""

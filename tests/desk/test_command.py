@@ -1,7 +1,7 @@
 """The command says 0 if the whole text is written, and for nothing else."""
 import os
 import signal
-import subprocess
+import time
 import unittest
 
 import house
@@ -75,22 +75,33 @@ class Output(Through):
         with open(theirs, 'wb') as pipe:
             self.fails('standard output: Broken pipe', stdout=pipe)
 
-    def test_pipe_closed_in_the_middle(self):
-        self.clone.put('deck', house.deck_of(MAIN=LONG))
-        self.clone.put('main.pli', LONG)
+    def put_long_text(self):
+        """A text that no pipe takes at once."""
+        self.clone.put('deck', house.deck_of(MAIN=LONG, M=house.M))
         self.clone.put('answer', b'0 0 0 1 130001 3\nB 0 0 1\nC 0 0 65000\nC 0 0 65000\n ' + 2 * LONG + b'\n')
-        child = subprocess.Popen([self.clone.command, self.clone.path('main.pli')], stdout=subprocess.PIPE,
-                                 stderr=subprocess.PIPE, env=self.environment())
+
+    def test_pipe_closed_in_the_middle(self):
+        self.put_long_text()
+        child = self.clone.start()
         child.stdout.read(1)
         child.stdout.close()
-        said = child.stderr.read()
-        child.stderr.close()
-        self.assertEqual(child.wait(), 2)
+        with child.stderr as errors:
+            said = errors.read()
+        self.assertEqual(child.wait(30), 2)
         self.assertIn(b'standard output: Broken pipe', said)
 
-    def environment(self):
-        return dict(os.environ, ROOM=self.clone.room, RATTLE_HOME=self.clone.path('kit'),
-                    PATH=self.clone.path('stub') + os.pathsep + os.environ['PATH'])
+    def test_pipe_that_does_not_block(self):
+        """It takes a part at a time, and all of it in the end."""
+        self.put_long_text()
+        ours, theirs = os.pipe()
+        os.set_blocking(theirs, False)
+        child = self.clone.start(stdout=theirs)
+        os.close(theirs)
+        time.sleep(1)    # until it is full
+        with open(ours, 'rb') as pipe:
+            wrote = pipe.read()
+        said = child.communicate(timeout=30)[1]
+        self.assertEqual((child.returncode, len(wrote), said), (0, 130_002, b''))
 
     def test_closed_output(self):
         self.fails('standard output is closed', stdout=None, preexec_fn=lambda: os.close(1))
@@ -124,11 +135,11 @@ class Answers(Through):
         for end in ENDS:
             with self.subTest(end=end):
                 self.clone.put('answer', house.ANSWER[:end])
-                self.fails('the answer of the expander is not whole')
+                self.fails('the answer of the expander cannot be believed')
 
     def test_refusal_cut(self):
         self.clone.put('answer', house.REFUSAL[:-1])
-        self.fails('not whole')
+        self.fails('cannot be believed')
 
     def test_killed_in_the_middle(self):
         self.clone.put('answer', house.ANSWER[:100])
@@ -150,13 +161,13 @@ class Answers(Through):
 
     def test_bytes_added(self):
         self.clone.put('answer', house.ANSWER + b'\n')
-        self.fails('not whole')
+        self.fails('cannot be believed')
 
     def test_wrong_totals(self):
         for numbers in (b' 42 7\n', b' 44 7\n', b' 43 6\n', b' 43 8\n'):
             with self.subTest(numbers=numbers):
                 self.clone.put('answer', house.ANSWER.replace(b' 43 7\n', numbers))
-                self.fails('not whole')
+                self.fails('cannot be believed')
 
     def test_lengths_that_do_not_add_up(self):
         self.clone.put('answer', house.ANSWER.replace(b'C 0 11 28', b'C 0 11 20'))
@@ -212,6 +223,11 @@ class Packing(Through):
         self.clone.put('deck', house.DECK[:-10])
         self.clone.put('then', 'kill -s KILL $$')
         self.fails('pack was killed by SIGKILL')
+
+    def test_killed_and_its_words(self):
+        self.clone.put('said', 'pack: some words\n')
+        self.clone.put('then', 'kill -s KILL $$')
+        self.assertEqual(self.fails(''), b'pack: some words\nexpand: pack was killed by SIGKILL\n')
 
     def test_cut(self):
         for end in (1, 10, 40, len(house.DECK) - 1):
