@@ -109,8 +109,8 @@ def in_memory(content):
 
 def output_of(name, words, **how):
     """What a program writes to its standard output; Stop unless it ends with status 0."""
-    with started(words, stdout=subprocess.PIPE, **how) as child:
-        output = child.stdout.read(MOST + 1)
+    with started(words, stdout=subprocess.PIPE, **how) as child, child.stdout as pipe:
+        output = pipe.read(MOST + 1)
         if len(output) > MOST:
             raise Stop(f'{name} writes more than {MOST} bytes, and no answer has so many')
         status = child.wait()
