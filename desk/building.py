@@ -8,7 +8,7 @@ import subprocess
 from desk import sources
 from desk.errors import Interrupted, Stop
 from desk.progress import Progress
-from desk.running import started, toolchain
+from desk.running import how_ended, started, toolchain
 from desk.standard import say, show
 
 # how many lines of a failed build are shown
@@ -161,11 +161,18 @@ def build(root, names):
     for name in names:
         forget(root, name, before[name])
     log = os.path.join(root, 'target', 'building.log')
-    if prove(root, names, log) != 0:
-        with open(log, 'rb') as file:
-            show(b''.join(file.readlines()[-LAST_LINES:]))
-        raise Stop('the build failed; target/log has what was said of each crate')
+    status = prove(root, names, log)
+    if status != 0:
+        fail(status, log)
     keep(root, names, before)
+
+
+def fail(status, log):
+    """Shows the last lines of a build that failed, and stops."""
+    with open(log, 'rb') as file:
+        show(b''.join(file.readlines()[-LAST_LINES:]))
+    reason = '' if status > 0 else f': rt {how_ended(status)}'
+    raise Stop(f'the build failed{reason}; target/log has what was said of each crate')
 
 
 def keep(root, names, before):

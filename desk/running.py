@@ -50,14 +50,18 @@ def _start(words, **how):
         raise Stop(f'{words[0]} cannot be run: {error.strerror}') from None
 
 
-def _end(child, is_group):
-    if child.poll() is not None:
-        return
-    if not is_group:
+def _end(child):
+    if child.poll() is None:
         child.kill()
         child.wait()
+
+
+def _end_group(child):
+    """Ends a child with all that it started, also what is left of one that was killed."""
+    if child.poll() == 0:
         return
-    os.killpg(child.pid, signal.SIGTERM)
+    with contextlib.suppress(ProcessLookupError):
+        os.killpg(child.pid, signal.SIGTERM)
     try:
         child.wait(PATIENCE)
     except subprocess.TimeoutExpired:
@@ -79,7 +83,7 @@ def started(words, is_group=False, **how):
     finally:
         _Watch.is_held = False
         if child is not None:
-            _end(child, is_group)
+            (_end_group if is_group else _end)(child)
 
 
 def how_ended(status):

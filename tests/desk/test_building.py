@@ -164,6 +164,14 @@ class Programs(Building):
         self.fails('the build failed')
         self.fails('the build failed')
 
+    def test_killed_build(self):
+        """What a killed rt leaves behind is ended too."""
+        self.clone.put('meanwhile', 'sleep 60 & echo $! >"$ROOM/prover"; kill -s KILL $$')
+        self.fails('the build failed: rt was killed by SIGKILL')
+        with open(self.clone.path('prover'), encoding='utf-8') as file:
+            prover = file.read().strip()
+        house.within(20, lambda: not house.is_running(prover))
+
     def test_rt_that_builds_nothing(self):
         self.clone.put('meanwhile', 'exit 0')
         self.fails('target/bin is not whole')
