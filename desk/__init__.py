@@ -1,0 +1,1 @@
+"""What people use around the proved programs: packing, calling, checking what comes back, and showing it."""

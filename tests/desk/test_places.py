@@ -1,0 +1,69 @@
+"""The place of a refusal in the words of people."""
+import unittest
+
+import house
+from desk.answers import LAST_NUMBER, Answer
+from desk.decks import read_deck
+from desk.includes import includers, links_of
+from desk.places import shown_place
+from desk.words import MEANINGS
+
+
+def refused(number, member, offset):
+    return Answer(number, member, offset, 1, b'', [])
+
+
+class Links(unittest.TestCase):
+    def names(self, source):
+        return [link.name for link in links_of(0, source)]
+
+    def test_found(self):
+        for source in (b'%INCLUDE M;', b'X %L:/*%*/K :\nINCLUDE/**/M', b"'%' %INCLUDE M", b'/* % */%INCLUDE M'):
+            self.assertEqual(self.names(source), [b'M'], source)
+        self.assertEqual(self.names(b'%INCLUDE A , B;\n%INCLUDE C'), [b'A', b'B', b'C'])
+
+    def test_passed_over(self):
+        for source in (b"'%INCLUDE M;'", b'/*%INCLUDE M;*/', b'%INCLUDE = M;', b'INCLUDE M;', b'%INCLUDES M;', b'%',
+                       b"'%INCLUDE M", b'/*/%INCLUDE M'):
+            self.assertEqual(self.names(source), [], source)
+
+    def test_through_other_members(self):
+        deck = read_deck(house.deck_of(MAIN=b'%INCLUDE A;\n\n%INCLUDE B;%INCLUDE B;\n%INCLUDE D;', A=b'%INCLUDE C;',
+                                       B=b'%INCLUDE C;', C=b'%INCLUDE A;', D=b''), False)
+        self.assertEqual(includers(deck, 3), [1, 3])
+        self.assertEqual(includers(deck, 4), [4])
+
+
+class Places(unittest.TestCase):
+    def shown(self, number, member, offset, is_cards=False, **bodies):
+        return shown_place(read_deck(house.deck_of(**bodies), is_cards), refused(number, member, offset)).decode()
+
+    def test_caret_under_tabs_and_characters(self):
+        body = 'A\n\té\x01%X'.encode()
+        self.assertEqual(self.shown(3, 0, 6, MAIN=body), 'MAIN, line 2, column 5:\n  \té?%X\n  \t  ^\n')
+
+    def test_end_of_a_body(self):
+        self.assertEqual(self.shown(3, 0, 2, MAIN=b'A\n'), 'MAIN, line 2, column 1:\n  \n  ^\n')
+        self.assertEqual(self.shown(3, 0, 80, True, MAIN=b' ' * 80), 'MAIN, behind its last record\n')
+
+    def test_record(self):
+        shown = self.shown(6, 0, 81, True, MAIN=b' ' * 80 + b' X'.ljust(80))
+        self.assertTrue(shown.startswith('MAIN, record 2, column 2:\n   X '))
+        self.assertIn('while this name was replaced', shown)
+
+    def test_uneven(self):
+        self.assertEqual(self.shown(20, 1, 0, True, MAIN=b'', M=b'XY'), 'M has 2 bytes\n')
+
+    def test_in_a_member(self):
+        shown = self.shown(10, 1, 0, MAIN=b'\n%INCLUDE M;', M=b'%X=1/0;')
+        self.assertTrue(shown.endswith('it called\nincluded by MAIN, line 2\n'))
+        self.assertNotIn('included by', self.shown(10, 1, 0, MAIN=b'', M=b'%X=1/0;'))
+
+    def test_every_case_has_a_place(self):
+        for content, is_cards, answer in house.cases():
+            number, member, offset, *_ = map(int, answer.split(b'\n')[0].split())
+            if number > 2:
+                self.assertTrue(shown_place(read_deck(content, is_cards), refused(number, member, offset)))
+
+    def test_every_number_has_words(self):
+        self.assertEqual(list(MEANINGS), list(range(1, LAST_NUMBER + 1)))
