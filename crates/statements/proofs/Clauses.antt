@@ -43,7 +43,7 @@ use Rattle.statements.specs.declared.Attribute.the-variants as A
 use Rattle.statements.specs.declared.Itemized.the-variants as I
 use Rattle.statements.specs.declared.Typed.{Typed}
 use Rattle.statements.specs.declared.Typed.the-variants as T
-use Rattle.statements.specs.Clauses.{opensFor, clauseOf, readFor, readUpTo, thenSign, thenWord, thenExpression, boundPast, boundsPast, nameEnd, rescanPast, rescanned, memberPast, itemPast, listNext, listEnd, goClause, doKind, plainFor, itemOf, itemIn, attributeBy, worded, itemized, typeFrom, headUpTo, headFrom}
+use Rattle.statements.specs.Clauses.{opensFor, clauseOf, readFor, readUpTo, thenSign, thenWord, thenExpression, boundPast, boundsPast, nameEnd, rescanPast, rescanned, memberPast, itemPast, listNext, listEnd, namesEnd, goClause, doKind, plainFor, itemOf, itemIn, attributeBy, worded, itemized, typeFrom, headUpTo, headFrom}
 use Rattle.statements.proofs.Laws.{word-in, sign-in, sign-spelled, word-spelled}
 
 -- ---- the end of a clause
@@ -292,10 +292,10 @@ module _ (k : Statement) (c : ℕ) (s : List ℕ) (make : List (List ℕ) → P.
   name-next xs again more h (read n) = after-is k c s make xs again more h (n .spelling) (n .to)
   name-next xs again more h (refused w p) = refl
 
-  pub list-is : (f : ℕ) (xs : List (List ℕ)) (at : ℕ) → readUpTo k O.Nothing c (listEnd (59 ∷ []) Ea.Name s f at) ≡ readFor k c FixedType (D.listOf D.eachName make s f xs at)
+  pub list-is : (f : ℕ) (xs : List (List ℕ)) (at : ℕ) → readUpTo k O.Nothing c (namesEnd (59 ∷ []) s f at) ≡ readFor k c FixedType (D.listOf D.eachName make s f xs at)
   unfolding listEnd D.listOf itemPast readUpTo readFor
   list-is zero xs at = refl
-  list-is (suc f) xs at = name-next xs (listEnd (59 ∷ []) Ea.Name s f) (λ ys q. D.listOf D.eachName make s f ys q) (λ ys q. list-is f ys q) (nameAt s at)
+  list-is (suc f) xs at = name-next xs (namesEnd (59 ∷ []) s f) (λ ys q. D.listOf D.eachName make s f ys q) (λ ys q. list-is f ys q) (nameAt s at)
 
 -- ACTIVATE
 module _ (c : ℕ) (s : List ℕ) (xs : List P.Activation) (again : ℕ → Expected) (more : List P.Activation → ℕ → Reading D.Clause) (h : (ys : List P.Activation) (q : ℕ) → readUpTo S.Activate O.Nothing c (again q) ≡ readFor S.Activate c FixedType (more ys q)) where
@@ -391,7 +391,7 @@ module _ (s : List ℕ) (k : Keyword) (b : Bool) (from at : ℕ) where
     unfolding plainFor D.includeClause
     plain-include e x h i = rw (e, i, h) (members-are at s (length s) [] at)
 
-    pub plain-deactivate : k ≡ K.Deactivate → (x : Expected) → x ≡ listEnd (59 ∷ []) Ea.Name s (length s) at → r ≡ readUpTo S.Deactivate O.Nothing at x → r ≡ plainFor k b s from at
+    pub plain-deactivate : k ≡ K.Deactivate → (x : Expected) → x ≡ namesEnd (59 ∷ []) s (length s) at → r ≡ readUpTo S.Deactivate O.Nothing at x → r ≡ plainFor k b s from at
     unfolding plainFor D.deactivateClause
     plain-deactivate e x h i = rw (e, i, h) (list-is S.Deactivate at s P.deactivate (length s) [] at)
 
@@ -413,7 +413,7 @@ module _ (s : List ℕ) (k : Keyword) (b : Bool) (from at : ℕ) where
 
 -- ---- the items of a declaration, and a procedure's type
 module _ (s : List ℕ) (at : ℕ) (l : Lexeme) (lex : Lexed s at l) (v : Bool) (c : v ≡ isSignIn s l (40 ∷ [])) where
-  pub item-list : v ≡ true → (x : Expected) → x ≡ listEnd (41 ∷ []) Ea.Name s (length s) (l .to) → itemOf (l .to) (length s) x ≡ itemIn s at
+  pub item-list : v ≡ true → (x : Expected) → x ≡ namesEnd (41 ∷ []) s (length s) (l .to) → itemOf (l .to) (length s) x ≡ itemIn s at
   unfolding itemIn
   item-list d x h = rw (h, ← sign-in s at l lex (40 ∷ []), ← c, d, lex .to)
 

@@ -36,7 +36,7 @@ use Rattle.statements.specs.declared.Each.the-variants as Ea
 use Rattle.statements.specs.declared.Attribute.the-variants as A
 use Rattle.statements.specs.declared.Itemized.{Itemized}
 use Rattle.statements.specs.declared.Itemized.the-variants as I
-use Rattle.statements.specs.Clauses.{otherBy, keywordBy, clauseOf, readUpTo, thenSign, thenWord, thenExpression, boundPast, boundsPast, nameEnd, rescanPast, memberPast, itemPast, listNext, listEnd, meaningIn}
+use Rattle.statements.specs.Clauses.{otherBy, keywordBy, clauseOf, readUpTo, thenSign, thenWord, thenExpression, boundPast, boundsPast, nameEnd, rescanPast, memberPast, itemPast, listNext, listEnd, namesEnd, meaningIn}
 
 -- ---- one answer after the other
 pub meaning-none : (x : Itemized) (w : Why) (p : ℕ) → x ≡ I.Refused w p → M.Variable FixedType ≡ meaningIn x
@@ -309,12 +309,12 @@ module _ (w s : List ℕ) (from turns at : ℕ) (h : Listing w Ea.Name s from tu
   item : x ≡ itemPast Ea.Name s at
   item = item-plain s at Ea.Name x a refl
 
-  pub naming-refused : (y : Why) (p : ℕ) → x ≡ Refused y p → Refused y p ≡ listEnd w Ea.Name s (length s) from
+  pub naming-refused : (y : Why) (p : ℕ) → x ≡ Refused y p → Refused y p ≡ namesEnd w s (length s) from
   naming-refused = listing-refused w Ea.Name s from turns at h k x item
 
   module _ (e : ℕ) (i : x ≡ Past e) (l : Lexeme) (lex : Lexed s e l) (v : Bool) (c : v ≡ isSignIn s l (44 ∷ [])) where
     pub naming-more : v ≡ true → Listing w Ea.Name s from (turns - 1) (l .to)
     naming-more = listing-more w Ea.Name s from turns at h k x item e i l lex v c
 
-    pub naming-done : v ≡ false → (y : Expected) → y ≡ expected w s e → y ≡ listEnd w Ea.Name s (length s) from
+    pub naming-done : v ≡ false → (y : Expected) → y ≡ expected w s e → y ≡ namesEnd w s (length s) from
     naming-done = listing-done w Ea.Name s from turns at h k x item e i l lex v c

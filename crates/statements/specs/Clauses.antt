@@ -140,6 +140,10 @@ unfoldable pub listEnd : List ℕ → Each → List ℕ → ℕ → ℕ → Expe
 listEnd w i s zero at = Refused Syntax at
 listEnd w i s (suc f) at = listNext w s (itemPast i s at) (listEnd w i s f)
 
+-- names alone
+abbrev pub namesEnd : List ℕ → List ℕ → ℕ → ℕ → Expected
+namesEnd w s = listEnd w Ea.Name s
+
 -- ---- the statements that declare nothing
 -- GO and TO apart
 unfoldable pub goClause : List ℕ → ℕ → Reading D.Clause
@@ -188,7 +192,7 @@ itemOf n m e = record { names = n; most = m; to = e }
 unfoldable pub itemIn : List ℕ → ℕ → Item
 itemIn s at =
     cond (isSpelled (bytesOf "(") (tokenAt s at .token))
-    (itemOf (tokenAt s at .to) (length s) (listEnd (bytesOf ")") Ea.Name s (length s) (tokenAt s at .to)))
+    (itemOf (tokenAt s at .to) (length s) (namesEnd (bytesOf ")") s (length s) (tokenAt s at .to)))
     (itemOf at 1 (nameEnd (nameAt s at)))
 
 -- the attribute that a word is, by a test on its spellings

@@ -12,7 +12,6 @@ ghost use Rattle.definition.specs.Tokens.{tokenAt};
 ghost use Rattle.tokens.specs.Answer.{isWordIn};
 ghost use Rattle.rows.specs.declared.Statement.the-variants as S;
 ghost use Rattle.entering.specs.Book.{bookAll, meaningOf};
-ghost use Rattle.statements.specs.declared.Each.the-variants as Ea;
 ghost use Rattle.statements.specs.Clauses as C;
 use definition::ValueType;
 use definition::Why;
@@ -393,7 +392,7 @@ pub fn plain_clause(s: &[u8], k: Keyword, t: Lexeme, in_body: bool) -> Read
 
 // Names in parentheses, from behind `(`: the place past `)`.
 fn names_in(s: &[u8], from: usize) -> Expected
-    ensures { λ r. ⌜ r ≡ C.listEnd (bytesOf ")") Ea.Name (now (s .entry)) (length (now (s .entry))) from ⌝ }
+    ensures { λ r. ⌜ r ≡ C.namesEnd (bytesOf ")") (now (s .entry)) (length (now (s .entry))) from ⌝ }
 {
     let mut at = from;
     let mut turns = s.len();
