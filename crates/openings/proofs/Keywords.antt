@@ -12,6 +12,7 @@ use Rattle.definition.specs.Limits.{openGroups}
 use Rattle.definition.specs.Tokens as Tk
 use Rattle.definition.specs.Tokens.{tokenAt}
 use Rattle.definition.specs.Expressions.{Reading, read, refused, then, Tree, expectSign, expectWord, Named, nameAt, wholeExpression}
+use Rattle.definition.specs.Deck.{Sought, bare, inLibrary}
 use Rattle.definition.specs.Program as P
 use Rattle.definition.specs.Statements as St
 use Rattle.definition.specs.Reading as D
@@ -208,9 +209,16 @@ activation-so k s at F h =
     (so-either k St.opensNothing (Tk.isWord "RESCAN" (tokenAt s (n .to) .token)) (λ _. F (record { spelling = n .spelling; isCopied = false }) (tokenAt s (n .to) .to)) (λ _. F (record { spelling = n .spelling; isCopied = false }) (n .to))
     (h (record { spelling = n .spelling; isCopied = false }) (tokenAt s (n .to) .to)) (h (record { spelling = n .spelling; isCopied = false }) (n .to)))
 
+member-so : (s : List ℕ) (at : ℕ) (F : Sought → ℕ → Reading St.Clause) → ((x : Sought) (e : ℕ) → OpensSo S.Include St.opensNothing (F x e)) → OpensSo S.Include St.opensNothing (St.eachMember s at F)
+member-so s at F h =
+    after S.Include St.opensNothing (nameAt s at) _ λ n.
+    so-either S.Include St.opensNothing (Tk.isSign "(" (tokenAt s (n .to) .token)) (λ _. then (nameAt s (tokenAt s (n .to) .to)) λ m. then (expectSign ")" s (m .to)) λ e. F (inLibrary (n .spelling) (m .spelling)) e) (λ _. F (bare (n .spelling)) (n .to))
+    (after S.Include St.opensNothing (nameAt s (tokenAt s (n .to) .to)) _ λ m. after S.Include St.opensNothing (expectSign ")" s (m .to)) (λ e. F (inLibrary (n .spelling) (m .spelling)) e) λ e. h (inLibrary (n .spelling) (m .spelling)) e)
+    (h (bare (n .spelling)) (n .to))
+
 pub include-so : (s : List ℕ) (at : ℕ) → OpensSo S.Include (opensBy K.Include) (St.includeClause s at)
 unfolding St.includeClause
-include-so s at = list-so S.Include St.eachName P.include s (name-so S.Include s) (λ xs. record { opens = refl; kind = refl }) (length s) [] at
+include-so s at = list-so S.Include St.eachMember P.include s (member-so s) (λ xs. record { opens = refl; kind = refl }) (length s) [] at
 
 pub deactivate-so : (s : List ℕ) (at : ℕ) → OpensSo S.Deactivate (opensBy K.Deactivate) (St.deactivateClause s at)
 unfolding St.deactivateClause

@@ -13,9 +13,10 @@ use Rattle.definition.specs.declared.Why.{Why}
 use Rattle.definition.specs.declared.ValueType.{ValueType}
 use Rattle.definition.specs.Tokens.{Token, word, integer, string, bits, sign, nothing, wrong, Lexeme, isWord, isSign, tokenAt, TextEnd, percentAt, atEnd, openAt, textEnd}
 use Rattle.definition.specs.Expressions.{Reading, read, refused, then, Tree, Parsed, expectSign, expectWord, Named, nameOf, nameAt, wholeExpression}
+use Rattle.definition.specs.Deck.{Sought}
 use Rattle.definition.specs.Program.{Bound, by, upto, Activation, Statement, null, Scope, global, inside, Meaning, parameter, Declared}
 use Rattle.definition.specs.Statements as S
-use Rattle.definition.specs.Statements.{Opens, opensNothing, opensGroup, opensBody, opensThen, Clause, clause, ended, assignment, thenWord, ifClause, boundAt, doBounds, doClause, gotoClause, listOf, eachName, eachActivation, includeClause, activateClause, deactivateClause, returnClause, Declaring, declared, undeclared, thenDeclare, means, namesAt, attribute, declareNames, declareNext, declareFrom, returnsType, procedureHead, procedureClause}
+use Rattle.definition.specs.Statements.{Opens, opensNothing, opensGroup, opensBody, opensThen, Clause, clause, ended, assignment, thenWord, ifClause, boundAt, doBounds, doClause, gotoClause, listOf, eachName, eachMember, eachActivation, includeClause, activateClause, deactivateClause, returnClause, Declaring, declared, undeclared, thenDeclare, means, namesAt, attribute, declareNames, declareNext, declareFrom, returnsType, procedureHead, procedureClause}
 use Rattle.definition.specs.Reading as R
 use Rattle.definition.specs.Reading.{Where, inProgram, inGroup, inBody, inThen, inElse, Open, State, Mode, Turn, go, stop, finish, Else, elseTo, noElse, elseWord, elseAt, elsed, completeIn, complete, Labelled, isName, addLabel, labelsFrom, labels, opened, taken, takeRead, takeDeclared, isDeclare, isProcedure, isNone, isInside, isList, kindOf, doAt, common, inList, outer, byWord, byName, byToken, endName, mayName, endRead, endAt, isInGroup, isInBody, isFull, isEnd, longLabel, clauseFrom, clauseAt, texted, notEnd, procedureEnd, begins, innerAt, depth, deepEnough, alternativeAt, leadingText, textBehind, alternative, inner, turn}
 use Rattle.definition.proofs.Choices.{when-has, cond-has}
@@ -129,9 +130,15 @@ module _ (s : List ℕ) where
       when-has (Reads Closes) (isWord "NORESCAN" (tokenAt s (n .to) .token)) _ _ (λ _. h _ _ (token-in (n .to) i)) λ _.
       when-has (Reads Closes) (isWord "RESCAN" (tokenAt s (n .to) .token)) _ _ (λ _. h _ _ (token-in (n .to) i)) λ _. h _ _ i
 
+  each-member : (e : ℕ) (f : Sought → ℕ → Reading Clause) → In e → ((x : Sought) (q : ℕ) → In q → Reads Closes (f x q)) → Reads Closes (eachMember s e f)
+  each-member e f k h =
+      then-in _ (name-in e k) λ n i.
+      when-has (Reads Closes) (isSign "(" (tokenAt s (n .to) .token)) _ _
+      (λ _. then-in _ (name-in (tokenAt s (n .to) .to) (token-in (n .to) i)) λ m j. then-in _ (sign-in ")" (m .to) j) λ q l. h _ q l) λ _. h _ _ i
+
   include-in : (e : ℕ) → In e → Reads Closes (includeClause s e)
   unfolding includeClause
-  include-in e k = list-of eachName _ each-name (length s) [] e k
+  include-in e k = list-of eachMember _ each-member (length s) [] e k
 
   deactivate-in : (e : ℕ) → In e → Reads Closes (deactivateClause s e)
   unfolding deactivateClause

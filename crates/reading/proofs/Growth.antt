@@ -20,9 +20,10 @@ use Rattle.definition.specs.Expressions.{Reading, read, refused, then, Tree, bi
 use Rattle.definition.specs.declared.Operator.{Operator}
 use Rattle.definition.specs.declared.Prefix.{Prefix}
 use Rattle.definition.specs.declared.ValueType.{ValueType}
+use Rattle.definition.specs.Deck.{Sought}
 use Rattle.definition.specs.Program.{Bound, by, upto, Activation, Statement, null, Link, nowhere, row, listed, thenPart, elsePart, Row, Scope, global, inside, Meaning, parameter, label, endLabel, Declared, Fault, sound, faulty, Source}
 use Rattle.definition.specs.Statements as S
-use Rattle.definition.specs.Statements.{Opens, opensNothing, opensGroup, opensBody, opensThen, Clause, clause, ended, assignment, thenWord, ifClause, boundAt, doBounds, doClause, gotoClause, listOf, eachName, eachActivation, includeClause, activateClause, deactivateClause, returnClause, Declaring, declared, undeclared, thenDeclare, means, namesAt, attribute, declareNames, declareNext, declareFrom, returnsType, procedureHead, procedureClause}
+use Rattle.definition.specs.Statements.{Opens, opensNothing, opensGroup, opensBody, opensThen, Clause, clause, ended, assignment, thenWord, ifClause, boundAt, doBounds, doClause, gotoClause, listOf, eachName, eachMember, eachActivation, includeClause, activateClause, deactivateClause, returnClause, Declaring, declared, undeclared, thenDeclare, means, namesAt, attribute, declareNames, declareNext, declareFrom, returnsType, procedureHead, procedureClause}
 use Rattle.definition.specs.Reading as R
 use Rattle.definition.specs.Reading.{Where, inProgram, inGroup, inBody, inThen, inElse, Open, State, change, newRow, setNext, setChild, setOther, setLead, setText, linked, addIn, addTo, addRow, withNames, Mode, Turn, go, stop, finish, Else, elseTo, noElse, elseWord, elseAt, elsed, completeIn, complete, Labelled, isName, addLabel, labelsFrom, labels, opened, taken, untaken, takeRead, takeDeclared, labelMeaning, isDeclare, isProcedure, isNone, isInside, isList, kindOf, doAt, common, inList, outer, byWord, byName, byToken, endName, mayName, endRead, endAt, isInGroup, isInBody, isFull, isEnd, longLabel, clauseFrom, clauseAt, texted, leadIn, notEnd, procedureEnd, begins, innerAt, depth, deepEnough, alternativeAt, leadingText, textBehind, alternative, inner, turn, places, readOn}
 use Rattle.definition.proofs.Choices.{when-has, cond-has}
@@ -230,9 +231,15 @@ module _ (s : List ℕ) (p : ℕ) where
       when-has (Far Closes) (isWord "NORESCAN" (tokenAt s (n .to) .token)) _ _ (λ _. h _ _ (token-to (n .to) (i .to))) λ _.
       when-has (Far Closes) (isWord "RESCAN" (tokenAt s (n .to) .token)) _ _ (λ _. h _ _ (token-to (n .to) (i .to))) λ _. h _ _ (i .to)
 
+  each-member : (e : ℕ) (f : Sought → ℕ → Reading Clause) → p < e → ((x : Sought) (q : ℕ) → p < q → Far Closes (f x q)) → Far Closes (eachMember s e f)
+  each-member e f k h =
+      then-far _ (name-far e k) λ n i.
+      when-has (Far Closes) (isSign "(" (tokenAt s (n .to) .token)) _ _
+      (λ _. then-far _ (name-far (tokenAt s (n .to) .to) (token-to (n .to) (i .to))) λ m j. then-far _ (sign-far ")" (m .to) (j .to)) λ q l. h _ q l) λ _. h _ _ (i .to)
+
   include-far : (e : ℕ) → p < e → Far Closes (includeClause s e)
   unfolding includeClause
-  include-far e k = list-of eachName _ each-name (length s) [] e k
+  include-far e k = list-of eachMember _ each-member (length s) [] e k
 
   deactivate-far : (e : ℕ) → p < e → Far Closes (deactivateClause s e)
   unfolding deactivateClause

@@ -31,7 +31,7 @@ use Rattle.entering.specs.declared.Mark.the-variants.{Unmarked, Marked}
 use Rattle.entering.specs.declared.Tally.{Tally}
 use Rattle.entering.specs.declared.Fault.the-variants.{Faulty}
 use Rattle.entering.specs.Book.{Book, firstOf, bookPast, bookSecond, bookMore, bookAdd, bookJoint, bookJoin, bookAt, bookOne, bookNew, bookAll, listedOne, bookListed, bookWhole, twiceOr, faultIn, bookOf}
-use Rattle.statements.specs.Clauses.{listNext, listEnd, itemPast, nameEnd, namesNext, namesRead, spelledAs, namesIn, listedBefore, parameterTwice, tallyTwice, readProcedure, isRead, procedureTally}
+use Rattle.statements.specs.Clauses.{listNext, listEnd, namesEnd, itemPast, nameEnd, namesNext, namesRead, spelledAs, namesIn, listedBefore, parameterTwice, tallyTwice, readProcedure, isRead, procedureTally}
 use Rattle.statements.specs.declared.Read.{Read}
 use Rattle.statements.proofs.Items.{afterNames, names-at}
 use Rattle.statements.proofs.Laws.{sign-spelled}
@@ -383,8 +383,8 @@ module _ (s : List ℕ) (list m r : ℕ) where
   twice-turn f x ps b false true h = h refl
   twice-turn f x ps b false false h = refl
 
-  twice-name : (f z : ℕ) (ns : List Named) (ps : List W.Identifier) (b : Book) (R : Reading Named) → nameAt s z ≡ R → Walk s list ns z → Holds m r ps ns → isPast (listNext (41 ∷ []) s (nameEnd R) (listEnd (41 ∷ []) false s f)) ≡ true
-      → ((e : ℕ) (ms : List Named) (qs : List W.Identifier) → Walk s list ms e → Holds m r qs ms → isPast (listEnd (41 ∷ []) false s f e) ≡ true → bookTwice (parameterTwice s list f e) b ≡ bookWhole m qs (means (inside r) parameter (namesRead s f e)) b)
+  twice-name : (f z : ℕ) (ns : List Named) (ps : List W.Identifier) (b : Book) (R : Reading Named) → nameAt s z ≡ R → Walk s list ns z → Holds m r ps ns → isPast (listNext (41 ∷ []) s (nameEnd R) (namesEnd (41 ∷ []) s f)) ≡ true
+      → ((e : ℕ) (ms : List Named) (qs : List W.Identifier) → Walk s list ms e → Holds m r qs ms → isPast (namesEnd (41 ∷ []) s f e) ≡ true → bookTwice (parameterTwice s list f e) b ≡ bookWhole m qs (means (inside r) parameter (namesRead s f e)) b)
       → bookTwice (when (listedBefore s (tokenAt s z .from) (tokenAt s z .to) (length s) list) (λ _. Marked (tokenAt s z .from)) (λ _. when (isComma s (tokenAt s z .to)) (λ _. parameterTwice s list f (tokenAt s (tokenAt s z .to) .to)) (λ _. Unmarked))) b
       ≡ bookWhole m ps (means (inside r) parameter (namesNext s R (namesRead s f))) b
   unfolding nameEnd bookWhole
@@ -396,13 +396,13 @@ module _ (s : List ℕ) (list m r : ℕ) where
       (twice-turn f x ps b (N.isListed (own (x .spelling) m r) ps) (isComma s (x .to))
       (λ c. again (tokenAt s (x .to) .to) (ns ++ x ∷ []) (own (x .spelling) m r ∷ ps) (walk-more s list ns z x h e c) (holds-more m r ps ns x k) (rw c at l)))
 
-  twice-is : (f z : ℕ) (ns : List Named) (ps : List W.Identifier) (b : Book) → Walk s list ns z → Holds m r ps ns → isPast (listEnd (41 ∷ []) false s f z) ≡ true
+  twice-is : (f z : ℕ) (ns : List Named) (ps : List W.Identifier) (b : Book) → Walk s list ns z → Holds m r ps ns → isPast (namesEnd (41 ∷ []) s f z) ≡ true
       → bookTwice (parameterTwice s list f z) b ≡ bookWhole m ps (means (inside r) parameter (namesRead s f z)) b
   unfolding parameterTwice listEnd namesRead itemPast
   twice-is zero z ns ps b h k l = absurd (false≢true l)
   twice-is (suc f) z ns ps b h k l = twice-name f z ns ps b (nameAt s z) refl h k l (λ e ms qs. twice-is f e ms qs b)
 
-  pub twice-names : (b : Book) → isPast (listEnd (41 ∷ []) false s (length s) list) ≡ true → bookTwice (parameterTwice s list (length s) list) b ≡ bookWhole m [] (means (inside r) parameter (namesRead s (length s) list)) b
+  pub twice-names : (b : Book) → isPast (namesEnd (41 ∷ []) s (length s) list) ≡ true → bookTwice (parameterTwice s list (length s) list) b ≡ bookWhole m [] (means (inside r) parameter (namesRead s (length s) list)) b
   unfolding N.isListed
   twice-names b l = twice-is (length s) list [] [] b refl (record { same = λ w. refl }) l
 
@@ -430,14 +430,14 @@ module _ (s : List ℕ) (k : Scope) where
   after-read c (Past e) all h = refl
   after-read c (Refused w p) all h = h
 
-  listed-names : (e : ℕ) → D.namesAt k parameter s [] (length s) [] e (D.procedureHead k s) ≡ afterNames k parameter s [] (D.procedureHead k s) (listEnd (41 ∷ []) false s (length s) e) (namesRead s (length s) e)
+  listed-names : (e : ℕ) → D.namesAt k parameter s [] (length s) [] e (D.procedureHead k s) ≡ afterNames k parameter s [] (D.procedureHead k s) (namesEnd (41 ∷ []) s (length s) e) (namesRead s (length s) e)
   listed-names e = names-at k parameter s [] (D.procedureHead k s) (length s) [] e (omega arith) (λ z. absurd (omega arith))
 
   names-by : (e : ℕ) (g : Bool) → isSign "(" (tokenAt s e .token) ≡ g → namesIn (D.procedureClause k s e) ≡ means k parameter (when g (λ _. namesRead s (length s) (tokenAt s e .to)) (λ _. []))
   unfolding D.procedureClause
   names-by e true h =
       let list : ℕ = tokenAt s e .to in
-      rw (h, listed-names list) (after-names (listEnd (41 ∷ []) false s (length s) list) (namesRead s (length s) list))
+      rw (h, listed-names list) (after-names (namesEnd (41 ∷ []) s (length s) list) (namesRead s (length s) list))
   names-by e false h = rw h (head-names [] e)
 
   pub clause-names : (e : ℕ) → namesIn (D.procedureClause k s e) ≡ means k parameter (when (isSign "(" (tokenAt s e .token)) (λ _. namesRead s (length s) (tokenAt s e .to)) (λ _. []))
@@ -457,8 +457,8 @@ module _ (d t : List ℕ) (x : Tally) (m n : ℕ) (s : List ℕ) (from : ℕ) wh
   procedure-by true e h =
       let list : ℕ = tokenAt s from .to in
       let l : isRead (readProcedure from (D.namesAt (inside n) parameter s [] (length s) [] list (D.procedureHead (inside n) s))) ≡ true = rw e at h in
-      let u : isPast (listEnd (41 ∷ []) false s (length s) list) ≡ true = after-read s (inside n) from (listEnd (41 ∷ []) false s (length s) list) (namesRead s (length s) list) (ap (λ (z : D.Declaring). isRead (readProcedure from z)) (sym (listed-names s (inside n) list)) ∙ l) in
-      let v : namesIn (D.namesAt (inside n) parameter s [] (length s) [] list (D.procedureHead (inside n) s)) ≡ means (inside n) parameter (namesRead s (length s) list) = ap namesIn (listed-names s (inside n) list) ∙ after-names s (inside n) (listEnd (41 ∷ []) false s (length s) list) (namesRead s (length s) list) in
+      let u : isPast (namesEnd (41 ∷ []) s (length s) list) ≡ true = after-read s (inside n) from (namesEnd (41 ∷ []) s (length s) list) (namesRead s (length s) list) (ap (λ (z : D.Declaring). isRead (readProcedure from z)) (sym (listed-names s (inside n) list)) ∙ l) in
+      let v : namesIn (D.namesAt (inside n) parameter s [] (length s) [] list (D.procedureHead (inside n) s)) ≡ means (inside n) parameter (namesRead s (length s) list) = ap namesIn (listed-names s (inside n) list) ∙ after-names s (inside n) (namesEnd (41 ∷ []) s (length s) list) (namesRead s (length s) list) in
       rw (e, v) (book-twice d t (parameterTwice s list (length s) list) x ∙ twice-names s list m n (bookOf d t x) u)
   procedure-by false e h = rw (e, head-names s (inside n) [] from)
 

@@ -11,6 +11,7 @@ use Rattle.definition.specs.Choice.{when}
 use Rattle.definition.specs.Text.{bytesOf}
 use Rattle.definition.specs.Tokens.{isSign, isWord, tokenAt}
 use Rattle.definition.specs.Expressions.{Reading, read, refused, then, Tree, Parsed, expectSign, expectWord, Named, nameAt, wholeExpression}
+use Rattle.definition.specs.Deck.{Sought, bare, inLibrary}
 use Rattle.definition.specs.Program as P
 use Rattle.definition.specs.Statements as D
 use Rattle.definition.specs.declared.ValueType.{ValueType}
@@ -29,6 +30,7 @@ use Rattle.rows.specs.declared.Statement.{Statement}
 use Rattle.rows.specs.declared.Statement.the-variants as S
 use Rattle.entering.specs.declared.Meaning.{Meaning}
 use Rattle.entering.specs.declared.Meaning.the-variants as M
+use Rattle.statements.specs.declared.Each.the-variants as Ea
 use Rattle.statements.specs.declared.Opens.{Opens}
 use Rattle.statements.specs.declared.Opens.the-variants as O
 use Rattle.statements.specs.declared.Keyword.{Keyword}
@@ -41,7 +43,7 @@ use Rattle.statements.specs.declared.Attribute.the-variants as A
 use Rattle.statements.specs.declared.Itemized.the-variants as I
 use Rattle.statements.specs.declared.Typed.{Typed}
 use Rattle.statements.specs.declared.Typed.the-variants as T
-use Rattle.statements.specs.Clauses.{opensFor, clauseOf, readFor, readUpTo, thenSign, thenWord, thenExpression, boundPast, boundsPast, nameEnd, rescanPast, rescanned, itemPast, listNext, listEnd, goClause, doKind, plainFor, itemOf, itemIn, attributeBy, worded, itemized, typeFrom, headUpTo, headFrom}
+use Rattle.statements.specs.Clauses.{opensFor, clauseOf, readFor, readUpTo, thenSign, thenWord, thenExpression, boundPast, boundsPast, nameEnd, rescanPast, rescanned, memberPast, itemPast, listNext, listEnd, namesEnd, goClause, doKind, plainFor, itemOf, itemIn, attributeBy, worded, itemized, typeFrom, headUpTo, headFrom}
 use Rattle.statements.proofs.Laws.{word-in, sign-in, sign-spelled, word-spelled}
 
 -- ---- the end of a clause
@@ -274,48 +276,93 @@ module _ (k : Statement) (c : ℕ) (s : List ℕ) where
       → readUpTo k O.Nothing c (listNext (59 ∷ []) s (Past e) again) ≡ readFor k c FixedType (when (isSign "," (tokenAt s e .token)) (λ _. more (tokenAt s e .to)) (λ _. D.ended s x e))
   next-by more again x e h = rw (sign-spelled "," (44 ∷ []) refl (tokenAt s e .token)) (comma-by more again x e (isSign "," (tokenAt s e .token)) h)
 
-  module _ (make : List (List ℕ) → P.Statement) where
-    name-next : (f : ℕ) (xs : List (List ℕ)) (again : ℕ → Expected) (more : List (List ℕ) → ℕ → Reading D.Clause) → ((ys : List (List ℕ)) (q : ℕ) → readUpTo k O.Nothing c (again q) ≡ readFor k c FixedType (more ys q)) → (N : Reading Named)
-        → readUpTo k O.Nothing c (listNext (59 ∷ []) s (nameEnd N) again)
-        ≡ readFor k c FixedType (then N λ n. when (isSign "," (tokenAt s (n .to) .token)) (λ _. more (xs ++ n .spelling ∷ []) (tokenAt s (n .to) .to)) (λ _. D.ended s (make (xs ++ n .spelling ∷ [])) (n .to)))
-    unfolding nameEnd readUpTo readFor
-    name-next f xs again more h (read n) = next-by (more (xs ++ n .spelling ∷ [])) again (make (xs ++ n .spelling ∷ [])) (n .to) (h (xs ++ n .spelling ∷ []))
-    name-next f xs again more h (refused w p) = refl
+-- behind an item x of a list
+abbrev after : {A : Type 0} → List ℕ → (List A → P.Statement) → List A → (List A → ℕ → Reading D.Clause) → A → ℕ → Reading D.Clause
+after s make xs more x e = when (isSign "," (tokenAt s e .token)) (λ _. more (xs ++ x ∷ []) (tokenAt s e .to)) (λ _. D.ended s (make (xs ++ x ∷ [])) e)
 
-    pub list-is : (f : ℕ) (xs : List (List ℕ)) (at : ℕ) → readUpTo k O.Nothing c (listEnd (59 ∷ []) false s f at) ≡ readFor k c FixedType (D.listOf D.eachName make s f xs at)
-    unfolding listEnd D.listOf itemPast readUpTo readFor
-    list-is zero xs at = refl
-    list-is (suc f) xs at = name-next f xs (listEnd (59 ∷ []) false s f) (λ ys q. D.listOf D.eachName make s f ys q) (λ ys q. list-is f ys q) (nameAt s at)
+module _ {A : Type 0} (k : Statement) (c : ℕ) (s : List ℕ) (make : List A → P.Statement) (xs : List A) (again : ℕ → Expected) (more : List A → ℕ → Reading D.Clause) (h : (ys : List A) (q : ℕ) → readUpTo k O.Nothing c (again q) ≡ readFor k c FixedType (more ys q)) where
+  after-is : (x : A) (e : ℕ) → readUpTo k O.Nothing c (listNext (59 ∷ []) s (Past e) again) ≡ readFor k c FixedType (after s make xs more x e)
+  after-is x e = next-by k c s (more (xs ++ x ∷ [])) again (make (xs ++ x ∷ [])) e (h (xs ++ x ∷ []))
+
+-- DEACTIVATE
+module _ (k : Statement) (c : ℕ) (s : List ℕ) (make : List (List ℕ) → P.Statement) where
+  name-next : (xs : List (List ℕ)) (again : ℕ → Expected) (more : List (List ℕ) → ℕ → Reading D.Clause) → ((ys : List (List ℕ)) (q : ℕ) → readUpTo k O.Nothing c (again q) ≡ readFor k c FixedType (more ys q)) → (N : Reading Named)
+      → readUpTo k O.Nothing c (listNext (59 ∷ []) s (nameEnd N) again) ≡ readFor k c FixedType (then N λ n. after s make xs more (n .spelling) (n .to))
+  unfolding nameEnd readUpTo readFor
+  name-next xs again more h (read n) = after-is k c s make xs again more h (n .spelling) (n .to)
+  name-next xs again more h (refused w p) = refl
+
+  pub list-is : (f : ℕ) (xs : List (List ℕ)) (at : ℕ) → readUpTo k O.Nothing c (namesEnd (59 ∷ []) s f at) ≡ readFor k c FixedType (D.listOf D.eachName make s f xs at)
+  unfolding listEnd D.listOf itemPast readUpTo readFor
+  list-is zero xs at = refl
+  list-is (suc f) xs at = name-next xs (namesEnd (59 ∷ []) s f) (λ ys q. D.listOf D.eachName make s f ys q) (λ ys q. list-is f ys q) (nameAt s at)
 
 -- ACTIVATE
 module _ (c : ℕ) (s : List ℕ) (xs : List P.Activation) (again : ℕ → Expected) (more : List P.Activation → ℕ → Reading D.Clause) (h : (ys : List P.Activation) (q : ℕ) → readUpTo S.Activate O.Nothing c (again q) ≡ readFor S.Activate c FixedType (more ys q)) where
-  abbrev activation : List ℕ → Bool → P.Activation
-  activation w b = record { spelling = w; isCopied = b }
+  abbrev activated : List ℕ → Bool → ℕ → Reading D.Clause
+  activated w b e = after s P.activate xs more (record { spelling = w; isCopied = b }) e
 
-  abbrev after : P.Activation → ℕ → Reading D.Clause
-  after x e = when (isSign "," (tokenAt s e .token)) (λ _. more (xs ++ x ∷ []) (tokenAt s e .to)) (λ _. D.ended s (P.activate (xs ++ x ∷ [])) e)
-
-  after-is : (x : P.Activation) (e : ℕ) → readUpTo S.Activate O.Nothing c (listNext (59 ∷ []) s (Past e) again) ≡ readFor S.Activate c FixedType (after x e)
-  after-is x e = next-by S.Activate c s (more (xs ++ x ∷ [])) again (P.activate (xs ++ x ∷ [])) e (h (xs ++ x ∷ []))
+  activated-is : (w : List ℕ) (b : Bool) (e : ℕ) → readUpTo S.Activate O.Nothing c (listNext (59 ∷ []) s (Past e) again) ≡ readFor S.Activate c FixedType (activated w b e)
+  activated-is w b e = after-is S.Activate c s P.activate xs again more h (record { spelling = w; isCopied = b }) e
 
   rescan-by : (w : List ℕ) (e : ℕ) (a b : Bool)
       → readUpTo S.Activate O.Nothing c (listNext (59 ∷ []) s (Past (cond (a || b) (tokenAt s e .to) e)) again)
-      ≡ readFor S.Activate c FixedType (when a (λ _. after (activation w true) (tokenAt s e .to)) (λ _. when b (λ _. after (activation w false) (tokenAt s e .to)) (λ _. after (activation w false) e)))
-  rescan-by w e true b = after-is (activation w true) (tokenAt s e .to)
-  rescan-by w e false true = after-is (activation w false) (tokenAt s e .to)
-  rescan-by w e false false = after-is (activation w false) e
+      ≡ readFor S.Activate c FixedType (when a (λ _. activated w true (tokenAt s e .to)) (λ _. when b (λ _. activated w false (tokenAt s e .to)) (λ _. activated w false e)))
+  rescan-by w e true b = activated-is w true (tokenAt s e .to)
+  rescan-by w e false true = activated-is w false (tokenAt s e .to)
+  rescan-by w e false false = activated-is w false e
 
   activation-next : (N : Reading Named)
       → readUpTo S.Activate O.Nothing c (listNext (59 ∷ []) s (rescanned s (nameEnd N)) again)
-      ≡ readFor S.Activate c FixedType (then N λ n. when (isWord "NORESCAN" (tokenAt s (n .to) .token)) (λ _. after (activation (n .spelling) true) (tokenAt s (n .to) .to)) (λ _. when (isWord "RESCAN" (tokenAt s (n .to) .token)) (λ _. after (activation (n .spelling) false) (tokenAt s (n .to) .to)) (λ _. after (activation (n .spelling) false) (n .to))))
+      ≡ readFor S.Activate c FixedType (then N λ n. when (isWord "NORESCAN" (tokenAt s (n .to) .token)) (λ _. activated (n .spelling) true (tokenAt s (n .to) .to)) (λ _. when (isWord "RESCAN" (tokenAt s (n .to) .token)) (λ _. activated (n .spelling) false (tokenAt s (n .to) .to)) (λ _. activated (n .spelling) false (n .to))))
   unfolding nameEnd readUpTo readFor rescanPast
   activation-next (read n) = rw (word-spelled "NORESCAN" (78 ∷ 79 ∷ 82 ∷ 69 ∷ 83 ∷ 67 ∷ 65 ∷ 78 ∷ []) refl (tokenAt s (n .to) .token), word-spelled "RESCAN" (82 ∷ 69 ∷ 83 ∷ 67 ∷ 65 ∷ 78 ∷ []) refl (tokenAt s (n .to) .token)) (rescan-by (n .spelling) (n .to) (isWord "NORESCAN" (tokenAt s (n .to) .token)) (isWord "RESCAN" (tokenAt s (n .to) .token)))
   activation-next (refused w p) = refl
 
-pub activations-are : (c : ℕ) (s : List ℕ) (f : ℕ) (xs : List P.Activation) (at : ℕ) → readUpTo S.Activate O.Nothing c (listEnd (59 ∷ []) true s f at) ≡ readFor S.Activate c FixedType (D.listOf D.eachActivation P.activate s f xs at)
+pub activations-are : (c : ℕ) (s : List ℕ) (f : ℕ) (xs : List P.Activation) (at : ℕ) → readUpTo S.Activate O.Nothing c (listEnd (59 ∷ []) Ea.Activation s f at) ≡ readFor S.Activate c FixedType (D.listOf D.eachActivation P.activate s f xs at)
 unfolding listEnd D.listOf itemPast readUpTo readFor
 activations-are c s zero xs at = refl
-activations-are c s (suc f) xs at = activation-next c s xs (listEnd (59 ∷ []) true s f) (λ ys q. D.listOf D.eachActivation P.activate s f ys q) (λ ys q. activations-are c s f ys q) (nameAt s at)
+activations-are c s (suc f) xs at = activation-next c s xs (listEnd (59 ∷ []) Ea.Activation s f) (λ ys q. D.listOf D.eachActivation P.activate s f ys q) (λ ys q. activations-are c s f ys q) (nameAt s at)
+
+-- INCLUDE
+module _ (c : ℕ) (s : List ℕ) (xs : List Sought) (again : ℕ → Expected) (more : List Sought → ℕ → Reading D.Clause) (h : (ys : List Sought) (q : ℕ) → readUpTo S.Include O.Nothing c (again q) ≡ readFor S.Include c FixedType (more ys q)) where
+  abbrev included : Sought → ℕ → Reading D.Clause
+  included x e = after s P.include xs more x e
+
+  included-is : (x : Sought) (e : ℕ) → readUpTo S.Include O.Nothing c (listNext (59 ∷ []) s (Past e) again) ≡ readFor S.Include c FixedType (included x e)
+  included-is x e = after-is S.Include c s P.include xs again more h x e
+
+  close-member : (x : Sought) (Q : Reading ℕ) → readUpTo S.Include O.Nothing c (listNext (59 ∷ []) s (expectFor Q) again) ≡ readFor S.Include c FixedType (then Q λ e. included x e)
+  unfolding readUpTo readFor
+  close-member x (read e) = included-is x e
+  close-member x (refused w p) = refl
+
+  close-member-at : (x : Sought) (at : ℕ) → readUpTo S.Include O.Nothing c (listNext (59 ∷ []) s (expected (41 ∷ []) s at) again) ≡ readFor S.Include c FixedType (then (expectSign ")" s at) λ e. included x e)
+  close-member-at x at = rw (expected-is ")" (41 ∷ []) refl s at) (close-member x (expectSign ")" s at))
+
+  open-member : (l : List ℕ) (M : Reading Named) → readUpTo S.Include O.Nothing c (listNext (59 ∷ []) s (thenSign (41 ∷ []) s (nameEnd M)) again)
+      ≡ readFor S.Include c FixedType (then M λ m. then (expectSign ")" s (m .to)) λ e. included (inLibrary l (m .spelling)) e)
+  unfolding thenSign nameEnd readUpTo readFor
+  open-member l (read m) = close-member-at (inLibrary l (m .spelling)) (m .to)
+  open-member l (refused w p) = refl
+
+  library-by : (w : List ℕ) (e : ℕ) (b : Bool)
+      → readUpTo S.Include O.Nothing c (listNext (59 ∷ []) s (cond b (thenSign (41 ∷ []) s (nameEnd (nameAt s (tokenAt s e .to)))) (Past e)) again)
+      ≡ readFor S.Include c FixedType (when b (λ _. then (nameAt s (tokenAt s e .to)) λ m. then (expectSign ")" s (m .to)) λ q. included (inLibrary w (m .spelling)) q) (λ _. included (bare w) e))
+  library-by w e true = open-member w (nameAt s (tokenAt s e .to))
+  library-by w e false = included-is (bare w) e
+
+  member-next : (N : Reading Named)
+      → readUpTo S.Include O.Nothing c (listNext (59 ∷ []) s (memberPast s (nameEnd N)) again)
+      ≡ readFor S.Include c FixedType (then N λ n. when (isSign "(" (tokenAt s (n .to) .token)) (λ _. then (nameAt s (tokenAt s (n .to) .to)) λ m. then (expectSign ")" s (m .to)) λ e. included (inLibrary (n .spelling) (m .spelling)) e) (λ _. included (bare (n .spelling)) (n .to)))
+  unfolding nameEnd memberPast readUpTo readFor
+  member-next (read n) = rw (sign-spelled "(" (40 ∷ []) refl (tokenAt s (n .to) .token)) (library-by (n .spelling) (n .to) (isSign "(" (tokenAt s (n .to) .token)))
+  member-next (refused w p) = refl
+
+pub members-are : (c : ℕ) (s : List ℕ) (f : ℕ) (xs : List Sought) (at : ℕ) → readUpTo S.Include O.Nothing c (listEnd (59 ∷ []) Ea.Member s f at) ≡ readFor S.Include c FixedType (D.listOf D.eachMember P.include s f xs at)
+unfolding listEnd D.listOf itemPast readUpTo readFor
+members-are c s zero xs at = refl
+members-are c s (suc f) xs at = member-next c s xs (listEnd (59 ∷ []) Ea.Member s f) (λ ys q. D.listOf D.eachMember P.include s f ys q) (λ ys q. members-are c s f ys q) (nameAt s at)
 
 -- ---- by the word
 module _ (s : List ℕ) (k : Keyword) (b : Bool) (from at : ℕ) where
@@ -340,15 +387,15 @@ module _ (s : List ℕ) (k : Keyword) (b : Bool) (from at : ℕ) where
     unfolding plainFor
     plain-return e h = rw e h
 
-    pub plain-include : k ≡ K.Include → (x : Expected) → x ≡ listEnd (59 ∷ []) false s (length s) at → r ≡ readUpTo S.Include O.Nothing at x → r ≡ plainFor k b s from at
+    pub plain-include : k ≡ K.Include → (x : Expected) → x ≡ listEnd (59 ∷ []) Ea.Member s (length s) at → r ≡ readUpTo S.Include O.Nothing at x → r ≡ plainFor k b s from at
     unfolding plainFor D.includeClause
-    plain-include e x h i = rw (e, i, h) (list-is S.Include at s P.include (length s) [] at)
+    plain-include e x h i = rw (e, i, h) (members-are at s (length s) [] at)
 
-    pub plain-deactivate : k ≡ K.Deactivate → (x : Expected) → x ≡ listEnd (59 ∷ []) false s (length s) at → r ≡ readUpTo S.Deactivate O.Nothing at x → r ≡ plainFor k b s from at
+    pub plain-deactivate : k ≡ K.Deactivate → (x : Expected) → x ≡ namesEnd (59 ∷ []) s (length s) at → r ≡ readUpTo S.Deactivate O.Nothing at x → r ≡ plainFor k b s from at
     unfolding plainFor D.deactivateClause
     plain-deactivate e x h i = rw (e, i, h) (list-is S.Deactivate at s P.deactivate (length s) [] at)
 
-    pub plain-activate : k ≡ K.Activate → (x : Expected) → x ≡ listEnd (59 ∷ []) true s (length s) at → r ≡ readUpTo S.Activate O.Nothing at x → r ≡ plainFor k b s from at
+    pub plain-activate : k ≡ K.Activate → (x : Expected) → x ≡ listEnd (59 ∷ []) Ea.Activation s (length s) at → r ≡ readUpTo S.Activate O.Nothing at x → r ≡ plainFor k b s from at
     unfolding plainFor D.activateClause
     plain-activate e x h i = rw (e, i, h) (activations-are at s (length s) [] at)
 
@@ -366,7 +413,7 @@ module _ (s : List ℕ) (k : Keyword) (b : Bool) (from at : ℕ) where
 
 -- ---- the items of a declaration, and a procedure's type
 module _ (s : List ℕ) (at : ℕ) (l : Lexeme) (lex : Lexed s at l) (v : Bool) (c : v ≡ isSignIn s l (40 ∷ [])) where
-  pub item-list : v ≡ true → (x : Expected) → x ≡ listEnd (41 ∷ []) false s (length s) (l .to) → itemOf (l .to) (length s) x ≡ itemIn s at
+  pub item-list : v ≡ true → (x : Expected) → x ≡ namesEnd (41 ∷ []) s (length s) (l .to) → itemOf (l .to) (length s) x ≡ itemIn s at
   unfolding itemIn
   item-list d x h = rw (h, ← sign-in s at l lex (40 ∷ []), ← c, d, lex .to)
 

@@ -27,7 +27,7 @@ use Rattle.expressions.proofs.Reading.{expected-is, expectedWord-is}
 use Rattle.statements.specs.declared.Clause.{Clause}
 use Rattle.statements.specs.declared.Read.{Read}
 use Rattle.statements.specs.declared.Read.the-variants as R
-use Rattle.statements.specs.Clauses.{thenSign, thenWord, listEnd, namesRead, typeBy, typeFrom, headUpTo, headFrom, readProcedure, spelledAs, listedBefore, parameterTwice, tallyTwice, isRead, procedureTally, Heads}
+use Rattle.statements.specs.Clauses.{thenSign, thenWord, namesEnd, namesRead, typeBy, typeFrom, headUpTo, headFrom, readProcedure, spelledAs, listedBefore, parameterTwice, tallyTwice, isRead, procedureTally, Heads}
 use lib.Dec.{leb}
 use borrow.Author.Tests.{le-leb, lt-leb, eq-eqb, ne-eqb}
 use Rattle.entering.specs.declared.Mark.{Mark}
@@ -98,11 +98,11 @@ module _ (s : List ℕ) (from : ℕ) (l : Lexeme) (lex : Lexed s from l) (v : Bo
   unfolding D.procedureClause
   head-plain d r e = rw (told s from l lex "(" (40 ∷ []) v false refl b d, e) (head-at k s from [] from)
 
-  pub head-listed : v ≡ true → (x : Expected) (r : Read) → x ≡ listEnd (41 ∷ []) false s (length s) (l .to) → r ≡ headFrom s from (typeFrom s (thenSign (40 ∷ []) s (thenWord (82 ∷ 69 ∷ 84 ∷ 85 ∷ 82 ∷ 78 ∷ 83 ∷ []) s x))) → r ≡ readProcedure from (D.procedureClause k s from)
+  pub head-listed : v ≡ true → (x : Expected) (r : Read) → x ≡ namesEnd (41 ∷ []) s (length s) (l .to) → r ≡ headFrom s from (typeFrom s (thenSign (40 ∷ []) s (thenWord (82 ∷ 69 ∷ 84 ∷ 85 ∷ 82 ∷ 78 ∷ 83 ∷ []) s x))) → r ≡ readProcedure from (D.procedureClause k s from)
   unfolding D.procedureClause
   head-listed d x r f e =
       rw (told s from l lex "(" (40 ∷ []) v true refl b d, e, f, lex .to, names-at k P.parameter s [] (D.procedureHead k s) (length s) [] (tokenAt s from .to) (omega arith) (λ z. absurd (omega arith)))
-      (head-by k s from (namesRead s (length s) (tokenAt s from .to)) (listEnd (41 ∷ []) false s (length s) (tokenAt s from .to)))
+      (head-by k s from (namesRead s (length s) (tokenAt s from .to)) (namesEnd (41 ∷ []) s (length s) (tokenAt s from .to)))
 
 module _ (s : List ℕ) (t : Tally) (from : ℕ) (l : Lexeme) (lex : Lexed s from l) (v : Bool) (b : v ≡ isSignIn s l (40 ∷ [])) where
   pub heads-plain : v ≡ false → (r : Read) → r ≡ headFrom s from (typeFrom s (thenSign (40 ∷ []) s (thenWord (82 ∷ 69 ∷ 84 ∷ 85 ∷ 82 ∷ 78 ∷ 83 ∷ []) s (Past from)))) → Heads s t from (record { tally = t; read = r })
@@ -113,7 +113,7 @@ module _ (s : List ℕ) (t : Tally) (from : ℕ) (l : Lexeme) (lex : Lexed s fro
       no-tally true x y = refl
       no-tally false x y = refl
 
-  module _ (d : v ≡ true) (x : Expected) (r : Read) (f : x ≡ listEnd (41 ∷ []) false s (length s) (l .to)) (e : r ≡ headFrom s from (typeFrom s (thenSign (40 ∷ []) s (thenWord (82 ∷ 69 ∷ 84 ∷ 85 ∷ 82 ∷ 78 ∷ 83 ∷ []) s x)))) where
+  module _ (d : v ≡ true) (x : Expected) (r : Read) (f : x ≡ namesEnd (41 ∷ []) s (length s) (l .to)) (e : r ≡ headFrom s from (typeFrom s (thenSign (40 ∷ []) s (thenWord (82 ∷ 69 ∷ 84 ∷ 85 ∷ 82 ∷ 78 ∷ 83 ∷ []) s x)))) where
     pub heads-refused : (w : Why) (p : ℕ) → r ≡ R.Refused w p → Heads s t from (record { tally = t; read = R.Refused w p })
     unfolding procedureTally
     heads-refused w p h = record { is = λ k. sym h ∙ head-listed s from l lex v b k d x r f e; tally = refl }

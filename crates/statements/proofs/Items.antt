@@ -32,7 +32,7 @@ use Rattle.statements.specs.declared.Attribute.{Attribute}
 use Rattle.statements.specs.declared.Attribute.the-variants as A
 use Rattle.statements.specs.declared.Itemized.{Itemized}
 use Rattle.statements.specs.declared.Itemized.the-variants as I
-use Rattle.statements.specs.Clauses.{readFor, readUpTo, nameEnd, itemPast, listNext, listEnd, isInside, itemOf, itemIn, attributeBy, worded, itemizedBy, itemized, meaningIn, namesNext, namesRead, scopeOf, clauseIn, namesIn, Ready, NamedIf, Declares, DeclaresIf}
+use Rattle.statements.specs.Clauses.{readFor, readUpTo, nameEnd, itemPast, listNext, listEnd, namesEnd, isInside, itemOf, itemIn, attributeBy, worded, itemizedBy, itemized, meaningIn, namesNext, namesRead, scopeOf, clauseIn, namesIn, Ready, NamedIf, Declares, DeclaresIf}
 use lib.ListN.{length-append}
 use Rattle.tokens.specs.Answer.{lexemeFor, kindOf, isToken}
 use Rattle.tokens.proofs.Reach.{token-low, token-past, token-inside}
@@ -79,21 +79,21 @@ module _ (k : P.Scope) (g : P.Meaning) (s : List ℕ) (ds : List P.Declared) (co
   closing ns (refused w p) = refl
 
   comma-by : (f : ℕ) (ns : List Named) (n : Named) (b : Bool)
-      → (b ≡ true → D.namesAt k g s ds f (ns ++ n ∷ []) (tokenAt s (n .to) .to) cont ≡ afterNames (listEnd (41 ∷ []) false s f (tokenAt s (n .to) .to)) ((ns ++ n ∷ []) ++ namesRead s f (tokenAt s (n .to) .to)))
+      → (b ≡ true → D.namesAt k g s ds f (ns ++ n ∷ []) (tokenAt s (n .to) .to) cont ≡ afterNames (namesEnd (41 ∷ []) s f (tokenAt s (n .to) .to)) ((ns ++ n ∷ []) ++ namesRead s f (tokenAt s (n .to) .to)))
       → when b (λ _. D.namesAt k g s ds f (ns ++ n ∷ []) (tokenAt s (n .to) .to) cont) (λ _. D.thenDeclare (ds ++ D.means k g (ns ++ n ∷ [])) (expectSign ")" s (n .to)) λ e. cont (ns ++ n ∷ []) e)
-      ≡ afterNames (when b (λ _. listEnd (41 ∷ []) false s f (tokenAt s (n .to) .to)) (λ _. expected (41 ∷ []) s (n .to))) (ns ++ (n ∷ when b (λ _. namesRead s f (tokenAt s (n .to) .to)) (λ _. [])))
-  comma-by f ns n true h = h refl ∙ ap (λ (z : List Named). afterNames (listEnd (41 ∷ []) false s f (tokenAt s (n .to) .to)) z) (append-assoc ns (n ∷ []) (namesRead s f (tokenAt s (n .to) .to)))
+      ≡ afterNames (when b (λ _. namesEnd (41 ∷ []) s f (tokenAt s (n .to) .to)) (λ _. expected (41 ∷ []) s (n .to))) (ns ++ (n ∷ when b (λ _. namesRead s f (tokenAt s (n .to) .to)) (λ _. [])))
+  comma-by f ns n true h = h refl ∙ ap (λ (z : List Named). afterNames (namesEnd (41 ∷ []) s f (tokenAt s (n .to) .to)) z) (append-assoc ns (n ∷ []) (namesRead s f (tokenAt s (n .to) .to)))
   comma-by f ns n false h = rw (expected-is ")" (41 ∷ []) refl s (n .to)) (closing (ns ++ n ∷ []) (expectSign ")" s (n .to)))
 
   name-by : (f : ℕ) (ns : List Named) (R : Reading Named)
-      → ((n : Named) → R ≡ read n → isSign "," (tokenAt s (n .to) .token) ≡ true → D.namesAt k g s ds f (ns ++ n ∷ []) (tokenAt s (n .to) .to) cont ≡ afterNames (listEnd (41 ∷ []) false s f (tokenAt s (n .to) .to)) ((ns ++ n ∷ []) ++ namesRead s f (tokenAt s (n .to) .to)))
+      → ((n : Named) → R ≡ read n → isSign "," (tokenAt s (n .to) .token) ≡ true → D.namesAt k g s ds f (ns ++ n ∷ []) (tokenAt s (n .to) .to) cont ≡ afterNames (namesEnd (41 ∷ []) s f (tokenAt s (n .to) .to)) ((ns ++ n ∷ []) ++ namesRead s f (tokenAt s (n .to) .to)))
       → D.thenDeclare (ds ++ D.means k g ns) R (λ x. when (isSign "," (tokenAt s (x .to) .token)) (λ _. D.namesAt k g s ds f (ns ++ x ∷ []) (tokenAt s (x .to) .to) cont) (λ _. D.thenDeclare (ds ++ D.means k g (ns ++ x ∷ [])) (expectSign ")" s (x .to)) λ e. cont (ns ++ x ∷ []) e))
-      ≡ afterNames (listNext (41 ∷ []) s (nameEnd R) (listEnd (41 ∷ []) false s f)) (ns ++ namesNext s R (namesRead s f))
+      ≡ afterNames (listNext (41 ∷ []) s (nameEnd R) (namesEnd (41 ∷ []) s f)) (ns ++ namesNext s R (namesRead s f))
   unfolding nameEnd
   name-by f ns (read n) h = rw (sign-spelled "," (44 ∷ []) refl (tokenAt s (n .to) .token)) (comma-by f ns n (isSign "," (tokenAt s (n .to) .token)) (h n refl))
   name-by f ns (refused w p) h = rw append-nil
 
-  pub names-at : (f : ℕ) (ns : List Named) (at : ℕ) → length s + length ns ≤ at + f → (0 < length ns → at ≤ length s) → D.namesAt k g s ds f ns at cont ≡ afterNames (listEnd (41 ∷ []) false s f at) (ns ++ namesRead s f at)
+  pub names-at : (f : ℕ) (ns : List Named) (at : ℕ) → length s + length ns ≤ at + f → (0 < length ns → at ≤ length s) → D.namesAt k g s ds f ns at cont ≡ afterNames (namesEnd (41 ∷ []) s f at) (ns ++ namesRead s f at)
   unfolding D.namesAt listEnd namesRead itemPast
   names-at zero ns at h l = let z : ns ≡ [] = nil-of ns (none (length ns) refl) in rw (z, append-nil)
     where
@@ -154,12 +154,12 @@ module _ (o : Owner) (s : List ℕ) (ds : List P.Declared) (next : List P.Declar
 
   item-by : (at : ℕ) (b : Bool) → isSign "(" (tokenAt s at .token) ≡ b
       → when b (λ _. D.namesAt (scopeOf o) (P.variable FixedType) s ds (length s) [] (tokenAt s at .to) λ ns e. D.declareNames (scopeOf o) s ds ns e next) (λ _. D.thenDeclare ds (nameAt s at) λ n. D.declareNames (scopeOf o) s ds (n ∷ []) (n .to) next)
-      ≡ stepped (itemized s (cond b (itemOf (tokenAt s at .to) (length s) (listEnd (41 ∷ []) false s (length s) (tokenAt s at .to))) (itemOf at 1 (nameEnd (nameAt s at))) .to) (isInside o))
-      (namesRead s (cond b (itemOf (tokenAt s at .to) (length s) (listEnd (41 ∷ []) false s (length s) (tokenAt s at .to))) (itemOf at 1 (nameEnd (nameAt s at))) .most) (cond b (itemOf (tokenAt s at .to) (length s) (listEnd (41 ∷ []) false s (length s) (tokenAt s at .to))) (itemOf at 1 (nameEnd (nameAt s at))) .names))
+      ≡ stepped (itemized s (cond b (itemOf (tokenAt s at .to) (length s) (namesEnd (41 ∷ []) s (length s) (tokenAt s at .to))) (itemOf at 1 (nameEnd (nameAt s at))) .to) (isInside o))
+      (namesRead s (cond b (itemOf (tokenAt s at .to) (length s) (namesEnd (41 ∷ []) s (length s) (tokenAt s at .to))) (itemOf at 1 (nameEnd (nameAt s at))) .most) (cond b (itemOf (tokenAt s at .to) (length s) (namesEnd (41 ∷ []) s (length s) (tokenAt s at .to))) (itemOf at 1 (nameEnd (nameAt s at))) .names))
   unfolding namesRead
   item-by at true e =
       names-at (scopeOf o) (P.variable FixedType) s ds (λ ns q. D.declareNames (scopeOf o) s ds ns q next) (length s) [] (tokenAt s at .to) (omega arith) (λ z. absurd (omega arith))
-      ∙ after-is (listEnd (41 ∷ []) false s (length s) (tokenAt s at .to)) (namesRead s (length s) (tokenAt s at .to))
+      ∙ after-is (namesEnd (41 ∷ []) s (length s) (tokenAt s at .to)) (namesRead s (length s) (tokenAt s at .to))
   item-by at false e = single-by (nameAt s at) (namesRead s 0) (λ q. refl)
 
 declare-turn : (o : Owner) (s : List ℕ) (n : ℕ) (ds : List P.Declared) (at : ℕ) → 0 < n

@@ -31,10 +31,12 @@ use Rattle.statements.specs.declared.Opens.{Opens}
 use Rattle.statements.specs.declared.Keyword.{Keyword}
 use Rattle.statements.specs.declared.Keyword.the-variants as K
 use Rattle.statements.specs.declared.Read.the-variants as R
+use Rattle.statements.specs.declared.Each.{Each}
+use Rattle.statements.specs.declared.Each.the-variants as Ea
 use Rattle.statements.specs.declared.Attribute.the-variants as A
 use Rattle.statements.specs.declared.Itemized.{Itemized}
 use Rattle.statements.specs.declared.Itemized.the-variants as I
-use Rattle.statements.specs.Clauses.{otherBy, keywordBy, clauseOf, readUpTo, thenSign, thenWord, thenExpression, boundPast, boundsPast, nameEnd, rescanPast, itemPast, listNext, listEnd, meaningIn}
+use Rattle.statements.specs.Clauses.{otherBy, keywordBy, clauseOf, readUpTo, thenSign, thenWord, thenExpression, boundPast, boundsPast, nameEnd, rescanPast, memberPast, itemPast, listNext, listEnd, namesEnd, meaningIn}
 
 -- ---- one answer after the other
 pub meaning-none : (x : Itemized) (w : Why) (p : ℕ) → x ≡ I.Refused w p → M.Variable FixedType ≡ meaningIn x
@@ -239,62 +241,80 @@ module _ (s : List ℕ) (at : ℕ) (l : Lexeme) (lex : Lexed s at l) (v : Bool) 
   unfolding rescanPast
   rescan-absent d = rw (← either, d)
 
-module _ (s : List ℕ) (at : ℕ) (b : Bool) (e : Expected) (h : e ≡ nameEnd (nameAt s at)) where
-  pub item-active : b ≡ true → (q x : ℕ) → e ≡ Past q → x ≡ rescanPast s q → Past x ≡ itemPast b s at
+module _ (s : List ℕ) (e : Expected) where
+  pub member-refused : (w : Why) (p : ℕ) → e ≡ Refused w p → Refused w p ≡ memberPast s e
+  unfolding memberPast
+  member-refused w p h = rw h
+
+  module _ (q : ℕ) (h : e ≡ Past q) (l : Lexeme) (lex : Lexed s q l) (v : Bool) (c : v ≡ isSignIn s l (40 ∷ [])) where
+    pub member-there : v ≡ true → (x y : Expected) → x ≡ nameEnd (nameAt s (l .to)) → y ≡ thenSign (41 ∷ []) s x → y ≡ memberPast s e
+    unfolding memberPast
+    member-there d x y f g = rw (h, ← sign-in s q l lex (40 ∷ []), ← c, d, ← lex .to, ← f) g
+
+    pub member-absent : v ≡ false → Past q ≡ memberPast s e
+    unfolding memberPast
+    member-absent d = rw (h, ← sign-in s q l lex (40 ∷ []), ← c, d)
+
+module _ (s : List ℕ) (at : ℕ) (i : Each) (e : Expected) (h : e ≡ nameEnd (nameAt s at)) where
+  pub item-active : i ≡ Ea.Activation → (q x : ℕ) → e ≡ Past q → x ≡ rescanPast s q → Past x ≡ itemPast i s at
   unfolding itemPast
   item-active d q x f g = rw (d, ← h, f, g)
 
-  pub item-refused : b ≡ true → (w : Why) (p : ℕ) → e ≡ Refused w p → Refused w p ≡ itemPast b s at
+  pub item-refused : i ≡ Ea.Activation → (w : Why) (p : ℕ) → e ≡ Refused w p → Refused w p ≡ itemPast i s at
   unfolding itemPast
   item-refused d w p f = rw (d, ← h, f)
 
-  pub item-plain : b ≡ false → e ≡ itemPast b s at
+  pub item-plain : i ≡ Ea.Name → e ≡ itemPast i s at
   unfolding itemPast
   item-plain d = rw (d, h)
 
--- what is left ends where all of it does
-pub record Listing (w : List ℕ) (b : Bool) (s : List ℕ) (from turns at : ℕ) : Type 0 where
-  pub same : listEnd w b s turns at ≡ listEnd w b s (length s) from
+  pub item-member : i ≡ Ea.Member → (x : Expected) → x ≡ memberPast s e → x ≡ itemPast i s at
+  unfolding itemPast
+  item-member d x f = rw (d, ← h) f
 
-module _ (w : List ℕ) (b : Bool) (s : List ℕ) where
-  list-turn : (n at : ℕ) → 0 < n → listEnd w b s n at ≡ listNext w s (itemPast b s at) (listEnd w b s (n - 1))
+-- what is left ends where all of it does
+pub record Listing (w : List ℕ) (j : Each) (s : List ℕ) (from turns at : ℕ) : Type 0 where
+  pub same : listEnd w j s turns at ≡ listEnd w j s (length s) from
+
+module _ (w : List ℕ) (j : Each) (s : List ℕ) where
+  list-turn : (n at : ℕ) → 0 < n → listEnd w j s n at ≡ listNext w s (itemPast j s at) (listEnd w j s (n - 1))
   unfolding listEnd
   list-turn zero at h = absurd (omega arith)
   list-turn (suc n) at h = rw sub-one
 
-  pub listing-start : (from : ℕ) → Listing w b s from (length s) from
+  pub listing-start : (from : ℕ) → Listing w j s from (length s) from
   listing-start from = record { same = refl }
 
-  module _ (from turns at : ℕ) (h : Listing w b s from turns at) where
-    pub listing-end : turns ≤ 0 → Refused Syntax at ≡ listEnd w b s (length s) from
+  module _ (from turns at : ℕ) (h : Listing w j s from turns at) where
+    pub listing-end : turns ≤ 0 → Refused Syntax at ≡ listEnd w j s (length s) from
     unfolding listEnd
     listing-end k = let z : turns ≡ 0 = omega arith in rw z at (h .same)
 
-    module _ (k : 0 < turns) (x : Expected) (a : x ≡ itemPast b s at) where
-      turned : listNext w s x (listEnd w b s (turns - 1)) ≡ listEnd w b s (length s) from
+    module _ (k : 0 < turns) (x : Expected) (a : x ≡ itemPast j s at) where
+      turned : listNext w s x (listEnd w j s (turns - 1)) ≡ listEnd w j s (length s) from
       turned = rw a (sym (list-turn turns at k) ∙ h .same)
 
-      pub listing-refused : (y : Why) (p : ℕ) → x ≡ Refused y p → Refused y p ≡ listEnd w b s (length s) from
+      pub listing-refused : (y : Why) (p : ℕ) → x ≡ Refused y p → Refused y p ≡ listEnd w j s (length s) from
       listing-refused y p e = rw e at turned
 
       module _ (e : ℕ) (i : x ≡ Past e) (l : Lexeme) (lex : Lexed s e l) (v : Bool) (c : v ≡ isSignIn s l (44 ∷ [])) where
-        pub listing-more : v ≡ true → Listing w b s from (turns - 1) (l .to)
+        pub listing-more : v ≡ true → Listing w j s from (turns - 1) (l .to)
         listing-more d = record { same = rw (i, ← sign-in s e l lex (44 ∷ []), ← c, d, ← lex .to) at turned }
 
-        pub listing-done : v ≡ false → (y : Expected) → y ≡ expected w s e → y ≡ listEnd w b s (length s) from
+        pub listing-done : v ≡ false → (y : Expected) → y ≡ expected w s e → y ≡ listEnd w j s (length s) from
         listing-done d y f = f ∙ (rw (i, ← sign-in s e l lex (44 ∷ []), ← c, d) at turned)
 
 -- names alone
-module _ (w s : List ℕ) (from turns at : ℕ) (h : Listing w false s from turns at) (k : 0 < turns) (x : Expected) (a : x ≡ nameEnd (nameAt s at)) where
-  item : x ≡ itemPast false s at
-  item = item-plain s at false x a refl
+module _ (w s : List ℕ) (from turns at : ℕ) (h : Listing w Ea.Name s from turns at) (k : 0 < turns) (x : Expected) (a : x ≡ nameEnd (nameAt s at)) where
+  item : x ≡ itemPast Ea.Name s at
+  item = item-plain s at Ea.Name x a refl
 
-  pub naming-refused : (y : Why) (p : ℕ) → x ≡ Refused y p → Refused y p ≡ listEnd w false s (length s) from
-  naming-refused = listing-refused w false s from turns at h k x item
+  pub naming-refused : (y : Why) (p : ℕ) → x ≡ Refused y p → Refused y p ≡ namesEnd w s (length s) from
+  naming-refused = listing-refused w Ea.Name s from turns at h k x item
 
   module _ (e : ℕ) (i : x ≡ Past e) (l : Lexeme) (lex : Lexed s e l) (v : Bool) (c : v ≡ isSignIn s l (44 ∷ [])) where
-    pub naming-more : v ≡ true → Listing w false s from (turns - 1) (l .to)
-    naming-more = listing-more w false s from turns at h k x item e i l lex v c
+    pub naming-more : v ≡ true → Listing w Ea.Name s from (turns - 1) (l .to)
+    naming-more = listing-more w Ea.Name s from turns at h k x item e i l lex v c
 
-    pub naming-done : v ≡ false → (y : Expected) → y ≡ expected w s e → y ≡ listEnd w false s (length s) from
-    naming-done = listing-done w false s from turns at h k x item e i l lex v c
+    pub naming-done : v ≡ false → (y : Expected) → y ≡ expected w s e → y ≡ namesEnd w s (length s) from
+    naming-done = listing-done w Ea.Name s from turns at h k x item e i l lex v c

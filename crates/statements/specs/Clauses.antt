@@ -36,6 +36,8 @@ use Rattle.statements.specs.declared.Keyword.the-variants as K
 use Rattle.statements.specs.declared.Clause.{Clause}
 use Rattle.statements.specs.declared.Read.{Read}
 use Rattle.statements.specs.declared.Read.the-variants as R
+use Rattle.statements.specs.declared.Each.{Each}
+use Rattle.statements.specs.declared.Each.the-variants as Ea
 use Rattle.statements.specs.declared.Declaring.{Declaring}
 use Rattle.statements.specs.declared.Item.{Item}
 use Rattle.statements.specs.declared.Attribute.{Attribute}
@@ -118,18 +120,29 @@ abbrev pub rescanned : List ℕ → Expected → Expected
 rescanned s (Past q) = Past (rescanPast s q)
 rescanned s (Refused w p) = Refused w p
 
-unfoldable pub itemPast : Bool → List ℕ → ℕ → Expected
-itemPast true s at = rescanned s (nameEnd (nameAt s at))
-itemPast false s at = nameEnd (nameAt s at)
+-- past the member in parentheses, behind a library's name
+unfoldable pub memberPast : List ℕ → Expected → Expected
+memberPast s (Past q) =
+    cond (isSpelled (bytesOf "(") (tokenAt s q .token)) (thenSign (bytesOf ")") s (nameEnd (nameAt s (tokenAt s q .to)))) (Past q)
+memberPast s (Refused w p) = Refused w p
 
--- names with commas between them and `w` behind; f is more than the turns
+unfoldable pub itemPast : Each → List ℕ → ℕ → Expected
+itemPast Ea.Name s at = nameEnd (nameAt s at)
+itemPast Ea.Activation s at = rescanned s (nameEnd (nameAt s at))
+itemPast Ea.Member s at = memberPast s (nameEnd (nameAt s at))
+
+-- items with commas between them and `w` behind; f is more than the turns
 abbrev pub listNext : List ℕ → List ℕ → Expected → (ℕ → Expected) → Expected
 listNext w s (Past e) again = when (isSpelled (bytesOf ",") (tokenAt s e .token)) (λ _. again (tokenAt s e .to)) (λ _. expected w s e)
 listNext w s (Refused y p) again = Refused y p
 
-unfoldable pub listEnd : List ℕ → Bool → List ℕ → ℕ → ℕ → Expected
-listEnd w b s zero at = Refused Syntax at
-listEnd w b s (suc f) at = listNext w s (itemPast b s at) (listEnd w b s f)
+unfoldable pub listEnd : List ℕ → Each → List ℕ → ℕ → ℕ → Expected
+listEnd w i s zero at = Refused Syntax at
+listEnd w i s (suc f) at = listNext w s (itemPast i s at) (listEnd w i s f)
+
+-- names alone
+abbrev pub namesEnd : List ℕ → List ℕ → ℕ → ℕ → Expected
+namesEnd w s = listEnd w Ea.Name s
 
 -- ---- the statements that declare nothing
 -- GO and TO apart
@@ -179,7 +192,7 @@ itemOf n m e = record { names = n; most = m; to = e }
 unfoldable pub itemIn : List ℕ → ℕ → Item
 itemIn s at =
     cond (isSpelled (bytesOf "(") (tokenAt s at .token))
-    (itemOf (tokenAt s at .to) (length s) (listEnd (bytesOf ")") false s (length s) (tokenAt s at .to)))
+    (itemOf (tokenAt s at .to) (length s) (namesEnd (bytesOf ")") s (length s) (tokenAt s at .to)))
     (itemOf at 1 (nameEnd (nameAt s at)))
 
 -- the attribute that a word is, by a test on its spellings

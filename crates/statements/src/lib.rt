@@ -73,6 +73,13 @@ pub enum Read {
     Refused(Why, usize),
 }
 
+// What the items of a list are.
+enum Each {
+    Name,
+    Activation,
+    Member,
+}
+
 // The names that were read count even where the statement is wrong.
 pub struct Declaring {
     pub tally: Tally,
@@ -269,18 +276,35 @@ fn go_clause(s: &[u8], at: usize) -> Read
     }
 }
 
-// A name of a list, and of ACTIVATE what may stand behind it.
-fn list_item(s: &[u8], at: usize, is_activate: bool) -> Expected
-    ensures { λ r. ⌜ r ≡ C.itemPast «is_activate» (now (s .entry)) at ⌝ }
+// Behind a name that INCLUDE lists: if `(` stands there, the name was a library's, and its member follows.
+fn member_past(s: &[u8], e: Expected) -> Expected
+    ensures { λ r. ⌜ r ≡ C.memberPast (now (s .entry)) e ⌝ }
+{
+    match e {
+        Expected::Past(q) => {
+            let t = token_at(s, q);
+            if is_sign(s, t, b"(") {
+                return then_sign(s, name_past(s, t.to), b")");
+            }
+            Expected::Past(q)
+        }
+        Expected::Refused(w, p) => Expected::Refused(w, p),
+    }
+}
+
+// An item of a list: a name, and what may stand behind it.
+fn list_item(s: &[u8], at: usize, each: Each) -> Expected
+    ensures { λ r. ⌜ r ≡ C.itemPast each (now (s .entry)) at ⌝ }
 {
     let e = name_past(s, at);
-    if is_activate {
-        return match e {
+    match each {
+        Each::Name => e,
+        Each::Activation => match e {
             Expected::Past(q) => Expected::Past(past_rescan(s, q)),
             Expected::Refused(w, p) => Expected::Refused(w, p),
-        };
+        },
+        Each::Member => member_past(s, e),
     }
-    e
 }
 
 // The place past NORESCAN or RESCAN, if one of them stands there.
@@ -294,15 +318,15 @@ pub fn past_rescan(s: &[u8], at: usize) -> usize
     at
 }
 
-// Names with commas between them, and the semicolon.
-fn name_list(s: &[u8], from: usize, is_activate: bool) -> Expected
-    ensures { λ r. ⌜ r ≡ C.listEnd (bytesOf ";") «is_activate» (now (s .entry)) (length (now (s .entry))) from ⌝ }
+// Items with commas between them, and the semicolon.
+fn name_list(s: &[u8], from: usize, each: Each) -> Expected
+    ensures { λ r. ⌜ r ≡ C.listEnd (bytesOf ";") each (now (s .entry)) (length (now (s .entry))) from ⌝ }
 {
     let mut at = from;
     let mut turns = s.len();
     while 0 < turns {
         turns -= 1;
-        let e = list_item(s, at, is_activate);
+        let e = list_item(s, at, each);
         match e {
             Expected::Past(q) => {
                 let t = token_at(s, q);
@@ -343,19 +367,19 @@ pub fn plain_clause(s: &[u8], k: Keyword, t: Lexeme, in_body: bool) -> Read
             Statement::Include,
             Opens::Nothing,
             at,
-            name_list(s, at, false),
+            name_list(s, at, Each::Member),
         ),
         Keyword::Activate => read_up_to(
             Statement::Activate,
             Opens::Nothing,
             at,
-            name_list(s, at, true),
+            name_list(s, at, Each::Activation),
         ),
         Keyword::Deactivate => read_up_to(
             Statement::Deactivate,
             Opens::Nothing,
             at,
-            name_list(s, at, false),
+            name_list(s, at, Each::Name),
         ),
         Keyword::Return => return_clause(s, at),
         Keyword::Declare => Read::Refused(Why::Syntax, t.from),
@@ -368,7 +392,7 @@ pub fn plain_clause(s: &[u8], k: Keyword, t: Lexeme, in_body: bool) -> Read
 
 // Names in parentheses, from behind `(`: the place past `)`.
 fn names_in(s: &[u8], from: usize) -> Expected
-    ensures { λ r. ⌜ r ≡ C.listEnd (bytesOf ")") false (now (s .entry)) (length (now (s .entry))) from ⌝ }
+    ensures { λ r. ⌜ r ≡ C.namesEnd (bytesOf ")") (now (s .entry)) (length (now (s .entry))) from ⌝ }
 {
     let mut at = from;
     let mut turns = s.len();

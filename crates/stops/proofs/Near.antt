@@ -160,7 +160,7 @@ module _ (d : List ℕ) (sound : isSound d ≡ true) where
     include-at (Deck.line k) i (level inner) is p m n ps w h = include-entered (enter-leaves near k (readMember (bodyOf d k)) h) inner is k m n (i k refl) ps w h
 
   module _ (l : Level) (is : Levels l) where
-    include-all : (p m n : ℕ) (ps : List Place) (xs : List (List ℕ)) (w : World) → Fine w → Does (includeAll l d p m n ps xs w)
+    include-all : (p m n : ℕ) (ps : List Place) (xs : List Deck.Sought) (w : World) → Fine w → Does (includeAll l d p m n ps xs w)
     unfolding includeAll
     include-all p m n ps [] w h = leaves tt h
     include-all p m n ps (x ∷ xs) w h = include-at _ (include-all p m n ps xs) (Deck.find x 0 (Deck.lines d)) (find-low d x) l is p m n ps w h

@@ -20,7 +20,7 @@ use Rattle.definition.specs.Tokens as T
 use Rattle.definition.specs.Tokens.{Token, word, integer, string, bits, sign, nothing, wrong, Lexeme, isWord, isSign, tokenAt, Piece, pieceAt, TextEnd, percentAt, atEnd, openAt, textEnd}
 use Rattle.definition.specs.Expressions.{Reading, read, refused, then, Tree, Parsed, Maybe, is, noOperator, expectSign, expectWord, Named, nameOf, nameAt, Reader, arguments, referenceAt, primitive, prefixed, prefixOf, operand, infixOf, chained, chain, levels, expression, wholeExpression}
 use Rattle.definition.specs.Program.{Bound, by, upto, Statement, activate, deactivate, include, Link, nowhere, row, listed, thenPart, elsePart, Row, Scope, global, inside, Meaning, label, Declared, Fault, sound, faulty, Source}
-use Rattle.definition.specs.Statements.{Opens, opensNothing, opensGroup, opensBody, opensThen, Clause, clause, ended, assignment, thenWord, ifClause, boundAt, doBounds, doClause, gotoClause, listOf, eachName, includeClause, deactivateClause, eachActivation, activateClause, returnClause, Declaring, declared, undeclared, thenDeclare, means, namesAt, isCharacter, attribute, declareNames, declareNext, declareFrom, returnsType, procedureHead, procedureClause}
+use Rattle.definition.specs.Statements.{Opens, opensNothing, opensGroup, opensBody, opensThen, Clause, clause, ended, assignment, thenWord, ifClause, boundAt, doBounds, doClause, gotoClause, listOf, eachName, eachMember, includeClause, deactivateClause, eachActivation, activateClause, returnClause, Declaring, declared, undeclared, thenDeclare, means, namesAt, isCharacter, attribute, declareNames, declareNext, declareFrom, returnsType, procedureHead, procedureClause}
 use Rattle.definition.specs.Reading as R
 use Rattle.definition.specs.Reading.{Where, inProgram, inGroup, inBody, inThen, inElse, Open, kindOf, isInGroup, isInBody, isList, State, isInside, depth, change, setNext, setChild, setOther, setLead, setText, newRow, linked, addIn, addTo, addRow, Mode, leadingText, textBehind, alternative, inner, Turn, go, stop, finish, isDecided, Else, elseTo, noElse, elseWord, elseAt, elsed, completeIn, complete, Labelled, labelMeaning, isName, addLabel, labelsFrom, labels, opened, taken, untaken, takeRead, takeDeclared, isNone, isDeclare, isProcedure, doAt, common, inList, outer, byWord, byName, byToken, mayName, endName, endRead, endAt, isFull, isEnd, longLabel, clauseFrom, texted, leadIn, notEnd, procedureEnd, begins, innerAt, deepEnough, alternativeAt, turn, places, readOn, readMember}
 use Rattle.definition.proofs.Choices.{when-has, cond-has}
@@ -231,9 +231,14 @@ module _ (s : List ℕ) where
       choice Clauses (isWord "NORESCAN" (tokenAt s (n .to) .token)) _ _ (h _ _ (to-in (n .to) (j .1)))
       (choice Clauses (isWord "RESCAN" (tokenAt s (n .to) .token)) _ _ (h _ _ (to-in (n .to) (j .1))) (h _ _ (j .1)))
 
+  each-member : Each eachMember
+  each-member at f i h = then-reads (name-at at i) λ n j.
+      choice Clauses (isSign "(" (tokenAt s (n .to) .token)) _ _
+      (then-reads (name-at (tokenAt s (n .to) .to) (to-in (n .to) (j .1))) λ m k. then-reads (expect-sign ")" (m .to) (k .1)) λ e l. h _ e l) (h _ _ (j .1))
+
   include-read : (at : ℕ) → In at → Clauses (includeClause s at)
   unfolding includeClause
-  include-read at i = list-read eachName each-name include (length s) [] at i
+  include-read at i = list-read eachMember each-member include (length s) [] at i
 
   deactivate-read : (at : ℕ) → In at → Clauses (deactivateClause s at)
   unfolding deactivateClause

@@ -609,7 +609,7 @@ module _ (d : List ℕ) where
     include-at (Deck.line k) i (level inner) is p m n j ps w = include-entered k (i k refl) (enter-ends (bodyOf d k) k w) inner is m n ps w
 
   module _ (l : Level) (is : FairLevel l) where
-    include-all : (p m n : ℕ) → At d m p → (ps : List Place) (xs : List (List ℕ)) (w : World) → Ends (Stopped d) (includeAll l d p m n ps xs w)
+    include-all : (p m n : ℕ) → At d m p → (ps : List Place) (xs : List Deck.Sought) (w : World) → Ends (Stopped d) (includeAll l d p m n ps xs w)
     unfolding includeAll
     include-all p m n i ps [] w = well
     include-all p m n i ps (x ∷ xs) w = include-at _ (include-all p m n i ps xs) (Deck.find x 0 (Deck.lines d)) (find-low d x) l is p m n i ps w

@@ -12,10 +12,10 @@ use mathlib.Core.List.{_∷_, []}
 use Rattle.statements.proofs.Laws.{Listing, listing-start, listing-more, listing-done, listing-refused, listing-end}
 
 abbrev Inv-loop : tie.InvT-loop
-Inv-loop s from is-activate at₀ turns₀ t11 t12 at turns = Listing (59 ∷ []) is-activate s from turns at
+Inv-loop s from each at₀ turns₀ t11 t12 at turns = Listing (59 ∷ []) each s from turns at
 
 abbrev μ-loop : tie.MeasureT-loop
-μ-loop s from is-activate at₀ turns₀ t11 t12 at turns = turns
+μ-loop s from each at₀ turns₀ t11 t12 at turns = turns
 
 loop-holds : tie.Need-loop-holds Inv-loop μ-loop
 loop-holds c = listing-start _ _ _ _

@@ -9,11 +9,11 @@ use Rattle.statements.proofs.name_past.Reads as name-past-reads
 use Rattle.tokens.proofs.is_sign.Reads as is-sign-reads
 use Rattle.tokens.proofs.token_at.Reads as token-at-reads
 use mathlib.Core.List.{_∷_, []}
-use mathlib.Core.Bool.{false}
+use Rattle.statements.specs.declared.Each.the-variants as Ea
 use Rattle.statements.proofs.Laws.{Listing, listing-start, listing-end, naming-more, naming-done, naming-refused}
 
 abbrev Inv-loop : tie.InvT-loop
-Inv-loop s from at₀ turns₀ t10 t11 at turns = Listing (41 ∷ []) false s from turns at
+Inv-loop s from at₀ turns₀ t10 t11 at turns = Listing (41 ∷ []) Ea.Name s from turns at
 
 abbrev μ-loop : tie.MeasureT-loop
 μ-loop s from at₀ turns₀ t10 t11 at turns = turns
