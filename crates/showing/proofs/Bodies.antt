@@ -3,17 +3,17 @@
 use Prim.Native.Nat.{ℕ, zero, suc, _+_, _%_, _≤_, _<_}
 use native.Mathlib.Nat.{not-suc-le-zero, add-zero, mod-eq-of-lt}
 use native.Mathlib.Omega.{arith}
-use mathlib.Core.Bool.{Bool, true, false, cond, _&&_}
+use mathlib.Core.Bool.{Bool, true, false, cond}
 use mathlib.Core.List.{List, _∷_}
 use mathlib.Core.Path.{_≡_, refl, sym, ap, subst, _∙_}
-use borrow.Author.Tests.{eqb-true, leb-true, le-leb, ltb-true, ltb-false}
+use borrow.Author.Tests.{eqb-true, le-leb, ltb-true, ltb-false}
 use lib.Dec.{leb, ltb, eqb}
 use lib.ListN.{length, getD, take, drop}
 use lib.Seq.{drop-cons}
 use Rattle.definition.specs.Lists.{part}
-use Rattle.definition.specs.Limits.{deckBytes, deckLines}
-use Rattle.definition.specs.Deck.{count, linePlace, lineAt, linesFrom, lines, line, find, isCalled, areNamed, areDistinct, follow, isSound}
+use Rattle.definition.specs.Deck.{Sought, count, linePlace, lineAt, linesFrom, lines, line, find, isCalled, follow, isSound}
 use Rattle.definition.specs.Run.{bodyOf}
+use Rattle.definition.proofs.Joined.{place-first, place-up, Sound, sound-parts}
 use Rattle.definition.proofs.Keeping.{and-left, and-right}
 use Rattle.definition.proofs.Parts.{length-part}
 use Rattle.deck.specs.Answer.{bodyIn}
@@ -21,16 +21,16 @@ use Rattle.statements.specs.Clauses.{Lies}
 use Rattle.reading.specs.Members.{baseOf}
 
 -- ---- a line that is found is one of the deck
-found-by : (t : Bool) (x d : List ℕ) (i n k : ℕ) → cond t (line i) (find x (suc i) (linesFrom d (suc i) n)) ≡ line k → (find x (suc i) (linesFrom d (suc i) n) ≡ line k → k < suc i + n) → k < i + suc n
+found-by : (t : Bool) (x : Sought) (d : List ℕ) (i n k : ℕ) → cond t (line i) (find x (suc i) (linesFrom d (suc i) n)) ≡ line k → (find x (suc i) (linesFrom d (suc i) n) ≡ line k → k < suc i + n) → k < i + suc n
 found-by true x d i n k e h = let z : i ≡ k = cc in omega arith
 found-by false x d i n k e h = omega (arith, h e)
 
-found-low : (x d : List ℕ) (i n k : ℕ) → find x i (linesFrom d i n) ≡ line k → k < i + n
+found-low : (x : Sought) (d : List ℕ) (i n k : ℕ) → find x i (linesFrom d i n) ≡ line k → k < i + n
 unfolding find linesFrom
 found-low x d i zero k e = let z : _≡_ {A = ℕ} 0 1 = cc in absurd (omega arith)
 found-low x d i (suc n) k e = found-by (isCalled x (lineAt d i)) x d i n k e (found-low x d (suc i) n k)
 
-pub find-low : (d x : List ℕ) (k : ℕ) → find x 0 (lines d) ≡ line k → k < count d
+pub find-low : (d : List ℕ) (x : Sought) (k : ℕ) → find x 0 (lines d) ≡ line k → k < count d
 find-low d x k e = omega (arith, found-low x d 0 (count d) k e)
 
 -- ---- bodies follow in order, up to the end
@@ -58,32 +58,8 @@ between d i (suc n) at end j e h =
         let e : suc i + m ≡ i + suc m = omega arith in
         subst (λ (v : ℕ). Between d at end v) e (record { low = omega (arith, b .low); within = b .within })
 
--- ---- what a sound deck has
-record Bounded (d : List ℕ) : Type 0 where
-  small : length d ≤ 65536
-  some : 0 < count d
-  few : count d ≤ 32
-  follows : follow (linePlace (count d)) (lines d) (length d) ≡ true
-
-bounded : (d : List ℕ) → isSound d ≡ true → Bounded d
-unfolding isSound
-bounded d h =
-    let a : Bool = leb (length d) deckBytes in
-    let b : Bool = leb 1 (count d) in
-    let c : Bool = leb (count d) deckLines in
-    let e : Bool = leb (linePlace (count d)) (length d) in
-    let f : Bool = areNamed (lines d) in
-    let g : Bool = areDistinct (lines d) in
-    let most : (a && b && c) ≡ true = and-left (a && b && c) e (and-left (a && b && c && e) f (and-left (a && b && c && e && f) g (and-left (a && b && c && e && f && g) (follow (linePlace (count d)) (lines d) (length d)) h))) in
-    record {
-      small = leb-true (length d) 65536 (and-left a b (and-left (a && b) c most));
-      some = leb-true 1 (count d) (and-right a b (and-left (a && b) c most));
-      few = leb-true (count d) 32 (and-right (a && b) c most);
-      follows = and-right (a && b && c && e && f && g) (follow (linePlace (count d)) (lines d) (length d)) h;
-    }
-
 pub main-low : (d : List ℕ) → isSound d ≡ true → 0 < count d
-main-low d h = bounded d h .some
+main-low d h = sound-parts d h .some
 
 -- ---- THE BODY of line k
 pub record Lined (d : List ℕ) (k : ℕ) : Type 0 where
@@ -114,19 +90,22 @@ lies-at d from n h = by (ltb from 65536) refl
 pub lined : (d : List ℕ) → isSound d ≡ true → (k : ℕ) → k < count d → Lined d k
 unfolding bodyOf
 lined d sound k l =
-    let b : Bounded d = bounded d sound in
+    let b : Sound d = sound-parts d sound in
     let z : 0 + k ≡ k = omega arith in
-    let w : Between d (linePlace (count d)) (length d) k = subst (λ (v : ℕ). Between d (linePlace (count d)) (length d) v) z (between d 0 (count d) (linePlace (count d)) (length d) k (b .follows) l) in
+    let w : Between d (linePlace d (count d)) (length d) k = subst (λ (v : ℕ). Between d (linePlace d (count d)) (length d) v) z (between d 0 (count d) (linePlace d (count d)) (length d) k (b .following) l) in
     let same : bodyIn d k ≡ bodyOf d k = body-same d k (w .within) in
     record {
-      low = omega (arith, b .few);
+      low = omega (arith, b .members);
       same = same;
       short = subst (λ (s : List ℕ). length s < 65536) (sym same) (short-of w b);
       lies = subst (λ (s : List ℕ). Lies d s (baseOf d k)) (sym same) (lies-of w b);
     }
   where
-    short-of : Between d (linePlace (count d)) (length d) k → Bounded d → length (bodyOf d k) < 65536
-    short-of w b = omega (arith, length-part (lineAt d k .size) (lineAt d k .offset) d, w .low, w .within, b .small, b .some)
+    short-of : Between d (linePlace d (count d)) (length d) k → Sound d → length (bodyOf d k) < 65536
+    short-of w b =
+        let z : 0 + count d ≡ count d = omega arith in
+        let up : linePlace d 0 ≤ linePlace d (count d) = subst (λ (n : ℕ). linePlace d 0 ≤ linePlace d n) z (place-up d 0 (count d)) in
+        omega (arith, length-part (lineAt d k .size) (lineAt d k .offset) d, w .low, w .within, b .few, place-first d, up)
 
-    lies-of : Between d (linePlace (count d)) (length d) k → Bounded d → Lies d (bodyOf d k) (baseOf d k)
-    lies-of w b = lies-at d (lineAt d k .offset) (lineAt d k .size) (omega (arith, w .within, b .small))
+    lies-of : Between d (linePlace d (count d)) (length d) k → Sound d → Lies d (bodyOf d k) (baseOf d k)
+    lies-of w b = lies-at d (lineAt d k .offset) (lineAt d k .size) (omega (arith, w .within, b .few))

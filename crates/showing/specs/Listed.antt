@@ -1,11 +1,12 @@
 -- WHAT A RUN READS AGAIN of a row: the names that its statement lists, its place and its texts.
 use Prim.Native.Nat.{ℕ, _<_, _≤_}
-use mathlib.Core.Bool.{true, false}
+use mathlib.Core.Bool.{true, false, cond}
 use mathlib.Core.Path.{_≡_}
 use mathlib.Core.List.{List, [], _∷_}
 use lib.ListN.{length}
 use Rattle.definition.specs.Tokens.{isSign, tokenAt}
 use Rattle.definition.specs.Expressions.{read}
+use Rattle.definition.specs.Deck.{Sought, bare, inLibrary}
 use Rattle.definition.specs.Program as P
 use Rattle.definition.specs.Statements as St
 use Rattle.rows.specs.declared.Row.{Row}
@@ -27,17 +28,28 @@ Lists s at (P.activate xs) = (c : St.Clause) × (St.activateClause s at ≡ read
 Lists s at (P.deactivate ns) = (c : St.Clause) × (St.deactivateClause s at ≡ read c) × (c .statement ≡ P.deactivate ns)
 Lists s at (P.return x) = Unit {0}
 
--- ---- INCLUDE: the token behind a place is spelled n, and has bytes
-pub record Spells (s : List ℕ) (at : ℕ) (n : List ℕ) : Type 0 where
-  pub is : spelledAt s at ≡ n
-  pub above : at < tokenAt s at .to
-  pub within : tokenAt s at .to ≤ length s
+-- ---- INCLUDE: the item behind a place is a member's name, or a library's and in parentheses a member's
+abbrev pub behindOpen : List ℕ → ℕ → ℕ
+behindOpen s at = tokenAt s (tokenAt s at .to) .to
 
--- names from the place `at` on, with commas between
-abbrev pub Named : List ℕ → ℕ → List (List ℕ) → Type 0
+unfoldable pub soughtAt : List ℕ → ℕ → Sought
+soughtAt s at = cond (isSign "(" (tokenAt s (tokenAt s at .to) .token)) (inLibrary (spelledAt s at) (spelledAt s (behindOpen s at))) (bare (spelledAt s at))
+
+-- where the item ends
+unfoldable pub itemEnd : List ℕ → ℕ → ℕ
+itemEnd s at = cond (isSign "(" (tokenAt s (tokenAt s at .to) .token)) (tokenAt s (tokenAt s (behindOpen s at) .to) .to) (tokenAt s at .to)
+
+-- the item is x, and has bytes
+pub record Spells (s : List ℕ) (at : ℕ) (x : Sought) : Type 0 where
+  pub is : soughtAt s at ≡ x
+  pub above : at < itemEnd s at
+  pub within : itemEnd s at ≤ length s
+
+-- items from the place `at` on, with commas between
+abbrev pub Named : List ℕ → ℕ → List Sought → Type 0
 Named s at [] = ⊥
-Named s at (n ∷ []) = Spells s at n × (isSign "," (tokenAt s (tokenAt s at .to) .token) ≡ false)
-Named s at (n ∷ m ∷ ns) = Spells s at n × (isSign "," (tokenAt s (tokenAt s at .to) .token) ≡ true) × Named s (tokenAt s (tokenAt s at .to) .to) (m ∷ ns)
+Named s at (x ∷ []) = Spells s at x × (isSign "," (tokenAt s (itemEnd s at) .token) ≡ false)
+Named s at (x ∷ y ∷ ys) = Spells s at x × (isSign "," (tokenAt s (itemEnd s at) .token) ≡ true) × Named s (tokenAt s (itemEnd s at) .to) (y ∷ ys)
 
 -- ---- place and texts of a row, in the table and in the definition
 pub record Written (r : Row) (d : P.Row) : Type 0 where
