@@ -16,6 +16,7 @@ use Rattle.definition.specs.Lists.{part, number, all, past, same}
 use Rattle.definition.specs.Bytes.{isLetter, isAlphameric, isBlank}
 use Rattle.definition.specs.Deck as D
 use Rattle.definition.specs.Deck.{Line, first, hasLibraries, count, libraryLength, linePlace, lineAt, linesFrom, lines, isMemberName, areNamed, isRepeated, areDistinct, isPadded, isCalled, find, follow, isSound, contents}
+use Rattle.definition.proofs.Joined.{padded-none, length-lines}
 use Rattle.definition.proofs.Parts.{part-first, length-part, same-length}
 use Rattle.member.specs.Body.{bodyBytes}
 use Rattle.deck.specs.Answer as A
@@ -194,11 +195,6 @@ pub lines-none : (d : List ℕ) (n k : ℕ) → n ≤ k → linesFrom d k (n - k
 unfolding linesFrom
 lines-none d n k h = let e : n - k ≡ 0 = omega arith in rw e
 
-length-lines : (d : List ℕ) (k n : ℕ) → length (linesFrom d k n) ≡ n
-unfolding linesFrom
-length-lines d k zero = refl
-length-lines d k (suc n) = ap suc (length-lines d (suc k) n)
-
 -- ---- the names of a line
 module _ (d : List ℕ) (k : ℕ) (b : Bool) (lib : b ≡ hasLibraries d) where
   module _ (p : ℕ) (t : Bool) (has : b ≡ true) (e : p ≡ linePlace d k) (f : t ≡ isMemberName (part 8 p d)) where
@@ -287,18 +283,12 @@ module _ (d : List ℕ) (at from len : ℕ) where
     pub padded-not : t ≡ false → false ≡ isPadded (part len from d) (part 8 at d)
     padded-not g = rw (padded h, ← f, g)
 
--- no library is nothing padded
-padded-none : (w : List ℕ) → false ≡ isPadded w []
-unfolding isPadded
-padded-none [] = refl
-padded-none (x ∷ w) = refl
-
 module _ (d : List ℕ) (k : ℕ) (w : List ℕ) (b : Bool) (lib : b ≡ hasLibraries d) where
   pub in-library : (p : ℕ) (r : Bool) → b ≡ true → p ≡ linePlace d k → r ≡ isPadded w (part 8 p d) → r ≡ isPadded w (lineAt d k .library)
   in-library p r h e f = f ∙ ap (isPadded w) (library-is d k p (sym lib ∙ h) e)
 
   pub in-none : b ≡ false → false ≡ isPadded w (lineAt d k .library)
-  in-none h = padded-none w ∙ ap (isPadded w) (sym (library-none d k (sym lib ∙ h)))
+  in-none h = sym (ap (isPadded w) (library-none d k (sym lib ∙ h)) ∙ padded-none w)
 
 module _ (d : List ℕ) (k : ℕ) (x : Sought) where
   pub called-bare : (w : Spelled) (p : ℕ) (r : Bool) → x ≡ S.Bare w → p ≡ linePlace d k + libraryLength d → r ≡ isPadded (A.spelled d w) (part 8 p d) → r ≡ isCalled (A.soughtIn d x) (lineAt d k)

@@ -11,7 +11,7 @@ use lib.ListN.{length, getD, length-append, List·getD-append}
 use borrow.Author.Tests.{leb-true, leb-false, le-leb, eqb-true, eq-eqb}
 use Rattle.definition.specs.Limits.{deckBytes, deckLines}
 use Rattle.definition.specs.Lists.{part, number, bytes}
-use Rattle.definition.specs.Deck.{Line, first, hasLibraries, count, libraryLength, linePlace, lineAt, linesFrom, lines, areNamed, isRepeated, areDistinct, Sought, bare, inLibrary, isCalled, none, line, find, follow, isSound}
+use Rattle.definition.specs.Deck.{Line, first, hasLibraries, count, libraryLength, linePlace, lineAt, linesFrom, lines, areNamed, isRepeated, areDistinct, Sought, bare, inLibrary, isPadded, isCalled, none, line, find, follow, isSound}
 use Rattle.definition.specs.Cards.{uneven, columns, records, joinedSize, column, joinedLines, joinedBodies, joined}
 use Rattle.definition.specs.Run.{bodyOf}
 use Rattle.definition.proofs.Parts.{length-part, getD-part, part-of-part, number-bytes}
@@ -77,6 +77,12 @@ columns-part (suc n) at q size d h =
     let x : part 71 (suc (at + q)) d ≡ part 71 (suc q) (part size at d) = ap (λ (z : ℕ). part 71 z d) e ∙ sym (part-of-part 71 (suc q) size at d (omega arith)) in
     let y : columns n (at + q + 80) d ≡ columns n (q + 80) (part size at d) = ap (λ (z : ℕ). columns n z d) f ∙ columns-part n at (q + 80) size d (omega arith) in
     λ i. x i ++ y i
+
+-- ---- a line without a library is in none
+pub padded-none : (w : List ℕ) → isPadded w [] ≡ false
+unfolding isPadded
+padded-none [] = refl
+padded-none (x ∷ w) = refl
 
 -- ---- where the lines of a layout stand; decks with the same first number have the same layout
 pub place-first : (d : List ℕ) → linePlace d 0 ≡ 2

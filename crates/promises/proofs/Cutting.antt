@@ -29,8 +29,8 @@ use Rattle.definition.proofs.Views.{FullEvents, Newest, and-true}
 use Rattle.definition.proofs.Fits.{full-more}
 use Rattle.definition.proofs.Keeping.{Any, Laws, valueless, OfEnd, Leaves, leaves, stops, SoundEntering, entered-sound, unreadable-any, enter-leaves}
 use Rattle.definition.proofs.Members.{memberOf, Copies, Takes, text-out-in, member-leaves-in}
-use Rattle.definition.proofs.Joined.{sound-parts}
-use Rattle.promises.proofs.Deck.{find-range, length-lines}
+use Rattle.definition.proofs.Joined.{sound-parts, length-lines}
+use Rattle.promises.proofs.Deck.{find-range}
 use Rattle.promises.specs.Origin.{Origin, Cuts, GoesOn, Longest, Partition}
 
 -- ---- the same newest first: the newest line has the last bytes

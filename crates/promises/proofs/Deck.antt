@@ -3,7 +3,7 @@
 use Prim.Native.Nat.{ℕ, zero, suc, _+_, _-_, _≤_, _<_}
 use native.Mathlib.Nat.{not-suc-le-zero, add-zero, add-suc, suc-add}
 use native.Mathlib.Omega.{arith}
-use mathlib.Core.Bool.{Bool, true, false, cond, _&&_, false≢true}
+use mathlib.Core.Bool.{Bool, true, false, cond, _&&_}
 use mathlib.Core.List.{List, [], _∷_}
 use mathlib.Core.Path.{_≡_, refl, sym, ap}
 use lib.Dec.{leb, ltb, eqb}
@@ -15,6 +15,7 @@ use Rattle.definition.specs.Room.{over}
 use Rattle.definition.specs.Deck.{Line, first, hasLibraries, count, libraryLength, linePlace, lineAt, linesFrom, lines, Sought, line, find, isCalled, areNamed, areDistinct, follow, isSound}
 use Rattle.definition.specs.Run.{bodyOf}
 use Rattle.definition.proofs.Rooms.{length-over, getD-over-low, getD-over-high}
+use Rattle.definition.proofs.Keeping.{and-left, and-right}
 use Rattle.definition.proofs.Joined.{alike-length, alike-place, place-first, place-next, place-up}
 use Rattle.promises.specs.Unread.{withBody}
 
@@ -28,14 +29,6 @@ part-high zero p at b d h = refl
 part-high (suc n) p at b d h = rw (getD-over-high d at p b h, part-high n (suc p) at b d (omega arith))
 
 -- ---- bodies follow in order
-and-left : (a b : Bool) → (a && b) ≡ true → a ≡ true
-and-left true b e = refl
-and-left false b e = e
-
-and-right : (a b : Bool) → (a && b) ≡ true → b ≡ true
-and-right true b e = e
-and-right false b e = absurd (false≢true e)
-
 -- line i + j lies from `at` on
 follows-low : (d : List ℕ) (i n at end j : ℕ) → follow at (linesFrom d i n) end ≡ true → j < n → at ≤ lineAt d (i + j) .offset
 unfolding follow linesFrom
@@ -64,11 +57,6 @@ find-range x i (l ∷ ls) j e = go (isCalled x l) e (find-range x (suc i) ls j)
     go : (t : Bool) → cond t (line i) (find x (suc i) ls) ≡ line j → (find x (suc i) ls ≡ line j → j < suc i + length ls) → j < i + suc (length ls)
     go true f h = let z : i ≡ j = cc in omega arith
     go false f h = omega (arith, h f)
-
-pub length-lines : (d : List ℕ) (i n : ℕ) → length (linesFrom d i n) ≡ n
-unfolding linesFrom
-length-lines d i zero = refl
-length-lines d i (suc n) = ap suc (length-lines d (suc i) n)
 
 -- what is written behind the first number does not change the layout, nor the lines before it
 module _ (d b : List ℕ) (at : ℕ) (behind : 2 ≤ at) where

@@ -10,24 +10,20 @@ use lib.Dec.{eqb}
 use lib.ListN.{length}
 use Rattle.definition.specs.declared.Why.the-variants.{Syntax as syntax}
 use Rattle.definition.specs.Choice.{when}
+use Rattle.definition.proofs.Joined.{padded-none}
 use Rattle.definition.proofs.Keeping.{and-left}
 use Rattle.definition.specs.Lists.{part, number, same}
 use Rattle.definition.specs.Tokens as Tk
 use Rattle.definition.specs.Tokens.{Token, isSign, tokenAt}
 use Rattle.definition.specs.Expressions.{Reading, read, refused, then, Named, nameAt, expectSign}
 use Rattle.definition.specs.Deck as Deck
-use Rattle.definition.specs.Deck.{Line, hasLibraries, libraryLength, bare, inLibrary, isPadded, none}
+use Rattle.definition.specs.Deck.{Line, hasLibraries, libraryLength, bare, inLibrary, none}
 use Rattle.definition.specs.Program.{include}
 use Rattle.definition.specs.Statements as St
 use Rattle.promises.specs.FirstLayout as F
 use Rattle.promises.specs.FirstLayout.{bareAll, named, ReadSo, alike, opened}
 
 -- ---- the lines of a deck without libraries
-padded-none : (w : List ℕ) → isPadded w [] ≡ false
-unfolding isPadded
-padded-none [] = refl
-padded-none (x ∷ w) = refl
-
 module _ (d : List ℕ) (few : F.count d ≤ 256) where
   without : hasLibraries d ≡ false
   unfolding hasLibraries

@@ -30,7 +30,8 @@ use Rattle.definition.proofs.Choices.{when-has}
 use Rattle.definition.proofs.Follows.{none-extra, Spare, no-more, Follows, Fol, goes, halts, lacks, same, bind-follows, FollowingCall, calls-follows, evaluate-follows, lead-follows, runOn-follows}
 use Rattle.definition.proofs.FollowsRun.{G, T, Enters, enters, refuses, enter-follows, at-place, activate-all, activations-follows, text-out, jump-from}
 use Rattle.promises.specs.Unread.{Halt, halted, barred, InnerBut, LevelBut, noLevelBut, levelBut, cameOutBut, includeEnteredBut, includeLineBut, includeAtBut, includeAllBut, actBut, machineBut, runSourceBut, runBut, AtBar, MainAtBar, withBody, Unread}
-use Rattle.promises.proofs.Deck.{find-range, length-lines, lines-same, sound-same, body-same}
+use Rattle.definition.proofs.Joined.{length-lines}
+use Rattle.promises.proofs.Deck.{find-range, lines-same, sound-same, body-same}
 
 abbrev Never : Why → Type 0
 Never e = ⊥
