@@ -18,6 +18,10 @@ extern "C" {
 #define MUHAREGODEN_WORK 65536u
 #define MUHAREGODEN_JOINED 65536u
 
+/* The bytes of stack that the call may take below its caller, whatever the deck. With less the process may die by a
+ * signal. docs/CALLING.md says how a thread gets so much. */
+#define MUHAREGODEN_STACK 4194304u
+
 /* What the bodies of a deck are. Any other number is taken as cards. */
 #define MUHAREGODEN_PLAIN 0u    /* source as it stands */
 #define MUHAREGODEN_CARDS 1u    /* records of 80 bytes without line ends, source in columns 2 to 72 */
