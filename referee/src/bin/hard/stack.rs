@@ -199,11 +199,11 @@ fn fifteen() -> Bodies {
     deep(LISTS, &less)
 }
 
-/// The eighth member is read with a procedure, 16 groups and a 17th parenthesis in them.
+/// The eighth member is read with a procedure, 16 groups and alternatives in it, and a 17th parenthesis in these.
 fn reading() -> Bodies {
-    let open = "DO;".repeat(8) + &"IF 1 THEN DO;".repeat(4);
-    let value = nested(OPERATORS, "(1)");
-    let ends = "END;".repeat(12);
+    let open = "DO;".repeat(7) + &"IF 1 THEN DO;".repeat(4);
+    let value = nested(OPERATORS_AND_LISTS, "(1)");
+    let ends = "END;".repeat(11);
     included(
         String::new(),
         &format!("%P:PROC RETURNS(FIXED);{open}DO A=1 TO {value};END;{ends}RETURN(1);%END;"),
