@@ -3,6 +3,9 @@
 //! `hard --names` prints for each deck its name and the number of its answer; `hard NAME` writes that deck as a
 //! record with the rooms and steps of the program.
 
+#[path = "hard/stack.rs"]
+mod stack;
+
 use std::env;
 use std::io::{self, Write};
 use std::process::ExitCode;
@@ -174,15 +177,24 @@ fn main() -> ExitCode {
 
 fn print_names() -> io::Result<()> {
     let mut output = io::stdout().lock();
-    for (name, number, _) in DECKS.iter().chain(CARD_DECKS) {
+    for (name, number, _) in plain_decks().chain(card_decks()) {
         writeln!(output, "{name} {number}")?;
     }
     Ok(())
 }
 
+fn plain_decks() -> impl Iterator<Item = &'static Deck> {
+    DECKS.iter().chain(stack::DECKS)
+}
+
+fn card_decks() -> impl Iterator<Item = &'static Deck> {
+    CARD_DECKS.iter().chain(stack::CARD_DECKS)
+}
+
 fn write_deck(wanted: &str) -> io::Result<()> {
-    let find = |decks: &'static [Deck]| decks.iter().find(|(name, _, _)| *name == wanted);
-    let (layout, deck) = match (find(DECKS), find(CARD_DECKS)) {
+    let is_wanted = |deck: &&Deck| deck.0 == wanted;
+    let found = (plain_decks().find(is_wanted), card_decks().find(is_wanted));
+    let (layout, deck) = match found {
         (Some((_, _, bodies)), _) => (Layout::Plain, deck_of(&bodies())),
         (None, Some((_, _, bodies))) => (Layout::Cards, cards_of(&bodies())),
         _ => return Err(io::Error::other(format!("no deck is named {wanted}"))),
