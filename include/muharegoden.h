@@ -18,6 +18,10 @@ extern "C" {
 #define MUHAREGODEN_WORK 65536u
 #define MUHAREGODEN_JOINED 65536u
 
+/* The bytes of stack that a call may take below its caller. Where there is less, as in a Rust thread unless its size is
+ * set, a deck can make the process die by a signal. docs/CALLING.md says how a thread gets so much. */
+#define MUHAREGODEN_STACK 4194304u
+
 /* What the bodies of a deck are. Any other number is taken as cards. */
 #define MUHAREGODEN_PLAIN 0u    /* source as it stands */
 #define MUHAREGODEN_CARDS 1u    /* records of 80 bytes without line ends, source in columns 2 to 72 */
@@ -38,7 +42,8 @@ enum muharegoden_number {
 
 /*
  * Expands a deck. Every length is a count of elements, and any is allowed: any bytes of any length are a deck, and
- * a working room that is too short is refused with number 2. The call always returns.
+ * a working room that is too short is refused with number 2. The call always returns, if its thread has
+ * MUHAREGODEN_STACK bytes of stack left.
  *
  * cards     says whether the deck is plain (0) or its bodies are card images.
  * text      gets the text: numbers[MUHAREGODEN_TEXT_SIZE] bytes, and zeros from there to its end.

@@ -3,6 +3,9 @@
 //! `hard --names` prints for each deck its name and the number of its answer; `hard NAME` writes that deck as a
 //! record with the rooms and steps of the program.
 
+#[path = "hard/stack.rs"]
+mod stack;
+
 use std::env;
 use std::io::{self, Write};
 use std::process::ExitCode;
@@ -233,24 +236,31 @@ fn main() -> ExitCode {
 
 fn print_names() -> io::Result<()> {
     let mut output = io::stdout().lock();
-    let decks = DECKS.iter().chain(CARD_DECKS);
-    let names = decks.map(|(name, number, _)| (name, number));
+    let names = plain_decks().chain(card_decks());
     let more = LIBRARY_DECKS
         .iter()
         .map(|(name, number, ..)| (name, number));
-    for (name, number) in names.chain(more) {
+    for (name, number) in names.map(|(name, number, _)| (name, number)).chain(more) {
         writeln!(output, "{name} {number}")?;
     }
     Ok(())
 }
 
+fn plain_decks() -> impl Iterator<Item = &'static Deck> {
+    DECKS.iter().chain(stack::DECKS)
+}
+
+fn card_decks() -> impl Iterator<Item = &'static Deck> {
+    CARD_DECKS.iter().chain(stack::CARD_DECKS)
+}
+
 /// The deck of this name, and how its bodies are laid out.
 fn deck_named(wanted: &str) -> Option<(Layout, Vec<u8>)> {
-    let find = |decks: &'static [Deck]| decks.iter().find(|(name, _, _)| *name == wanted);
-    if let Some((_, _, bodies)) = find(DECKS) {
+    let is_wanted = |deck: &&Deck| deck.0 == wanted;
+    if let Some((_, _, bodies)) = plain_decks().find(is_wanted) {
         return Some((Layout::Plain, deck_of(&bodies())));
     }
-    if let Some((_, _, bodies)) = find(CARD_DECKS) {
+    if let Some((_, _, bodies)) = card_decks().find(is_wanted) {
         return Some((Layout::Cards, cards_of(&bodies())));
     }
     let (_, _, layout, lines) = LIBRARY_DECKS.iter().find(|(name, ..)| *name == wanted)?;
