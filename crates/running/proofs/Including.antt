@@ -45,7 +45,7 @@ module _ (d : List ℕ) (p m r : ℕ) (on : List Place) where
   ended-by (good (F.returned z) v) next more h = h v
   ended-by (good (F.went t) v) next more h = refl
 
-  pub include-is : (n : ℕ) (ns : List (List ℕ)) (w : World)
+  pub include-is : (n : ℕ) (ns : List Deck.Sought) (w : World)
       → Run.includeAll (levelOf n d) d p m r on ns w ≡ bind (includeOn n d p m (record { member = m; row = r } ∷ on) ns w) (λ x v. Run.cameOut m x v (λ u. good F.passed u))
   unfolding Run.includeAll includeOn
   include-is n [] w = refl

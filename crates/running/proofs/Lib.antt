@@ -6,4 +6,5 @@ pub mod Turning
 pub mod Looping
 pub mod Values
 pub mod Entering
+pub mod Seeking
 pub mod Naming

@@ -1,18 +1,15 @@
 -- INCLUDE: the member that a name means, and the members of a list one after the other.
 -- Assumes nothing.
 use mathlib.Core.Path.{_≡_, refl, sym, ap, subst, _∙_}
-use mathlib.Core.Bool.{Bool, true, false, cond, _&&_}
+use mathlib.Core.Bool.{Bool, true, false}
 use mathlib.Core.List.{List, [], _∷_}
 use Prim.Native.Nat.{ℕ, zero, suc, _+_, _-_, _<_, _≤_}
 use native.Mathlib.Omega.{arith}
-use borrow.Author.Tests.{leb-true}
-use lib.Dec.{leb}
-use lib.ListN.{length, take, drop}
-use Rattle.definition.specs.Lists.{part}
-use Rattle.definition.specs.Limits.{deckBytes, deckLines, includeLevels}
+use lib.ListN.{length}
+use Rattle.definition.specs.Limits.{includeLevels}
 use Rattle.definition.specs.Tokens.{isSign, tokenAt}
 use Rattle.definition.specs.Deck as Deck
-use Rattle.definition.specs.Deck.{lineAt, isSound, count, lines, find}
+use Rattle.definition.specs.Deck.{isSound, count, lines, find}
 use Rattle.definition.specs.Reading.{readMember}
 use Rattle.definition.specs.World.{World, Res, good, bad, bind, rowsOf}
 use Rattle.definition.specs.Program as P
@@ -22,11 +19,10 @@ use Rattle.definition.specs.Run as Run
 use Rattle.definition.specs.Run.{bodyOf}
 use Rattle.definition.specs.declared.Why.{Why}
 use Rattle.definition.specs.declared.Why.the-variants.{UnknownMember, TooDeep}
-use Rattle.definition.proofs.Keeping.{and-left}
-use Rattle.definition.proofs.Parts.{length-part, part-of-part}
 use Rattle.deck.specs.declared.Found.{Found}
 use Rattle.deck.specs.declared.Found.the-variants as Fo
-use Rattle.deck.specs.Answer.{bodyIn, foundFor}
+use Rattle.deck.specs.declared.Sought.{Sought}
+use Rattle.deck.specs.Answer.{bodyIn, foundFor, soughtIn}
 use Rattle.tokens.specs.declared.Lexeme.{Lexeme}
 use Rattle.tokens.specs.Answer.{Lexed, isSignIn}
 use Rattle.callees.specs.Shown.{worldIn}
@@ -37,9 +33,9 @@ use Rattle.rows.specs.Parts.{startIn, StartsAt}
 use Rattle.rows.specs.declared.Row.{Row}
 use Rattle.rows.specs.declared.Starts.{Starts}
 use Rattle.showing.specs.Worlds.{Laid}
-use Rattle.showing.specs.Listed.{Spells, Named}
+use Rattle.showing.specs.Listed.{itemEnd, Spells, Named}
 use Rattle.showing.specs.Later.{Grew}
-use Rattle.showing.proofs.Bodies.{Lined, lined, find-low}
+use Rattle.showing.proofs.Bodies.{find-low}
 use Rattle.showing.proofs.Including.{named-first, named-more, named-last, named-few}
 use Rattle.showing.proofs.Later.{later-rows, later-size}
 use Rattle.showing.proofs.Returning.{back-laid}
@@ -54,56 +50,14 @@ use Rattle.stepping.specs.declared.Ended.{Ended}
 use Rattle.stepping.specs.declared.Ended.the-variants as En
 use Rattle.stepping.specs.Stage.{Stage, partHere}
 use Rattle.stepping.specs.Steps.{EndNow}
-use Rattle.sums.specs.Numbers.{greatest, sumTo}
-use Rattle.sums.proofs.Laws.{sum-fits}
+use Rattle.running.specs.declared.Item.{Item}
 use Rattle.running.specs.declared.Left.{Left}
 use Rattle.running.specs.Included.{enterRun, foundRun, endOn, includeOn}
-use Rattle.running.specs.Members.{hereAt, Since, EndsAs, Running, FoundIs, IncludeOneIs, IncludeAllIs, EnterIs}
+use Rattle.running.specs.Members.{hereAt, Since, EndsAs, Running, Within, ItemIs, FoundIs, IncludeOneIs, IncludeAllIs, EnterIs}
 use Rattle.running.specs.Readers.{StartedAt, stoppedAt}
 use Rattle.running.specs.Ways.{leftAt}
 use Rattle.running.proofs.Afterwards.{since-none, since-on, stand-later}
 use Rattle.running.proofs.Entering.{here-is}
-
--- ---- a name in the body of a member is the same bytes in the deck
-body-there : (d : List ℕ) (k : ℕ) → 0 < length (bodyIn d k) → lineAt d k .offset + lineAt d k .size ≤ length d
-unfolding bodyIn
-body-there d k l = by (leb (lineAt d k .offset + lineAt d k .size) (length d)) refl l
-  where
-    by : (b : Bool) → leb (lineAt d k .offset + lineAt d k .size) (length d) ≡ b → 0 < length (cond b (take (lineAt d k .size) (drop (lineAt d k .offset) d)) []) → lineAt d k .offset + lineAt d k .size ≤ length d
-    by true e h = leb-true (lineAt d k .offset + lineAt d k .size) (length d) e
-    by false e h = absurd (omega (arith, h))
-
-deck-small : (d : List ℕ) → isSound d ≡ true → length d ≤ 65536
-unfolding isSound
-deck-small d h =
-    let a : Bool = leb (length d) deckBytes in
-    let b : Bool = leb 1 (count d) in
-    let c : Bool = leb (count d) deckLines in
-    let e : Bool = leb (Deck.linePlace (count d)) (length d) in
-    let f : Bool = Deck.areNamed (lines d) in
-    let g : Bool = Deck.areDistinct (lines d) in
-    leb-true (length d) 65536 (and-left a b (and-left (a && b) c (and-left (a && b && c) e (and-left (a && b && c && e) f (and-left (a && b && c && e && f) g
-    (and-left (a && b && c && e && f && g) (Deck.follow (Deck.linePlace (count d)) (lines d) (length d)) h))))))
-
-name-there : (d : List ℕ) (m from to : ℕ) → isSound d ≡ true → m < count d → to ≤ length (bodyIn d m) → part (to - from) (sumTo greatest (lineAt d m .offset) from) d ≡ part (to - from) from (bodyIn d m)
-unfolding bodyOf
-name-there d m from to sound line h = by (to - from) refl
-  where
-    by : (n : ℕ) → to - from ≡ n → part n (sumTo greatest (lineAt d m .offset) from) d ≡ part n from (bodyIn d m)
-    by zero e = refl
-    by (suc n) e =
-        let b : Lined d m = lined d sound m line in
-        let there : lineAt d m .offset + lineAt d m .size ≤ length d = body-there d m (omega (arith, e, h)) in
-        let size : length (bodyIn d m) ≡ lineAt d m .size = ap (λ (s : List ℕ). length s) (b .same) ∙ length-part (lineAt d m .size) (lineAt d m .offset) d in
-        let small : length d ≤ 65536 = deck-small d sound in
-        rw (sum-fits (lineAt d m .offset) from (omega (arith, there, small, e, h, size)))
-        (sym (part-of-part (suc n) from (lineAt d m .size) (lineAt d m .offset) d (omega (arith, e, h, size))) ∙ ap (λ (s : List ℕ). part (suc n) from s) (sym (b .same)))
-
-pub member-found : (d : List ℕ) (m : ℕ) (t : Lexeme) (base p n : ℕ) (r : Found) → base ≡ lineAt d m .offset → p ≡ sumTo greatest base (t .from) → n ≡ t .to - t .from → r ≡ foundFor (find (part n p d) 0 (lines d)) → FoundIs d m t r
-member-found d m t base p n r e f q k = record {
-  is = λ sound line h. k ∙ ap (λ (x : List ℕ). foundFor (find x 0 (lines d)))
-      (ap (λ (i : ℕ). part i p d) q ∙ ap (λ (i : ℕ). part (t .to - t .from) i d) (f ∙ ap (λ (i : ℕ). sumTo greatest i (t .from)) e) ∙ name-there d m (t .from) (t .to) sound line h);
-}
 
 -- ---- ONE NAME: 14, 15, then the member
 found-none : (x : Deck.Found) → foundFor x ≡ Fo.Nothing → x ≡ Deck.none
@@ -131,12 +85,12 @@ ends-in on deck rows B rows′ names c l h w t ls k m R r x = record { world = x
     by (En.Went z g) y = record { stage = y .stage; is = y .is; reaches = y .reaches }
     by (En.Bad z g) y = y
 
-module _ (deck rows names c l h w t ls : List ℕ) (x : Lexeme) (p : ℕ) (below : Below) (here : Here) (left : ℕ) (g : Progress) (f : Found) (named : FoundIs deck (here .member) x f) where
+module _ (deck rows names c l h w t ls : List ℕ) (x : Sought) (p : ℕ) (below : Below) (here : Here) (left : ℕ) (g : Progress) (f : Found) (named : FoundIs deck (here .member) x f) where
   abbrev found : Deck.Found
-  found = find (part (x .to - x .from) (x .from) (bodyIn deck (here .member))) 0 (lines deck)
+  found = find (soughtIn (bodyIn deck (here .member)) x) 0 (lines deck)
 
   -- a refusal here
-  one-refused : (e : Why) → (isSound deck ≡ true → here .member < count deck → x .to ≤ length (bodyIn deck (here .member)) → (v : World) → foundRun found left deck p (here .member) (belowOf below) v ≡ bad (Run.stop (here .member) p e) (v .used))
+  one-refused : (e : Why) → (isSound deck ≡ true → here .member < count deck → Within (length (bodyIn deck (here .member))) x → (v : World) → foundRun found left deck p (here .member) (belowOf below) v ≡ bad (Run.stop (here .member) p e) (v .used))
       → IncludeOneIs deck rows names c l h w t ls x p below here left g rows names c l h w t ls (leftAt here (stoppedAt g e (here .member) p))
   one-refused e q = record { is = λ B S sound line within stand deep some. record { world = B; since = since-none rows B; now = q sound line within (worldIn B c l h (g .meter .used)) } }
 
@@ -165,7 +119,7 @@ module _ (deck rows names c l h w t ls : List ℕ) (x : Lexeme) (p : ℕ) (below
             ap (λ (z : Deck.Found). foundRun z left deck p (here .member) (belowOf below) v) is ∙ run-line left deck p (here .member) k (belowOf below) v some in
             subst (λ (z : Res Run.Stop F.End). EndsAs (belowOf below) deck rows B rows′ names′ c′ l′ h′ w′ t′ ls′ (here .member) z r) (sym same)
             (ends-in (belowOf below) deck rows B rows′ names′ c′ l′ h′ w′ t′ ls′ k (here .member) (enterRun (left - 1) deck k (belowOf below) v) r
-            (enter .is B S sound (find-low deck (part (x .to - x .from) (x .from) (bodyIn deck (here .member))) k is) stand (omega (arith, deep, some))));
+            (enter .is B S sound (find-low deck (soughtIn (bodyIn deck (here .member)) x) k is) stand (omega (arith, deep, some))));
       }
 
 -- ---- BACK in the member m, which is looked at where it was
@@ -205,11 +159,11 @@ end-back on deck rows k m starts starts′ R names c l h w t ls B f (En.Bad z g)
 
 -- ---- THE LIST of an INCLUDE, which stands at row n of the member, at a place; its names begin behind `from`. `inner` has the INCLUDE itself
 module _ (deck rows names c l h w t ls : List ℕ) (n left place from : ℕ) (inner : Below) (before : Here) (g₀ : Progress) where
-  abbrev namesLeft : List (List ℕ) → World → Res Run.Stop F.End
+  abbrev namesLeft : List Deck.Sought → World → Res Run.Stop F.End
   namesLeft ns v = includeOn left deck place (before .member) (belowOf inner) ns v
 
   -- what is asked of the world at first, and of the names
-  pub record Asked (B : World) (ns : List (List ℕ)) : Type 0 where
+  pub record Asked (B : World) (ns : List Deck.Sought) : Type 0 where
     pub stage : Stage deck rows names c l h w t ls (before .starts) g₀ B
     pub sound : isSound deck ≡ true
     pub line : before .member < count deck
@@ -221,12 +175,12 @@ module _ (deck rows names c l h w t ls : List ℕ) (n left place from : ℕ) (in
     pub named : Named (bodyIn deck (before .member)) from ns
 
   -- the names that are left, in a world that the rooms show now
-  pub record Now (B : World) (ns : List (List ℕ)) (rows₁ names₁ c₁ l₁ h₁ w₁ t₁ ls₁ : List ℕ) (starts : Starts) (at : ℕ) (g : Progress) (turns : ℕ) : Type 0 where
+  pub record Now (B : World) (ns : List Deck.Sought) (rows₁ names₁ c₁ l₁ h₁ w₁ t₁ ls₁ : List ℕ) (starts : Starts) (at : ℕ) (g : Progress) (turns : ℕ) : Type 0 where
     pub world : World
     pub since : Since rows B rows₁ world
     pub stage : Stage deck rows₁ names₁ c₁ l₁ h₁ w₁ t₁ ls₁ starts g world
     pub start : startIn starts (before .member) ≡ startIn (before .starts) (before .member)
-    pub rest : List (List ℕ)
+    pub rest : List Deck.Sought
     pub named : Named (bodyIn deck (before .member)) at rest
     pub few : length rest ≤ turns
     pub same : namesLeft rest (worldIn world c₁ l₁ h₁ (g .meter .used)) ≡ namesLeft ns (worldIn B c l h (g₀ .meter .used))
@@ -234,10 +188,10 @@ module _ (deck rows names c l h w t ls : List ℕ) (n left place from : ℕ) (in
   -- THE INVARIANT of the loop
   pub record Going (rows₁ names₁ c₁ l₁ h₁ w₁ t₁ ls₁ : List ℕ) (here : Here) (at : ℕ) (g : Progress) (turns : ℕ) : Type 0 where
     pub member : here .member ≡ before .member
-    pub is : (B : World) (ns : List (List ℕ)) → Asked B ns → Now B ns rows₁ names₁ c₁ l₁ h₁ w₁ t₁ ls₁ (here .starts) at g turns
+    pub is : (B : World) (ns : List Deck.Sought) → Asked B ns → Now B ns rows₁ names₁ c₁ l₁ h₁ w₁ t₁ ls₁ (here .starts) at g turns
 
   -- an answer of all of them, and where the member is looked at
-  abbrev Answered : List ℕ → List ℕ → List ℕ → List ℕ → List ℕ → List ℕ → List ℕ → List ℕ → Left → World → List (List ℕ) → Type 0
+  abbrev Answered : List ℕ → List ℕ → List ℕ → List ℕ → List ℕ → List ℕ → List ℕ → List ℕ → Left → World → List Deck.Sought → Type 0
   Answered rows₂ names₂ c₂ l₂ h₂ w₂ t₂ ls₂ y B ns =
       EndsAs (belowOf inner) deck rows B rows₂ names₂ c₂ l₂ h₂ w₂ t₂ ls₂ (before .member) (namesLeft ns (worldIn B c l h (g₀ .meter .used))) y × (startIn (y .starts) (before .member) ≡ startIn (before .starts) (before .member))
 
@@ -258,37 +212,31 @@ module _ (deck rows names c l h w t ls : List ℕ) (n left place from : ℕ) (in
     }
 
     -- a turn: the member of the name at a place is run
-    module _ (rows₁ names₁ c₁ l₁ h₁ w₁ t₁ ls₁ : List ℕ) (here : Here) (at : ℕ) (g : Progress) (turns : ℕ) (going : Going rows₁ names₁ c₁ l₁ h₁ w₁ t₁ ls₁ here at g turns) (tk : Lexeme) (lex : Lexed s at tk)
-        (rows₂ names₂ c₂ l₂ h₂ w₂ t₂ ls₂ : List ℕ) (x : Left) (ran : IncludeOneIs deck rows₁ names₁ c₁ l₁ h₁ w₁ t₁ ls₁ tk place inner here left g rows₂ names₂ c₂ l₂ h₂ w₂ t₂ ls₂ x) (here₂ : Here)
+    module _ (rows₁ names₁ c₁ l₁ h₁ w₁ t₁ ls₁ : List ℕ) (here : Here) (at : ℕ) (g : Progress) (turns : ℕ) (going : Going rows₁ names₁ c₁ l₁ h₁ w₁ t₁ ls₁ here at g turns) (it : Item) (item : ItemIs s at it)
+        (rows₂ names₂ c₂ l₂ h₂ w₂ t₂ ls₂ : List ℕ) (x : Left) (ran : IncludeOneIs deck rows₁ names₁ c₁ l₁ h₁ w₁ t₁ ls₁ (it .sought) place inner here left g rows₂ names₂ c₂ l₂ h₂ w₂ t₂ ls₂ x) (here₂ : Here)
         (back : StartedAt here (x .starts) (startIn (here .starts) (here .member)) here₂) where
-      record Past (B : World) (ns : List (List ℕ)) : Type 0 where
+      record Past (B : World) (ns : List Deck.Sought) : Type 0 where
         world : World
         since : Since rows B rows₂ world
         start : startIn (here₂ .starts) (before .member) ≡ startIn (before .starts) (before .member)
-        first : List ℕ
-        rest : List (List ℕ)
+        first : Deck.Sought
+        rest : List Deck.Sought
         named : Named (bodyIn deck (before .member)) at (first ∷ rest)
         few : suc (length rest) ≤ turns
         answer : Res Run.Stop F.End
         now : EndNow (belowOf inner) deck rows₂ names₂ c₂ l₂ h₂ w₂ t₂ ls₂ (hereAt (before .member) (here₂ .starts)) answer world (x .ended)
         same : bind answer (λ e v. endOn e v (λ u. namesLeft rest u)) ≡ namesLeft ns (worldIn B c l h (g₀ .meter .used))
 
-      ran-here : IncludeOneIs deck rows₁ names₁ c₁ l₁ h₁ w₁ t₁ ls₁ tk place inner (hereAt (before .member) (here .starts)) left g rows₂ names₂ c₂ l₂ h₂ w₂ t₂ ls₂ x
-      ran-here = subst (λ (y : Here). IncludeOneIs deck rows₁ names₁ c₁ l₁ h₁ w₁ t₁ ls₁ tk place inner y left g rows₂ names₂ c₂ l₂ h₂ w₂ t₂ ls₂ x) (here-is here (before .member) (going .member)) ran
+      ran-here : IncludeOneIs deck rows₁ names₁ c₁ l₁ h₁ w₁ t₁ ls₁ (it .sought) place inner (hereAt (before .member) (here .starts)) left g rows₂ names₂ c₂ l₂ h₂ w₂ t₂ ls₂ x
+      ran-here = subst (λ (y : Here). IncludeOneIs deck rows₁ names₁ c₁ l₁ h₁ w₁ t₁ ls₁ (it .sought) place inner y left g rows₂ names₂ c₂ l₂ h₂ w₂ t₂ ls₂ x) (here-is here (before .member) (going .member)) ran
 
       starts-here : StartsAt (x .starts) (before .member) (startIn (here .starts) (before .member)) (here₂ .starts)
       starts-here = subst (λ (k : ℕ). StartsAt (x .starts) k (startIn (here .starts) k) (here₂ .starts)) (going .member) (back .starts)
 
-      lexed : Lexed (bodyIn deck (before .member)) at tk
-      lexed = subst (λ (z : List ℕ). Lexed z at tk) body lex
+      item-here : ItemIs (bodyIn deck (before .member)) at it
+      item-here = subst (λ (z : List ℕ). ItemIs z at it) body item
 
-      -- the bytes of the token are the name
-      spelled : (y : List ℕ) → Spells (bodyIn deck (before .member)) at y → part (tk .to - tk .from) (tk .from) (bodyIn deck (before .member)) ≡ y
-      spelled y k =
-          ap (λ (i : ℕ). part (i - tk .from) (tk .from) (bodyIn deck (before .member))) (lexed .to)
-          ∙ ap (λ (i : ℕ). part (tokenAt (bodyIn deck (before .member)) at .to - i) i (bodyIn deck (before .member))) (lexed .from) ∙ k .is
-
-      passed : (B : World) (ns : List (List ℕ)) → Asked B ns → Past B ns
+      passed : (B : World) (ns : List Deck.Sought) → Asked B ns → Past B ns
       unfolding includeOn
       passed B ns a = by (z .rest) (z .named) (z .few) (z .same)
         where
@@ -298,15 +246,15 @@ module _ (deck rows names c l h w t ls : List ℕ) (n left place from : ℕ) (in
           there : n < length (rowsOf (before .member) (z .world))
           there = later-size B (z .world) (before .member) n (z .since .later) (a .there)
 
-          by : (qs : List (List ℕ)) → Named (bodyIn deck (before .member)) at qs → length qs ≤ turns → namesLeft qs (worldIn (z .world) c₁ l₁ h₁ (g .meter .used)) ≡ namesLeft ns (worldIn B c l h (g₀ .meter .used)) → Past B ns
+          by : (qs : List Deck.Sought) → Named (bodyIn deck (before .member)) at qs → length qs ≤ turns → namesLeft qs (worldIn (z .world) c₁ l₁ h₁ (g .meter .used)) ≡ namesLeft ns (worldIn B c l h (g₀ .meter .used)) → Past B ns
           by [] k few same = absurd k
           by (y ∷ ys) k few same =
               let sp : Spells (bodyIn deck (before .member)) at y = named-first (bodyIn deck (before .member)) at y ys k in
               let v : World = worldIn (z .world) c₁ l₁ h₁ (g .meter .used) in
               let R : Res Run.Stop F.End = foundRun (find y 0 (lines deck)) left deck place (before .member) (belowOf inner) v in
               let ends : EndsAs (belowOf inner) deck rows₁ (z .world) rows₂ names₂ c₂ l₂ h₂ w₂ t₂ ls₂ (before .member) R x =
-              subst (λ (q : List ℕ). EndsAs (belowOf inner) deck rows₁ (z .world) rows₂ names₂ c₂ l₂ h₂ w₂ t₂ ls₂ (before .member) (foundRun (find q 0 (lines deck)) left deck place (before .member) (belowOf inner) v) x) (spelled y sp)
-              (ran-here .is (z .world) (z .stage) (a .sound) (a .line) (omega (arith, lexed .to, sp .within)) (stand-later (belowOf inner) B (z .world) (z .since .later) (a .stand)) (a .deep) (a .some)) in
+              subst (λ (q : Deck.Sought). EndsAs (belowOf inner) deck rows₁ (z .world) rows₂ names₂ c₂ l₂ h₂ w₂ t₂ ls₂ (before .member) (foundRun (find q 0 (lines deck)) left deck place (before .member) (belowOf inner) v) x) (item-here .is ∙ sp .is)
+              (ran-here .is (z .world) (z .stage) (a .sound) (a .line) (item-here .within (length (bodyIn deck (before .member))) (sp .within)) (stand-later (belowOf inner) B (z .world) (z .since .later) (a .stand)) (a .deep) (a .some)) in
               record {
                 world = ends .world;
                 since = since-on rows rows₁ rows₂ B (z .world) (ends .world) (z .since) (ends .since);
@@ -323,7 +271,7 @@ module _ (deck rows names c l h w t ls : List ℕ) (n left place from : ℕ) (in
               }
 
       -- a GOTO or a refusal ends the list
-      went : (q : Label) (g₂ : Progress) → x .ended ≡ En.Went q g₂ → (B : World) (ns : List (List ℕ)) → Asked B ns → Answered rows₂ names₂ c₂ l₂ h₂ w₂ t₂ ls₂ (leftAt here₂ (En.Went q g₂)) B ns
+      went : (q : Label) (g₂ : Progress) → x .ended ≡ En.Went q g₂ → (B : World) (ns : List Deck.Sought) → Asked B ns → Answered rows₂ names₂ c₂ l₂ h₂ w₂ t₂ ls₂ (leftAt here₂ (En.Went q g₂)) B ns
       went q g₂ e B ns a =
           let k : Past B ns = passed B ns a in
           let d : EndNow (belowOf inner) deck rows₂ names₂ c₂ l₂ h₂ w₂ t₂ ls₂ (hereAt (before .member) (here₂ .starts)) (k .answer) (k .world) (En.Went q g₂) =
@@ -336,7 +284,7 @@ module _ (deck rows names c l h w t ls : List ℕ) (n left place from : ℕ) (in
             k .start,
           )
 
-      stops : (q : Stop) (g₂ : Progress) → x .ended ≡ En.Bad q g₂ → (B : World) (ns : List (List ℕ)) → Asked B ns → Answered rows₂ names₂ c₂ l₂ h₂ w₂ t₂ ls₂ (leftAt here₂ (En.Bad q g₂)) B ns
+      stops : (q : Stop) (g₂ : Progress) → x .ended ≡ En.Bad q g₂ → (B : World) (ns : List Deck.Sought) → Asked B ns → Answered rows₂ names₂ c₂ l₂ h₂ w₂ t₂ ls₂ (leftAt here₂ (En.Bad q g₂)) B ns
       stops q g₂ e B ns a =
           let k : Past B ns = passed B ns a in
           let d : k .answer ≡ bad (stopFor q) (g₂ .meter .used) =
@@ -344,17 +292,17 @@ module _ (deck rows names c l h w t ls : List ℕ) (n left place from : ℕ) (in
           (record { world = k .world; since = k .since; now = sym (k .same) ∙ ap (λ (v : Res Run.Stop F.End). bind v (λ b u. endOn b u (λ i. namesLeft (k .rest) i))) d }, k .start)
 
       -- the member has run: the next name, or the end
-      module _ (g₂ : Progress) (e : x .ended ≡ En.Ran g₂) (cm : Lexeme) (lex₂ : Lexed s (tk .to) cm) (b : Bool) (sign : b ≡ isSignIn s cm (44 ∷ [])) where
-        comma : (v : Bool) → b ≡ v → isSign "," (tokenAt (bodyIn deck (before .member)) (tokenAt (bodyIn deck (before .member)) at .to) .token) ≡ v
-        comma v q = subst (λ (z : List ℕ). isSign "," (tokenAt z (tokenAt z at .to) .token) ≡ v) body (subst (λ (i : ℕ). isSign "," (tokenAt s i .token) ≡ v) (lex .to) (told s (tk .to) cm lex₂ "," (44 ∷ []) b v refl sign q))
+      module _ (g₂ : Progress) (e : x .ended ≡ En.Ran g₂) (cm : Lexeme) (lex₂ : Lexed s (it .to) cm) (b : Bool) (sign : b ≡ isSignIn s cm (44 ∷ [])) where
+        comma : (v : Bool) → b ≡ v → isSign "," (tokenAt (bodyIn deck (before .member)) (itemEnd (bodyIn deck (before .member)) at) .token) ≡ v
+        comma v q = subst (λ (z : List ℕ). isSign "," (tokenAt z (itemEnd z at) .token) ≡ v) body (subst (λ (i : ℕ). isSign "," (tokenAt s i .token) ≡ v) (item .to) (told s (it .to) cm lex₂ "," (44 ∷ []) b v refl sign q))
 
-        behind : cm .to ≡ tokenAt (bodyIn deck (before .member)) (tokenAt (bodyIn deck (before .member)) at .to) .to
-        behind = lex₂ .to ∙ ap (λ (i : ℕ). tokenAt s i .to) (lex .to) ∙ ap (λ (z : List ℕ). tokenAt z (tokenAt z at .to) .to) body
+        behind : cm .to ≡ tokenAt (bodyIn deck (before .member)) (itemEnd (bodyIn deck (before .member)) at) .to
+        behind = lex₂ .to ∙ ap (λ (i : ℕ). tokenAt s i .to) (item .to) ∙ ap (λ (z : List ℕ). tokenAt z (itemEnd z at) .to) body
 
-        ran-by : (B : World) (ns : List (List ℕ)) (k : Past B ns) → EndNow (belowOf inner) deck rows₂ names₂ c₂ l₂ h₂ w₂ t₂ ls₂ (hereAt (before .member) (here₂ .starts)) (k .answer) (k .world) (En.Ran g₂)
+        ran-by : (B : World) (ns : List Deck.Sought) (k : Past B ns) → EndNow (belowOf inner) deck rows₂ names₂ c₂ l₂ h₂ w₂ t₂ ls₂ (hereAt (before .member) (here₂ .starts)) (k .answer) (k .world) (En.Ran g₂)
         ran-by B ns k = subst (λ (v : Ended). EndNow (belowOf inner) deck rows₂ names₂ c₂ l₂ h₂ w₂ t₂ ls₂ (hereAt (before .member) (here₂ .starts)) (k .answer) (k .world) v) e (k .now)
 
-        left-over : (B : World) (ns : List (List ℕ)) (k : Past B ns) → namesLeft (k .rest) (worldIn (k .world) c₂ l₂ h₂ (g₂ .meter .used)) ≡ namesLeft ns (worldIn B c l h (g₀ .meter .used))
+        left-over : (B : World) (ns : List Deck.Sought) (k : Past B ns) → namesLeft (k .rest) (worldIn (k .world) c₂ l₂ h₂ (g₂ .meter .used)) ≡ namesLeft ns (worldIn B c l h (g₀ .meter .used))
         left-over B ns k = sym (ap (λ (v : Res Run.Stop F.End). bind v (λ a u. endOn a u (λ i. namesLeft (k .rest) i))) (ran-by B ns k .is)) ∙ k .same
 
         pub going-more : b ≡ true → Going rows₂ names₂ c₂ l₂ h₂ w₂ t₂ ls₂ here₂ (cm .to) g₂ (turns - 1)
@@ -374,22 +322,22 @@ module _ (deck rows names c l h w t ls : List ℕ) (n left place from : ℕ) (in
               };
         }
 
-        ends : b ≡ false → (B : World) (ns : List (List ℕ)) → Asked B ns → Answered rows₂ names₂ c₂ l₂ h₂ w₂ t₂ ls₂ (leftAt here₂ (En.Ran g₂)) B ns
+        ends : b ≡ false → (B : World) (ns : List Deck.Sought) → Asked B ns → Answered rows₂ names₂ c₂ l₂ h₂ w₂ t₂ ls₂ (leftAt here₂ (En.Ran g₂)) B ns
         unfolding includeOn
         ends q B ns a =
             let k : Past B ns = passed B ns a in
             let none : k .rest ≡ [] = named-last (bodyIn deck (before .member)) at (k .first) (k .rest) (k .named) (comma false q) in
             let end : namesLeft ns (worldIn B c l h (g₀ .meter .used)) ≡ good F.ran (worldIn (k .world) c₂ l₂ h₂ (g₂ .meter .used)) =
-            sym (left-over B ns k) ∙ ap (λ (qs : List (List ℕ)). namesLeft qs (worldIn (k .world) c₂ l₂ h₂ (g₂ .meter .used))) none in
+            sym (left-over B ns k) ∙ ap (λ (qs : List Deck.Sought). namesLeft qs (worldIn (k .world) c₂ l₂ h₂ (g₂ .meter .used))) none in
             (record { world = k .world; since = k .since; now = record { stage = ran-by B ns k .stage; is = end } }, k .start)
 
   -- turns do not run out
-  turned : (rows₁ names₁ c₁ l₁ h₁ w₁ t₁ ls₁ : List ℕ) (here : Here) (at : ℕ) (g : Progress) (turns : ℕ) → Going rows₁ names₁ c₁ l₁ h₁ w₁ t₁ ls₁ here at g turns → turns ≤ 0 → (B : World) (ns : List (List ℕ)) → Asked B ns → ⊥
+  turned : (rows₁ names₁ c₁ l₁ h₁ w₁ t₁ ls₁ : List ℕ) (here : Here) (at : ℕ) (g : Progress) (turns : ℕ) → Going rows₁ names₁ c₁ l₁ h₁ w₁ t₁ ls₁ here at g turns → turns ≤ 0 → (B : World) (ns : List Deck.Sought) → Asked B ns → ⊥
   turned rows₁ names₁ c₁ l₁ h₁ w₁ t₁ ls₁ here at g turns going none B ns a =
       let z : Now B ns rows₁ names₁ c₁ l₁ h₁ w₁ t₁ ls₁ (here .starts) at g turns = going .is B ns a in
       by (z .rest) (z .named) (z .few)
     where
-      by : (qs : List (List ℕ)) → Named (bodyIn deck (before .member)) at qs → length qs ≤ turns → ⊥
+      by : (qs : List Deck.Sought) → Named (bodyIn deck (before .member)) at qs → length qs ≤ turns → ⊥
       by [] k few = k
       by (q ∷ qs) k few = omega (arith, few, none)
 
@@ -399,7 +347,7 @@ module _ (deck rows names c l h w t ls : List ℕ) (n left : ℕ) (inner : Below
   row-is : r ≡ rowIn (partHere rows before) n
   row-is = row ∙ ap (λ (x : List ℕ). rowIn x n) own
 
-  asked : (B : World) → Stage deck rows names c l h w t ls (before .starts) g₀ B → Running deck (bodyIn deck (before .member)) rows before below left B → (ns : List (List ℕ)) → n < length (readMember (bodyOf deck (before .member)) .rows)
+  asked : (B : World) → Stage deck rows names c l h w t ls (before .starts) g₀ B → Running deck (bodyIn deck (before .member)) rows before below left B → (ns : List Deck.Sought) → n < length (readMember (bodyOf deck (before .member)) .rows)
       → Named (bodyIn deck (before .member)) (rowIn (partHere rows before) n .content) ns → Asked deck rows names c l h w t ls n left (r .place) (r .content) inner before g₀ B ns
   asked B S run ns there named =
       let few : below .count < 16 = omega (arith, run .deep) in
@@ -417,11 +365,11 @@ module _ (deck rows names c l h w t ls : List ℕ) (n left : ℕ) (inner : Below
       }
 
   all-is : (rows₂ names₂ c₂ l₂ h₂ w₂ t₂ ls₂ : List ℕ) (y z : Left) → y ≡ z
-      → ((B : World) (ns : List (List ℕ)) → Asked deck rows names c l h w t ls n left (r .place) (r .content) inner before g₀ B ns → Answered deck rows names c l h w t ls n left (r .place) (r .content) inner before g₀ rows₂ names₂ c₂ l₂ h₂ w₂ t₂ ls₂ z B ns)
+      → ((B : World) (ns : List Deck.Sought) → Asked deck rows names c l h w t ls n left (r .place) (r .content) inner before g₀ B ns → Answered deck rows names c l h w t ls n left (r .place) (r .content) inner before g₀ rows₂ names₂ c₂ l₂ h₂ w₂ t₂ ls₂ z B ns)
       → IncludeAllIs deck rows names c l h w t ls n below before left g₀ rows₂ names₂ c₂ l₂ h₂ w₂ t₂ ls₂ y
   all-is rows₂ names₂ c₂ l₂ h₂ w₂ t₂ ls₂ y z e f = subst (λ (v : Left). IncludeAllIs deck rows names c l h w t ls n below before left g₀ rows₂ names₂ c₂ l₂ h₂ w₂ t₂ ls₂ v) (sym e) (record { is = by })
     where
-      by : (B : World) → Stage deck rows names c l h w t ls (before .starts) g₀ B → Running deck (bodyIn deck (before .member)) rows before below left B → (ns : List (List ℕ)) → n < length (readMember (bodyOf deck (before .member)) .rows)
+      by : (B : World) → Stage deck rows names c l h w t ls (before .starts) g₀ B → Running deck (bodyIn deck (before .member)) rows before below left B → (ns : List Deck.Sought) → n < length (readMember (bodyOf deck (before .member)) .rows)
           → Named (bodyIn deck (before .member)) (rowIn (partHere rows before) n .content) ns
           → EndsAs (placeAt (before .member) n ∷ belowOf below) deck rows B rows₂ names₂ c₂ l₂ h₂ w₂ t₂ ls₂ (before .member)
           (includeOn left deck (rowIn (partHere rows before) n .place) (before .member) (placeAt (before .member) n ∷ belowOf below) ns (worldIn B c l h (g₀ .meter .used))) z
@@ -435,23 +383,23 @@ module _ (deck rows names c l h w t ls : List ℕ) (n left : ℕ) (inner : Below
           )
 
   module _ (s : List ℕ) (body : s ≡ bodyIn deck (before .member)) (rows₁ names₁ c₁ l₁ h₁ w₁ t₁ ls₁ : List ℕ) (here : Here) (at : ℕ) (g : Progress) (turns : ℕ)
-      (going : Going deck rows names c l h w t ls n left (r .place) (r .content) inner before g₀ rows₁ names₁ c₁ l₁ h₁ w₁ t₁ ls₁ here at g turns) (tk : Lexeme) (lex : Lexed s at tk) (rows₂ names₂ c₂ l₂ h₂ w₂ t₂ ls₂ : List ℕ) (x : Left)
-      (ran : IncludeOneIs deck rows₁ names₁ c₁ l₁ h₁ w₁ t₁ ls₁ tk (r .place) inner here left g rows₂ names₂ c₂ l₂ h₂ w₂ t₂ ls₂ x) (here₂ : Here) (back : StartedAt here (x .starts) (startIn (here .starts) (here .member)) here₂) where
+      (going : Going deck rows names c l h w t ls n left (r .place) (r .content) inner before g₀ rows₁ names₁ c₁ l₁ h₁ w₁ t₁ ls₁ here at g turns) (it : Item) (item : ItemIs s at it) (rows₂ names₂ c₂ l₂ h₂ w₂ t₂ ls₂ : List ℕ) (x : Left)
+      (ran : IncludeOneIs deck rows₁ names₁ c₁ l₁ h₁ w₁ t₁ ls₁ (it .sought) (r .place) inner here left g rows₂ names₂ c₂ l₂ h₂ w₂ t₂ ls₂ x) (here₂ : Here) (back : StartedAt here (x .starts) (startIn (here .starts) (here .member)) here₂) where
     pub all-went : (q : Label) (g₂ : Progress) (y : Left) → x .ended ≡ En.Went q g₂ → y ≡ leftAt here₂ (x .ended) → IncludeAllIs deck rows names c l h w t ls n below before left g₀ rows₂ names₂ c₂ l₂ h₂ w₂ t₂ ls₂ y
     all-went q g₂ y e f =
         all-is rows₂ names₂ c₂ l₂ h₂ w₂ t₂ ls₂ y (leftAt here₂ (En.Went q g₂)) (f ∙ ap (λ (z : Ended). leftAt here₂ z) e)
-        (went deck rows names c l h w t ls n left (r .place) (r .content) inner before g₀ s body rows₁ names₁ c₁ l₁ h₁ w₁ t₁ ls₁ here at g turns going tk lex rows₂ names₂ c₂ l₂ h₂ w₂ t₂ ls₂ x ran here₂ back q g₂ e)
+        (went deck rows names c l h w t ls n left (r .place) (r .content) inner before g₀ s body rows₁ names₁ c₁ l₁ h₁ w₁ t₁ ls₁ here at g turns going it item rows₂ names₂ c₂ l₂ h₂ w₂ t₂ ls₂ x ran here₂ back q g₂ e)
 
     pub all-stopped : (q : Stop) (g₂ : Progress) (y : Left) → x .ended ≡ En.Bad q g₂ → y ≡ leftAt here₂ (x .ended) → IncludeAllIs deck rows names c l h w t ls n below before left g₀ rows₂ names₂ c₂ l₂ h₂ w₂ t₂ ls₂ y
     all-stopped q g₂ y e f =
         all-is rows₂ names₂ c₂ l₂ h₂ w₂ t₂ ls₂ y (leftAt here₂ (En.Bad q g₂)) (f ∙ ap (λ (z : Ended). leftAt here₂ z) e)
-        (stops deck rows names c l h w t ls n left (r .place) (r .content) inner before g₀ s body rows₁ names₁ c₁ l₁ h₁ w₁ t₁ ls₁ here at g turns going tk lex rows₂ names₂ c₂ l₂ h₂ w₂ t₂ ls₂ x ran here₂ back q g₂ e)
+        (stops deck rows names c l h w t ls n left (r .place) (r .content) inner before g₀ s body rows₁ names₁ c₁ l₁ h₁ w₁ t₁ ls₁ here at g turns going it item rows₂ names₂ c₂ l₂ h₂ w₂ t₂ ls₂ x ran here₂ back q g₂ e)
 
-    pub all-ran : (g₂ : Progress) → x .ended ≡ En.Ran g₂ → (cm : Lexeme) → Lexed s (tk .to) cm → (b : Bool) → b ≡ isSignIn s cm (44 ∷ []) → b ≡ false → (y : Left) → y ≡ leftAt here₂ (En.Ran g₂)
+    pub all-ran : (g₂ : Progress) → x .ended ≡ En.Ran g₂ → (cm : Lexeme) → Lexed s (it .to) cm → (b : Bool) → b ≡ isSignIn s cm (44 ∷ []) → b ≡ false → (y : Left) → y ≡ leftAt here₂ (En.Ran g₂)
         → IncludeAllIs deck rows names c l h w t ls n below before left g₀ rows₂ names₂ c₂ l₂ h₂ w₂ t₂ ls₂ y
     all-ran g₂ e cm lex₂ b sign q y f =
         all-is rows₂ names₂ c₂ l₂ h₂ w₂ t₂ ls₂ y (leftAt here₂ (En.Ran g₂)) f
-        (ends deck rows names c l h w t ls n left (r .place) (r .content) inner before g₀ s body rows₁ names₁ c₁ l₁ h₁ w₁ t₁ ls₁ here at g turns going tk lex rows₂ names₂ c₂ l₂ h₂ w₂ t₂ ls₂ x ran here₂ back g₂ e cm lex₂ b sign q)
+        (ends deck rows names c l h w t ls n left (r .place) (r .content) inner before g₀ s body rows₁ names₁ c₁ l₁ h₁ w₁ t₁ ls₁ here at g turns going it item rows₂ names₂ c₂ l₂ h₂ w₂ t₂ ls₂ x ran here₂ back g₂ e cm lex₂ b sign q)
 
   pub all-turned : (rows₁ names₁ c₁ l₁ h₁ w₁ t₁ ls₁ : List ℕ) (here : Here) (at : ℕ) (g : Progress) (turns : ℕ) → Going deck rows names c l h w t ls n left (r .place) (r .content) inner before g₀ rows₁ names₁ c₁ l₁ h₁ w₁ t₁ ls₁ here at g turns
       → turns ≤ 0 → (y : Left) → IncludeAllIs deck rows names c l h w t ls n below before left g₀ rows₁ names₁ c₁ l₁ h₁ w₁ t₁ ls₁ y

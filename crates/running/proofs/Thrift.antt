@@ -10,6 +10,7 @@ use lib.Dec.{ltb}
 use lib.IntN.{ℤ}
 use Rattle.definition.specs.Choice.{when}
 use Rattle.definition.specs.Limits.{runningProcedures}
+use Rattle.definition.specs.Deck as Deck
 use Rattle.definition.specs.Fixed as Fixed
 use Rattle.definition.specs.Steps.{isLeft, usedAfter}
 use Rattle.definition.specs.Program.{Statement, null, declare, procedure, assign, conditional, group, iterated, goto, include, activate, deactivate, return, Stretch, Row, Activation}
@@ -80,7 +81,7 @@ module _ (least limit : ℕ) (d : List ℕ) where
   jump-from unknown here rs ps n h = halt laws h
 
   -- INCLUDE, with so many levels left
-  include-leaves : (n : ℕ) (p m r : ℕ) (ps : List Place) (xs : List (List ℕ)) {w : World} → Kept least limit w → Leaves laws (OfDeed Any) (includeAll (levelOf n d) d p m r ps xs w)
+  include-leaves : (n : ℕ) (p m r : ℕ) (ps : List Place) (xs : List Deck.Sought) {w : World} → Kept least limit w → Leaves laws (OfDeed Any) (includeAll (levelOf n d) d p m r ps xs w)
   include-leaves zero p m r ps xs {w} h = include-all laws d texts noLevel tt p m r ps xs w h
   include-leaves (suc n) p m r ps xs {w} h = include-all laws d texts (level (runMember n d)) (member-leaves laws d texts n) p m r ps xs w h
 

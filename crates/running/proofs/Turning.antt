@@ -8,6 +8,7 @@ use borrow.Author.Tests.{eqb-true, eq-eqb, ne-eqb, eqb-false}
 use lib.Dec.{eqb}
 use lib.ListN.{length}
 use Rattle.definition.specs.Steps.{isLeft, usedAfter}
+use Rattle.definition.specs.Deck as Deck
 use Rattle.definition.specs.Program as P
 use Rattle.definition.specs.World.{World, Res, good, bad, bind, placed, charge, rowOf, rowsOf}
 use Rattle.definition.specs.Flow as F
@@ -111,7 +112,7 @@ module _ (deck s rows names c l h w t ls : List ℕ) (here : Here) (g : Progress
   unfolding memberMachine
   place-here n k = rows-written deck rows (here .starts) (g .rows) B (st .laid) (here .member) n (row-here n k) .1 .place ∙ ap (λ (rs : List P.Row). rowOf rs n .place) (im .entered)
 
-  names-here : (n : ℕ) → n < length (machineOf inner deck (here .member) on .rows) → (ns : List (List ℕ)) → F.at (machineOf inner deck (here .member) on) n .statement ≡ P.include ns → Named (bodyIn deck (here .member)) (rowIn (partHere rows here) n .content) ns
+  names-here : (n : ℕ) → n < length (machineOf inner deck (here .member) on .rows) → (ns : List Deck.Sought) → F.at (machineOf inner deck (here .member) on) n .statement ≡ P.include ns → Named (bodyIn deck (here .member)) (rowIn (partHere rows here) n .content) ns
   unfolding memberMachine
   names-here n k ns e =
       let f : rowOf (rowsOf (here .member) B) n .statement ≡ P.include ns = ap (λ (rs : List P.Row). rowOf rs n .statement) (im .entered) ∙ e in
@@ -150,7 +151,7 @@ module _ (deck rows names c l h w t ls : List ℕ) (starts : Starts) (g : Progre
   }
 
 -- ---- INCLUDE
-include-kind : (x : P.Statement) → isInclude (kindOf x) ≡ true → (ns : List (List ℕ)) × (x ≡ P.include ns)
+include-kind : (x : P.Statement) → isInclude (kindOf x) ≡ true → (ns : List Deck.Sought) × (x ≡ P.include ns)
 include-kind P.null e = absurd (false≢true e)
 include-kind (P.declare ns) e = absurd (false≢true e)
 include-kind (P.procedure ns t) e = absurd (false≢true e)
@@ -172,11 +173,11 @@ module _ (deck : List ℕ) (m n left : ℕ) (on : List Place) (G : List F.Frame)
   abbrev afterIt : Res Run.Stop F.End → Res Run.Stop F.Turn
   afterIt Q = bind (bind Q (λ x u. cameOut m x u (λ y. good F.passed y))) (λ d u. F.done machine d G n u)
 
-  include-acts : (ns : List (List ℕ)) (v : World) → F.at machine n .statement ≡ P.include ns → machine .act n v ≡ Run.includeAll (levelOf left deck) deck (F.at machine n .place) m n on ns v
+  include-acts : (ns : List Deck.Sought) (v : World) → F.at machine n .statement ≡ P.include ns → machine .act n v ≡ Run.includeAll (levelOf left deck) deck (F.at machine n .place) m n on ns v
   unfolding memberMachine
   include-acts ns v e = ap (λ (x : P.Statement). Run.actAs x (levelOf left deck) deck (F.at machine n .place) m n on v) e
 
-  include-turns : (ns : List (List ℕ)) (v : World) (p : ℕ) → F.at machine n .statement ≡ P.include ns → p ≡ F.at machine n .place
+  include-turns : (ns : List Deck.Sought) (v : World) (p : ℕ) → F.at machine n .statement ≡ P.include ns → p ≡ F.at machine n .place
       → F.statement machine (F.at machine n .statement) G n v ≡ afterIt (includeOn left deck p m (record { member = m; row = n } ∷ on) ns v)
   unfolding F.statement
   include-turns ns v p e f =
@@ -342,7 +343,7 @@ module _ (deck s rows names c l h w t ls : List ℕ) (fs : Frames) (n : ℕ) (be
       st₁ : Stage deck rows names c l h w t ls (here .starts) charged B
       st₁ = stage-charged deck rows names c l h w t ls (here .starts) g k ch B st
 
-      kind : (ns : List (List ℕ)) × (F.at mine n .statement ≡ P.include ns)
+      kind : (ns : List Deck.Sought) × (F.at mine n .statement ≡ P.include ns)
       kind =
           let shown : Shown (partHere rows here) (mine .rows) = shown-here deck s rows names c l h w t ls here g B st (ru .member) (levelOf left deck) (belowOf below) in
           let f : isInclude (kindOf (F.at mine n .statement)) ≡ true = ap isInclude (sym (shown .tabled .kind n (at .within))) ∙ ap (λ (i : Row). isInclude (i .statement)) (sym row-is) ∙ sym eb ∙ e in

@@ -38,6 +38,6 @@ endOn (F.returned v) w f = f w
 endOn (F.went x) w f = good (F.went x) w
 
 -- the members of an INCLUDE one after the other; `on` has the INCLUDE itself
-unfoldable pub includeOn : ℕ → List ℕ → ℕ → ℕ → List Place → List (List ℕ) → World → Res Run.Stop F.End
+unfoldable pub includeOn : ℕ → List ℕ → ℕ → ℕ → List Place → List Deck.Sought → World → Res Run.Stop F.End
 includeOn n d p m on [] w = good F.ran w
 includeOn n d p m on (x ∷ xs) w = bind (foundRun (Deck.find x 0 (Deck.lines d)) n d p m on w) λ e v. endOn e v (λ u. includeOn n d p m on xs u)

@@ -4,7 +4,6 @@ use mathlib.Core.Bool.{true, false}
 use mathlib.Core.Path.{_≡_}
 use mathlib.Core.List.{List, [], _∷_}
 use lib.ListN.{length}
-use Rattle.definition.specs.Lists.{part}
 use Rattle.definition.specs.Room.{zeros}
 use Rattle.definition.specs.Limits.{includeLevels}
 use Rattle.definition.specs.Deck as Deck
@@ -19,7 +18,11 @@ use Rattle.definition.specs.declared.Layout.{Layout}
 use Rattle.definition.specs.Expansion as X
 use Rattle.definition.specs.Expansion.{sizeIn}
 use Rattle.deck.specs.declared.Found.{Found}
-use Rattle.deck.specs.Answer.{bodyIn, foundFor}
+use Rattle.deck.specs.declared.Spelled.{Spelled}
+use Rattle.deck.specs.declared.Sought.{Sought}
+use Rattle.deck.specs.declared.Sought.the-variants.{Bare, InLibrary}
+use Rattle.deck.specs.Answer.{bodyIn, foundFor, soughtIn}
+use Rattle.sums.specs.Numbers.{greatest, sumTo}
 use Rattle.tokens.specs.declared.Lexeme.{Lexeme}
 use Rattle.rows.specs.Table.{rowIn}
 use Rattle.rows.specs.Parts.{startIn}
@@ -32,7 +35,7 @@ use Rattle.callees.specs.Shown.{worldIn}
 use Rattle.openings.specs.Open.{linkOf}
 use Rattle.reading.specs.declared.Source.{Source}
 use Rattle.reading.specs.State.{stretchOf}
-use Rattle.showing.specs.Listed.{Named}
+use Rattle.showing.specs.Listed.{soughtAt, itemEnd, Named}
 use Rattle.showing.specs.Later.{Later, Grew}
 use Rattle.leaving.specs.declared.Below.{Below}
 use Rattle.leaving.specs.Places.{belowOf, Stand}
@@ -45,6 +48,7 @@ use Rattle.texts.specs.Shown.{stopFor}
 use Rattle.stepping.specs.Stage.{Roomy, Stage, InMember, partHere, machineOf}
 use Rattle.stepping.specs.Steps.{StepNow, EndNow}
 use Rattle.stepping.specs.Ways.{isOver}
+use Rattle.running.specs.declared.Item.{Item}
 use Rattle.running.specs.declared.Left.{Left}
 use Rattle.running.specs.declared.Begun.{Begun}
 use Rattle.running.specs.Included.{levelOf, enterRun, foundRun, includeOn}
@@ -78,20 +82,38 @@ pub record Running (deck s rows : List ℕ) (here : Here) (below : Below) (left 
   pub deep : Deep below left
 
 -- ---- INCLUDE
--- the line of the deck for the name t, which the body of the member spells
-pub record FoundIs (deck : List ℕ) (m : ℕ) (t : Lexeme) (r : Found) : Type 0 where
-  pub is : Deck.isSound deck ≡ true → m < Deck.count deck → t .to ≤ length (bodyIn deck m) → r ≡ foundFor (Deck.find (part (t .to - t .from) (t .from) (bodyIn deck m)) 0 (Deck.lines deck))
+abbrev pub spelledBy : Lexeme → Spelled
+spelledBy t = record { from = t .from; len = t .to - t .from }
+
+-- the names that are spelled, each up to the place n at most
+abbrev pub Within : ℕ → Sought → Type 0
+Within n (Bare w) = w .from + w .len ≤ n
+Within n (InLibrary l w) = (l .from + l .len ≤ n) × (w .from + w .len ≤ n)
+
+-- the item of a list behind a place
+pub record ItemIs (s : List ℕ) (at : ℕ) (r : Item) : Type 0 where
+  pub is : soughtIn s (r .sought) ≡ soughtAt s at
+  pub to : r .to ≡ itemEnd s at
+  pub within : (n : ℕ) → itemEnd s at ≤ n → Within n (r .sought)
+
+-- a name of the body that begins at `base`, in the deck
+abbrev pub inDeck : ℕ → Spelled → Spelled
+inDeck base w = record { from = sumTo greatest base (w .from); len = w .len }
+
+-- the line of the deck for what is sought, which the body of the member spells
+pub record FoundIs (deck : List ℕ) (m : ℕ) (x : Sought) (r : Found) : Type 0 where
+  pub is : Deck.isSound deck ≡ true → m < Deck.count deck → Within (length (bodyIn deck m)) x → r ≡ foundFor (Deck.find (soughtIn (bodyIn deck m) x) 0 (Deck.lines deck))
 
 -- one of its members; `below` has the INCLUDE itself, of the member m
-pub record IncludeOneIs (deck rows names c l h w t ls : List ℕ) (x : Lexeme) (p : ℕ) (below : Below) (here : Here) (left : ℕ) (g : Progress) (rows′ names′ c′ l′ h′ w′ t′ ls′ : List ℕ) (r : Left) : Type 0 where
-  pub is : (B : World) → Stage deck rows names c l h w t ls (here .starts) g B → Deck.isSound deck ≡ true → here .member < Deck.count deck → x .to ≤ length (bodyIn deck (here .member)) → Stand (belowOf below) B
+pub record IncludeOneIs (deck rows names c l h w t ls : List ℕ) (x : Sought) (p : ℕ) (below : Below) (here : Here) (left : ℕ) (g : Progress) (rows′ names′ c′ l′ h′ w′ t′ ls′ : List ℕ) (r : Left) : Type 0 where
+  pub is : (B : World) → Stage deck rows names c l h w t ls (here .starts) g B → Deck.isSound deck ≡ true → here .member < Deck.count deck → Within (length (bodyIn deck (here .member))) x → Stand (belowOf below) B
       → below .count + left ≤ suc includeLevels → 1 ≤ below .count
       → EndsAs (belowOf below) deck rows B rows′ names′ c′ l′ h′ w′ t′ ls′ (here .member)
-      (foundRun (Deck.find (part (x .to - x .from) (x .from) (bodyIn deck (here .member))) 0 (Deck.lines deck)) left deck p (here .member) (belowOf below) (worldIn B c l h (g .meter .used))) r
+      (foundRun (Deck.find (soughtIn (bodyIn deck (here .member)) x) 0 (Deck.lines deck)) left deck p (here .member) (belowOf below) (worldIn B c l h (g .meter .used))) r
 
 -- all of them: its rows are looked at where they were
 pub record IncludeAllIs (deck rows names c l h w t ls : List ℕ) (n : ℕ) (below : Below) (here : Here) (left : ℕ) (g : Progress) (rows′ names′ c′ l′ h′ w′ t′ ls′ : List ℕ) (r : Left) : Type 0 where
-  pub is : (B : World) → Stage deck rows names c l h w t ls (here .starts) g B → Running deck (bodyIn deck (here .member)) rows here below left B → (ns : List (List ℕ))
+  pub is : (B : World) → Stage deck rows names c l h w t ls (here .starts) g B → Running deck (bodyIn deck (here .member)) rows here below left B → (ns : List Deck.Sought)
       → n < length (readMember (bodyOf deck (here .member)) .rows) → Named (bodyIn deck (here .member)) (rowIn (partHere rows here) n .content) ns
       → EndsAs (record { member = here .member; row = n } ∷ belowOf below) deck rows B rows′ names′ c′ l′ h′ w′ t′ ls′ (here .member)
       (includeOn left deck (rowIn (partHere rows here) n .place) (here .member) (record { member = here .member; row = n } ∷ belowOf below) ns (worldIn B c l h (g .meter .used))) r

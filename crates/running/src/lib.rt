@@ -7,7 +7,9 @@ ghost use Rattle.rows.specs.Parts.{startIn};
 ghost use Rattle.flow.specs.declared.Next.the-variants.{Begin};
 ghost use Rattle.running.specs.Ways.{leftAt, begunAt, endedAt};
 ghost use Rattle.running.specs.Readers.{ReadIs, RowsWith, WithSource, StartedAt, stoppedAt};
-ghost use Rattle.running.specs.Members.{hereAt, FoundIs, IncludeOneIs, IncludeAllIs, TurnIs, RowsAre, SourceIs, EnterIs, RunIs};
+ghost use Rattle.running.specs.Members.{hereAt, spelledBy, ItemIs, inDeck, FoundIs, IncludeOneIs, IncludeAllIs, TurnIs, RowsAre, SourceIs, EnterIs, RunIs};
+use deck::Sought;
+use deck::Spelled;
 use deck::body;
 use definition::Layout;
 use definition::Why;
@@ -181,12 +183,63 @@ fn forget(cells: &mut [u32], from: u16, to: u16)
 
 // ---- INCLUDE
 
-// The line of the member whose name is t, which the body of member `here` spells.
-fn member_named(deck: &[u8], here: u16, t: Lexeme) -> deck::Found
-    ensures { λ r. ⌜ FoundIs (now (deck .entry)) here t r ⌝ }
+// An item of its list: what it names, where the body spells it, and the place past it.
+struct Item {
+    sought: Sought,
+    to: usize,
+}
+
+fn spelled_by(t: Lexeme) -> Spelled
+    ensures { λ r. ⌜ r ≡ spelledBy t ⌝ }
+{
+    Spelled {
+        from: t.from,
+        len: width(t),
+    }
+}
+
+// The item behind a place: a name, and in parentheses another if the first is a library's.
+fn item_at(s: &[u8], at: usize) -> Item
+    ensures { λ r. ⌜ ItemIs (now (s .entry)) at r ⌝ }
+{
+    let t = token_at(s, at);
+    let open = token_at(s, t.to);
+    if is_sign(s, open, b"(") {
+        let m = token_at(s, open.to);
+        let close = token_at(s, m.to);
+        return Item {
+            sought: Sought::InLibrary(spelled_by(t), spelled_by(m)),
+            to: close.to,
+        };
+    }
+    Item {
+        sought: Sought::Bare(spelled_by(t)),
+        to: t.to,
+    }
+}
+
+// Where a name of the body that begins at `base` is spelled in the deck.
+fn in_deck(base: usize, w: Spelled) -> Spelled
+    ensures { λ r. ⌜ r ≡ inDeck base w ⌝ }
+{
+    Spelled {
+        from: sum(base, w.from),
+        len: w.len,
+    }
+}
+
+// The line of the member that is sought, by names which the body of member `here` spells.
+fn member_named(deck: &[u8], here: u16, x: Sought) -> deck::Found
+    ensures { λ r. ⌜ FoundIs (now (deck .entry)) here x r ⌝ }
 {
     let base = deck::offset(deck, here) as usize;
-    deck::find(deck, sum(base, t.from), width(t))
+    match x {
+        Sought::Bare(w) => deck::find(deck, Sought::Bare(in_deck(base, w))),
+        Sought::InLibrary(l, w) => deck::find(
+            deck,
+            Sought::InLibrary(in_deck(base, l), in_deck(base, w)),
+        ),
+    }
 }
 
 fn stopped(g: Progress, why: Why, member: u16, place: usize) -> Ended
@@ -195,7 +248,7 @@ fn stopped(g: Progress, why: Why, member: u16, place: usize) -> Ended
     Ended::Bad(Stop { why, member, place }, g)
 }
 
-// The member of the deck that a name of INCLUDE means is entered and run: 14, 15, then the member.
+// The member of the deck that an item of INCLUDE means is entered and run: 14, 15, then the member.
 fn include_one(
     deck: &[u8],
     rows: &mut [u16],
@@ -206,16 +259,16 @@ fn include_one(
     work: &mut [u8],
     text: &mut [u8],
     list: &mut [u8],
-    t: Lexeme,
+    x: Sought,
     place: usize,
     below: Below,
     here: Here,
     left: usize,
     g: Progress,
 ) -> Left
-    ensures { λ r. ⌜ IncludeOneIs (now (deck .entry)) (now (rows .entry)) (now (names .entry)) (now (cells .entry)) (now (low .entry)) (now (high .entry)) (now (work .entry)) (now (text .entry)) (now (list .entry)) t place below here left g (now (rows .exit)) (now (names .exit)) (now (cells .exit)) (now (low .exit)) (now (high .exit)) (now (work .exit)) (now (text .exit)) (now (list .exit)) r ⌝ }
+    ensures { λ r. ⌜ IncludeOneIs (now (deck .entry)) (now (rows .entry)) (now (names .entry)) (now (cells .entry)) (now (low .entry)) (now (high .entry)) (now (work .entry)) (now (text .entry)) (now (list .entry)) x place below here left g (now (rows .exit)) (now (names .exit)) (now (cells .exit)) (now (low .exit)) (now (high .exit)) (now (work .exit)) (now (text .exit)) (now (list .exit)) r ⌝ }
 {
-    let found = member_named(deck, here.member, t);
+    let found = member_named(deck, here.member, x);
     match found {
         deck::Found::Nothing => left_at(here, stopped(g, Why::UnknownMember, here.member, place)),
         deck::Found::Line(k) => {
@@ -270,7 +323,8 @@ fn include_all(
     let mut turns = s.len();
     while 0 < turns {
         turns -= 1;
-        let t = token_at(s, at);
+        let item = item_at(s, at);
+        let sought = item.sought;
         let x = include_one(
             deck,
             rows,
@@ -281,7 +335,7 @@ fn include_all(
             work,
             text,
             list,
-            t,
+            sought,
             place,
             inner,
             here,
@@ -302,7 +356,7 @@ fn include_all(
                 return left_at(here, e);
             }
         }
-        let comma = token_at(s, t.to);
+        let comma = token_at(s, item.to);
         if is_sign(s, comma, b",") {
             at = comma.to;
         } else {

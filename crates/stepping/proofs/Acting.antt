@@ -7,6 +7,7 @@ use Prim.Native.Nat.{ℕ, _<_}
 use native.Mathlib.Omega.{arith}
 use lib.ListN.{length}
 use Rattle.definition.specs.Expressions.{Tree}
+use Rattle.definition.specs.Deck.{Sought}
 use Rattle.definition.specs.Program as D
 use Rattle.definition.specs.World as W
 use Rattle.definition.specs.World.{World, Res, good, bad, bind, seenFrom, rowOf, rowsOf}
