@@ -12,7 +12,10 @@ from desk.running import in_memory, on_this_machine, output_of
 BYTES = 65_536
 MEMBERS = 32
 HEAD = 2
+# a line of contents without a library, and with one; the first number of a deck with libraries is so much larger
 LINE = struct.Struct('<8sII')
+LONG_LINE = struct.Struct('<8s8sII')
+LIBRARIES = 256
 IDENTIFIER = re.compile(rb'[A-Z$@#][A-Z0-9$@#_]{0,7}')
 
 # a record of card images, and its columns that have source
@@ -21,7 +24,17 @@ FIRST, LAST = 1, 72
 # no more bytes in lines of at most 80 characters can become a deck
 LINES = BYTES + BYTES // RECORD
 
-Member = collections.namedtuple('Member', 'name body')
+
+class Member(collections.namedtuple('Member', 'library name body')):
+    """A member; its library is empty in a deck without libraries."""
+    __slots__ = ()
+
+    @property
+    def shown(self):
+        """What people call it."""
+        return b'%s(%s)' % (self.library, self.name) if self.library else self.name
+
+
 Deck = collections.namedtuple('Deck', 'content members is_cards')
 # what pack is given for an argument of the user
 Given = collections.namedtuple('Given', 'word path argument user_path')
@@ -35,22 +48,32 @@ class Unsound(Exception):
 
 def read_deck(content, is_cards):
     """The deck that these bytes are, or Unsound."""
-    count = int.from_bytes(content[:HEAD], 'little')
-    at = HEAD + LINE.size * count
+    first = int.from_bytes(content[:HEAD], 'little')
+    has_libraries = first > LIBRARIES
+    count = first - LIBRARIES if has_libraries else first
+    line = LONG_LINE if has_libraries else LINE
+    at = HEAD + line.size * count
     if not 1 <= count <= MEMBERS or len(content) < at:
         raise Unsound('its contents are not whole')
-    members = {}
-    for padded, offset, length in LINE.iter_unpack(content[HEAD:at]):
-        name = padded.rstrip(b' ')
-        if not IDENTIFIER.fullmatch(name) or name in members:
-            raise Unsound('a name is no identifier, or is there twice')
+    members = []
+    for *names, offset, length in line.iter_unpack(content[HEAD:at]):
         if offset != at:
             raise Unsound('a body does not begin where the one before it ends')
-        members[name] = content[at:at + length]
+        members.append(Member(*read_names(names), content[at:at + length]))
         at += length
     if at != len(content) or at > BYTES:
         raise Unsound(f'it has {len(content)} bytes, and its contents speak of {at}')
-    return Deck(content, [Member(name, body) for name, body in members.items()], is_cards)
+    if len({one.shown for one in members}) != count:
+        raise Unsound('a name is there twice')
+    return Deck(content, members, is_cards)
+
+
+def read_names(padded):
+    """Library, perhaps empty, and name of a line of contents."""
+    names = [name.rstrip(b' ') for name in padded]
+    if not all(map(IDENTIFIER.fullmatch, names)):
+        raise Unsound('a name is no identifier')
+    return names if len(names) == 2 else [b'', *names]
 
 
 def columns(body):
@@ -69,11 +92,18 @@ def split_argument(argument):
 
 
 def name_of(argument):
-    """What pack calls the member of an argument."""
+    """What pack calls the member of an argument: NAME, or LIBRARY(NAME)."""
     name, path = split_argument(argument)
     if name:
         return os.fsencode(name)
     return os.fsencode(os.path.basename(path)).partition(b'.')[0].upper()
+
+
+def is_named(name):
+    """Whether pack can give a member this name."""
+    library, parenthesis, member = name.partition(b'(')
+    parts = [library, member[:-1]] if parenthesis and name.endswith(b')') else [name]
+    return all(map(IDENTIFIER.fullmatch, parts))
 
 
 def lines_of(path):
@@ -99,14 +129,19 @@ def records(content, path):
     return b''.join(line.ljust(RECORD) for line in lines)
 
 
+def as_it_is(argument):
+    """What pack is given for an argument that it can read itself; `-L` is an option of pack, and `./-L` a path."""
+    word = './-L' if argument == '-L' else argument
+    return Given(word, word if word != argument else '', argument, argument)
+
+
 def punched(argument, files):
     """What pack is given for an argument: where its file has line ends the records made of it, which lie in memory."""
-    as_it_is = Given(argument, '', argument, '')
     _, path = split_argument(argument)
     name = name_of(argument)
     content = lines_of(path)
-    if content is None or not IDENTIFIER.fullmatch(name):
-        return as_it_is
+    if content is None or not is_named(name):
+        return as_it_is(argument)
     file = files.enter_context(in_memory(records(content, path)))
     os.set_inheritable(file.fileno(), True)
     made = f'/dev/fd/{file.fileno()}'
@@ -122,12 +157,22 @@ def in_words_of_user(said, given):
     return said
 
 
-def pack(program, arguments, is_cards):
+def option_for(library):
+    """What pack is given to put members that name no library into one; nothing where there is none."""
+    if library is None:
+        return []
+    if not IDENTIFIER.fullmatch(os.fsencode(library)):
+        raise Stop(f'-L {library}: the library is no identifier of at most 8 bytes')
+    return ['-L', library]
+
+
+def pack(program, arguments, library, is_cards):
     """The deck of the files that the arguments name; Stop if there is none."""
+    option = option_for(library)
     with contextlib.ExitStack() as files:
-        given = [punched(argument, files) if is_cards else Given(argument, '', argument, '') for argument in arguments]
+        given = [punched(argument, files) if is_cards else as_it_is(argument) for argument in arguments]
         errors = files.enter_context(in_memory(b''))
-        words = on_this_machine(program) + [one.word for one in given]
+        words = on_this_machine(program) + option + [one.word for one in given]
         try:
             content = output_of('pack', words, stderr=errors, close_fds=False)    # a path may be /dev/fd/N of the caller
         finally:

@@ -16,13 +16,15 @@ ROOT = os.path.dirname(os.path.dirname(os.path.realpath(__file__)))
 
 EXPANDED, REFUSED, NOTHING = 0, 1, 2
 
-USAGE = 'usage: expand [-cl] [NAME=]MAIN.pli [[NAME=]MEMBER.pli ..]\n'
+USAGE = 'usage: expand [-cl] [-L LIBRARY] [NAME=]MAIN.pli [[NAME=]MEMBER.pli ..]\n'
 
 HELP = USAGE + '''
 Expands the percent statements of MAIN.pli. The other files are the members that it can INCLUDE.
 A member is called NAME, or else what stands before the first dot of its file's name, in capitals;
-an argument with a / before its first = is a path alone.
+an argument with a / before its first = is a path alone. 'LIBRARY(NAME)=MEMBER.pli' puts it into a
+library: %INCLUDE LIBRARY(NAME); means that member, %INCLUDE NAME; the first one called NAME.
 
+  -L LIBRARY  the library of members that name none, where they have libraries; without -L it is MAIN
   -c          the files are card images: records of 80 bytes without line ends, source in columns 2
               to 72; or, in a file that has line ends, lines of up to 80 characters, which are padded
               with blanks to 80
@@ -58,16 +60,16 @@ def answer_to(deck, words):
         raise Stop(f'the answer of the expander cannot be believed: {reason}') from None
 
 
-def expansion(arguments, is_cards):
+def expansion(arguments, library, is_cards):
     """The deck of the files that the arguments name, and the answer to it."""
     other = other_program()
     ensure_built(ROOT, ['pack'] if other else ['pack', 'expand'])
-    deck = pack(program_path(ROOT, 'pack'), arguments, is_cards)
+    deck = pack(program_path(ROOT, 'pack'), arguments, library, is_cards)
     return deck, answer_to(deck, [other] if other else on_this_machine(program_path(ROOT, 'expand')))
 
 
 def shown_list(deck, origins):
-    return b''.join(b'%s %s %d %d\n' % (one.kind, deck.members[one.member].name, one.offset, one.length)
+    return b''.join(b'%s %s %d %d\n' % (one.kind, deck.members[one.member].shown, one.offset, one.length)
                     for one in origins)
 
 
@@ -76,9 +78,9 @@ def shown_refusal(deck, answer):
     return shown if answer.number <= PLACELESS else shown + shown_place(deck, answer)
 
 
-def expand(arguments, is_cards, is_list):
+def expand(arguments, library, is_cards, is_list):
     """Expands, shows what came out, and returns the status."""
-    deck, answer = expansion(arguments, is_cards)
+    deck, answer = expansion(arguments, library, is_cards)
     if answer.number != 0:
         standard.show(shown_refusal(deck, answer))
         return REFUSED
@@ -93,11 +95,11 @@ def command(words, closed):
     if standard.OUTPUT in closed:
         raise Stop('standard output is closed')
     try:
-        options, arguments = getopt.getopt(words, 'clh', ['help'])
+        options, arguments = getopt.getopt(words, 'cL:lh', ['help'])
     except getopt.GetoptError as error:
         raise Stop(f'{error}\n{USAGE.rstrip()}') from None
-    asked = {option for option, _ in options}
-    if asked & {'-h', '--help'}:
+    asked = dict(options)
+    if asked.keys() & {'-h', '--help'}:
         standard.put_out(HELP.encode())
         return EXPANDED
     if not arguments:
@@ -105,7 +107,7 @@ def command(words, closed):
         return NOTHING
     if '-l' in asked and standard.ERRORS in closed:
         raise Stop('standard error is closed, and the origin list goes there')
-    return expand(arguments, '-c' in asked, '-l' in asked)
+    return expand(arguments, asked.get('-L'), '-c' in asked, '-l' in asked)
 
 
 def main(words):

@@ -39,12 +39,12 @@ def led_by(deck, member):
         return b''
     lines = [b'%s %d' % (unit(deck), line) for line in includers(deck, member)]
     listed = b' or '.join(filter(None, [b', '.join(lines[:-1]), *lines[-1:]]))
-    return b'included by %s, %s\n' % (deck.members[0].name, listed) if lines else b''
+    return b'included by %s, %s\n' % (deck.members[0].shown, listed) if lines else b''
 
 
 def shown_place(deck, answer):
     """All that is shown of the place of a refusal."""
-    name, body = deck.members[answer.member]
+    name, body = deck.members[answer.member].shown, deck.members[answer.member].body
     if answer.number == UNEVEN:
         return b'%s has %d bytes\n' % (name, len(body))
     if deck.is_cards and answer.offset == len(body):

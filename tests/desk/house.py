@@ -54,6 +54,16 @@ def deck_of(**bodies):
     return contents + b''.join(bodies.values())
 
 
+def deck_of_libraries(*members):
+    """A deck of members with libraries: library, name and body of each."""
+    at = 2 + 24 * len(members)
+    contents = struct.pack('<H', 256 + len(members))
+    for library, name, body in members:
+        contents += struct.pack('<8s8sII', library.encode().ljust(8), name.encode().ljust(8), at, len(body))
+        at += len(body)
+    return contents + b''.join(body for _, _, body in members)
+
+
 # ---- one program with a true answer: M1 of 01 in a member, behind a comment
 
 MAIN = b'%INCLUDE M;\n/* a line that is copied */'

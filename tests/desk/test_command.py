@@ -46,6 +46,10 @@ class Output(Through):
     def test_list(self):
         self.assertEqual(self.expands('-l'), house.NAMED)
 
+    def test_list_with_libraries(self):
+        self.clone.put('deck', house.deck_of_libraries(('A', 'MAIN', house.MAIN), ('B', 'M', house.M)))
+        self.assertEqual(self.expands('-l'), house.NAMED.replace(b' MAIN ', b' A(MAIN) ').replace(b' M ', b' B(M) '))
+
     def test_full_device(self):
         with open('/dev/full', 'wb') as full:
             self.fails('standard output: No space left on device', stdout=full)
@@ -247,6 +251,15 @@ class Packing(Through):
     def test_nothing(self):
         self.clone.put('deck', b'')
         self.fails('what pack wrote is no deck')
+
+    def test_library(self):
+        """pack gets the library before the members."""
+        self.clone.put('then', 'printf "%s|" "$1" "$2" >"$ROOM/words"')
+        self.expands('-L', 'COIL')
+        with open(self.clone.path('words'), encoding='utf-8') as file:
+            self.assertEqual(file.read(), '-L|COIL|')
+        self.assertEqual(self.fails('', '-L', 'coil'),
+                         b'expand: -L coil: the library is no identifier of at most 8 bytes\n')
 
     def test_member_left_out(self):
         self.clone.put('deck', house.deck_of(MAIN=house.MAIN))

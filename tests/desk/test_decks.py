@@ -15,7 +15,7 @@ class Reading(unittest.TestCase):
 
     def test_members(self):
         deck = decks.read_deck(house.DECK, False)
-        self.assertEqual(deck.members, [(b'MAIN', house.MAIN), (b'M', house.M)])
+        self.assertEqual(deck.members, [(b'', b'MAIN', house.MAIN), (b'', b'M', house.M)])
 
     def test_cut_at_every_byte(self):
         for end in range(len(house.DECK)):
@@ -39,6 +39,40 @@ class Reading(unittest.TestCase):
     def test_size(self):
         self.assertTrue(decks.read_deck(house.deck_of(A=bytes(65_536 - 18)), False))
         self.refuses(house.deck_of(A=bytes(65_537 - 18)))
+
+
+class Libraries(Reading):
+    """Decks whose lines have a library; those of Reading hold for them too, where they do not say otherwise."""
+    CONTENT = house.deck_of_libraries(('A', 'M', b'X'), ('B', 'M', b'YZ'), ('A', 'N', b''))
+
+    def test_members(self):
+        deck = decks.read_deck(self.CONTENT, False)
+        self.assertEqual(deck.members, [(b'A', b'M', b'X'), (b'B', b'M', b'YZ'), (b'A', b'N', b'')])
+        self.assertEqual([one.shown for one in deck.members], [b'A(M)', b'B(M)', b'A(N)'])
+
+    def test_cut_at_every_byte(self):
+        for end in range(len(self.CONTENT)):
+            self.refuses(self.CONTENT[:end])
+
+    def test_a_byte_more(self):
+        self.refuses(self.CONTENT + b' ')
+
+    def test_names(self):
+        for name in ('', '1A', 'a', 'A B'):
+            self.refuses(house.deck_of_libraries((name, 'A', b'X')))
+            self.refuses(house.deck_of_libraries(('A', name, b'X')))
+        self.refuses(house.deck_of_libraries(('A', 'M', b'X'), ('B', 'M', b''), ('A', 'M', b'Y')))
+
+    def test_counts(self):
+        members = [(f'L{number}', 'M', b'') for number in range(33)]
+        self.refuses(house.deck_of_libraries(*members))
+        self.assertEqual(len(decks.read_deck(house.deck_of_libraries(*members[:32]), False).members), 32)
+        for first in (33, 255, 256, 289, 512):
+            self.refuses(first.to_bytes(2, 'little') + self.CONTENT[2:])
+
+    def test_size(self):
+        self.assertTrue(decks.read_deck(house.deck_of_libraries(('A', 'A', bytes(65_536 - 26))), False))
+        self.refuses(house.deck_of_libraries(('A', 'A', bytes(65_537 - 26))))
 
 
 class Records(unittest.TestCase):
@@ -67,14 +101,33 @@ class Arguments(unittest.TestCase):
     def test_names(self):
         for argument, name, path in (('a.b.pli', b'A', 'a.b.pli'), ('X=a.pli', b'X', 'a.pli'),
                                      ('d/x=y.pli', b'X=Y', 'd/x=y.pli'), ('=a', b'=A', '=a'),
-                                     ('X=d/y=z', b'X', 'd/y=z')):
+                                     ('X=d/y=z', b'X', 'd/y=z'), ('L(X)=a.pli', b'L(X)', 'a.pli')):
             self.assertEqual(decks.name_of(argument), name)
             self.assertEqual(decks.split_argument(argument)[1], path)
 
+    def test_names_that_pack_gives(self):
+        for name in (b'A', b'A1234567', b'A(B)', b'$(#)'):
+            self.assertTrue(decks.is_named(name), name)
+        for name in (b'', b'a', b'A12345678', b'(B)', b'A()', b'A(B', b'A(b)', b'A(B)(C)', b'A(B(C))', b'A)', b'A(B)C'):
+            self.assertFalse(decks.is_named(name), name)
+
+    def test_library_of_members_that_name_none(self):
+        self.assertEqual(decks.option_for(None), [])
+        self.assertEqual(decks.option_for('COIL'), ['-L', 'COIL'])
+        for library in ('', 'coil', 'A12345678', 'A(B)'):
+            with self.assertRaises(Stop) as caught:
+                decks.option_for(library)
+            self.assertEqual(str(caught.exception), f'-L {library}: the library is no identifier of at most 8 bytes')
+
     def test_words_of_the_user(self):
         given = [decks.Given('A=/dev/fd/5', '/dev/fd/5', 'x/a.pli', 'x/a.pli'),
-                 decks.Given('B=/dev/fd/55', '/dev/fd/55', 'B=b.pli', 'b.pli')]
+                 decks.Given('B=/dev/fd/55', '/dev/fd/55', 'B=b.pli', 'b.pli'),
+                 decks.Given('L(B)=/dev/fd/6', '/dev/fd/6', 'L(B)=b.pli', 'b.pli'), decks.as_it_is('-L'),
+                 decks.as_it_is('C(D)=c.pli')]
         for said, meant in ((b'pack: A=/dev/fd/5: why\n', b'pack: x/a.pli: why\n'),
                             (b'pack: /dev/fd/55: why\n', b'pack: b.pli: why\n'),
-                            (b'pack: B=/dev/fd/55: why\n', b'pack: B=b.pli: why\n')):
+                            (b'pack: B=/dev/fd/55: why\n', b'pack: B=b.pli: why\n'),
+                            (b'pack: L(B)=/dev/fd/6: why\n', b'pack: L(B)=b.pli: why\n'),
+                            (b'pack: ./-L: why\n', b'pack: -L: why\n'),
+                            (b'pack: C(D)=c.pli: why\n', b'pack: C(D)=c.pli: why\n')):
             self.assertEqual(decks.in_words_of_user(said, given), meant)

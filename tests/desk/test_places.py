@@ -17,10 +17,19 @@ class Links(unittest.TestCase):
     def names(self, source):
         return [link.name for link in links_of(0, source)]
 
+    def pairs(self, source):
+        return [link[2:] for link in links_of(0, source)]
+
     def test_found(self):
         for source in (b'%INCLUDE M;', b'X %L:/*%*/K :\nINCLUDE/**/M', b"'%' %INCLUDE M", b'/* % */%INCLUDE M'):
             self.assertEqual(self.names(source), [b'M'], source)
         self.assertEqual(self.names(b'%INCLUDE A , B;\n%INCLUDE C'), [b'A', b'B', b'C'])
+
+    def test_libraries(self):
+        for source in (b'%INCLUDE L(M);', b'%INCLUDE/**/L ( M\n) ;', b'%K:INCLUDE L(/*)*/M/**/);'):
+            self.assertEqual(self.pairs(source), [(b'L', b'M')], source)
+        self.assertEqual(self.pairs(b'%INCLUDE A, L(M), K(M) , B;'), [(b'', b'A'), (b'L', b'M'), (b'K', b'M'), (b'', b'B')])
+        self.assertEqual(self.pairs(b'%INCLUDE (A), B;'), [(b'', b'')])    # which is refused
 
     def test_passed_over(self):
         for source in (b"'%INCLUDE M;'", b'/*%INCLUDE M;*/', b'%INCLUDE = M;', b'INCLUDE M;', b'%INCLUDES M;', b'%',
@@ -32,6 +41,19 @@ class Links(unittest.TestCase):
                                        B=b'%INCLUDE C;', C=b'%INCLUDE A;', D=b''), False)
         self.assertEqual(includers(deck, 3), [1, 3])
         self.assertEqual(includers(deck, 4), [4])
+
+
+    def test_a_name_means_the_first_and_a_pair_its_own(self):
+        deck = read_deck(house.deck_of_libraries(
+            ('X', 'MAIN', b'%INCLUDE M;\n%INCLUDE B(M);\n%INCLUDE C(M);\n%INCLUDE A(M);\n%INCLUDE B(N);'),
+            ('A', 'M', b''), ('B', 'M', b''), ('B', 'N', b'%INCLUDE M;')), False)
+        self.assertEqual(includers(deck, 1), [1, 4, 5])
+        self.assertEqual(includers(deck, 2), [2])
+        self.assertEqual(includers(deck, 3), [5])
+
+    def test_no_pair_in_a_deck_without_libraries(self):
+        deck = read_deck(house.deck_of(MAIN=b'%INCLUDE A(M);\n%INCLUDE M(A);', M=b''), False)
+        self.assertEqual(includers(deck, 1), [])
 
 
 class Places(unittest.TestCase):
@@ -58,6 +80,18 @@ class Places(unittest.TestCase):
         shown = self.shown(10, 1, 0, MAIN=b'\n%INCLUDE M;', M=b'%X=1/0;')
         self.assertTrue(shown.endswith('it called\nincluded by MAIN, line 2\n'))
         self.assertNotIn('included by', self.shown(10, 1, 0, MAIN=b'', M=b'%X=1/0;'))
+
+    def test_in_a_library(self):
+        deck = read_deck(house.deck_of_libraries(('X', 'MAIN', b'\n%INCLUDE B(M);'), ('A', 'M', b''), ('B', 'M', b'%X=1/0;')),
+                         False)
+        shown = shown_place(deck, refused(10, 2, 0)).decode()
+        self.assertTrue(shown.startswith('B(M), line 1, column 1:\n  %X=1/0;\n'), shown)
+        self.assertTrue(shown.endswith('included by X(MAIN), line 2\n'), shown)
+
+    def test_in_a_library_of_cards(self):
+        deck = read_deck(house.deck_of_libraries(('X', 'MAIN', b' %INCLUDE B(M);'.ljust(80)), ('B', 'M', b' ' * 80)), True)
+        self.assertEqual(shown_place(deck, refused(3, 1, 80)).decode(),
+                         'B(M), behind its last record\nincluded by X(MAIN), record 1\n')
 
     def test_every_case_has_a_place(self):
         for content, is_cards, answer in house.cases():
