@@ -2,7 +2,7 @@
 import collections
 import re
 
-from desk.decks import FIRST, LAST, columns
+from desk.decks import FIRST, LAST
 
 # a blank or line feed, or a comment, perhaps open
 SPACE = re.compile(rb'(?:[ \n]|/\*.*?(?:\*/|\Z))*', re.DOTALL)
@@ -84,12 +84,11 @@ def leading_to(member, links, meant):
 
 def includers(deck, member):
     """The lines of the main program, or records, with INCLUDE statements that lead to a member."""
-    sources = [columns(one.body) if deck.is_cards else one.body for one in deck.members]
     meant = numbers_of(deck)
-    links = [link for number, source in enumerate(sources) for link in links_of(number, source)]
+    links = [link for number in range(len(deck.members)) for link in links_of(number, deck.source(number))]
     leads = leading_to(member, links, meant)
     places = [link.place for link in links if link.member == 0 and meant.get(link[2:]) in leads]
-    return sorted({line_of(deck, sources[0], place) for place in places})
+    return sorted({line_of(deck, deck.source(0), place) for place in places})
 
 
 def line_of(deck, source, place):

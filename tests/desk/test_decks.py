@@ -1,11 +1,8 @@
-"""Decks are read as 01 says, records are made of lines, and pack's words become the user's."""
-import os
-import tempfile
+"""Decks are read and made as 01 and C-14 say."""
 import unittest
 
 import house
 from desk import decks
-from desk.errors import Stop
 
 
 class Reading(unittest.TestCase):
@@ -75,59 +72,24 @@ class Libraries(Reading):
         self.refuses(house.deck_of_libraries(('A', 'A', bytes(65_537 - 26))))
 
 
-class Records(unittest.TestCase):
-    def test_padded(self):
-        self.assertEqual(decks.records(b' A\n\nB', 'x'), b' A'.ljust(80) + b' ' * 80 + b'B'.ljust(80))
-        self.assertEqual(decks.records(b'A' * 80 + b'\n', 'x'), b'A' * 80)
+class Making(unittest.TestCase):
+    def test_both_layouts(self):
+        for content in (house.DECK, Libraries.CONTENT):
+            deck = decks.read_deck(content, False)
+            self.assertEqual(decks.make_deck(deck.members, False), deck)
+            self.assertEqual(decks.size_of(deck.members), len(content))
 
-    def test_long_line(self):
-        with self.assertRaises(Stop) as caught:
-            decks.records(b'A\n' + b'B' * 81, 'x.pli')
-        self.assertEqual(str(caught.exception), 'x.pli, line 2: 81 characters, and a record has 80')
+    def test_every_case(self):
+        """The deck that is made of the members of a sound deck is that deck."""
+        for content, is_cards, answer in house.cases():
+            if not answer.startswith(b'1 '):
+                self.assertEqual(decks.make_deck(decks.read_deck(content, is_cards).members, is_cards).content, content)
 
-    def test_file_that_is_left_to_pack(self):
-        with tempfile.TemporaryDirectory() as folder:
-            for name, content in (('even', b'A' * 80), ('large', b'\n' * 70_000)):
-                house.write(os.path.join(folder, name), content)
-                self.assertIsNone(decks.lines_of(os.path.join(folder, name)))
-            self.assertIsNone(decks.lines_of(folder))
-            self.assertIsNone(decks.lines_of(os.path.join(folder, 'none')))
+    def test_unsound(self):
+        for members in ([], [decks.Member(b'', b'A', bytes(65_536))], 2 * [decks.Member(b'L', b'A', b'')],
+                        [decks.Member(b'', b'A', b''), decks.Member(b'L', b'A', b'')]):
+            with self.assertRaises(decks.Unsound):
+                decks.make_deck(members, False)
 
     def test_columns(self):
         self.assertEqual(decks.columns(bytes(range(80)) * 2), bytes(range(1, 72)) * 2)
-
-
-class Arguments(unittest.TestCase):
-    def test_names(self):
-        for argument, name, path in (('a.b.pli', b'A', 'a.b.pli'), ('X=a.pli', b'X', 'a.pli'),
-                                     ('d/x=y.pli', b'X=Y', 'd/x=y.pli'), ('=a', b'=A', '=a'),
-                                     ('X=d/y=z', b'X', 'd/y=z'), ('L(X)=a.pli', b'L(X)', 'a.pli')):
-            self.assertEqual(decks.name_of(argument), name)
-            self.assertEqual(decks.split_argument(argument)[1], path)
-
-    def test_names_that_pack_gives(self):
-        for name in (b'A', b'A1234567', b'A(B)', b'$(#)'):
-            self.assertTrue(decks.is_named(name), name)
-        for name in (b'', b'a', b'A12345678', b'(B)', b'A()', b'A(B', b'A(b)', b'A(B)(C)', b'A(B(C))', b'A)', b'A(B)C'):
-            self.assertFalse(decks.is_named(name), name)
-
-    def test_library_of_members_that_name_none(self):
-        self.assertEqual(decks.option_for(None), [])
-        self.assertEqual(decks.option_for('COIL'), ['-L', 'COIL'])
-        for library in ('', 'coil', 'A12345678', 'A(B)'):
-            with self.assertRaises(Stop) as caught:
-                decks.option_for(library)
-            self.assertEqual(str(caught.exception), f'-L {library}: the library is no identifier of at most 8 bytes')
-
-    def test_words_of_the_user(self):
-        given = [decks.Given('A=/dev/fd/5', '/dev/fd/5', 'x/a.pli', 'x/a.pli'),
-                 decks.Given('B=/dev/fd/55', '/dev/fd/55', 'B=b.pli', 'b.pli'),
-                 decks.Given('L(B)=/dev/fd/6', '/dev/fd/6', 'L(B)=b.pli', 'b.pli'), decks.as_it_is('-L'),
-                 decks.as_it_is('C(D)=c.pli')]
-        for said, meant in ((b'pack: A=/dev/fd/5: why\n', b'pack: x/a.pli: why\n'),
-                            (b'pack: /dev/fd/55: why\n', b'pack: b.pli: why\n'),
-                            (b'pack: B=/dev/fd/55: why\n', b'pack: B=b.pli: why\n'),
-                            (b'pack: L(B)=/dev/fd/6: why\n', b'pack: L(B)=b.pli: why\n'),
-                            (b'pack: ./-L: why\n', b'pack: -L: why\n'),
-                            (b'pack: C(D)=c.pli: why\n', b'pack: C(D)=c.pli: why\n')):
-            self.assertEqual(decks.in_words_of_user(said, given), meant)

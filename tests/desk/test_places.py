@@ -5,12 +5,18 @@ import house
 from desk.answers import LAST_NUMBER, Answer
 from desk.decks import read_deck
 from desk.includes import includers, links_of
-from desk.places import shown_place
+from desk.places import headline, shown_place
 from desk.words import MEANINGS
 
 
 def refused(number, member, offset):
     return Answer(number, member, offset, 1, b'', [])
+
+
+def shown(deck, number, member, offset):
+    answer = refused(number, member, offset)
+    words = MEANINGS[number]
+    return (headline(deck, answer) + shown_place(deck, answer)).decode().replace(words, words.partition(' ')[0].rstrip(','))
 
 
 class Links(unittest.TestCase):
@@ -58,23 +64,23 @@ class Links(unittest.TestCase):
 
 class Places(unittest.TestCase):
     def shown(self, number, member, offset, is_cards=False, **bodies):
-        return shown_place(read_deck(house.deck_of(**bodies), is_cards), refused(number, member, offset)).decode()
+        return shown(read_deck(house.deck_of(**bodies), is_cards), number, member, offset)
 
     def test_caret_under_tabs_and_characters(self):
         body = 'A\n\té\x01%X'.encode()
-        self.assertEqual(self.shown(3, 0, 6, MAIN=body), 'MAIN, line 2, column 5:\n  \té?%X\n  \t  ^\n')
+        self.assertEqual(self.shown(3, 0, 6, MAIN=body), 'MAIN:2:5: refusal 3: wrong\n  \té?%X\n  \t  ^\n')
 
     def test_end_of_a_body(self):
-        self.assertEqual(self.shown(3, 0, 2, MAIN=b'A\n'), 'MAIN, line 2, column 1:\n  \n  ^\n')
-        self.assertEqual(self.shown(3, 0, 80, True, MAIN=b' ' * 80), 'MAIN, behind its last record\n')
+        self.assertEqual(self.shown(3, 0, 2, MAIN=b'A\n'), 'MAIN:2:1: refusal 3: wrong\n  \n  ^\n')
+        self.assertEqual(self.shown(3, 0, 80, True, MAIN=b' ' * 80), 'MAIN:2:1: refusal 3: wrong\n  behind the last record\n')
 
     def test_record(self):
         shown = self.shown(6, 0, 81, True, MAIN=b' ' * 80 + b' X'.ljust(80))
-        self.assertTrue(shown.startswith('MAIN, record 2, column 2:\n   X '))
+        self.assertTrue(shown.startswith('MAIN:2:2: refusal 6: a\n   X '))
         self.assertIn('while this name was replaced', shown)
 
     def test_uneven(self):
-        self.assertEqual(self.shown(20, 1, 0, True, MAIN=b'', M=b'XY'), 'M has 2 bytes\n')
+        self.assertEqual(self.shown(20, 1, 0, True, MAIN=b'', M=b'XY'), 'M:1:1: refusal 20: a\nit has 2 bytes\n')
 
     def test_in_a_member(self):
         shown = self.shown(10, 1, 0, MAIN=b'\n%INCLUDE M;', M=b'%X=1/0;')
@@ -84,14 +90,23 @@ class Places(unittest.TestCase):
     def test_in_a_library(self):
         deck = read_deck(house.deck_of_libraries(('X', 'MAIN', b'\n%INCLUDE B(M);'), ('A', 'M', b''), ('B', 'M', b'%X=1/0;')),
                          False)
-        shown = shown_place(deck, refused(10, 2, 0)).decode()
-        self.assertTrue(shown.startswith('B(M), line 1, column 1:\n  %X=1/0;\n'), shown)
-        self.assertTrue(shown.endswith('included by X(MAIN), line 2\n'), shown)
+        said = shown(deck, 10, 2, 0)
+        self.assertTrue(said.startswith('B(M):1:1: refusal 10: a\n  %X=1/0;\n'), said)
+        self.assertTrue(said.endswith('included by X(MAIN), line 2\n'), said)
 
     def test_in_a_library_of_cards(self):
         deck = read_deck(house.deck_of_libraries(('X', 'MAIN', b' %INCLUDE B(M);'.ljust(80)), ('B', 'M', b' ' * 80)), True)
-        self.assertEqual(shown_place(deck, refused(3, 1, 80)).decode(),
-                         'B(M), behind its last record\nincluded by X(MAIN), record 1\n')
+        self.assertEqual(shown(deck, 3, 1, 80), 'B(M):2:1: refusal 3: wrong\n  behind the last record\n'
+                         'included by X(MAIN), record 1\n')
+
+    def test_path(self):
+        deck = read_deck(house.deck_of(MAIN=b'%INCLUDE M;', M=b'%'), False)._replace(paths=(b'a/main.pli', b'b/m.pli'))
+        self.assertEqual(shown(deck, 3, 1, 1), 'b/m.pli:1:2: refusal 3: wrong\n  %\n   ^\nincluded by a/main.pli, line 1\n')
+
+    def test_long_line(self):
+        said = self.shown(3, 0, 500, MAIN=b'A' * 500 + b'%' + b'B' * 500)
+        line, caret = said.splitlines()[1:3]
+        self.assertEqual((len(line), line[caret.index('^')]), (162, '%'))
 
     def test_every_case_has_a_place(self):
         for content, is_cards, answer in house.cases():
