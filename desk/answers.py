@@ -3,13 +3,13 @@ import collections
 import re
 
 from desk.decks import FIRST, LAST, RECORD
+from desk.words import PLACELESS
 
 NUMBER = rb' (0|[1-9][0-9]{0,9})'
 NUMBERS = re.compile(NUMBER[1:] + 5 * NUMBER + rb'\n')
 ORIGIN = re.compile(rb'([BCV])' + 3 * NUMBER + rb'\n')
 
-# numbers that are given back without a place; the last that 01 and C-11 know
-PLACELESS = 2
+# the last number that 01 and C-11 know
 LAST_NUMBER = 20
 
 Origin = collections.namedtuple('Origin', 'kind member offset length')
@@ -22,20 +22,36 @@ class Unbelievable(Exception):
 
 def read_answer(content, deck):
     """The answer that a program gave for a deck, or Unbelievable."""
-    head = NUMBERS.match(content)
+    return read_answers(content, [deck])[0]
+
+
+def read_answers(content, decks):
+    """The answers that a program gave for decks in turn, with nothing between them and behind them, or Unbelievable."""
+    answers = []
+    at = 0
+    for deck in decks:
+        answer, at = read_next(content, at, deck, len(answers) + 1 == len(decks))
+        answers.append(answer)
+    return answers
+
+
+def read_next(content, at, deck, is_last):
+    """The answer to a deck that begins at a place, and the place behind it."""
+    head = NUMBERS.match(content, at)
     if not head:
         raise Unbelievable('it does not begin with six numbers')
     number, member, offset, steps, size, lines = map(int, head.groups())
     origins, at = read_origins(content, head.end(), lines)
-    if len(content) - at != size + 1 or content[-1:] != b'\n':
+    end = at + size + 1
+    if len(content) < end or content[end - 1:end] != b'\n' or is_last and len(content) != end:
         raise Unbelievable(f'behind its list it should have {size} bytes of text and a line feed, and has '
                            f'{len(content) - at} bytes')
-    answer = Answer(number, member, offset, steps, content[at:-1], origins)
+    answer = Answer(number, member, offset, steps, content[at:end - 1], origins)
     if number == 0:
         check_finished(answer, deck)
     else:
         check_refused(answer, deck)
-    return answer
+    return answer, end
 
 
 def read_origins(content, at, count):

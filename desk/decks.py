@@ -1,30 +1,45 @@
-"""Decks: made by the program pack from files, and read (01, "The deck")."""
+"""Decks: made of members, and read (01, "The deck", and C-14)."""
 import collections
-import contextlib
-import os
 import re
 import struct
 
-from desk import standard
-from desk.errors import Stop
-from desk.running import in_memory, on_this_machine, output_of
-
 BYTES = 65_536
 MEMBERS = 32
-HEAD = 2
+HEAD = struct.Struct('<H')
+# a line of contents without a library, and with one; the first number of a deck with libraries is so much larger
 LINE = struct.Struct('<8sII')
+LONG_LINE = struct.Struct('<8s8sII')
+LIBRARIES = 256
+NAME = 8
 IDENTIFIER = re.compile(rb'[A-Z$@#][A-Z0-9$@#_]{0,7}')
 
 # a record of card images, and its columns that have source
 RECORD = 80
 FIRST, LAST = 1, 72
-# no more bytes in lines of at most 80 characters can become a deck
-LINES = BYTES + BYTES // RECORD
 
-Member = collections.namedtuple('Member', 'name body')
-Deck = collections.namedtuple('Deck', 'content members is_cards')
-# what pack is given for an argument of the user
-Given = collections.namedtuple('Given', 'word path argument user_path')
+
+class Member(collections.namedtuple('Member', 'library name body')):
+    """A member; its library is empty in a deck without libraries."""
+    __slots__ = ()
+
+    @property
+    def shown(self):
+        """What people call it."""
+        return b'%s(%s)' % (self.library, self.name) if self.library else self.name
+
+
+class Deck(collections.namedtuple('Deck', 'content members is_cards paths', defaults=[()])):
+    """A deck with its members and, where it was made of files, their paths as bytes."""
+    __slots__ = ()
+
+    def called(self, member):
+        """What a place in a member begins with: the path of its file, or its name."""
+        return self.paths[member] if self.paths else self.members[member].shown
+
+    def source(self, member):
+        """What 01 calls the body of a member."""
+        body = self.members[member].body
+        return columns(body) if self.is_cards else body
 
 
 class Unsound(Exception):
@@ -35,22 +50,32 @@ class Unsound(Exception):
 
 def read_deck(content, is_cards):
     """The deck that these bytes are, or Unsound."""
-    count = int.from_bytes(content[:HEAD], 'little')
-    at = HEAD + LINE.size * count
+    first = int.from_bytes(content[:HEAD.size], 'little')
+    has_libraries = first > LIBRARIES
+    count = first - LIBRARIES if has_libraries else first
+    line = LONG_LINE if has_libraries else LINE
+    at = HEAD.size + line.size * count
     if not 1 <= count <= MEMBERS or len(content) < at:
         raise Unsound('its contents are not whole')
-    members = {}
-    for padded, offset, length in LINE.iter_unpack(content[HEAD:at]):
-        name = padded.rstrip(b' ')
-        if not IDENTIFIER.fullmatch(name) or name in members:
-            raise Unsound('a name is no identifier, or is there twice')
+    members = []
+    for *names, offset, length in line.iter_unpack(content[HEAD.size:at]):
         if offset != at:
             raise Unsound('a body does not begin where the one before it ends')
-        members[name] = content[at:at + length]
+        members.append(Member(*read_names(names), content[at:at + length]))
         at += length
     if at != len(content) or at > BYTES:
         raise Unsound(f'it has {len(content)} bytes, and its contents speak of {at}')
-    return Deck(content, [Member(name, body) for name, body in members.items()], is_cards)
+    if len({one.shown for one in members}) != count:
+        raise Unsound('a name is there twice')
+    return Deck(content, members, is_cards)
+
+
+def read_names(padded):
+    """Library, perhaps empty, and name of a line of contents."""
+    names = [name.rstrip(b' ') for name in padded]
+    if not all(map(IDENTIFIER.fullmatch, names)):
+        raise Unsound('a name is no identifier')
+    return names if len(names) == 2 else [b'', *names]
 
 
 def columns(body):
@@ -58,92 +83,23 @@ def columns(body):
     return b''.join(body[at + FIRST:at + LAST] for at in range(0, len(body), RECORD))
 
 
-# ---- packing
+# ---- making
 
-def split_argument(argument):
-    """The name, perhaps empty, and the path of an argument, as pack reads them."""
-    name, equals, path = argument.partition('=')
-    if not name or not equals or '/' in name:
-        return '', argument
-    return name, path
-
-
-def name_of(argument):
-    """What pack calls the member of an argument."""
-    name, path = split_argument(argument)
-    if name:
-        return os.fsencode(name)
-    return os.fsencode(os.path.basename(path)).partition(b'.')[0].upper()
+def make_deck(members, is_cards, paths=()):
+    """The deck of these members, whose libraries are all empty or all not, or Unsound."""
+    has_libraries = any(one.library for one in members)
+    line = LONG_LINE if has_libraries else LINE
+    at = HEAD.size + line.size * len(members)
+    contents = [HEAD.pack(len(members) + LIBRARIES * has_libraries)]
+    for one in members:
+        names = [one.library, one.name] if has_libraries else [one.name]
+        contents.append(line.pack(*(name.ljust(NAME) for name in names), at, len(one.body)))
+        at += len(one.body)
+    deck = read_deck(b''.join(contents + [one.body for one in members]), is_cards)
+    return deck._replace(paths=tuple(paths))
 
 
-def lines_of(path):
-    """The bytes of a file that has line ends and is no longer than a deck; else None, and pack sees to it."""
-    try:
-        if not os.path.isfile(path) or os.path.getsize(path) > LINES:
-            return None
-        with open(path, 'rb') as file:
-            content = file.read()
-    except OSError:
-        return None
-    return content if b'\n' in content else None
-
-
-def records(content, path):
-    """Lines as records of 80 bytes, padded with blanks."""
-    lines = content.split(b'\n')
-    if not lines[-1]:
-        lines.pop()
-    for number, line in enumerate(lines, 1):
-        if len(line) > RECORD:
-            raise Stop(f'{path}, line {number}: {len(line)} characters, and a record has {RECORD}')
-    return b''.join(line.ljust(RECORD) for line in lines)
-
-
-def punched(argument, files):
-    """What pack is given for an argument: where its file has line ends the records made of it, which lie in memory."""
-    as_it_is = Given(argument, '', argument, '')
-    _, path = split_argument(argument)
-    name = name_of(argument)
-    content = lines_of(path)
-    if content is None or not IDENTIFIER.fullmatch(name):
-        return as_it_is
-    file = files.enter_context(in_memory(records(content, path)))
-    os.set_inheritable(file.fileno(), True)
-    made = f'/dev/fd/{file.fileno()}'
-    return Given(f'{os.fsdecode(name)}={made}', made, argument, path)
-
-
-def in_words_of_user(said, given):
-    """What pack says, with the user's words in place of those that pack was given."""
-    for one in given:
-        if one.path:
-            said = said.replace(os.fsencode(one.word + ': '), os.fsencode(one.argument + ': '))
-            said = said.replace(os.fsencode(one.path + ': '), os.fsencode(one.user_path + ': '))
-    return said
-
-
-def pack(program, arguments, is_cards):
-    """The deck of the files that the arguments name; Stop if there is none."""
-    with contextlib.ExitStack() as files:
-        given = [punched(argument, files) if is_cards else Given(argument, '', argument, '') for argument in arguments]
-        errors = files.enter_context(in_memory(b''))
-        words = on_this_machine(program) + [one.word for one in given]
-        try:
-            content = output_of('pack', words, stderr=errors, close_fds=False)    # a path may be /dev/fd/N of the caller
-        finally:
-            said = os.pread(errors.fileno(), BYTES, 0)
-            standard.show(in_words_of_user(said, given))
-    if said:
-        raise Stop    # pack has no exit status: it says why there is no deck
-    return sound(content, len(given), is_cards)
-
-
-def sound(content, count, is_cards):
-    """The deck that pack wrote, once it is seen to be whole."""
-    try:
-        deck = read_deck(content, is_cards)
-    except Unsound as reason:
-        raise Stop(f'what pack wrote is no deck: {reason}') from None
-    if len(deck.members) != count:
-        raise Stop(f'pack was given {count} files and wrote {len(deck.members)} members')
-    return deck
+def size_of(members):
+    """How many bytes the deck of these members has."""
+    line = LONG_LINE if any(one.library for one in members) else LINE
+    return HEAD.size + sum(line.size + len(one.body) for one in members)

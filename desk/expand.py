@@ -1,125 +1,118 @@
-"""The command: expands a main program with its members."""
-import getopt
+"""plidesk expand: expands a main program with its members."""
 import os
-import traceback
 
 from desk import standard
-from desk.answers import PLACELESS, Unbelievable, read_answer
-from desk.building import ensure_built, program_path
-from desk.decks import pack
-from desk.errors import Interrupted, Stop
-from desk.places import shown_place
-from desk.running import in_memory, on_this_machine, output_of, watch_signals
-from desk.words import MEANINGS
+from desk.asking import answers_to, expander
+from desk.errors import Stop
+from desk.gathering import gather, shelf_of
+from desk.options import Options
+from desk.output import make_rule, write_whole
+from desk.refusals import shown_refusal
+from desk.told import as_json, told_answer
 
-ROOT = os.path.dirname(os.path.dirname(os.path.realpath(__file__)))
+EXPANDED, REFUSED = 0, 1
 
-EXPANDED, REFUSED, NOTHING = 0, 1, 2
-
-USAGE = 'usage: expand [-cl] [NAME=]MAIN.pli [[NAME=]MEMBER.pli ..]\n'
+USAGE = ('usage: plidesk expand [-c] [-I [LIBRARY=]DIR].. [-L LIBRARY] [-o FILE [-MD]] [-l] [--json]\n'
+         '                      [NAME=]MAIN.pli [[NAME=]MEMBER.pli ..]\n')
 
 HELP = USAGE + '''
-Expands the percent statements of MAIN.pli. The other files are the members that it can INCLUDE.
+Expands the percent statements of MAIN.pli. The other files are members that it can INCLUDE.
 A member is called NAME, or else what stands before the first dot of its file's name, in capitals;
-an argument with a / before its first = is a path alone.
+an argument with a / before its first = is a path alone, and - is standard input, called MAIN.
+'LIBRARY(NAME)=MEMBER.pli' puts a member into a library: %INCLUDE LIBRARY(NAME); means that member,
+%INCLUDE NAME; the first one called NAME.
 
-  -c          the files are card images: records of 80 bytes without line ends, source in columns 2
-              to 72; or, in a file that has line ends, lines of up to 80 characters, which are padded
-              with blanks to 80
-  -l          print the origin list too, to standard error: B an inserted blank, C a copied stretch,
-              V a replacement; then the member, the offset in its file (with -c in its records),
-              and the length in the text
-  -h, --help  print this help
-  --          no option stands behind this
+  -I DIR          find members in this folder too, by name; only those that the sources can include
+                  are taken, and a member that is named on the command line comes first; again and
+                  again, in this order
+  -I LIBRARY=DIR  the same, for members of a library
+  -L LIBRARY      the library of members that name none, where they have libraries; else it is MAIN
+  -c              the files are card images: records of 80 bytes without line ends, source in columns
+                  2 to 72; or, in a file that has line ends, lines of up to 80 characters, which are
+                  padded with blanks to 80
+  -o FILE         write the text to this file, when it is whole
+  -MD             write a rule for make to FILE.d: what was read for FILE
+  -l, --list      print the origin list too, to standard error: B an inserted blank, C a copied
+                  stretch, V a replacement; then the member, the offset in its file (with -c in its
+                  records), and the length in the text
+  --json          write the whole answer as JSON in place of the text, also if it is a refusal
+  -h, --help      print this help
+  --              no option stands behind this
 
-The text goes to standard output. If the program is refused, standard error says why and where.
-Exit status: 0 expanded, and all of the text written; 1 refused; 2 no answer, or not all of it
-written: bad usage, a file that cannot be packed, a failed or stopped build, an answer that is not
-whole, no room for the output. If EXPAND_PROGRAM is set, it names a program that is run in place of
-target/bin/expand. The manual page, docs/expand.1, has more, and what each refusal means.
+Without -o the text goes to standard output. If the program is refused, standard error says why and
+where. Exit status: 0 expanded, and all of the text written; 1 refused; 2 no answer, or not all of it
+written. docs/plidesk.1 has more, and what each refusal means.
 '''
 
 
-def other_program():
-    """The program that is run in place of target/bin/expand, or nothing."""
-    given = os.environ.get('EXPAND_PROGRAM', '')
-    if given and not (os.path.isfile(given) and os.access(given, os.X_OK)):
-        raise Stop(f'there is no program {given}')
-    return os.path.abspath(given) if given else ''
-
-
-def answer_to(deck, words):
-    """What the expander answers to a deck, if it can be believed."""
-    with in_memory(deck.content) as source:
-        content = output_of('the expander', words + ['cards'] * deck.is_cards, stdin=source)
-    try:
-        return read_answer(content, deck)
-    except Unbelievable as reason:
-        raise Stop(f'the answer of the expander cannot be believed: {reason}') from None
-
-
-def expansion(arguments, is_cards):
-    """The deck of the files that the arguments name, and the answer to it."""
-    other = other_program()
-    ensure_built(ROOT, ['pack'] if other else ['pack', 'expand'])
-    deck = pack(program_path(ROOT, 'pack'), arguments, is_cards)
-    return deck, answer_to(deck, [other] if other else on_this_machine(program_path(ROOT, 'expand')))
-
-
 def shown_list(deck, origins):
-    return b''.join(b'%s %s %d %d\n' % (one.kind, deck.members[one.member].name, one.offset, one.length)
+    return b''.join(b'%s %s %d %d\n' % (one.kind, deck.members[one.member].shown, one.offset, one.length)
                     for one in origins)
 
 
-def shown_refusal(deck, answer):
-    shown = f'refusal {answer.number}: {MEANINGS[answer.number]}\n'.encode()
-    return shown if answer.number <= PLACELESS else shown + shown_place(deck, answer)
+def put(options, content):
+    """Writes what was asked for to where it was asked for."""
+    path = options.value('-o')
+    if path is None:
+        standard.put_out(content)
+    else:
+        write_whole(path, content)
 
 
-def expand(arguments, is_cards, is_list):
+def put_rule(options, files):
+    if options.has('-MD'):
+        target = options.value('-o')
+        rule = make_rule(target, [file.path for file in files if file.path != '-'])
+        write_whole(target + '.d', rule.encode('utf-8', 'surrogateescape'))
+
+
+def check_target(options, files):
+    """No source is written over."""
+    path = options.value('-o')
+    for file in files:
+        if path is not None and os.path.exists(path) and file.path != '-' and os.path.samefile(path, file.path):
+            raise Stop(f'{path} is a source of this program')
+
+
+def warn(files):
+    for file in files:
+        for warning in file.warnings:
+            standard.say(f'warning: {file.path}: {warning}')
+
+
+def expand(options):
     """Expands, shows what came out, and returns the status."""
-    deck, answer = expansion(arguments, is_cards)
-    if answer.number != 0:
-        standard.show(shown_refusal(deck, answer))
-        return REFUSED
-    if is_list:
+    shelf = shelf_of(options.value('-L'), options.values('-I'))
+    words = expander()
+    deck, files = gather(options.arguments, shelf, options.has('-c'))
+    check_target(options, files)
+    warn(files)
+    answer = answers_to([deck], words)[0]
+    is_refused = answer.number != 0
+    if is_refused:
+        standard.show(shown_refusal(deck, answer, shelf, words))
+    elif options.has('--list'):
         standard.show(shown_list(deck, answer.origins))
-    standard.put_out(answer.text + b'\n')
-    return EXPANDED
+    if options.has('--json'):
+        put(options, as_json(told_answer(deck, files, answer)))
+    elif not is_refused:
+        put(options, answer.text + b'\n')
+    if not is_refused:
+        put_rule(options, files)
+    return REFUSED if is_refused else EXPANDED
 
 
 def command(words, closed):
-    """Does what the words of the command line ask for; closed are the standard files that were so."""
-    if standard.OUTPUT in closed:
-        raise Stop('standard output is closed')
-    try:
-        options, arguments = getopt.getopt(words, 'clh', ['help'])
-    except getopt.GetoptError as error:
-        raise Stop(f'{error}\n{USAGE.rstrip()}') from None
-    asked = {option for option, _ in options}
-    if asked & {'-h', '--help'}:
+    """Does what the words behind `expand` ask for; closed are the standard files that were so."""
+    options = Options(words, 'cI:L:o:M:lh', ['list', 'json', 'help'], USAGE)
+    if options.has('--help'):
         standard.put_out(HELP.encode())
         return EXPANDED
-    if not arguments:
-        standard.tell(USAGE)
-        return NOTHING
-    if '-l' in asked and standard.ERRORS in closed:
+    options.need_arguments()
+    if options.has('-MD') and options.value('-o') is None:
+        raise Stop('-MD says what a file was made of, and needs -o')
+    if standard.OUTPUT in closed and options.value('-o') is None:
+        raise Stop('standard output is closed')
+    if options.has('--list') and standard.ERRORS in closed:
         raise Stop('standard error is closed, and the origin list goes there')
-    return expand(arguments, '-c' in asked, '-l' in asked)
-
-
-def main(words):
-    """Runs the command and returns its status, which is 0 if all of what was asked for is written, and for nothing else."""
-    closed = standard.open_files()
-    try:
-        watch_signals()
-        return command(words, closed)
-    except Stop as stop:
-        if stop.args:
-            standard.say(stop)
-    except Interrupted as reason:
-        standard.say('; '.join(['stopped', *reason.args]))
-    except Exception:    # a fault of this command must not look like a refusal
-        standard.tell(traceback.format_exc())
-        standard.say('a fault in this command: there is no answer')
-    return NOTHING
+    return expand(options)

@@ -2,7 +2,7 @@
 import collections
 import re
 
-from desk.decks import FIRST, LAST, columns
+from desk.decks import FIRST, LAST
 
 # a blank or line feed, or a comment, perhaps open
 SPACE = re.compile(rb'(?:[ \n]|/\*.*?(?:\*/|\Z))*', re.DOTALL)
@@ -10,8 +10,8 @@ WORD = re.compile(rb'[A-Z$@#][A-Z0-9$@#_]*|')
 # what stands before a `%` outside strings and comments
 PASSED = re.compile(rb"(?:[^%'/]+|'[^']*(?:'|\Z)|/\*.*?(?:\*/|\Z)|/)*", re.DOTALL)
 
-# member and place of an INCLUDE statement, and the name of a member that it lists
-Link = collections.namedtuple('Link', 'member place name')
+# member and place of an INCLUDE statement, and library, perhaps empty, and name of a member that it lists
+Link = collections.namedtuple('Link', 'member place library name')
 
 
 def behind_word(source, at):
@@ -28,48 +28,67 @@ def behind_labels(source, at):
     return word, at
 
 
+def behind_item(source, at):
+    """Library, perhaps empty, and name of a member that is listed, and the place behind it and the space that follows."""
+    word, at = behind_word(source, at)
+    if not word or not source.startswith(b'(', at):
+        return (b'', word), at
+    name, at = behind_word(source, at + 1)
+    if source.startswith(b')', at):
+        at = SPACE.match(source, at + 1).end()
+    return (word, name), at
+
+
 def included(source, at):
-    """The names that the statement behind a `%` includes, and the place behind what was read."""
+    """The members that the statement behind a `%` includes, and the place behind what was read."""
     word, at = behind_labels(source, at)
     if word != b'INCLUDE' or source.startswith(b'=', at):    # before `=` it is a variable
         return [], at
-    name, at = behind_word(source, at)
-    names = [name]
+    item, at = behind_item(source, at)
+    items = [item]
     while source.startswith(b',', at):
-        name, at = behind_word(source, at + 1)
-        names.append(name)
-    return names, at
+        item, at = behind_item(source, at + 1)
+        items.append(item)
+    return items, at
 
 
 def links_of(member, source):
-    """A link for each name that an INCLUDE statement of a member lists."""
+    """A link for each member that an INCLUDE statement of a member lists."""
     links = []
     start = PASSED.match(source).end()
     while start < len(source):
-        names, at = included(source, start + 1)
-        links += [Link(member, start, name) for name in names]
+        items, at = included(source, start + 1)
+        links += [Link(member, start, *item) for item in items]
         start = PASSED.match(source, at).end()
     return links
 
 
-def leading_to(member, links, numbered):
+def numbers_of(deck):
+    """The number of the member that is meant by a library and a name: a name alone means the first member of that name."""
+    numbers = {}
+    for number, one in enumerate(deck.members):
+        numbers.setdefault((b'', one.name), number)
+        numbers.setdefault((one.library, one.name), number)
+    return numbers
+
+
+def leading_to(member, links, meant):
     """The members that lead to a member, itself among them."""
     leads = set()
     more = {member}
     while more:
         leads |= more
-        more = {link.member for link in links if numbered.get(link.name) in leads} - leads
+        more = {link.member for link in links if meant.get(link[2:]) in leads} - leads
     return leads
 
 
 def includers(deck, member):
     """The lines of the main program, or records, with INCLUDE statements that lead to a member."""
-    sources = [columns(one.body) if deck.is_cards else one.body for one in deck.members]
-    numbered = {one.name: number for number, one in enumerate(deck.members)}
-    links = [link for number, source in enumerate(sources) for link in links_of(number, source)]
-    leads = leading_to(member, links, numbered)
-    places = [link.place for link in links if link.member == 0 and numbered.get(link.name) in leads]
-    return sorted({line_of(deck, sources[0], place) for place in places})
+    meant = numbers_of(deck)
+    links = [link for number in range(len(deck.members)) for link in links_of(number, deck.source(number))]
+    leads = leading_to(member, links, meant)
+    places = [link.place for link in links if link.member == 0 and meant.get(link[2:]) in leads]
+    return sorted({line_of(deck, deck.source(0), place) for place in places})
 
 
 def line_of(deck, source, place):

@@ -9,8 +9,6 @@ from desk.errors import Interrupted, Stop
 from desk.standard import write_all
 
 STOPPING = (signal.SIGHUP, signal.SIGINT, signal.SIGTERM)
-# far more than an answer has, so that a program that writes without end does not fill the memory
-MOST = 1 << 24
 # how long a build may take to end after it was asked to
 PATIENCE = 10
 
@@ -111,12 +109,12 @@ def in_memory(content):
         yield file
 
 
-def output_of(name, words, **how):
-    """What a program writes to its standard output; Stop unless it ends with status 0."""
+def output_of(name, words, most, **how):
+    """What a program writes to its standard output; Stop unless it ends with status 0 and has written no more than most."""
     with started(words, stdout=subprocess.PIPE, **how) as child, child.stdout as pipe:
-        output = pipe.read(MOST + 1)
-        if len(output) > MOST:
-            raise Stop(f'{name} writes more than {MOST} bytes, and no answer has so many')
+        output = pipe.read(most + 1)
+        if len(output) > most:
+            raise Stop(f'{name} writes more than {most} bytes, and no answer has so many')
         status = child.wait()
     if status != 0:
         raise Stop(f'{name} {how_ended(status)}')

@@ -6,7 +6,7 @@ import stat
 
 from desk.errors import Stop
 
-COMMAND = 'expand'
+COMMAND = 'plidesk'
 OUTPUT = 1
 ERRORS = 2
 

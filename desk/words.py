@@ -1,6 +1,6 @@
 """The words of refusals."""
 
-# What a refusal means, by its number in 01; docs/expand.1 has the same words.
+# What a refusal means, by its number in 01; docs/plidesk.1 has the same words.
 MEANINGS = {
     1: 'the deck is malformed',
     2: 'a working room is too short',
@@ -24,6 +24,8 @@ MEANINGS = {
     20: 'a body is no whole number of 80-byte records',
 }
 
+# numbers up to this one are given back without a place
+PLACELESS = 2
 MEMBER_UNKNOWN = 14
 ROOM_FULL = 17
 STEPS_USED_UP = 18

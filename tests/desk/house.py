@@ -1,6 +1,6 @@
 """What the tests share: the cases of tests/cases, and clones of the repository with stubs.
 
-COMMAND, if set, names another bin/expand that is held to the tests that go through the command."""
+COMMAND, if set, names another bin/plidesk that is held to the tests that go through the command."""
 import contextlib
 import os
 import resource
@@ -13,7 +13,7 @@ import tempfile
 import time
 
 ROOT = os.path.dirname(os.path.dirname(os.path.dirname(os.path.realpath(__file__))))
-COMMAND = os.environ.get('COMMAND') or os.path.join(ROOT, 'bin', 'expand')
+COMMAND = os.environ.get('COMMAND') or os.path.join(ROOT, 'bin', 'plidesk')
 
 # ---- the cases
 
@@ -54,6 +54,16 @@ def deck_of(**bodies):
     return contents + b''.join(bodies.values())
 
 
+def deck_of_libraries(*members):
+    """A deck of members with libraries: library, name and body of each."""
+    at = 2 + 24 * len(members)
+    contents = struct.pack('<H', 256 + len(members))
+    for library, name, body in members:
+        contents += struct.pack('<8s8sII', library.encode().ljust(8), name.encode().ljust(8), at, len(body))
+        at += len(body)
+    return contents + b''.join(body for _, _, body in members)
+
+
 # ---- one program with a true answer: M1 of 01 in a member, behind a comment
 
 MAIN = b'%INCLUDE M;\n/* a line that is copied */'
@@ -70,19 +80,13 @@ base:
 left: base io
 right: base  # beside left
 unused: right
-pack: left os
-expand: left right libc
+cases: left right libc
 '''
 
-# pack: writes the file deck, says the file said, and does what the file then says; all stand beside the clone
-PACK = '''#!/bin/sh
-cat "$ROOM/deck"
-[ ! -f "$ROOM/said" ] || cat "$ROOM/said" >&2
-[ ! -f "$ROOM/then" ] || . "$ROOM/then"
-'''
-# the expander: the same with the file answer
+# the expander: keeps what it is asked as the file asked, writes the file answer, and does what the file ending says; all
+# stand beside the clone
 EXPANDER = '''#!/bin/sh
-cat >/dev/null
+cat >"$ROOM/asked"
 cat "$ROOM/answer"
 [ ! -f "$ROOM/ending" ] || . "$ROOM/ending"
 '''
@@ -128,27 +132,25 @@ class Clone:
     def __init__(self):
         self.room = tempfile.mkdtemp()
         self.root = os.path.join(self.room, 'clone')
-        self.command = os.path.join(self.root, 'bin', 'expand')
+        self.command = os.path.join(self.root, 'bin', 'plidesk')
         os.makedirs(os.path.join(self.root, 'bin'))
         shutil.copy(COMMAND, self.command)
         shutil.copytree(os.path.join(ROOT, 'desk'), os.path.join(self.root, 'desk'))
         write(os.path.join(self.root, 'crates.txt'), CRATES)
-        for crate in ('base', 'left', 'right', 'unused', 'pack', 'expand'):
+        for crate in ('base', 'left', 'right', 'unused', 'cases'):
             self.put_source(crate, f'// {crate}\n')
-        self.put('stubs/pack', PACK, 0o755)
-        self.put('stubs/expand', EXPANDER, 0o755)
+        self.put('stubs/cases', EXPANDER, 0o755)
         self.put('stub/rt', RT, 0o755)
         self.put('kit-id', 'stub kit 1\n')
         self.put(f'kit/on/{os.uname().machine}/toolchain/bin/qemu-x86_64', EMULATOR, 0o755)
-        self.put('main.pli', MAIN)
-        self.put('m.pli', M)
         self.reset()
 
     def reset(self):
         """The answers that are true, and no trouble."""
-        for name in ('said', 'then', 'ending', 'hold', 'meanwhile', 'fails'):
+        for name in ('asked', 'ending', 'hold', 'meanwhile', 'fails'):
             self.drop(name)
-        self.put('deck', DECK)
+        self.put('main.pli', MAIN)
+        self.put('m.pli', M)
         self.put('answer', ANSWER)
 
     def remove(self):
@@ -175,16 +177,20 @@ class Clone:
         except FileNotFoundError:
             return []
 
-    def start(self, *words, path=None, **how):
-        """Starts the command; standard output and error are pipes unless said otherwise."""
+    def asked(self):
+        """The deck that the expander was asked."""
+        with open(self.path('asked'), 'rb') as file:
+            return file.read()[RECORD.size:]
+
+    def start(self, *words, path=None, command='expand', files=('main.pli', 'm.pli'), **how):
+        """Starts a subcommand; standard output and error are pipes unless said otherwise."""
         how.setdefault('stdout', subprocess.PIPE)
         how.setdefault('stderr', subprocess.PIPE)
         environment = dict(os.environ, ROOM=self.room, RATTLE_HOME=self.path('kit'), RT_JOBS='2',
                            PATH=path or self.path('stub') + os.pathsep + os.environ['PATH'])
-        environment.pop('EXPAND_PROGRAM', None)
+        environment.pop('PLIDESK_PROGRAM', None)
         environment.update(how.pop('environment', {}))
-        files = [self.path('main.pli'), self.path('m.pli')]
-        return subprocess.Popen([self.command, *words, *files], env=environment, **how)
+        return subprocess.Popen([self.command, command, *words, *map(self.path, files)], env=environment, **how)
 
     def run(self, *words, **how):
         """Runs the command; its status, what it wrote and what it said."""

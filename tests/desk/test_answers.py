@@ -123,6 +123,11 @@ class NotBelieved(unittest.TestCase):
         for number in (21, 99, 4294967295):
             self.refuses(b'%d 0 0 3 0 0\n\n' % number, words='of no refusal')
 
+    def test_members_with_libraries(self):
+        deck = read_deck(house.deck_of_libraries(('A', 'MAIN', house.MAIN), ('B', 'M', house.M)), False)
+        self.assertTrue(read_answer(house.ANSWER, deck))
+        self.refuses(house.ANSWER.replace(b'B 1 17 1', b'B 2 17 1'), deck)
+
     def test_stretch_over_a_record_edge(self):
         deck = read_deck(house.deck_of(MAIN=160 * b'A'), True)
         self.assertTrue(read_answer(b'0 0 0 1 72 2\nB 0 1 1\nC 0 1 71\n ' + 71 * b'A' + b'\n', deck))

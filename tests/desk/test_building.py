@@ -38,32 +38,32 @@ class Building(unittest.TestCase):
 
 class Sources(Building):
     def test_first_call_builds_and_the_next_does_not(self):
-        self.assertIn(b'proving and building pack expand, 5 crates', self.expands())
+        self.assertIn(b'proving and building cases, 4 crates', self.expands())
         self.assertEqual(self.expands(), b'')
-        self.built('pack expand')
+        self.built('cases')
 
     def test_changed_sources(self):
         """The program of the new sources runs, not the old one."""
         self.expands()
         self.clone.put_source('right', '// changed\n')
-        self.clone.put('stubs/expand', f"#!/bin/sh\nprintf '{NEW.decode()}'\n", 0o755)
+        self.clone.put('stubs/cases', f"#!/bin/sh\nprintf '{NEW.decode()}'\n", 0o755)
         status, wrote, said = self.clone.run()
         self.assertEqual((status, wrote), (0, b' INC\n'), said)
-        self.built('pack expand', 'expand')
+        self.built('cases', 'cases')
 
     def test_each_part_of_a_crate(self):
         self.expands()
         for part in ('src/more.rt', 'specs/A.antt', 'proofs/deep/B.antt'):
             with self.subTest(part=part):
                 house.write(self.in_clone('crates', 'left', part), 'new')
-                self.assertIn(b'pack expand', self.expands())
+                self.assertIn(b'cases', self.expands())
                 self.assertEqual(self.expands(), b'')
 
     def test_source_left_out(self):
         self.expands()
-        os.remove(self.in_clone('crates', 'expand', 'src', 'lib.rt'))
+        os.remove(self.in_clone('crates', 'cases', 'src', 'lib.rt'))
         self.expands()
-        self.built('pack expand', 'expand')
+        self.built('cases', 'cases')
 
     def test_older_sources(self):
         """What is checked out may be older than what was built, by its times too."""
@@ -71,34 +71,34 @@ class Sources(Building):
         self.clone.put_source('base', '// an older state\n')
         os.utime(self.in_clone('crates', 'base', 'src', 'lib.rt'), (1, 1))
         self.expands()
-        self.built('pack expand', 'pack expand')
+        self.built('cases', 'cases')
 
     def test_times_alone(self):
         self.expands()
-        for crate in ('base', 'pack', 'expand'):
+        for crate in ('base', 'cases'):
             os.utime(self.in_clone('crates', crate, 'src', 'lib.rt'), (4e9, 4e9))
         self.expands()
-        self.built('pack expand')
+        self.built('cases')
 
     def test_crates_that_are_not_needed(self):
         self.expands()
         self.clone.put_source('unused', '// changed\n')
         house.write(self.in_clone('crates', 'base', 'must-fail', 'a.edit'), 'new')
         self.expands()
-        self.built('pack expand')
+        self.built('cases')
 
     def test_crates_txt(self):
         self.expands()
-        house.write(self.in_clone('crates.txt'), house.CRATES.replace('expand: left right', 'expand: left unused'))
+        house.write(self.in_clone('crates.txt'), house.CRATES.replace('cases: left right', 'cases: left unused'))
         self.expands()
-        self.built('pack expand', 'expand')
+        self.built('cases', 'cases')
 
     def test_sources_that_change_under_the_build(self):
         self.clone.put('meanwhile', 'echo // changed >crates/left/src/lib.rt')
         self.fails('the sources changed while they were built')
         self.clone.drop('meanwhile')
         self.expands()
-        self.built('pack expand', 'pack expand')
+        self.built('cases', 'cases')
 
     def test_crates_txt_left_out(self):
         os.remove(self.in_clone('crates.txt'))
@@ -108,53 +108,53 @@ class Sources(Building):
 class Programs(Building):
     def test_built_by_hand(self):
         """What rt has built without this command is asked about once."""
-        subprocess.run([self.clone.path('stub/rt'), 'check', 'pack', 'expand'], cwd=self.clone.root, check=True,
+        subprocess.run([self.clone.path('stub/rt'), 'check', 'cases'], cwd=self.clone.root, check=True,
                        env=dict(os.environ, ROOM=self.clone.room), stdout=subprocess.DEVNULL)
         self.expands()
         self.expands()
-        self.built('pack expand', 'pack expand')
+        self.built('cases', 'cases')
 
     def test_program_left_out(self):
         self.expands()
-        os.remove(self.in_clone('target', 'bin', 'expand'))
+        os.remove(self.in_clone('target', 'bin', 'cases'))
         self.expands()
-        self.built('pack expand', 'expand')
+        self.built('cases', 'cases')
 
     def test_damaged_program(self):
         self.expands()
-        with open(self.in_clone('target', 'bin', 'expand'), 'ab') as file:
+        with open(self.in_clone('target', 'bin', 'cases'), 'ab') as file:
             file.write(b'echo more')
         self.expands()
-        self.built('pack expand', 'expand')
+        self.built('cases', 'cases')
 
     def test_program_of_other_sources(self):
         """rt by hand over changed sources, which are then changed back."""
         self.expands()
-        house.write(self.in_clone('target', 'bin', 'expand'), '#!/bin/sh\n', 0o755)
-        house.write(self.in_clone('target', 'stamp', 'expand'), 'of other sources')
+        house.write(self.in_clone('target', 'bin', 'cases'), '#!/bin/sh\n', 0o755)
+        house.write(self.in_clone('target', 'stamp', 'cases'), 'of other sources')
         self.expands()
-        self.built('pack expand', 'expand')
+        self.built('cases', 'cases')
 
     def test_cut_mark(self):
         self.expands()
-        path = self.in_clone('target', 'pack.built')
+        path = self.in_clone('target', 'cases.built')
         for size in (0, 10, os.path.getsize(path) - 8):
             os.truncate(path, size)
             self.expands()
-        self.built('pack expand', 'pack', 'pack', 'pack')
+        self.built('cases', 'cases', 'cases', 'cases')
 
     def test_other_toolchain(self):
         self.expands()
         self.clone.put('kit-id', 'stub kit 2\n')
         self.expands()
-        self.built('pack expand', 'pack expand')
+        self.built('cases', 'cases')
 
     def test_failed_build(self):
         self.clone.put('fails', '')
         self.fails('the build failed')
         self.clone.drop('fails')
         self.expands()
-        self.built('pack expand', 'pack expand')
+        self.built('cases', 'cases')
 
     def test_failed_build_of_changed_sources(self):
         """The old program is not run in its place."""
@@ -181,8 +181,8 @@ class Programs(Building):
         self.fails('the programs cannot be built')
 
     def test_other_expander(self):
-        self.expands(environment={'EXPAND_PROGRAM': self.clone.path('stubs/expand')})
-        self.built('pack')
+        self.expands(environment={'PLIDESK_PROGRAM': self.clone.path('stubs/cases')})
+        self.built()
 
 
 class WithoutToolchain(Building):
@@ -196,12 +196,12 @@ class WithoutToolchain(Building):
         self.assertEqual(self.expands(path=self.path), b'')
 
     def test_missing(self):
-        self.fails('pack expand must be built first, and there is no Rattle toolchain (rt)', path=self.path)
+        self.fails('cases must be built first, and there is no Rattle toolchain (rt)', path=self.path)
 
     def test_changed_sources(self):
         self.expands()
         self.clone.put_source('right', '// changed\n')
-        self.fails('expand in target/bin may be older than the sources and must be built again, and there is no Rattle '
+        self.fails('cases in target/bin may be older than the sources and must be built again, and there is no Rattle '
                    'toolchain (rt)', path=self.path)
 
 
@@ -219,8 +219,8 @@ class Together(Building):
             self.clone.drop('hold')
         ended = [(*call.communicate(timeout=30), call.returncode) for call in calls]
         self.assertEqual([(wrote, status) for wrote, _, status in ended], [(WHOLE, 0)] * 2, ended)
-        self.built('pack expand')
-        self.assertEqual(sorted(said)[0], b'expand: another call is building; this one waits for it\n')
+        self.built('cases')
+        self.assertEqual(sorted(said)[0], b'plidesk: another call is building; this one waits for it\n')
 
     def first_words(self, calls):
         """The first line that each call says: both have come to the build."""
@@ -230,7 +230,7 @@ class Together(Building):
         calls = [self.clone.start() for _ in range(6)]
         ended = [(call.communicate(timeout=30)[0], call.returncode) for call in calls]
         self.assertEqual(ended, [(WHOLE, 0)] * 6)
-        self.built('pack expand')
+        self.built('cases')
 
     def test_waiting_call_can_be_stopped(self):
         self.clone.put('hold', '')
@@ -240,9 +240,9 @@ class Together(Building):
         second.stderr.readline()
         status, wrote, said = house.stop(second, signal.SIGINT)
         self.clone.drop('hold')
-        self.assertEqual((status, wrote, said), (2, b'', b'expand: stopped\n'))
+        self.assertEqual((status, wrote, said), (2, b'', b'plidesk: stopped\n'))
         self.assertEqual((first.communicate(timeout=30)[0], first.returncode), (WHOLE, 0))
-        self.built('pack expand')
+        self.built('cases')
 
     def test_killed_holder_frees_the_lock(self):
         """Also while what it started still runs."""
@@ -275,5 +275,5 @@ class Together(Building):
         status, wrote, said = house.stop(child, signal.SIGHUP)
         self.clone.drop('hold')
         self.assertEqual((status, wrote), (2, b''))
-        self.assertTrue(said.endswith(b'expand: stopped; what is proved is kept, and the next call goes on from there\n'))
+        self.assertTrue(said.endswith(b'plidesk: stopped; what is proved is kept, and the next call goes on from there\n'))
         self.assertFalse(os.path.exists(self.clone.path('went-on')))

@@ -1,10 +1,12 @@
 """The command says 0 if the whole text is written, and for nothing else."""
+import json
 import os
 import signal
 import time
 import unittest
 
 import house
+from desk.version import VERSION
 
 WHOLE = house.TEXT + b'\n'
 # behind the numbers, in the list, behind it, in the text, before the last line feed
@@ -46,6 +48,10 @@ class Output(Through):
     def test_list(self):
         self.assertEqual(self.expands('-l'), house.NAMED)
 
+    def test_list_with_libraries(self):
+        said = self.expands('-L', 'A', '--list')
+        self.assertEqual(said, house.NAMED.replace(b' MAIN ', b' A(MAIN) ').replace(b' M ', b' A(M) '))
+
     def test_full_device(self):
         with open('/dev/full', 'wb') as full:
             self.fails('standard output: No space left on device', stdout=full)
@@ -77,7 +83,7 @@ class Output(Through):
 
     def put_long_text(self):
         """A text that no pipe takes at once."""
-        self.clone.put('deck', house.deck_of(MAIN=LONG, M=house.M))
+        self.clone.put('main.pli', LONG)
         self.clone.put('answer', b'0 0 0 1 130001 3\nB 0 0 1\nC 0 0 65000\nC 0 0 65000\n ' + 2 * LONG + b'\n')
 
     def test_pipe_closed_in_the_middle(self):
@@ -127,7 +133,7 @@ class Output(Through):
         self.assertEqual(status == 2, b'in memory: File too large' in said, said)
 
     def test_space_for_the_deck_alone(self):
-        self.expands(preexec_fn=house.limit_files(len(house.DECK)))
+        self.expands(preexec_fn=house.limit_files(house.RECORD.size + len(house.DECK)))
 
 
 class Answers(Through):
@@ -183,25 +189,26 @@ class Answers(Through):
 
     def test_without_end(self):
         self.clone.put('ending', 'exec yes')
-        if house.COMMAND.endswith('bin/expand'):    # another one may never end
+        if house.COMMAND.endswith('bin/plidesk'):    # another one may never end
             self.fails('the expander writes more than')
 
     def test_other_program(self):
         other = self.clone.path('other')
         self.clone.put('other', '#!/bin/sh\ncat "$ROOM/answer"\nkill -s TERM $$\n', 0o755)
-        self.fails('the expander was killed by SIGTERM', environment={'EXPAND_PROGRAM': other})
+        self.fails('the expander was killed by SIGTERM', environment={'PLIDESK_PROGRAM': other})
 
     def test_other_program_that_cannot_run(self):
         other = self.clone.path('other')
         self.clone.put('other', '#!/nowhere/sh\n', 0o755)
-        self.fails('cannot be run', environment={'EXPAND_PROGRAM': other})
-        self.fails('there is no program', environment={'EXPAND_PROGRAM': self.clone.path('main.pli')})
+        self.fails('cannot be run', environment={'PLIDESK_PROGRAM': other})
+        self.fails('there is no program', environment={'PLIDESK_PROGRAM': self.clone.path('main.pli')})
 
     def test_refusal(self):
         self.clone.put('answer', house.REFUSAL)
         status, wrote, said = self.clone.run()
         self.assertEqual((status, wrote), (1, b''))
-        self.assertTrue(said.startswith(b'refusal 10: a division by zero\nM, line 1, column 18:\n'), said)
+        self.assertTrue(said.startswith(os.fsencode(self.clone.path('m.pli')) + b':1:18: refusal 10: a division by zero\n'),
+                        said)
 
     def test_stopped_while_it_expands(self):
         self.clone.put('ending', 'echo $$ >"$ROOM/expander"; exec sleep 60')
@@ -210,7 +217,7 @@ class Answers(Through):
         with open(self.clone.path('expander'), encoding='utf-8') as file:
             expander = file.read().strip()
         status, wrote, said = house.stop(child)
-        self.assertEqual((status, wrote, said), (2, b'', b'expand: stopped\n'))
+        self.assertEqual((status, wrote, said), (2, b'', b'plidesk: stopped\n'))
         house.within(20, lambda: not house.is_running(expander))
 
     def test_signal_that_the_caller_ignores(self):
@@ -218,45 +225,118 @@ class Answers(Through):
         self.expands(preexec_fn=lambda: signal.signal(signal.SIGHUP, signal.SIG_IGN))
 
 
-class Packing(Through):
-    def test_killed_in_the_middle(self):
-        self.clone.put('deck', house.DECK[:-10])
-        self.clone.put('then', 'kill -s KILL $$')
-        self.fails('pack was killed by SIGKILL')
+class Files(Through):
+    def test_deck(self):
+        self.expands()
+        self.assertEqual(self.clone.asked(), house.DECK)
 
-    def test_killed_and_its_words(self):
-        self.clone.put('said', 'pack: some words\n')
-        self.clone.put('then', 'kill -s KILL $$')
-        self.assertEqual(self.fails(''), b'pack: some words\nexpand: pack was killed by SIGKILL\n')
+    def test_libraries(self):
+        self.expands('-L', 'COIL')
+        self.assertEqual(self.clone.asked(), house.deck_of_libraries(('COIL', 'MAIN', house.MAIN), ('COIL', 'M', house.M)))
+        self.fails('plidesk: -L coil: the library is no identifier of at most 8 bytes\n', '-L', 'coil')
 
-    def test_cut(self):
-        for end in (1, 10, 40, len(house.DECK) - 1):
-            with self.subTest(end=end):
-                self.clone.put('deck', house.DECK[:end])
-                self.fails('what pack wrote is no deck')
+    def test_folders(self):
+        """Members are found in the folders; what nobody includes is left out."""
+        self.clone.put('folder/m.pli', house.M)
+        self.clone.put('folder/unused.pli', b'')
+        self.expands('-I', self.clone.path('folder'), files=['main.pli'])
+        self.assertEqual(self.clone.asked(), house.DECK)
+        self.expands('-I', 'LIB=' + self.clone.path('folder'), files=['main.pli'])
+        self.assertEqual(self.clone.asked(), house.deck_of_libraries(('MAIN', 'MAIN', house.MAIN), ('LIB', 'M', house.M)))
+        self.fails('there is no folder', '-I', self.clone.path('nowhere'))
 
-    def test_words_of_pack(self):
-        self.clone.put('deck', b'')
-        self.clone.put('said', 'pack: x: there is no such file\n')
-        self.assertEqual(self.fails('pack: x: there is no such file\n'), b'pack: x: there is no such file\n')
+    def test_standard_input(self):
+        with open(self.clone.path('main.pli'), 'rb') as file:
+            self.expands('-', files=['m.pli'], stdin=file)
+        self.assertEqual(self.clone.asked(), house.DECK)
+        self.fails('standard input can be one member alone', '-', 'X=-', stdin=-3)
 
-    def test_words_and_a_deck(self):
-        self.clone.put('said', 'pack: standard output: no space\n')
-        self.fails('pack: standard output: no space\n')
+    def test_no_file(self):
+        self.fails('none: No such file or directory', files=['main.pli', 'none'])
+        self.fails('Is a directory', files=['main.pli', 'stub'])
 
-    def test_nothing(self):
-        self.clone.put('deck', b'')
-        self.fails('what pack wrote is no deck')
+    def test_warnings(self):
+        self.clone.put('main.pli', house.MAIN.replace(b'\n', b'\r\n'))
+        self.clone.put('answer', house.REFUSAL)
+        self.assertIn(b'main.pli: it has line ends of CR LF', self.clone.run()[2])
+        self.clone.put('main.pli', b'%INCLUDE M;'.ljust(80))
+        self.assertIn(b'main.pli: it looks like card images', self.clone.run()[2])
 
-    def test_member_left_out(self):
-        self.clone.put('deck', house.deck_of(MAIN=house.MAIN))
-        self.fails('pack was given 2 files and wrote 1 members')
+
+class Into(Through):
+    """-o: the file is whole, or what was there stays."""
+
+    def out(self):
+        with open(self.clone.path('out'), 'rb') as file:
+            return file.read()
+
+    def into(self, *words, **how):
+        status, wrote, said = self.clone.run('-o', self.clone.path('out'), *words, **how)
+        self.assertEqual(wrote, b'')
+        self.assertEqual([name for name in os.listdir(self.clone.room) if name.endswith('.new')], [])
+        return status, said
+
+    def setUp(self):
+        super().setUp()
+        self.clone.put('out', 'old')
+
+    def test_whole(self):
+        self.assertEqual(self.into(), (0, b''))
+        self.assertEqual(self.out(), WHOLE)
+
+    def test_closed_output(self):
+        status, _, _ = self.clone.run('-o', self.clone.path('out'), stdout=None, preexec_fn=lambda: os.close(1))
+        self.assertEqual((status, self.out()), (0, WHOLE))
+
+    def test_refused(self):
+        self.clone.put('answer', house.REFUSAL)
+        self.assertEqual(self.into()[0], 1)
+        self.assertEqual(self.out(), b'old')
+
+    def test_no_room(self):
+        status, said = self.into(preexec_fn=house.limit_files(len(house.DECK) + 30))
+        self.assertEqual((status, self.out()), (2, b'old') if status else (0, WHOLE), said)
+
+    def test_no_folder(self):
+        status, _, said = self.clone.run('-o', self.clone.path('nowhere/out'))
+        self.assertEqual(status, 2)
+        self.assertIn(b'nowhere/out: it cannot be written: No such file or directory', said)
+
+    def test_over_a_source(self):
+        status, _, said = self.clone.run('-o', self.clone.path('m.pli'))
+        self.assertEqual(status, 2)
+        self.assertIn(b'm.pli is a source of this program', said)
+
+    def test_rule_for_make(self):
+        self.assertEqual(self.into('-MD'), (0, b''))
+        with open(self.clone.path('out.d'), encoding='utf-8') as file:
+            rule = file.read()
+        main, member = self.clone.path('main.pli'), self.clone.path('m.pli')
+        self.assertEqual(rule, f'{self.clone.path("out")}: {main} {member}\n\n{member}:\n')
+        self.fails('needs -o', '-MD')
+
+    def test_json(self):
+        self.assertEqual(self.into('--json'), (0, b''))
+        told = json.loads(self.out())
+        self.assertEqual((told['number'], told['steps'], told['text'].encode()), (0, 18, house.TEXT))
+        self.assertEqual(told['list'][3], {'member': 1, 'offset': 27, 'line': 1, 'column': 28, 'kind': 'replaced', 'length': 8})
+        self.assertEqual([one['name'] for one in told['members']], ['MAIN', 'M'])
+        self.clone.put('answer', house.REFUSAL)
+        self.assertEqual(self.into('--json')[0], 1)
+        self.assertEqual(json.loads(self.out())['place'], {'member': 1, 'offset': 17, 'line': 1, 'column': 18})
 
 
 class Usage(Through):
     def test_usage(self):
-        self.fails('usage: expand', '-x')
-        self.fails('usage: expand', '--nothing')
+        self.fails('usage: plidesk expand', '-x')
+        self.fails('usage: plidesk expand', '--nothing')
+        self.fails('option -M is -MD', '-Mx')
+        self.fails('there is no file', files=[])
+        self.fails('there is no command other', command='other')
+
+    def test_version(self):
+        status, wrote, _ = self.clone.run(command='--version', files=[])
+        self.assertEqual((status, wrote), (0, f'plidesk {VERSION}\n'.encode()))
 
     def test_package_left_out(self):
         """A command without its package must not look like a refusal."""

@@ -1,0 +1,50 @@
+"""Asking the expander: decks go in as records, and answers come out, which are checked (referee/src/record.rs, `cases`)."""
+import os
+import struct
+
+from desk.answers import Unbelievable, read_answers
+from desk.building import ensure_built, program_path
+from desk.errors import Stop
+from desk.running import in_memory, on_this_machine, output_of
+
+ROOT = os.path.dirname(os.path.dirname(os.path.realpath(__file__)))
+PROGRAM = 'cases'
+
+# whether it is of card images, bytes of the text room and of the list room, steps, bytes of the deck
+HEAD = struct.Struct('<5I')
+TEXT, LIST, STEPS = 65_536, 49_152, 1_000_000
+# a line of the list takes so many bytes of its room
+ORIGIN = 12
+# more than an answer has, so that a program that writes without end does not fill the memory
+MOST = 1 << 18
+
+
+def other_program():
+    """The program that is run in place of target/bin/cases, or nothing."""
+    given = os.environ.get('PLIDESK_PROGRAM', '')
+    if given and not (os.path.isfile(given) and os.access(given, os.X_OK)):
+        raise Stop(f'there is no program {given}')
+    return os.path.abspath(given) if given else ''
+
+
+def expander():
+    """The words that run the expander, which is built where it has to be."""
+    other = other_program()
+    if other:
+        return [other]
+    ensure_built(ROOT, [PROGRAM])
+    return on_this_machine(program_path(ROOT, PROGRAM))
+
+
+def record(deck, steps):
+    return HEAD.pack(deck.is_cards, TEXT, LIST, steps, len(deck.content)) + deck.content
+
+
+def answers_to(decks, words, steps=STEPS):
+    """What the expander answers to decks in turn, if it can be believed."""
+    with in_memory(b''.join(record(deck, steps) for deck in decks)) as source:
+        content = output_of('the expander', words, MOST * len(decks), stdin=source)
+    try:
+        return read_answers(content, decks)
+    except Unbelievable as reason:
+        raise Stop(f'the answer of the expander cannot be believed: {reason}') from None

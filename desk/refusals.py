@@ -1,0 +1,11 @@
+"""Refusals as people read them: the place, the line, what led there, and what to do."""
+from desk.places import headline, shown_place
+from desk.remedies import remedies
+from desk.words import MEANINGS, PLACELESS
+
+
+def shown_refusal(deck, answer, shelf, words):
+    if answer.number <= PLACELESS:
+        return b'%s: refusal %d: %s\n' % (deck.called(0), answer.number, MEANINGS[answer.number].encode())
+    hints = [f'hint: {hint}\n' for hint in remedies(deck, answer, shelf, words)]
+    return headline(deck, answer) + shown_place(deck, answer) + ''.join(hints).encode('utf-8', 'surrogateescape')

@@ -1,0 +1,145 @@
+"""What to do about a refusal, as far as it can be told: hints, a line each."""
+import difflib
+
+from desk.asking import LIST, ORIGIN, STEPS, TEXT
+from desk.candidates import what_could_stand
+from desk.includes import included, numbers_of
+from desk.reading import Known, in_source, names_in, statement_at, token_at, tokens_of
+
+NAME_LENGTH = 31
+
+# where the sources say no more
+GENERAL = {
+    8: 'CHARACTER becomes FIXED if it is blanks, perhaps a sign, digits, blanks; BIT if it is all 0 and 1',
+    9: 'each number on the way counts too, and so does the step behind the last pass of a DO',
+    12: 'a procedure cannot call itself, also through others, and each way through it must meet a RETURN',
+    13: 'a GOTO cannot enter an iterated group, leave a procedure, or go to a member that is not running',
+    16: 'a CHARACTER or BIT value has at most 512 places; split it into several',
+    17: f'the text has room for {TEXT} bytes and its list for {LIST // ORIGIN} lines; split the program into several',
+    18: f'{STEPS} steps; is there a group that never ends, a %DO without TO or a BY of 0?',
+    19: 'SUBSTR(S, I, N) needs I >= 1, N >= 0 and I + N - 1 <= the length of S; a number has 8 characters',
+    20: 'a file with line ends is padded to records of 80; one without must be whole records',
+}
+LIMITS = ('a member has at most 1024 sentences, all members that are entered 2048 and 256 names; 16 groups or alternatives '
+          'can be open')
+
+
+def called(names):
+    return ', '.join(name.decode('latin-1') for name in names)
+
+
+class Case:
+    """A refusal with what is known of its place."""
+
+    def __init__(self, deck, answer, shelf):
+        self.deck, self.answer, self.shelf = deck, answer, shelf
+        self.source = deck.source(answer.member)
+        self.at = in_source(deck, answer.offset)
+        self.statement = statement_at(self.source, self.at)
+        self.names = names_in(self.statement)
+        self.is_statement = self.source[self.at:self.at + 1] == b'%'
+
+
+def over_a_limit(case):
+    """4: which limit."""
+    tokens = tokens_of(case.source)
+    token = (tokens[token_at(tokens, case.at):] or [None])[0]
+    if token and token.kind == 'name' and len(token.content) > NAME_LENGTH:
+        return [f'a name has at most {NAME_LENGTH} characters, and this one has {len(token.content)}']
+    if token and token.content == b'(':
+        return ['an expression has at most 16 parentheses open']
+    return [LIMITS]
+
+
+def twice(case):
+    """5: what is there twice."""
+    word = statement_at(case.source, case.at)
+    return [f'{called(names_in(word))}: declare it once in all members; a member with declarations can be included once']
+
+
+def unknown(case):
+    """6: the names that no member declares."""
+    known = Known(case.deck)
+    hints = []
+    for name in case.names:
+        if name not in known.declared:
+            alike = difflib.get_close_matches(called([name]), [called([one]) for one in known.declared], 1)
+            hints.append(f'{called([name])} is declared in no member of this deck'
+                         + (f'; is {alike[0]} meant?' if alike else ''))
+    return hints or ['declared it is, but not as what is wanted here; or it is in a procedure that was called: each of its '
+                     'parameters must be declared in it, FIXED or CHARACTER']
+
+
+def valueless(case):
+    """7: the names that are given no value."""
+    known = Known(case.deck)
+    never = [name for name in case.names if name in known.declared - known.given - set(known.parameters)]
+    if never:
+        return [f'{called(never)} is given a value nowhere in this deck']
+    return [f'when this runs one of them has no value yet: {called(case.names)}'] if case.names else []
+
+
+def divisor(tokens):
+    """What stands behind the first `/` among tokens, or nothing."""
+    contents = [token.content for token in tokens]
+    if b'/' not in contents:
+        return ''
+    at = first = contents.index(b'/') + 1
+    depth = 0
+    while at < len(contents) and (at == first or depth > 0):
+        depth += (contents[at] == b'(') - (contents[at] == b')')
+        at += 1
+    return called(contents[first:at]).replace(', ', ' ').replace('( ', '(').replace(' )', ')')
+
+
+def zero(case):
+    """10: what is zero."""
+    count = sum(token.content == b'/' for token in case.statement)
+    return [f'{divisor(case.statement) if count == 1 else "a divisor"} is 0; test it with %IF before'
+            if count else 'a divisor is 0 in a procedure or value that this leads to; test it with IF before']
+
+
+def miscounted(case):
+    """11: how many arguments there should be."""
+    known = Known(case.deck)
+    counts = [f'{called([name])} has {len(known.parameters[name])}' for name in case.names if name in known.parameters]
+    return [f'parameters: {", ".join(counts)}'] if counts else []
+
+
+def not_found(case):
+    """14: the member that was sought, and where."""
+    meant = numbers_of(case.deck)
+    sought = [item for item in included(case.source, case.at + 1)[0] if item not in meant]
+    folders = ', '.join(folder.path for folder in case.shelf.folders)
+    where = f'among the files that are named and in {folders}' if folders else 'among the files that are named'
+    hints = []
+    for library, name in sought[:1]:
+        shown = called([b'%s(%s)' % (library, name) if library else name])
+        hints.append(f'{shown} was sought {where}')
+        if library and not case.deck.members[0].library:
+            hints.append('no member has a library; say which with -I LIBRARY=DIR or LIBRARY(NAME)=FILE')
+        elif not folders:
+            hints.append('name its file too, or its folder with -I')
+    return hints
+
+
+def too_deep(case):
+    """15: which levels."""
+    if any(token.content == b'INCLUDE' for token in case.statement):
+        return ['members can include each other 8 levels deep; does one include itself?']
+    if case.is_statement:
+        return ['16 procedures can run at once, and replacements go 32 levels deep']
+    return [f'replacements go 32 levels deep; does the value of {called(case.names)} lead to its own name? '
+            'Then %ACTIVATE it NORESCAN']
+
+
+SPECIAL = {4: over_a_limit, 5: twice, 6: unknown, 7: valueless, 10: zero, 11: miscounted, 14: not_found, 15: too_deep}
+
+
+def remedies(deck, answer, shelf, words):
+    """What to do about a refusal that has a place."""
+    if answer.number == 3:
+        return what_could_stand(deck, answer, words)
+    if answer.number in SPECIAL:
+        return SPECIAL[answer.number](Case(deck, answer, shelf))
+    return [GENERAL[answer.number]]

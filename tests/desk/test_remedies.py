@@ -1,0 +1,126 @@
+"""What to do about a refusal."""
+import unittest
+from unittest import mock
+
+import house
+from desk import candidates
+from desk.answers import LAST_NUMBER, Answer
+from desk.decks import read_deck
+from desk.gathering import Folder, Shelf
+from desk.reading import Known, in_source, statement_at
+from desk.remedies import GENERAL, SPECIAL, remedies
+
+SHELF = Shelf(None, [])
+
+
+class Hints(unittest.TestCase):
+    def hints(self, number, offset, *bodies, member=0, shelf=SHELF, is_cards=False):
+        names = ['MAIN', 'M', 'N'][:len(bodies)]
+        deck = read_deck(house.deck_of(**dict(zip(names, bodies))), is_cards)
+        return remedies(deck, Answer(number, member, offset, 1, b'', []), shelf, [])
+
+    def test_every_number(self):
+        self.assertEqual(sorted([3, *GENERAL, *SPECIAL]), list(range(3, LAST_NUMBER + 1)))
+
+    def test_names(self):
+        main = b'%DECLARE (LOW, HIGH) FIXED;%LOW = LOOW + 1; LOW'
+        self.assertEqual(self.hints(6, 27, main), ['LOOW is declared in no member of this deck; is LOW meant?'])
+        self.assertEqual(self.hints(7, 27, main.replace(b'LOOW', b'HIGH')), ['HIGH is given a value nowhere in this deck'])
+        self.assertEqual(self.hints(7, 27, main.replace(b'LOOW', b'LOW')),
+                         ['when this runs one of them has no value yet: LOW'])
+        self.assertIn('parameters must be declared', self.hints(6, 27, main.replace(b'LOOW', b'HIGH'))[0])
+
+    def test_name_on_cards(self):
+        body = b' %DECLARE A FIXED;'.ljust(72) + b'00000010' + b' %A = B;'.ljust(80)
+        self.assertEqual(self.hints(6, 81, body, is_cards=True), ['B is declared in no member of this deck'])
+
+    def test_arguments(self):
+        main = b'%DECLARE A ENTRY;%A: PROC(X, Y) RETURNS(FIXED); DCL (X, Y) FIXED; RETURN(1); %END; A(1)'
+        self.assertEqual(self.hints(11, main.rindex(b'A('), main), ['parameters: A has 2'])
+
+    def test_divisor(self):
+        for statement, words in ((b'%A=4/(B-(C+1))+2;', '(B - (C + 1)) is 0; test it with %IF before'),
+                                 (b'%A=4/B;', 'B is 0; test it with %IF before'),
+                                 (b'%A=4/B/C;', 'a divisor is 0; test it with %IF before'),
+                                 (b'%A=B(1);', 'a divisor is 0 in a procedure or value that this leads to; test it with IF '
+                                               'before')):
+            self.assertEqual(self.hints(10, 0, statement), [words])
+
+    def test_member(self):
+        sought = 'LIMITS was sought among the files that are named'
+        self.assertEqual(self.hints(14, 0, b'%INCLUDE M, LIMITS;', b''),
+                         [sought, 'name its file too, or its folder with -I'])
+        shelf = Shelf(None, [Folder(b'', 'a'), Folder(b'', 'b')])
+        self.assertEqual(self.hints(14, 0, b'%INCLUDE LIMITS;', shelf=shelf), [sought + ' and in a, b'])
+        self.assertIn('no member has a library', self.hints(14, 0, b'%INCLUDE L(M);', b'')[1])
+
+    def test_limits(self):
+        self.assertEqual(self.hints(4, 1, b'%' + b'A' * 32 + b'=1;'),
+                         ['a name has at most 31 characters, and this one has 32'])
+        self.assertIn('16 parentheses', self.hints(4, 3, b'%A=((1));')[0])
+        self.assertIn('1024 sentences', self.hints(4, 0, b'%A=1;')[0])
+        self.assertIn('include itself', self.hints(15, 0, b'%INCLUDE MAIN;')[0])
+        self.assertIn('value of A', self.hints(15, 1, b' A')[0])
+        self.assertIn('65536 bytes and its list for 4096 lines', self.hints(17, 0, b'A')[0])
+        self.assertIn('1000000 steps', self.hints(18, 0, b'A')[0])
+        self.assertIn('X: declare it once', self.hints(5, 12, b'%DECLARE (X,X) FIXED;')[0])
+
+    def test_every_case_has_a_hint(self):
+        with mock.patch.object(candidates, 'answers_to', lambda decks, *_: [Answer(0, 0, 0, 0, b'', [])] * len(decks)):
+            for content, is_cards, answer in house.cases():
+                number, member, offset, *_ = map(int, answer.split(b'\n')[0].split())
+                if number > 2:
+                    hints = remedies(read_deck(content, is_cards), Answer(number, member, offset, 1, b'', []), SHELF, [])
+                    self.assertIsInstance(hints, list)
+
+
+class Reading(unittest.TestCase):
+    def test_known(self):
+        known = Known(read_deck(house.deck_of(MAIN=b"%DCL (A, B) FIXED, C CHAR; 'D' /*E*/ %A=1;%DO B=1 TO 2;%L:;%END;"
+                                              b'%P: PROCEDURE(Q) RETURNS(FIXED); IF A=2 THEN Q=3; %END;'), False))
+        self.assertEqual(known.declared, {b'A', b'B', b'C', b'L', b'P'})
+        self.assertEqual(known.given, {b'A', b'B', b'Q'})
+        self.assertEqual(known.parameters, {b'P': [b'Q']})
+
+    def test_statement(self):
+        self.assertEqual([one.content for one in statement_at(b'X %A = 1; Y', 2)], [b'%', b'A', b'=', b'1'])
+        self.assertEqual([one.content for one in statement_at(b'X Y', 2)], [b'Y'])
+        self.assertEqual(statement_at(b'', 0), [])
+
+    def test_place_on_cards(self):
+        deck = read_deck(house.deck_of(MAIN=b' ' * 160), True)
+        self.assertEqual([in_source(deck, offset) for offset in (1, 71, 81, 160)], [0, 70, 71, 142])
+
+
+class Slips(unittest.TestCase):
+    def test_slips(self):
+        for source, words in ((b'%A=\t1;', 'tab'), (b'%A=\r1;', 'CR'), (b'%A="1";', 'string'), (b'%A=b;', 'lower-case'),
+                              (b"%A='1;", 'not closed'), (b'%A=/*1;', 'not closed')):
+            self.assertIn(words, candidates.slip(source, 3))
+        self.assertEqual(candidates.slip(b'%A=1', 4), '')
+
+
+class Candidates(unittest.TestCase):
+    """With an expander in place of the proved one that takes `;` or `)` at offset 4 of the member and nothing else."""
+
+    def answers_to(self, decks, _words, steps):
+        self.assertEqual(steps, 7)
+        answers = []
+        for deck in decks:
+            body = deck.members[0].body
+            wrong = next(at for at in range(3, len(body) + 1) if body[at:at + 1] not in (b' ', b';', b')'))
+            answers.append(Answer(3, 0, wrong, 7, b'', []))
+        return answers
+
+    def test_what_could_stand(self):
+        deck = read_deck(house.deck_of(MAIN=b'%A=B'), False)
+        with mock.patch.object(candidates, 'answers_to', self.answers_to):
+            hints = candidates.what_could_stand(deck, Answer(3, 0, 3, 7, b'', []), [])
+        self.assertEqual(hints, ['here could stand `;` or `)`'])
+
+    def test_no_room_for_more(self):
+        """A deck that is full is tried with what is shorter."""
+        trial = candidates.Trial(read_deck(house.deck_of(MAIN=b'%A=B'.ljust(65_536 - 18)), False),
+                                 Answer(3, 0, 3, 7, b'', []), [])
+        with mock.patch.object(candidates, 'answers_to', self.answers_to):
+            self.assertEqual(trial.mending([b';']), [])
