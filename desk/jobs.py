@@ -4,14 +4,17 @@ import os
 import shlex
 
 from desk.errors import Stop
+from desk.files import split_argument
 
 # what a program is called in the sheet and in OUT, the main program and its members as arguments, and whether it is cards
 Job = collections.namedtuple('Job', 'name arguments is_cards')
 
 
 def job_of(arguments, is_cards):
-    path = arguments[0].rpartition('=')[2]
-    return Job(os.path.basename(path).partition('.')[0], arguments, is_cards)
+    """The program of arguments; it is called as its main program is, NAME=path, or else as the file."""
+    written, path = split_argument(arguments[0])
+    name = written.rpartition('(')[2].rstrip(')') or os.path.basename(path).partition('.')[0]
+    return Job(name, arguments, is_cards)
 
 
 def in_folder(folder, is_cards):
@@ -23,8 +26,8 @@ def in_folder(folder, is_cards):
 
 def beside(path, word):
     """A word of a job file, NAME=path or path, with the path from the folder of that file on."""
-    name, equals, rest = word.rpartition('=')
-    return name + equals + os.path.join(os.path.dirname(path), rest)
+    name, rest = split_argument(word)
+    return (f'{name}=' if name else '') + os.path.join(os.path.dirname(path), rest)
 
 
 def in_job_file(path, is_cards):

@@ -15,6 +15,7 @@ from desk.gathering import gather, shelf_of
 from desk.jobs import jobs_of
 from desk.options import Options
 from desk.output import write_whole
+from desk.page import page_of
 from desk.places import spot
 from desk.sheets import (EARLIER, FILES, FINISHED, NOT_RUN, REFUSED, as_csv, as_json, as_text, compare, read_sheet,
                          totals_of)
@@ -29,7 +30,8 @@ USAGE = ('usage: plidesk shift [-c] [-I [LIBRARY=]DIR].. [-L LIBRARY] [-j N] [--
 HELP = USAGE + '''
 Expands each main program. A JOB is its file, a folder of such files, or @ and a job file: a line
 for each program, with its main program and perhaps members, as `plidesk expand` takes them, and -c in
-front if they are card images; paths there are from the job file on, and # begins a comment.
+front if they are card images; paths there are from the job file on, and # begins a comment. A program
+is called NAME if its main program is NAME=path, else as its file up to the first dot.
 
   -o OUT         the folder that gets NAME.text and NAME.list for each program that finished, and the
                  release sheet as sheet.txt, sheet.json and sheet.csv
@@ -122,6 +124,8 @@ class Out:
 
     def is_whole(self, row):
         """Whether what a row says is still in the folder."""
+        if self.is_pages and not os.path.exists(self.at(row['program'] + PAGE)):
+            return False
         if row['verdict'] != FINISHED:
             return row['verdict'] == REFUSED
         try:
@@ -159,6 +163,8 @@ class Out:
         if answer.number == 0:
             write_whole(self.at(work.job.name + LIST), shown_list(work.deck, answer.origins))
             write_whole(self.at(work.job.name + TEXT), answer.text + b'\n')
+        if self.is_pages:
+            write_whole(self.at(work.job.name + PAGE), page_of(work.deck, answer))
 
     def put_sheet(self, sheet):
         for name, content in zip(FILES, (as_json(sheet), as_csv(sheet), as_text(sheet))):

@@ -213,7 +213,9 @@ class Jobs(unittest.TestCase):
         jobs = jobs_of(['@' + self.clone.path('night.jobs'), 'c.pli'], False)
         at = self.clone.path
         self.assertEqual(jobs, [('a', [at('a.pli'), 'M=' + at('m.pli')], False),
-                                ('b', [at('sub/b.crd'), 'L(M)=' + at('m.pli')], True), ('c', ['c.pli'], False)])
+                                ('b', [at('sub/b.crd'), 'L(M)=' + at('m.pli')], True),
+                                ('X', ['X=' + at('a.pli')], False), ('Y', ['L(Y)=' + at('a.pli')], False),
+                                ('c', ['c.pli'], False)])
 
     def test_wrong_job_file(self):
         for line, words in (("a 'b", 'line 1: No closing quotation'), ('-x a', 'line 1: -c is the one option')):
