@@ -209,7 +209,7 @@ class Jobs(unittest.TestCase):
         self.addCleanup(self.clone.remove)
 
     def test_job_file(self):
-        self.clone.put('night.jobs', "# tonight\na.pli M=m.pli\n\n-c sub/b.crd 'L(M)=m.pli'  # cards\n")
+        self.clone.put('night.jobs', "# tonight\na.pli M=m.pli\n\n-c sub/b.crd 'L(M)=m.pli'  # cards\nX=a.pli\n'L(Y)=a.pli'")
         jobs = jobs_of(['@' + self.clone.path('night.jobs'), 'c.pli'], False)
         at = self.clone.path
         self.assertEqual(jobs, [('a', [at('a.pli'), 'M=' + at('m.pli')], False),
