@@ -83,10 +83,10 @@ def warn(files):
 def expand(options):
     """Expands, shows what came out, and returns the status."""
     shelf = shelf_of(options.value('-L'), options.values('-I'))
-    words = expander()
     deck, files = gather(options.arguments, shelf, options.has('-c'))
     check_target(options, files)
     warn(files)
+    words = expander()
     answer = answers_to([deck], words)[0]
     is_refused = answer.number != 0
     if is_refused:

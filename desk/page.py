@@ -81,11 +81,10 @@ def page_of(deck, answer):
 
 def page(options):
     shelf = shelf_of(options.value('-L'), options.values('-I'))
-    words = expander()
     deck, files = gather(options.arguments, shelf, options.has('-c'))
     check_target(options, files)
     warn(files)
-    answer = answers_to([deck], words)[0]
+    answer = answers_to([deck], expander())[0]
     write_whole(options.value('-o'), page_of(deck, answer))
     return REFUSED if answer.number else EXPANDED
 

@@ -83,9 +83,10 @@ def shown_row(row, width):
         line += f'\n    {place}refusal {row["number"]}: {row["words"]}'
     else:
         line += f'\n    {row["words"]}'
+    notes = [f'warning: {warning}' for warning in row['warnings']]
     if row.get('change') not in (None, 'the same'):
-        line += f'\n    {row["change"]}'
-    return line
+        notes.append(row['change'])
+    return '\n    '.join([line, *notes])
 
 
 def as_text(sheet):

@@ -71,7 +71,8 @@ class Work:
         """The row of the sheet for an answer, or a reason why there is none."""
         row = {'program': self.job.name, 'verdict': NOT_RUN, 'number': None, 'words': '', 'place': '', 'steps': None,
                'bytes': None, 'lines': None, 'text_sha256': '', 'deck_sha256': digest(self.deck.content) if self.deck else '',
-               'sources': [{'path': file.path, 'sha256': file.digest} for file in self.files]}
+               'sources': [{'path': file.path, 'sha256': file.digest} for file in self.files],
+               'warnings': [f'{file.path}: {warning}' for file in self.files for warning in file.warnings]}
         if isinstance(answer, str):
             return dict(row, words=answer)
         row.update(number=answer.number, words=MEANINGS.get(answer.number, ''), steps=answer.steps)
@@ -230,8 +231,8 @@ def shift(options):
     shelf = shelf_of(options.value('-L'), options.values('-I'))
     jobs = jobs_of(options.arguments, options.has('-c'))
     earlier, since = read_sheet(options.value('--since')) if options.value('--since') else ({}, None)
-    words = expander()
     works = [Work(job, shelf) for job in jobs]
+    words = expander()
     out = Out(options.value('-o'), options.has('--pages'), identity())
     began = now()
     with out.held():

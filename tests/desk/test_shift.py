@@ -100,6 +100,12 @@ class Rows(Shift):
         self.assertEqual(status, 2)
         self.assertIn(b'each program needs a name of its own', said)
 
+    def test_warnings(self):
+        self.put(a='ONE\r\n')
+        status, rows = self.shift()
+        self.assertEqual((status, len(rows['a']['warnings'])), (0, 1))
+        self.assertIn(b'a.pli: it has line ends of CR LF', self.wrote)
+
     def test_members(self):
         self.put(a='%INCLUDE M;')
         self.clone.put('lib/m.pli', 'M')
