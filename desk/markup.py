@@ -10,8 +10,6 @@ from desk.reading import in_source
 from desk.words import MEANINGS, PLACELESS
 
 WIDTH = LAST - FIRST
-# for a part of a source that many parts of the text came from: how many of them a click leads to
-MOST = 500
 # how much of a value a table shows
 LONG = 60
 
@@ -91,7 +89,7 @@ def sweep(edges, size, member, classes):
     found, active, start = [], {}, None
     for at in sorted(edges):
         if start is not None and (active or (member, start) in classes):
-            found.append((start, min(at, size), list(active)[:MOST], classes.get((member, start), '')))
+            found.append((start, min(at, size), list(active), classes.get((member, start), '')))
         begin, end = edges[at]
         for number in end:
             active.pop(number, None)
