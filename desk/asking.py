@@ -3,9 +3,10 @@ import os
 import struct
 
 from desk.answers import Unbelievable, read_answers
-from desk.building import ensure_built, program_path
+from desk.building import ensure_built, program_path, read_mark
 from desk.errors import Stop
 from desk.running import in_memory, on_this_machine, output_of
+from desk.sources import digest_of_file
 
 ROOT = os.path.dirname(os.path.dirname(os.path.realpath(__file__)))
 PROGRAM = 'cases'
@@ -15,6 +16,8 @@ HEAD = struct.Struct('<5I')
 TEXT, LIST, STEPS = 65_536, 49_152, 1_000_000
 # a line of the list takes so many bytes of its room
 ORIGIN = 12
+# how much of a digest is told
+SHORT = 16
 # more than an answer has, so that a program that writes without end does not fill the memory
 MOST = 1 << 18
 
@@ -34,6 +37,15 @@ def expander():
         return [other]
     ensure_built(ROOT, [PROGRAM])
     return on_this_machine(program_path(ROOT, PROGRAM))
+
+
+def identity():
+    """Which expander answers, in words for a sheet."""
+    other = other_program()
+    if other:
+        return f'another program, {os.path.basename(other)}, sha256 {digest_of_file(other)[:SHORT]}'
+    mark = read_mark(ROOT, PROGRAM)
+    return f'expander of sources {mark.sources[:SHORT]}, program {mark.program[:SHORT]}, {mark.kit}'
 
 
 def record(deck, steps):

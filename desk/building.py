@@ -14,6 +14,9 @@ from desk.standard import say, show
 # how many lines of a failed build are shown
 LAST_LINES = 20
 
+# a file of a tree that was installed: there are no sources to build from
+INSTALLED = 'installed'
+
 # what a program was built from and by, and the program itself, as digests
 Mark = collections.namedtuple('Mark', 'sources kit program')
 
@@ -203,8 +206,19 @@ def build_alone(root, names):
             build(root, missing)
 
 
+def check_installed(root, names):
+    """The programs of an installed tree must be those that were installed."""
+    for name in names:
+        mark = read_mark(root, name)
+        if mark is None or sources.digest_of_file(program_path(root, name)) != mark.program:
+            raise Stop(f'{program_path(root, name)} is not the program that was installed')
+
+
 def ensure_built(root, names):
     """Builds the programs that are missing, unfinished or older than their sources."""
+    if os.path.exists(os.path.join(root, INSTALLED)):
+        check_installed(root, names)
+        return
     try:
         missing = stale(root, names)
         if missing:

@@ -1,24 +1,27 @@
 """The command: finds the subcommand, and ends with a status whatever happens."""
 import traceback
 
-from desk import expand, standard
+from desk import expand, install, page, shift, standard
 from desk.errors import Interrupted, Stop
 from desk.running import watch_signals
 from desk.version import VERSION
 
 DONE, NOTHING = 0, 2
 
-USAGE = 'usage: plidesk expand | --help | --version\n'
+USAGE = 'usage: plidesk expand | shift | page | install | --help | --version\n'
 
 HELP = USAGE + '''
   plidesk expand MAIN.pli ..   expands a program
+  plidesk shift JOB ..         expands many, and writes the release sheet
+  plidesk page MAIN.pli ..     writes a page that shows where each byte came from
+  plidesk install PREFIX       copies a built tree to a prefix
   plidesk COMMAND --help       says what a command takes
   plidesk --version            prints the version
 
 docs/plidesk.1 is the manual page.
 '''
 
-COMMANDS = {'expand': expand.command}
+COMMANDS = {'expand': expand.command, 'shift': shift.command, 'page': page.command, 'install': install.command}
 
 
 def command(words, closed):

@@ -1,7 +1,7 @@
 """plidesk expand: expands a main program with its members."""
 import os
 
-from desk import standard
+from desk import standard, unproved
 from desk.asking import answers_to, expander
 from desk.errors import Stop
 from desk.gathering import gather, shelf_of
@@ -12,7 +12,7 @@ from desk.told import as_json, told_answer
 
 EXPANDED, REFUSED = 0, 1
 
-USAGE = ('usage: plidesk expand [-c] [-I [LIBRARY=]DIR].. [-L LIBRARY] [-o FILE [-MD]] [-l] [--json]\n'
+USAGE = ('usage: plidesk expand [-c] [-I [LIBRARY=]DIR].. [-L LIBRARY] [-o FILE [-MD]] [-l] [--json] [--unproved]\n'
          '                      [NAME=]MAIN.pli [[NAME=]MEMBER.pli ..]\n')
 
 HELP = USAGE + '''
@@ -35,6 +35,8 @@ an argument with a / before its first = is a path alone, and - is standard input
   -l, --list      print the origin list too, to standard error: B an inserted blank, C a copied
                   stretch, V a replacement; then the member, the offset in its file (with -c in its
                   records), and the length in the text
+  --unproved      let the referee answer, which cargo builds in seconds, and of which nothing is proved;
+                  each answer says so
   --json          write the whole answer as JSON in place of the text, also if it is a refusal
   -h, --help      print this help
   --              no option stands behind this
@@ -83,18 +85,21 @@ def warn(files):
 def expand(options):
     """Expands, shows what came out, and returns the status."""
     shelf = shelf_of(options.value('-L'), options.values('-I'))
-    words = expander()
     deck, files = gather(options.arguments, shelf, options.has('-c'))
     check_target(options, files)
     warn(files)
+    is_unproved = options.has('--unproved')
+    words = unproved.referee() if is_unproved else expander()
     answer = answers_to([deck], words)[0]
+    if is_unproved:
+        unproved.warn()
     is_refused = answer.number != 0
     if is_refused:
         standard.show(shown_refusal(deck, answer, shelf, words))
     elif options.has('--list'):
         standard.show(shown_list(deck, answer.origins))
     if options.has('--json'):
-        put(options, as_json(told_answer(deck, files, answer)))
+        put(options, as_json(dict(told_answer(deck, files, answer), proved=not is_unproved)))
     elif not is_refused:
         put(options, answer.text + b'\n')
     if not is_refused:
@@ -104,7 +109,7 @@ def expand(options):
 
 def command(words, closed):
     """Does what the words behind `expand` ask for; closed are the standard files that were so."""
-    options = Options(words, 'cI:L:o:M:lh', ['list', 'json', 'help'], USAGE)
+    options = Options(words, 'cI:L:o:M:lh', ['list', 'json', 'unproved', 'help'], USAGE)
     if options.has('--help'):
         standard.put_out(HELP.encode())
         return EXPANDED

@@ -82,13 +82,17 @@ def leading_to(member, links, meant):
     return leads
 
 
-def includers(deck, member):
-    """The lines of the main program, or records, with INCLUDE statements that lead to a member."""
+def including(deck, member):
+    """The places of INCLUDE statements in the main program that lead to a member."""
     meant = numbers_of(deck)
     links = [link for number in range(len(deck.members)) for link in links_of(number, deck.source(number))]
     leads = leading_to(member, links, meant)
-    places = [link.place for link in links if link.member == 0 and meant.get(link[2:]) in leads]
-    return sorted({line_of(deck, deck.source(0), place) for place in places})
+    return sorted({link.place for link in links if link.member == 0 and meant.get(link[2:]) in leads})
+
+
+def includers(deck, member):
+    """The lines of the main program, or records, with such statements."""
+    return sorted({line_of(deck, deck.source(0), place) for place in including(deck, member)})
 
 
 def line_of(deck, source, place):

@@ -90,6 +90,32 @@ cat >"$ROOM/asked"
 cat "$ROOM/answer"
 [ ! -f "$ROOM/ending" ] || . "$ROOM/ending"
 '''
+# an expander for sources without statements: it copies them. REFUSE in a source is 10 there, DIE ends the process, HANG
+# waits while there is a file hang; each process notes how many decks it was asked
+COPIER = f'''#!{sys.executable}
+import os, re, struct, sys, time
+records = sys.stdin.buffer.read()
+at = count = 0
+while at < len(records):
+    length = struct.unpack_from('<5I', records, at)[4]
+    deck = records[at + 20:at + 20 + length]
+    at += 20 + length
+    first, = struct.unpack_from('<H', deck)
+    offset, size = struct.unpack_from('<II', deck, 10 if first < 256 else 18)
+    body = deck[offset:offset + size]
+    if b'DIE' in body:
+        os.kill(os.getpid(), 9)
+    while b'HANG' in body and os.path.exists(os.environ['ROOM'] + '/hang'):
+        time.sleep(0.05)
+    if b'REFUSE' in body:
+        answer = b'10 0 %d 3 0 0\\n\\n' % body.index(b'REFUSE')
+    else:
+        answer = b'0 0 0 1 %d 2\\nB 0 0 1\\nC 0 0 %d\\n %s\\n' % (size + 1, size, body)
+    sys.stdout.buffer.write(answer)
+    count += 1
+with open(os.environ['ROOM'] + '/processes', 'a') as file:
+    file.write('%d\\n' % count)
+'''
 # rt: notes each check, waits while there is a file hold, and builds the programs whose sources are not those of its stamp
 RT = '''#!/bin/sh
 if [ "$1" = version ]; then cat "$ROOM/kit-id"; exit; fi

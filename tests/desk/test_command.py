@@ -210,6 +210,22 @@ class Answers(Through):
         self.assertTrue(said.startswith(os.fsencode(self.clone.path('m.pli')) + b':1:18: refusal 10: a division by zero\n'),
                         said)
 
+    def test_refusal_without_hints(self):
+        """An expander that cannot be asked what could stand there is no reason to keep the refusal back."""
+        self.clone.put('answer', b'3 0 3 0 0 0\n\n')
+        status, wrote, said = self.clone.run()
+        self.assertEqual((status, wrote), (1, b''))
+        self.assertIn(b'main.pli:1:4: refusal 3: ', said)
+        self.assertNotIn(b'hint', said)
+
+    def test_unproved(self):
+        self.clone.put('stub/cargo', '#!/bin/sh\nmkdir -p "$ROOM/clone/target/referee/release"\n'
+                       'cp "$ROOM/stubs/cases" "$ROOM/clone/target/referee/release/referee"\necho "$@" >"$ROOM/cargo"\n', 0o755)
+        said = self.expands('--unproved')
+        self.assertEqual(said, b'plidesk: unproved: the referee gave this answer, and nothing of it is proved\n')
+        self.clone.put('stub/cargo', '#!/bin/sh\nexit 7\n', 0o755)
+        self.fails('the referee was not built: cargo ended with status 7', '--unproved')
+
     def test_stopped_while_it_expands(self):
         self.clone.put('ending', 'echo $$ >"$ROOM/expander"; exec sleep 60')
         child = self.clone.start()
@@ -301,6 +317,28 @@ class Into(Through):
         status, _, said = self.clone.run('-o', self.clone.path('nowhere/out'))
         self.assertEqual(status, 2)
         self.assertIn(b'nowhere/out: it cannot be written: No such file or directory', said)
+
+    def test_mode_and_link(self):
+        """A file keeps its mode, and a link stays one."""
+        os.rename(self.clone.path('out'), self.clone.path('real'))
+        os.chmod(self.clone.path('real'), 0o600)
+        os.symlink('real', self.clone.path('out'))
+        self.addCleanup(self.clone.drop, 'out')
+        self.assertEqual(self.into(), (0, b''))
+        self.assertTrue(os.path.islink(self.clone.path('out')))
+        self.assertEqual((self.out(), os.stat(self.clone.path('real')).st_mode & 0o777), (WHOLE, 0o600))
+
+    def test_pipe(self):
+        """What is no file stays what it is."""
+        os.remove(self.clone.path('out'))
+        os.mkfifo(self.clone.path('out'))
+        self.addCleanup(self.clone.drop, 'out')
+        child = self.clone.start('-o', self.clone.path('out'))
+        with open(self.clone.path('out'), 'rb') as pipe:
+            self.assertEqual(pipe.read(), WHOLE)
+        child.communicate(timeout=30)
+        self.assertEqual(child.returncode, 0)
+        self.assertFalse(os.path.isfile(self.clone.path('out')))
 
     def test_over_a_source(self):
         status, _, said = self.clone.run('-o', self.clone.path('m.pli'))
