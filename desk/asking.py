@@ -54,9 +54,14 @@ def record(deck, steps):
 
 def answers_to(decks, words, steps=STEPS):
     """What the expander answers to decks in turn, if it can be believed."""
-    with in_memory(b''.join(record(deck, steps) for deck in decks)) as source:
-        content = output_of('the expander', words, MOST * len(decks), stdin=source)
+    return answers_within([(deck, steps) for deck in decks], words)
+
+
+def answers_within(asked, words):
+    """The same for pairs of a deck and how many steps it may take."""
+    with in_memory(b''.join(record(deck, steps) for deck, steps in asked)) as source:
+        content = output_of('the expander', words, MOST * len(asked), stdin=source)
     try:
-        return read_answers(content, decks)
+        return read_answers(content, [deck for deck, _ in asked])
     except Unbelievable as reason:
         raise Stop(f'the answer of the expander cannot be believed: {reason}') from None

@@ -3,17 +3,19 @@ import os
 
 from desk import standard, unproved
 from desk.asking import answers_to, expander
+from desk.definition import definition
 from desk.errors import Stop
 from desk.gathering import gather, shelf_of
 from desk.options import Options
 from desk.output import make_rule, write_whole
 from desk.refusals import shown_refusal
 from desk.told import as_json, told_answer
+from desk.trace import shown_trace
 
 EXPANDED, REFUSED = 0, 1
 
-USAGE = ('usage: plidesk expand [-c] [-I [LIBRARY=]DIR].. [-L LIBRARY] [-o FILE [-MD]] [-l] [--json] [--unproved]\n'
-         '                      [NAME=]MAIN.pli [[NAME=]MEMBER.pli ..]\n')
+USAGE = ('usage: plidesk expand [-c] [-I [LIBRARY=]DIR].. [-L LIBRARY] [-o FILE [-MD]] [-l] [--json] [--trace]\n'
+         '                      [--unproved | --by definition] [NAME=]MAIN.pli [[NAME=]MEMBER.pli ..]\n')
 
 HELP = USAGE + '''
 Expands the percent statements of MAIN.pli. The other files are members that it can INCLUDE.
@@ -37,6 +39,9 @@ an argument with a / before its first = is a path alone, and - is standard input
                   records), and the length in the text
   --unproved      let the referee answer, which cargo builds in seconds, and of which nothing is proved;
                   each answer says so
+  --by definition let the definition itself answer, translated and run by node: the text that the proofs
+                  are about, in place of the program that is proved
+  --trace         tell each step of the run, to standard error: where it was, and what stands there
   --json          write the whole answer as JSON in place of the text, also if it is a refusal
   -h, --help      print this help
   --              no option stands behind this
@@ -82,24 +87,39 @@ def warn(files):
             standard.say(f'warning: {file.path}: {warning}')
 
 
+def answered_by(options):
+    return 'referee' if options.has('--unproved') else options.value('--by', 'expander')
+
+
+def who_answers(options):
+    """The words that run what is to answer."""
+    by = answered_by(options)
+    if by == 'definition':
+        return definition()
+    if by == 'referee':
+        return unproved.referee()
+    return expander()
+
+
 def expand(options):
     """Expands, shows what came out, and returns the status."""
     shelf = shelf_of(options.value('-L'), options.values('-I'))
     deck, files = gather(options.arguments, shelf, options.has('-c'))
     check_target(options, files)
     warn(files)
-    is_unproved = options.has('--unproved')
-    words = unproved.referee() if is_unproved else expander()
+    words = who_answers(options)
     answer = answers_to([deck], words)[0]
-    if is_unproved:
+    if options.has('--unproved'):
         unproved.warn()
+    if options.has('--trace'):
+        standard.show(shown_trace(deck, answer, words))
     is_refused = answer.number != 0
     if is_refused:
         standard.show(shown_refusal(deck, answer, shelf, words))
     elif options.has('--list'):
         standard.show(shown_list(deck, answer.origins))
     if options.has('--json'):
-        put(options, as_json(dict(told_answer(deck, files, answer), proved=not is_unproved)))
+        put(options, as_json(dict(told_answer(deck, files, answer), answered_by=answered_by(options))))
     elif not is_refused:
         put(options, answer.text + b'\n')
     if not is_refused:
@@ -109,11 +129,13 @@ def expand(options):
 
 def command(words, closed):
     """Does what the words behind `expand` ask for; closed are the standard files that were so."""
-    options = Options(words, 'cI:L:o:M:lh', ['list', 'json', 'unproved', 'help'], USAGE)
+    options = Options(words, 'cI:L:o:M:lh', ['list', 'json', 'unproved', 'by=', 'trace', 'help'], USAGE)
     if options.has('--help'):
         standard.put_out(HELP.encode())
         return EXPANDED
     options.need_arguments()
+    if options.value('--by', 'expander') not in ('expander', 'definition'):
+        raise Stop(f'--by {options.value("--by")}: it is expander or definition')
     if options.has('-MD') and options.value('-o') is None:
         raise Stop('-MD says what a file was made of, and needs -o')
     if standard.OUTPUT in closed and options.value('-o') is None:

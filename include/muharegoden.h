@@ -75,6 +75,31 @@ void muharegoden_expand(
     uint32_t steps,
     uint32_t *numbers, size_t numbers_size);
 
+/* All working rooms in one. It has some 330,000 bytes: too many for most stacks, so make it static or allocate it. */
+struct muharegoden_rooms {
+    uint32_t cells[MUHAREGODEN_CELLS];
+    uint16_t rows[MUHAREGODEN_ROWS];
+    uint16_t names[MUHAREGODEN_NAMES];
+    uint8_t low[MUHAREGODEN_LOW];
+    uint8_t high[MUHAREGODEN_HIGH];
+    uint8_t work[MUHAREGODEN_WORK];
+    uint8_t joined[MUHAREGODEN_JOINED];
+};
+
+/* The same call with its working rooms in one place, and room for all six numbers. */
+static inline void muharegoden_expand_in(
+    struct muharegoden_rooms *rooms, uint32_t cards,
+    const uint8_t *deck, size_t deck_size,
+    uint8_t *text, size_t text_size,
+    uint8_t *list, size_t list_size,
+    uint32_t steps, uint32_t *numbers)
+{
+    muharegoden_expand(cards, deck, deck_size, text, text_size, list, list_size,
+        rooms->rows, MUHAREGODEN_ROWS, rooms->names, MUHAREGODEN_NAMES, rooms->cells, MUHAREGODEN_CELLS,
+        rooms->low, MUHAREGODEN_LOW, rooms->high, MUHAREGODEN_HIGH, rooms->work, MUHAREGODEN_WORK,
+        rooms->joined, MUHAREGODEN_JOINED, steps, numbers, MUHAREGODEN_NUMBERS);
+}
+
 #ifdef __cplusplus
 }
 #endif

@@ -1,5 +1,6 @@
 """A real browser for tests: Chromium without a window, spoken to through two pipes (the DevTools protocol)."""
 import base64
+import contextlib
 import json
 import os
 import shutil
@@ -14,6 +15,21 @@ OPTIONS = ['--headless=new', '--no-sandbox', '--disable-gpu', '--hide-scrollbars
 def path():
     """The path of a browser, or None."""
     return next(filter(None, map(shutil.which, NAMES)), None)
+
+
+def install():
+    """Installs Chromium from Debian's packages where there is none and that may be done; says what came of it."""
+    if path() or os.environ.get('NO_BROWSER'):
+        return
+    words = ['apt-get', 'install', '-y', '--no-install-recommends', 'chromium']
+    if os.geteuid() == 0 and shutil.which('apt-get'):
+        print('no browser is there: apt-get installs chromium', flush=True)
+        with contextlib.suppress(subprocess.TimeoutExpired):
+            subprocess.run(words, env=dict(os.environ, DEBIAN_FRONTEND='noninteractive'), stdin=subprocess.DEVNULL,
+                           stdout=subprocess.DEVNULL, stderr=subprocess.DEVNULL, timeout=600, check=False)
+    if not path():
+        print(f'pages are NOT looked at in a browser: there is none, and it could not be installed; `{" ".join(words)}` does it',
+              flush=True)
 
 
 class Browser:

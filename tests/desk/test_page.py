@@ -7,10 +7,15 @@ import unittest
 import browser
 import house
 from desk.answers import Answer, Origin, read_answer
+from desk.asking import PROGRAM, answers_to, other_program
+from desk.building import program_path
 from desk.decks import LAST, RECORD, Member, make_deck, read_deck
+from desk.gathering import Shelf, gather
+from desk.jobs import jobs_of
 from desk.markup import SHAPES, groups_of, parts_of, segments, shown
 from desk.page import page_of
 from desk.places import spot
+from desk.running import on_this_machine
 
 # of the cases so many are looked at in the browser; so many bytes of each are pointed at
 CASES = 24
@@ -65,6 +70,15 @@ def largest():
     return deck, Answer(0, 0, 0, 9, text, origins)
 
 
+def example_words():
+    """The words that run an expander without building one."""
+    if other_program():
+        return [other_program()]
+    if not os.path.exists(program_path(house.ROOT, PROGRAM)):
+        raise unittest.SkipTest('target/bin/cases is not built: the examples are not looked at in a browser')
+    return on_this_machine(program_path(house.ROOT, PROGRAM))
+
+
 class Markup(unittest.TestCase):
     def test_segments(self):
         """Each segment lies in the parts that it names, and each part is covered by segments."""
@@ -117,7 +131,7 @@ class Markup(unittest.TestCase):
                 self.assertIn(b'refusal', page_of(deck, read_answer(answer, deck)))
 
 
-@unittest.skipUnless(browser.path(), 'no Chromium in PATH: pages are not looked at in a browser')
+@unittest.skipIf(os.environ.get('NO_BROWSER') or not browser.path(), 'no browser: pages are not looked at in one')
 class InBrowser(unittest.TestCase):
     @classmethod
     def setUpClass(cls):
@@ -179,6 +193,19 @@ class InBrowser(unittest.TestCase):
                 self.open(deck, answer)
                 self.check_bytes(deck, answer)
                 if answer.text:
+                    self.check_click(deck, answer)
+
+    def test_examples(self):
+        """Each example as the expander answers it, if there is one that is built or named."""
+        words = example_words()
+        for job in jobs_of(['@' + os.path.join(house.ROOT, 'examples', 'examples.jobs')], False):
+            deck, _ = gather(job.arguments, Shelf(None, []), job.is_cards)
+            answer = answers_to([deck], words)[0]
+            with self.subTest(job=job.name):
+                self.open(deck, answer)
+                self.assertEqual(self.value('document.querySelectorAll(".s.refused").length'), int(answer.number != 0))
+                if answer.number == 0:
+                    self.check_bytes(deck, answer)
                     self.check_click(deck, answer)
 
     def program(self):
