@@ -1,8 +1,10 @@
 //! Expands a program with a member, and prints what came out: the text, and where each part of it came from.
 
-use muharegoden::{Layout, Limits, Member, NoDeck, expand, meaning, pack};
+use std::error::Error;
 
-fn main() -> Result<(), NoDeck> {
+use muharegoden::{Layout, Limits, Member, expand, meaning, pack};
+
+fn main() -> Result<(), Box<dyn Error>> {
     let main = Member {
         library: None,
         name: "MAIN",
@@ -13,7 +15,7 @@ fn main() -> Result<(), NoDeck> {
         name: "LIMITS",
         body: b"%DCL (LOW, HIGH) FIXED;%LOW=500;%HIGH=900;",
     };
-    let answer = expand(&pack(&[main, limits])?, Layout::Plain, Limits::default());
+    let answer = expand(&pack(&[main, limits])?, Layout::Plain, Limits::default())?;
     println!(
         "{}: {} steps",
         meaning(answer.number).unwrap_or("unknown"),

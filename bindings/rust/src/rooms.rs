@@ -1,5 +1,7 @@
 //! The call.
 
+use std::{io, panic, thread};
+
 use crate::{Answer, Kind, Layout, Limits, Line};
 
 // the least lengths of the working rooms, as in include/muharegoden.h
@@ -8,6 +10,8 @@ const NAMES: usize = 4_096;
 const CELLS: usize = 256;
 const ROOM: usize = 65_536;
 const LINE: usize = 12;
+// the stack that a call may take, MUHAREGODEN_STACK there, and some for its thread
+const STACK: usize = 4_194_304 + 65_536;
 
 unsafe extern "C" {
     // an exported slice is a pointer and a count of elements
@@ -39,9 +43,25 @@ unsafe extern "C" {
     );
 }
 
-/// Expands a deck. Any bytes are a deck; what is wrong with them is a number of the answer.
-#[must_use]
-pub fn expand(deck: &[u8], layout: Layout, limits: Limits) -> Answer {
+/// Expands a deck. Any bytes are a deck; what is wrong with them is a number of the answer. The call has a thread of its
+/// own, since the caller's may have too little stack (docs/CALLING.md).
+///
+/// # Errors
+///
+/// The system gives no thread.
+pub fn expand(deck: &[u8], layout: Layout, limits: Limits) -> io::Result<Answer> {
+    thread::scope(|scope| {
+        let call = || expand_here(deck, layout, limits);
+        let thread = thread::Builder::new()
+            .stack_size(STACK)
+            .spawn_scoped(scope, call)?;
+        Ok(thread
+            .join()
+            .unwrap_or_else(|reason| panic::resume_unwind(reason)))
+    })
+}
+
+fn expand_here(deck: &[u8], layout: Layout, limits: Limits) -> Answer {
     let mut text = vec![0u8; limits.text_bytes];
     let mut list = vec![0u8; limits.lines * LINE];
     let (mut rows, mut names, mut cells) = (vec![0u16; ROWS], vec![0u16; NAMES], vec![0u32; CELLS]);
