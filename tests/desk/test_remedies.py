@@ -97,6 +97,8 @@ class Slips(unittest.TestCase):
         for source, words in ((b'%A=\t1;', 'tab'), (b'%A=\r1;', 'CR'), (b'%A="1";', 'string'), (b'%A=b;', 'lower-case'),
                               (b"%A='1;", 'not closed'), (b'%A=/*1;', 'not closed')):
             self.assertIn(words, candidates.slip(source, 3))
+        for source in (b'%A=1', b"%A='1';", b"%A='''';", b'%A=/**/;'):
+            self.assertEqual(candidates.slip(source, 3), '')
         self.assertEqual(candidates.slip(b'%A=1', 4), '')
 
 
