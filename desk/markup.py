@@ -149,7 +149,8 @@ def marked_text(parts, text):
     pieces = []
     for part in parts:
         kind = part.kind.lower() + (' z' if part.length == 0 else '')
-        pieces.append(f'<span class="{kind}" id="t{part.number}">{escaped(text[part.start:part.start + part.length])}</span>')
+        content = escaped(text[part.start:part.start + part.length])
+        pieces.append(f'<span class="{kind}" id="t{part.number}">{content}</span>')
     return ''.join(pieces)
 
 
@@ -204,8 +205,8 @@ def names_section(deck, parts, text):
     rows = name_rows(deck, parts, text)
     if not rows:
         return '<p>No name was replaced.</p>'
-    return ('<table><thead><tr><th>name</th><th>where it stood</th><th>line:column of the expansion</th><th>what was put</th></tr>'
-            f'</thead><tbody>{rows}</tbody></table>')
+    return ('<table><thead><tr><th>name</th><th>where it stood</th><th>line:column of the expansion</th>'
+            f'<th>what was put</th></tr></thead><tbody>{rows}</tbody></table>')
 
 
 # ---- the whole
@@ -230,8 +231,8 @@ def marks_of(deck, answer):
 
 def verdict(deck, answer):
     if answer.number == 0:
-        return (f'finished: {answer.steps} steps, {len(answer.text)} bytes of text, {len(answer.origins)} lines in its origin '
-                'list')
+        return (f'finished: {answer.steps} steps, {len(answer.text)} bytes of text, {len(answer.origins)} lines in its '
+                'origin list')
     place = '' if answer.number <= PLACELESS else f'{place_of(deck, answer.member, answer.offset)}: '
     return f'{place}refusal {answer.number}: {MEANINGS[answer.number]}'
 

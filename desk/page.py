@@ -7,7 +7,8 @@ from desk.asking import answers_to, expander
 from desk.errors import Stop
 from desk.expand import EXPANDED, REFUSED, check_target, warn
 from desk.gathering import gather, shelf_of
-from desk.markup import as_data, data_of, marks_of, names_section, parts_of, path_of, segments, source_section, text_section, verdict
+from desk.markup import (as_data, data_of, marks_of, names_section, parts_of, path_of, segments, source_section, text_section,
+                         verdict)
 from desk.options import Options
 from desk.output import write_whole
 from desk.places import led_by
@@ -51,7 +52,8 @@ def header(deck, answer):
     led = html.escape(led_by(deck, answer.member).decode('utf-8', 'replace').strip()) if answer.number else ''
     links = ''.join(f'<a href="#m{number}">{html.escape(one.shown.decode())}</a>' for number, one in enumerate(deck.members))
     return (f'<header><h1>{html.escape(path_of(deck, 0))}</h1><p{bad}>{html.escape(verdict(deck, answer))}</p>'
-            f'{f"<p>{led}</p>" if led else ""}<nav aria-label="members">{links}</nav>{"" if answer.number else SEARCH}</header>')
+            f'{f"<p>{led}</p>" if led else ""}<nav aria-label="members">{links}</nav>'
+            f'{"" if answer.number else SEARCH}</header>')
 
 
 def page_of(deck, answer):

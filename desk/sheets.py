@@ -8,7 +8,8 @@ from desk.errors import Stop
 from desk.version import VERSION
 
 FINISHED, REFUSED, NOT_RUN = 'finished', 'refused', 'not run'
-COLUMNS = ('program', 'verdict', 'number', 'words', 'place', 'steps', 'bytes', 'lines', 'text_sha256', 'deck_sha256', 'change')
+COLUMNS = ('program', 'verdict', 'number', 'words', 'place', 'steps', 'bytes', 'lines', 'text_sha256', 'deck_sha256',
+           'change')
 # how much of a digest is printed
 SHORT = 16
 FILES = ('sheet.json', 'sheet.csv', 'sheet.txt')

@@ -70,7 +70,8 @@ class Work:
     def row(self, answer):
         """The row of the sheet for an answer, or a reason why there is none."""
         row = {'program': self.job.name, 'verdict': NOT_RUN, 'number': None, 'words': '', 'place': '', 'steps': None,
-               'bytes': None, 'lines': None, 'text_sha256': '', 'deck_sha256': digest(self.deck.content) if self.deck else '',
+               'bytes': None, 'lines': None, 'text_sha256': '',
+               'deck_sha256': digest(self.deck.content) if self.deck else '',
                'sources': [{'path': file.path, 'sha256': file.digest} for file in self.files],
                'warnings': [f'{file.path}: {warning}' for file in self.files for warning in file.warnings]}
         if isinstance(answer, str):

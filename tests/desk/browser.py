@@ -28,7 +28,7 @@ def install():
             subprocess.run(words, env=dict(os.environ, DEBIAN_FRONTEND='noninteractive'), stdin=subprocess.DEVNULL,
                            stdout=subprocess.DEVNULL, stderr=subprocess.DEVNULL, timeout=600, check=False)
     if not path():
-        print(f'pages are NOT looked at in a browser: there is none, and it could not be installed; `{" ".join(words)}` does it',
+        print(f'pages are NOT looked at in a browser: there is none, and it could not be installed; `{" ".join(words)}` does',
               flush=True)
 
 

@@ -218,7 +218,8 @@ class InBrowser(unittest.TestCase):
         self.assertEqual(self.readout(), 'inserted blank before m.pli:1:18 in M')
         for key, words in (('ArrowRight', 'inserted blank before m.pli:1:25'), (']', 'N at m.pli:1:28 in M = “       7”'),
                            ('End', 'copied from main.pli:1:12'),
-                           ('ArrowDown', 'copied from main.pli:2:'), ('ArrowUp', ''), ('Home', 'inserted blank before m.pli:1:18')):
+                           ('ArrowDown', 'copied from main.pli:2:'), ('ArrowUp', ''),
+                           ('Home', 'inserted blank before m.pli:1:18')):
             self.browser.press(key)
             self.assertIn(words, self.readout(), key)
         self.browser.press(']')

@@ -28,7 +28,7 @@ class Hints(unittest.TestCase):
         self.assertEqual(self.hints(7, 27, main.replace(b'LOOW', b'HIGH')), ['HIGH is given a value nowhere in this deck'])
         self.assertEqual(self.hints(7, 27, main.replace(b'LOOW', b'LOW')),
                          ['when this runs one of them has no value yet: LOW'])
-        self.assertIn('parameters must be declared', self.hints(6, 27, main.replace(b'LOOW', b'HIGH'))[0])
+        self.assertIn('a parameter must be declared', self.hints(6, 27, main.replace(b'LOOW', b'HIGH'))[0])
 
     def test_name_on_cards(self):
         body = b' %DECLARE A FIXED;'.ljust(72) + b'00000010' + b' %A = B;'.ljust(80)
