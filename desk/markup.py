@@ -4,7 +4,7 @@ import html
 import json
 
 from desk.decks import FIRST, LAST, RECORD
-from desk.includes import including
+from desk.includes import WORD, including
 from desk.places import spot
 from desk.reading import in_source
 from desk.words import MEANINGS, PLACELESS
@@ -41,14 +41,8 @@ def given(deck, place):
 
 def name_at(deck, member, offset):
     """The name that stands at a place, and how many bytes of it stand together there."""
-    source = deck.source(member)
-    first = last = in_source(deck, offset)
-    while last < len(source) and (source[last:last + 1].isalnum() or source[last:last + 1] in (b'$', b'@', b'#', b'_')):
-        last += 1
-    length = last - first
-    if deck.is_cards:
-        length = min(length, LAST - offset % RECORD)
-    return source[first:last], length
+    name = WORD.match(deck.source(member), in_source(deck, offset))[0]
+    return name, min(len(name), LAST - offset % RECORD) if deck.is_cards else len(name)
 
 
 def parts_of(deck, answer):

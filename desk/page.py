@@ -7,8 +7,8 @@ from desk.asking import answers_to, expander
 from desk.errors import Stop
 from desk.expand import EXPANDED, REFUSED, check_target, warn
 from desk.gathering import gather, shelf_of
-from desk.markup import (as_data, data_of, marks_of, names_section, parts_of, path_of, segments, source_section, text_section,
-                         verdict)
+from desk.markup import (as_data, data_of, marks_of, names_section, parts_of, path_of, segments, source_section,
+                         text_section, verdict)
 from desk.options import Options
 from desk.output import write_whole
 from desk.places import led_by
@@ -56,6 +56,11 @@ def header(deck, answer):
             f'{"" if answer.number else SEARCH}</header>')
 
 
+def footer(answer):
+    keys = '' if answer.number else f'{KEYS}; '
+    return f'<footer><output id="readout" aria-live="polite"></output><small>{keys}plidesk {VERSION}</small></footer>'
+
+
 def page_of(deck, answer):
     """The page of an answer, as bytes."""
     parts = parts_of(deck, answer)
@@ -72,7 +77,7 @@ def page_of(deck, answer):
 <body>
 {header(deck, answer)}
 {panes(deck, answer, parts, found)}
-<footer><output id="readout" aria-live="polite"></output><small>{"" if answer.number else KEYS + "; "}plidesk {VERSION}</small></footer>
+{footer(answer)}
 <script type="application/json" id="data">{as_data(data_of(deck, parts, found))}</script>
 <script>
 {part_of_desk('page.js')}</script>

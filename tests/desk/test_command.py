@@ -300,6 +300,10 @@ class Into(Through):
         self.assertEqual(self.into(), (0, b''))
         self.assertEqual(self.out(), WHOLE)
 
+    def test_standard_output(self):
+        self.expands('-o', '-')
+        self.fails('needs -o', '-o', '-', '-MD')
+
     def test_closed_output(self):
         status, _, _ = self.clone.run('-o', self.clone.path('out'), stdout=None, preexec_fn=lambda: os.close(1))
         self.assertEqual((status, self.out()), (0, WHOLE))

@@ -109,7 +109,7 @@ class Markup(unittest.TestCase):
         self.assertNotIn('<i>', page)
 
     def test_names(self):
-        deck = make_deck([Member(b'', b'MAIN', b'A $B_1(2) A')], False)
+        deck = make_deck([Member(b'', b'MAIN', b'A $B_1x(2)A')], False)
         answer = Answer(0, 0, 0, 1, b'123', [Origin(b'V', 0, 0, 1), Origin(b'V', 0, 2, 1), Origin(b'V', 0, 10, 1)])
         self.assertEqual([(name, len(group)) for name, group in groups_of(parts_of(deck, answer)).items()],
                          [(b'A', 2), (b'$B_1', 1)])

@@ -229,8 +229,9 @@ class Jobs(unittest.TestCase):
             with self.assertRaises(Stop) as caught:
                 jobs_of(['@' + self.clone.path('night.jobs')], False)
             self.assertIn(words, str(caught.exception))
-        with self.assertRaises(Stop):
-            jobs_of(['@' + self.clone.path('none')], False)
+        for words in (['@' + self.clone.path('none')], ['-'], []):
+            with self.assertRaises(Stop):
+                jobs_of(words, False)
 
     def test_folder(self):
         for name in ('b.pli', 'a.pli', 'a.pli~', '.hidden', 'sub/x.pli'):
