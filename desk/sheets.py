@@ -84,7 +84,7 @@ def shown_row(row, width):
         line += f'\n    {place}refusal {row["number"]}: {row["words"]}'
     else:
         line += f'\n    {row["words"]}'
-    notes = [f'warning: {warning}' for warning in row['warnings']]
+    notes = [f'hint: {hint}' for hint in row['hints']] + [f'warning: {warning}' for warning in row['warnings']]
     if row.get('change') not in (None, 'the same'):
         notes.append(row['change'])
     return '\n    '.join([line, *notes])
