@@ -26,7 +26,9 @@ def batches_of(count, jobs):
 
 def limit_output(count):
     """For a child: its output does not grow past what so many answers have."""
-    return lambda: resource.setrlimit(resource.RLIMIT_FSIZE, (MOST * count, MOST * count))
+    _, most = resource.getrlimit(resource.RLIMIT_FSIZE)
+    size = MOST * count if most == resource.RLIM_INFINITY else min(MOST * count, most)
+    return lambda: resource.setrlimit(resource.RLIMIT_FSIZE, (size, most))
 
 
 class Batches:

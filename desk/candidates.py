@@ -1,4 +1,6 @@
 """What could stand at the place of wrong syntax: common slips, and tokens that the expander itself takes there."""
+import re
+
 from desk.asking import answers_to
 from desk.decks import BYTES, Member, make_deck, size_of
 from desk.reading import in_source
@@ -12,6 +14,7 @@ SLIPS = {
     b'\\': 'the not sign is ^',
     b'!': 'or is |, and the not sign is ^',
 }
+STRING = re.compile(rb"'(?:[^']|'')*'")
 LOWER = b'abcdefghijklmnopqrstuvwxyz'
 
 # tokens that are tried, and what they are called
@@ -32,8 +35,10 @@ def slip(source, at):
         return SLIPS[here]
     if here and here in LOWER:
         return 'lower-case letters are no letters in a statement'
-    if here == b"'" or source[at:at + 2] == b'/*':
-        return 'the string or comment that begins here is not closed'
+    if here == b"'" and not STRING.match(source, at):
+        return 'the string that begins here is not closed'
+    if source[at:at + 2] == b'/*' and b'*/' not in source[at + 2:]:
+        return 'the comment that begins here is not closed'
     return ''
 
 

@@ -1,5 +1,6 @@
 """Decks: made of members, and read (01, "The deck", and C-14)."""
 import collections
+import functools
 import re
 import struct
 
@@ -78,6 +79,7 @@ def read_names(padded):
     return names if len(names) == 2 else [b'', *names]
 
 
+@functools.lru_cache(maxsize=2 * MEMBERS)
 def columns(body):
     """The source of card images: columns 2 to 72 of each record."""
     return b''.join(body[at + FIRST:at + LAST] for at in range(0, len(body), RECORD))

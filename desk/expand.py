@@ -5,6 +5,7 @@ from desk import standard, unproved
 from desk.asking import answers_to, expander
 from desk.definition import definition
 from desk.errors import Stop
+from desk.files import STANDARD_INPUT
 from desk.gathering import gather, shelf_of
 from desk.options import Options
 from desk.output import make_rule, write_whole
@@ -32,7 +33,7 @@ an argument with a / before its first = is a path alone, and - is standard input
   -c              the files are card images: records of 80 bytes without line ends, source in columns
                   2 to 72; or, in a file that has line ends, lines of up to 80 characters, which are
                   padded with blanks to 80
-  -o FILE         write the text to this file, when it is whole
+  -o FILE         write the text to this file, when it is whole; - is standard output
   -MD             write a rule for make to FILE.d: what was read for FILE
   -l, --list      print the origin list too, to standard error: B an inserted blank, C a copied
                   stretch, V a replacement; then the member, the offset in its file (with -c in its
@@ -57,9 +58,15 @@ def shown_list(deck, origins):
                     for one in origins)
 
 
+def target_of(options):
+    """The file that is to be written, or None for standard output."""
+    path = options.value('-o')
+    return None if path == STANDARD_INPUT else path
+
+
 def put(options, content):
     """Writes what was asked for to where it was asked for."""
-    path = options.value('-o')
+    path = target_of(options)
     if path is None:
         standard.put_out(content)
     else:
@@ -68,16 +75,16 @@ def put(options, content):
 
 def put_rule(options, files):
     if options.has('-MD'):
-        target = options.value('-o')
-        rule = make_rule(target, [file.path for file in files if file.path != '-'])
+        target = target_of(options)
+        rule = make_rule(target, [file.path for file in files if file.path != STANDARD_INPUT])
         write_whole(target + '.d', rule.encode('utf-8', 'surrogateescape'))
 
 
 def check_target(options, files):
     """No source is written over."""
-    path = options.value('-o')
+    path = target_of(options)
     for file in files:
-        if path is not None and os.path.exists(path) and file.path != '-' and os.path.samefile(path, file.path):
+        if path is not None and os.path.exists(path) and file.path != STANDARD_INPUT and os.path.samefile(path, file.path):
             raise Stop(f'{path} is a source of this program')
 
 
@@ -136,9 +143,9 @@ def command(words, closed):
     options.need_arguments()
     if options.value('--by', 'expander') not in ('expander', 'definition'):
         raise Stop(f'--by {options.value("--by")}: it is expander or definition')
-    if options.has('-MD') and options.value('-o') is None:
+    if options.has('-MD') and target_of(options) is None:
         raise Stop('-MD says what a file was made of, and needs -o')
-    if standard.OUTPUT in closed and options.value('-o') is None:
+    if standard.OUTPUT in closed and target_of(options) is None:
         raise Stop('standard output is closed')
     if options.has('--list') and standard.ERRORS in closed:
         raise Stop('standard error is closed, and the origin list goes there')

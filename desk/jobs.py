@@ -4,7 +4,7 @@ import os
 import shlex
 
 from desk.errors import Stop
-from desk.files import split_argument
+from desk.files import STANDARD_INPUT, split_argument
 
 # what a program is called in the sheet and in OUT, the main program and its members as arguments, and whether it is cards
 Job = collections.namedtuple('Job', 'name arguments is_cards')
@@ -53,6 +53,8 @@ def jobs_of(words, is_cards):
     """The programs that the words of a command line ask for: each a file, a folder, or @ and a job file."""
     jobs = []
     for word in words:
+        if word == STANDARD_INPUT:
+            raise Stop('a shift reads no program from standard input')
         try:
             if word.startswith('@'):
                 jobs += in_job_file(word[1:], is_cards)

@@ -4,7 +4,7 @@ import html
 import json
 
 from desk.decks import FIRST, LAST, RECORD
-from desk.includes import including
+from desk.includes import WORD, including
 from desk.places import spot
 from desk.reading import in_source
 from desk.words import MEANINGS, PLACELESS
@@ -41,14 +41,8 @@ def given(deck, place):
 
 def name_at(deck, member, offset):
     """The name that stands at a place, and how many bytes of it stand together there."""
-    source = deck.source(member)
-    first = last = in_source(deck, offset)
-    while last < len(source) and (source[last:last + 1].isalnum() or source[last:last + 1] in (b'$', b'@', b'#', b'_')):
-        last += 1
-    length = last - first
-    if deck.is_cards:
-        length = min(length, LAST - offset % RECORD)
-    return source[first:last], length
+    name = WORD.match(deck.source(member), in_source(deck, offset))[0]
+    return name, min(len(name), LAST - offset % RECORD) if deck.is_cards else len(name)
 
 
 def parts_of(deck, answer):
@@ -149,7 +143,8 @@ def marked_text(parts, text):
     pieces = []
     for part in parts:
         kind = part.kind.lower() + (' z' if part.length == 0 else '')
-        pieces.append(f'<span class="{kind}" id="t{part.number}">{escaped(text[part.start:part.start + part.length])}</span>')
+        content = escaped(text[part.start:part.start + part.length])
+        pieces.append(f'<span class="{kind}" id="t{part.number}">{content}</span>')
     return ''.join(pieces)
 
 
@@ -204,8 +199,8 @@ def names_section(deck, parts, text):
     rows = name_rows(deck, parts, text)
     if not rows:
         return '<p>No name was replaced.</p>'
-    return ('<table><thead><tr><th>name</th><th>where it stood</th><th>line:column of the expansion</th><th>what was put</th></tr>'
-            f'</thead><tbody>{rows}</tbody></table>')
+    return ('<table><thead><tr><th>name</th><th>where it stood</th><th>line:column of the expansion</th>'
+            f'<th>what was put</th></tr></thead><tbody>{rows}</tbody></table>')
 
 
 # ---- the whole
@@ -230,8 +225,8 @@ def marks_of(deck, answer):
 
 def verdict(deck, answer):
     if answer.number == 0:
-        return (f'finished: {answer.steps} steps, {len(answer.text)} bytes of text, {len(answer.origins)} lines in its origin '
-                'list')
+        return (f'finished: {answer.steps} steps, {len(answer.text)} bytes of text, {len(answer.origins)} lines in its '
+                'origin list')
     place = '' if answer.number <= PLACELESS else f'{place_of(deck, answer.member, answer.offset)}: '
     return f'{place}refusal {answer.number}: {MEANINGS[answer.number]}'
 

@@ -258,6 +258,19 @@ for (const link of document.querySelectorAll('.names a')) {
 for (const cell of document.querySelectorAll('.names tbody th')) {
   cell.addEventListener('click', () => { unmark(); markNames(cell.textContent); if (now[0]) { selectPart(Number(now[0].id.slice(1))); } });
 }
+// What is not in the text may be in a source.
+function searchSources(what) {
+  for (let member = 0; member < data.members.length; member += 1) {
+    const at = contentOf(sourceOf(member)).indexOf(what);
+    if (at >= 0) {
+      unmark();
+      show(sourceOf(member), at);
+      readout.textContent = 'not in the text; in the sources at ' + placeWords(member, givenOffset(at));
+      return;
+    }
+  }
+  readout.textContent = '\u201c' + what + '\u201d is neither in the text nor in the sources';
+}
 const form = document.querySelector('form');
 const wanted = document.getElementById('wanted');
 let found = -1;
@@ -268,7 +281,7 @@ if (form) { form.addEventListener('submit', event => {
   const content = contentOf(text);
   found = content.indexOf(what, found + 1);
   if (found < 0) { found = content.indexOf(what); }
-  if (found < 0) { readout.textContent = '\u201c' + what + '\u201d is not in the text'; return; }
+  if (found < 0) { searchSources(what); return; }
   select(found);
   let count = 0, at = -1, which = 0;
   while ((at = content.indexOf(what, at + 1)) >= 0) { count += 1; if (at <= found) { which = count; } }

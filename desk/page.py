@@ -7,15 +7,17 @@ from desk.asking import answers_to, expander
 from desk.errors import Stop
 from desk.expand import EXPANDED, REFUSED, check_target, warn
 from desk.gathering import gather, shelf_of
-from desk.markup import as_data, data_of, marks_of, names_section, parts_of, path_of, segments, source_section, text_section, verdict
+from desk.markup import (as_data, data_of, marks_of, names_section, parts_of, path_of, segments, source_section,
+                         text_section, verdict)
 from desk.options import Options
 from desk.output import write_whole
 from desk.places import led_by
+from desk.refusals import hints_for
 from desk.version import VERSION
 
 HERE = os.path.dirname(os.path.realpath(__file__))
-SEARCH = ('<form role="search"><input id="wanted" type="search" placeholder="search the text" aria-label="search the text">'
-          '<button>next</button></form>')
+SEARCH = ('<form role="search"><input id="wanted" type="search" placeholder="search" '
+          'aria-label="search the text, then the sources"><button>next</button></form>')
 KEYS = 'arrows move, [ and ] to the next name, Enter to the source and back, / searches'
 
 USAGE = ('usage: plidesk page [-c] [-I [LIBRARY=]DIR].. [-L LIBRARY] -o PAGE.html\n'
@@ -46,16 +48,23 @@ def panes(deck, answer, parts, found):
             f'<section class="pane names"><h2>Names</h2>{names_section(deck, parts, answer.text)}</section></main>')
 
 
-def header(deck, answer):
+def header(deck, answer, hints):
     bad = ' class="bad"' if answer.number else ''
-    led = html.escape(led_by(deck, answer.member).decode('utf-8', 'replace').strip()) if answer.number else ''
+    led = [led_by(deck, answer.member).decode('utf-8', 'replace').strip()] if answer.number else []
+    notes = ''.join(f'<p>{html.escape(note)}</p>' for note in led + [f'hint: {hint}' for hint in hints] if note)
     links = ''.join(f'<a href="#m{number}">{html.escape(one.shown.decode())}</a>' for number, one in enumerate(deck.members))
     return (f'<header><h1>{html.escape(path_of(deck, 0))}</h1><p{bad}>{html.escape(verdict(deck, answer))}</p>'
-            f'{f"<p>{led}</p>" if led else ""}<nav aria-label="members">{links}</nav>{"" if answer.number else SEARCH}</header>')
+            f'{notes}<nav aria-label="members">{links}</nav>'
+            f'{"" if answer.number else SEARCH}</header>')
 
 
-def page_of(deck, answer):
-    """The page of an answer, as bytes."""
+def footer(answer):
+    keys = '' if answer.number else f'{KEYS}; '
+    return f'<footer><output id="readout" aria-live="polite"></output><small>{keys}plidesk {VERSION}</small></footer>'
+
+
+def page_of(deck, answer, hints=()):
+    """The page of an answer, as bytes; hints are those of a refusal."""
     parts = parts_of(deck, answer)
     found = segments(deck, parts, marks_of(deck, answer) if answer.number else [])
     return f'''<!DOCTYPE html>
@@ -68,9 +77,9 @@ def page_of(deck, answer):
 {part_of_desk('page.css')}</style>
 </head>
 <body>
-{header(deck, answer)}
+{header(deck, answer, hints)}
 {panes(deck, answer, parts, found)}
-<footer><output id="readout" aria-live="polite"></output><small>{"" if answer.number else KEYS + "; "}plidesk {VERSION}</small></footer>
+{footer(answer)}
 <script type="application/json" id="data">{as_data(data_of(deck, parts, found))}</script>
 <script>
 {part_of_desk('page.js')}</script>
@@ -84,8 +93,10 @@ def page(options):
     deck, files = gather(options.arguments, shelf, options.has('-c'))
     check_target(options, files)
     warn(files)
-    answer = answers_to([deck], expander())[0]
-    write_whole(options.value('-o'), page_of(deck, answer))
+    words = expander()
+    answer = answers_to([deck], words)[0]
+    hints = hints_for(deck, answer, shelf, words) if answer.number else []
+    write_whole(options.value('-o'), page_of(deck, answer, hints))
     return REFUSED if answer.number else EXPANDED
 
 

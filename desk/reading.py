@@ -10,8 +10,8 @@ TOKEN = re.compile(rb"[ \n]+|(?P<comment>/\*.*?(?:\*/|\Z))|(?P<string>'(?:[^']|'
                    rb"|(?P<name>[A-Z$@#][A-Z0-9$@#_]*)|(?P<number>[0-9]+)|(?P<other>.)", re.DOTALL)
 DECLARING = (b'DECLARE', b'DCL')
 PROCEDURES = (b'PROCEDURE', b'PROC')
-KEYWORDS = frozenset(b'''ACTIVATE ACT DEACTIVATE DEACT DECLARE DCL DO TO BY END ELSE THEN IF GOTO GO INCLUDE PROCEDURE PROC RETURN
-RETURNS FIXED CHARACTER CHAR ENTRY BUILTIN RESCAN NORESCAN SUBSTR BIT'''.split())
+KEYWORDS = frozenset(b'''ACTIVATE ACT DEACTIVATE DEACT DECLARE DCL DO TO BY END ELSE THEN IF GOTO GO INCLUDE PROCEDURE PROC
+RETURN RETURNS FIXED CHARACTER CHAR ENTRY BUILTIN RESCAN NORESCAN SUBSTR BIT'''.split())
 # behind what a target of an assignment can stand
 BEFORE_TARGET = (b'%', b';', b':', b'THEN', b'ELSE', b'DO')
 

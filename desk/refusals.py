@@ -6,7 +6,9 @@ from desk.words import MEANINGS, PLACELESS
 
 
 def hints_for(deck, answer, shelf, words):
-    """What to do; nothing where the expander cannot be asked again, which is no reason to keep the refusal back."""
+    """What to do about a refusal; nothing where the expander cannot be asked again, which is no reason to keep it back."""
+    if answer.number <= PLACELESS:
+        return []
     try:
         return remedies(deck, answer, shelf, words)
     except Stop:

@@ -66,8 +66,8 @@ def unknown(case):
             alike = difflib.get_close_matches(called([name]), [called([one]) for one in known.declared], 1)
             hints.append(f'{called([name])} is declared in no member of this deck'
                          + (f'; is {alike[0]} meant?' if alike else ''))
-    return hints or ['declared it is, but not as what is wanted here; or it is in a procedure that was called: each of its '
-                     'parameters must be declared in it, FIXED or CHARACTER']
+    return hints or ['each name here is declared somewhere, but not as what is wanted, not before this runs or not for this '
+                     'procedure; a parameter must be declared in its procedure, FIXED or CHARACTER']
 
 
 def valueless(case):

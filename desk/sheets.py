@@ -8,7 +8,8 @@ from desk.errors import Stop
 from desk.version import VERSION
 
 FINISHED, REFUSED, NOT_RUN = 'finished', 'refused', 'not run'
-COLUMNS = ('program', 'verdict', 'number', 'words', 'place', 'steps', 'bytes', 'lines', 'text_sha256', 'deck_sha256', 'change')
+COLUMNS = ('program', 'verdict', 'number', 'words', 'place', 'steps', 'bytes', 'lines', 'text_sha256', 'deck_sha256',
+           'change')
 # how much of a digest is printed
 SHORT = 16
 FILES = ('sheet.json', 'sheet.csv', 'sheet.txt')
@@ -83,7 +84,7 @@ def shown_row(row, width):
         line += f'\n    {place}refusal {row["number"]}: {row["words"]}'
     else:
         line += f'\n    {row["words"]}'
-    notes = [f'warning: {warning}' for warning in row['warnings']]
+    notes = [f'hint: {hint}' for hint in row['hints']] + [f'warning: {warning}' for warning in row['warnings']]
     if row.get('change') not in (None, 'the same'):
         notes.append(row['change'])
     return '\n    '.join([line, *notes])

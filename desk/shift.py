@@ -17,6 +17,7 @@ from desk.options import Options
 from desk.output import write_whole
 from desk.page import page_of
 from desk.places import spot
+from desk.refusals import hints_for
 from desk.sheets import (EARLIER, FILES, FINISHED, NOT_RUN, REFUSED, as_csv, as_json, as_text, compare, read_sheet,
                          totals_of)
 from desk.words import MEANINGS, PLACELESS
@@ -60,18 +61,20 @@ class Work:
     """A program of the shift: its deck and files, or why there are none."""
 
     def __init__(self, job, shelf):
-        self.job = job
+        self.job, self.shelf = job, shelf
         self.deck, self.files, self.reason = None, [], None
         try:
             self.deck, self.files = gather(job.arguments, shelf, job.is_cards)
         except Stop as stop:
             self.reason = str(stop)
 
-    def row(self, answer):
-        """The row of the sheet for an answer, or a reason why there is none."""
+    def row(self, answer, hints=()):
+        """The row of the sheet for an answer, with hints if it is a refusal; or for a reason why there is none."""
         row = {'program': self.job.name, 'verdict': NOT_RUN, 'number': None, 'words': '', 'place': '', 'steps': None,
-               'bytes': None, 'lines': None, 'text_sha256': '', 'deck_sha256': digest(self.deck.content) if self.deck else '',
+               'bytes': None, 'lines': None, 'text_sha256': '',
+               'deck_sha256': digest(self.deck.content) if self.deck else '',
                'sources': [{'path': file.path, 'sha256': file.digest} for file in self.files],
+               'hints': list(hints),
                'warnings': [f'{file.path}: {warning}' for file in self.files for warning in file.warnings]}
         if isinstance(answer, str):
             return dict(row, words=answer)
@@ -160,12 +163,12 @@ class Out:
         return sorted(file for file in os.listdir(self.path)
                       if os.path.splitext(file)[1] in (TEXT, LIST, PAGE) and os.path.splitext(file)[0] not in names)
 
-    def put(self, work, answer):
+    def put(self, work, answer, hints):
         if answer.number == 0:
             write_whole(self.at(work.job.name + LIST), shown_list(work.deck, answer.origins))
             write_whole(self.at(work.job.name + TEXT), answer.text + b'\n')
         if self.is_pages:
-            write_whole(self.at(work.job.name + PAGE), page_of(work.deck, answer))
+            write_whole(self.at(work.job.name + PAGE), page_of(work.deck, answer, hints))
 
     def put_sheet(self, sheet):
         for name, content in zip(FILES, (as_json(sheet), as_csv(sheet), as_text(sheet))):
@@ -211,18 +214,19 @@ def run(works, out, words, count):
         batches = Batches([work.deck for work in left], words, count)
         with contextlib.closing(batches.answers()) as answers:
             for number, answer in answers:
-                tally.add(settle(left[number], answer, out))
+                tally.add(settle(left[number], answer, out, words))
     finally:
         tally.close()
     return {row['program']: row for row in tally.rows}
 
 
-def settle(work, answer, out):
+def settle(work, answer, out, words):
     """Writes what came of a program, and notes that it is done."""
     if isinstance(answer, Stop):
         return work.row(str(answer))
-    out.put(work, answer)
-    row = work.row(answer)
+    hints = hints_for(work.deck, answer, work.shelf, words) if answer.number else []
+    out.put(work, answer, hints)
+    row = work.row(answer, hints)
     out.note(row)
     return row
 

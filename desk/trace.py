@@ -1,5 +1,5 @@
-"""Each step of a run, told by the expander itself: with k steps allowed it is refused with 18 where step k + 1 is due (01;
-C-16: all else stays as it was)."""
+"""Each step of a run, told by the expander itself: with k steps allowed it is refused with 18 where step k + 1 is due (01,
+"Numbers given back")."""
 from desk.asking import answers_within
 from desk.errors import Stop
 from desk.places import SHOWN, spot

@@ -11,6 +11,9 @@ NAMES = ('chromium', 'chromium-browser', 'google-chrome')
 OPTIONS = ['--headless=new', '--no-sandbox', '--disable-gpu', '--hide-scrollbars', '--no-first-run', '--disable-extensions',
            '--disable-background-networking', '--remote-debugging-pipe']
 
+# where there is no network this is known soon
+QUICKLY = ['-o', 'Acquire::Retries=0', '-o', 'Acquire::http::Timeout=20']
+
 
 def path():
     """The path of a browser, or None."""
@@ -25,10 +28,10 @@ def install():
     if os.geteuid() == 0 and shutil.which('apt-get'):
         print('no browser is there: apt-get installs chromium', flush=True)
         with contextlib.suppress(subprocess.TimeoutExpired):
-            subprocess.run(words, env=dict(os.environ, DEBIAN_FRONTEND='noninteractive'), stdin=subprocess.DEVNULL,
-                           stdout=subprocess.DEVNULL, stderr=subprocess.DEVNULL, timeout=600, check=False)
+            subprocess.run(words + QUICKLY, env=dict(os.environ, DEBIAN_FRONTEND='noninteractive'), stdin=subprocess.DEVNULL,
+                           stdout=subprocess.DEVNULL, stderr=subprocess.DEVNULL, timeout=300, check=False)
     if not path():
-        print(f'pages are NOT looked at in a browser: there is none, and it could not be installed; `{" ".join(words)}` does it',
+        print(f'pages are NOT looked at in a browser: there is none, and it could not be installed; `{" ".join(words)}` does',
               flush=True)
 
 

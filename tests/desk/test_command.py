@@ -220,7 +220,7 @@ class Answers(Through):
 
     def test_unproved(self):
         self.clone.put('stub/cargo', '#!/bin/sh\nmkdir -p "$ROOM/clone/target/referee/release"\n'
-                       'cp "$ROOM/stubs/cases" "$ROOM/clone/target/referee/release/referee"\necho "$@" >"$ROOM/cargo"\n', 0o755)
+                       'cp "$ROOM/stubs/cases" "$ROOM/clone/target/referee/release/referee"\n', 0o755)
         said = self.expands('--unproved')
         self.assertEqual(said, b'plidesk: unproved: the referee gave this answer, and nothing of it is proved\n')
         self.clone.put('stub/cargo', '#!/bin/sh\nexit 7\n', 0o755)
@@ -300,6 +300,10 @@ class Into(Through):
         self.assertEqual(self.into(), (0, b''))
         self.assertEqual(self.out(), WHOLE)
 
+    def test_standard_output(self):
+        self.expands('-o', '-')
+        self.fails('needs -o', '-o', '-', '-MD')
+
     def test_closed_output(self):
         status, _, _ = self.clone.run('-o', self.clone.path('out'), stdout=None, preexec_fn=lambda: os.close(1))
         self.assertEqual((status, self.out()), (0, WHOLE))
@@ -357,7 +361,8 @@ class Into(Through):
         self.assertEqual(self.into('--json'), (0, b''))
         told = json.loads(self.out())
         self.assertEqual((told['number'], told['steps'], told['text'].encode()), (0, 18, house.TEXT))
-        self.assertEqual(told['list'][3], {'member': 1, 'offset': 27, 'line': 1, 'column': 28, 'kind': 'replaced', 'length': 8})
+        self.assertEqual(told['list'][3],
+                         {'member': 1, 'offset': 27, 'line': 1, 'column': 28, 'kind': 'replaced', 'length': 8})
         self.assertEqual([one['name'] for one in told['members']], ['MAIN', 'M'])
         self.clone.put('answer', house.REFUSAL)
         self.assertEqual(self.into('--json')[0], 1)

@@ -109,7 +109,7 @@ class Markup(unittest.TestCase):
         self.assertNotIn('<i>', page)
 
     def test_names(self):
-        deck = make_deck([Member(b'', b'MAIN', b'A $B_1(2) A')], False)
+        deck = make_deck([Member(b'', b'MAIN', b'A $B_1x(2)A')], False)
         answer = Answer(0, 0, 0, 1, b'123', [Origin(b'V', 0, 0, 1), Origin(b'V', 0, 2, 1), Origin(b'V', 0, 10, 1)])
         self.assertEqual([(name, len(group)) for name, group in groups_of(parts_of(deck, answer)).items()],
                          [(b'A', 2), (b'$B_1', 1)])
@@ -140,9 +140,9 @@ class InBrowser(unittest.TestCase):
         cls.browser = browser.Browser()
         cls.addClassCleanup(cls.browser.close)
 
-    def open(self, deck, answer):
+    def open(self, deck, answer, hints=()):
         file = os.path.join(self.room.name, 'page.html')
-        house.write(file, page_of(deck, answer))
+        house.write(file, page_of(deck, answer, hints))
         self.browser.open(file)
 
     def value(self, expression):
@@ -218,7 +218,8 @@ class InBrowser(unittest.TestCase):
         self.assertEqual(self.readout(), 'inserted blank before m.pli:1:18 in M')
         for key, words in (('ArrowRight', 'inserted blank before m.pli:1:25'), (']', 'N at m.pli:1:28 in M = “       7”'),
                            ('End', 'copied from main.pli:1:12'),
-                           ('ArrowDown', 'copied from main.pli:2:'), ('ArrowUp', ''), ('Home', 'inserted blank before m.pli:1:18')):
+                           ('ArrowDown', 'copied from main.pli:2:'), ('ArrowUp', ''),
+                           ('Home', 'inserted blank before m.pli:1:18')):
             self.browser.press(key)
             self.assertIn(words, self.readout(), key)
         self.browser.press(']')
@@ -237,7 +238,11 @@ class InBrowser(unittest.TestCase):
         self.assertEqual(self.readout(), 'copied from main.pli:2:19 in MAIN  (1 of 1)')
         self.value('wanted.value = "nothing"')
         self.browser.press('Enter')
-        self.assertIn('is not in the text', self.readout())
+        self.assertIn('is neither in the text nor in the sources', self.readout())
+        self.value('wanted.value = "3+4"')
+        self.browser.press('Enter')
+        self.assertEqual(self.readout(), 'not in the text; in the sources at m.pli:1:21')
+        self.assertTrue(self.is_on('sourceOf(1)', 20))
 
     def test_names(self):
         self.program()
@@ -255,7 +260,8 @@ class InBrowser(unittest.TestCase):
 
     def test_refused(self):
         deck = make_deck([Member(b'', b'MAIN', b'\n%INCLUDE M;'), Member(b'', b'M', b'X\n%Y=1/0;')], False)
-        self.open(deck, Answer(10, 1, 2, 3, b'', []))
+        self.open(deck, Answer(10, 1, 2, 3, b'', []), ['0 <is> 0'])
+        self.assertIn('hint: 0 <is> 0', self.value('document.querySelector("header").innerText'))
         self.assertEqual(self.value('document.querySelector(".s.refused").textContent'), '%')
         self.assertEqual(self.value('document.querySelector(".s.led").textContent'), '%')
         self.assertIn('M:2:1: refusal 10: a division by zero', self.value('document.querySelector("header").innerText'))

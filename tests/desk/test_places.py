@@ -72,7 +72,8 @@ class Places(unittest.TestCase):
 
     def test_end_of_a_body(self):
         self.assertEqual(self.shown(3, 0, 2, MAIN=b'A\n'), 'MAIN:2:1: refusal 3: wrong\n  \n  ^\n')
-        self.assertEqual(self.shown(3, 0, 80, True, MAIN=b' ' * 80), 'MAIN:2:1: refusal 3: wrong\n  behind the last record\n')
+        self.assertEqual(self.shown(3, 0, 80, True, MAIN=b' ' * 80),
+                         'MAIN:2:1: refusal 3: wrong\n  behind the last record\n')
 
     def test_record(self):
         shown = self.shown(6, 0, 81, True, MAIN=b' ' * 80 + b' X'.ljust(80))
@@ -88,8 +89,8 @@ class Places(unittest.TestCase):
         self.assertNotIn('included by', self.shown(10, 1, 0, MAIN=b'', M=b'%X=1/0;'))
 
     def test_in_a_library(self):
-        deck = read_deck(house.deck_of_libraries(('X', 'MAIN', b'\n%INCLUDE B(M);'), ('A', 'M', b''), ('B', 'M', b'%X=1/0;')),
-                         False)
+        content = house.deck_of_libraries(('X', 'MAIN', b'\n%INCLUDE B(M);'), ('A', 'M', b''), ('B', 'M', b'%X=1/0;'))
+        deck = read_deck(content, False)
         said = shown(deck, 10, 2, 0)
         self.assertTrue(said.startswith('B(M):1:1: refusal 10: a\n  %X=1/0;\n'), said)
         self.assertTrue(said.endswith('included by X(MAIN), line 2\n'), said)

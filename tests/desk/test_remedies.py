@@ -28,7 +28,7 @@ class Hints(unittest.TestCase):
         self.assertEqual(self.hints(7, 27, main.replace(b'LOOW', b'HIGH')), ['HIGH is given a value nowhere in this deck'])
         self.assertEqual(self.hints(7, 27, main.replace(b'LOOW', b'LOW')),
                          ['when this runs one of them has no value yet: LOW'])
-        self.assertIn('parameters must be declared', self.hints(6, 27, main.replace(b'LOOW', b'HIGH'))[0])
+        self.assertIn('a parameter must be declared', self.hints(6, 27, main.replace(b'LOOW', b'HIGH'))[0])
 
     def test_name_on_cards(self):
         body = b' %DECLARE A FIXED;'.ljust(72) + b'00000010' + b' %A = B;'.ljust(80)
@@ -97,6 +97,8 @@ class Slips(unittest.TestCase):
         for source, words in ((b'%A=\t1;', 'tab'), (b'%A=\r1;', 'CR'), (b'%A="1";', 'string'), (b'%A=b;', 'lower-case'),
                               (b"%A='1;", 'not closed'), (b'%A=/*1;', 'not closed')):
             self.assertIn(words, candidates.slip(source, 3))
+        for source in (b'%A=1', b"%A='1';", b"%A='''';", b'%A=/**/;'):
+            self.assertEqual(candidates.slip(source, 3), '')
         self.assertEqual(candidates.slip(b'%A=1', 4), '')
 
 

@@ -69,7 +69,8 @@ class Rows(Shift):
         self.assertEqual(self.out(), ['a.list', 'a.text', 'sheet.csv', 'sheet.json', 'sheet.txt'])
         place = self.clone.path('jobs/b.pli') + ':2:2'
         self.assertEqual((rows['b']['verdict'], rows['b']['number'], rows['b']['place']), ('refused', 10, place))
-        self.assertIn(f'{place}: refusal 10: a division by zero'.encode(), self.wrote)
+        self.assertIn(f'{place}: refusal 10: a division by zero\n    hint: a divisor is 0 in a'.encode(), self.wrote)
+        self.assertEqual(len(rows['b']['hints']), 1)
         with open(self.clone.path('out/sheet.csv'), encoding='utf-8', newline='') as file:
             self.assertEqual([row['place'] for row in csv.DictReader(file)], ['', place])
 
@@ -229,8 +230,9 @@ class Jobs(unittest.TestCase):
             with self.assertRaises(Stop) as caught:
                 jobs_of(['@' + self.clone.path('night.jobs')], False)
             self.assertIn(words, str(caught.exception))
-        with self.assertRaises(Stop):
-            jobs_of(['@' + self.clone.path('none')], False)
+        for words in (['@' + self.clone.path('none')], ['-'], []):
+            with self.assertRaises(Stop):
+                jobs_of(words, False)
 
     def test_folder(self):
         for name in ('b.pli', 'a.pli', 'a.pli~', '.hidden', 'sub/x.pli'):
