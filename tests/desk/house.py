@@ -20,6 +20,12 @@ COMMAND = os.environ.get('COMMAND') or os.path.join(ROOT, 'bin', 'plidesk')
 RECORD = struct.Struct('<5I')
 
 
+# what runs in the background may ignore INT, and under nohup HUP; what the tests start must hear them
+for number in (signal.SIGHUP, signal.SIGINT, signal.SIGTERM):
+    if signal.getsignal(number) == signal.SIG_IGN:
+        signal.signal(number, signal.SIG_DFL)
+
+
 def cases():
     """For each case its deck, whether it is of card images, and its answer."""
     with open(os.path.join(ROOT, 'tests', 'cases', 'records.bin'), 'rb') as file:
