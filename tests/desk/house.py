@@ -15,15 +15,14 @@ import time
 ROOT = os.path.dirname(os.path.dirname(os.path.dirname(os.path.realpath(__file__))))
 COMMAND = os.environ.get('COMMAND') or os.path.join(ROOT, 'bin', 'plidesk')
 
-# ---- the cases
-
-RECORD = struct.Struct('<5I')
-
-
 # what runs in the background may ignore INT, and under nohup HUP; what the tests start must hear them
 for number in (signal.SIGHUP, signal.SIGINT, signal.SIGTERM):
     if signal.getsignal(number) == signal.SIG_IGN:
         signal.signal(number, signal.SIG_DFL)
+
+# ---- the cases
+
+RECORD = struct.Struct('<5I')
 
 
 def cases():
