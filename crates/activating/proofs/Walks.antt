@@ -6,6 +6,7 @@ use mathlib.Core.List.{List, [], _∷_}
 use Prim.Native.Nat.{ℕ, zero, suc, _-_, _*_, _<_, _≤_}
 use native.Mathlib.Omega.{arith}
 use lib.ListN.{length}
+use Rattle.definition.specs.Bytes.{mixed}
 use Rattle.definition.specs.Lists.{part}
 use Rattle.definition.specs.Tokens.{tokenAt}
 use Rattle.definition.specs.World as W
@@ -138,7 +139,7 @@ module _ (d s t₀ : List ℕ) (n : ℕ) (k : Listed) (x : Activity) (from : ℕ
     both-kept = kept-then d t₀ t u n (c .kept) (one .kept)
 
     name-end : nameEnd s at ≡ l .to
-    name-end = ap (λ (q : ℕ). tokenAt s q .to) (sym hp) ∙ sym (lex .to)
+    name-end = ap (λ (q : ℕ). tokenAt mixed s q .to) (sym hp) ∙ sym (lex .to)
 
     name-spelled : spelledAt s (pastSign "(" s at) ≡ part (l .to - l .from) (l .from) s
     name-spelled = ap (λ (q : ℕ). spelledAt s q) (sym hp) ∙ rw (lex .from, lex .to)

@@ -5,6 +5,7 @@ use mathlib.Core.Path.{_≡_}
 use mathlib.Core.Bool.{Bool, true, false}
 use mathlib.Core.List.{List, []}
 use lib.ListN.{length}
+use Rattle.definition.specs.Bytes.{mixed}
 use Rattle.definition.specs.Lists.{part}
 use Rattle.definition.specs.Expressions.{read}
 use Rattle.definition.specs.Program as P
@@ -62,15 +63,15 @@ pub record SetsAll (d s t u : List ℕ) (n from : ℕ) (k : Listed) (x : Activit
 -- DECLARE, as it is read behind its first word
 pub record DeclaresAll (d s t u : List ℕ) (n from : ℕ) (r : Bool) : Type 0 where
   pub kept : Kept d t u n
-  pub does : (k : P.Scope) (c : D.Clause) (ds : List P.Declared) (ns : List (List ℕ)) → D.declareFrom k s (length s) [] from ≡ D.declared c ds → c .statement ≡ P.declare ns
+  pub does : (k : P.Scope) (c : D.Clause) (ds : List P.Declared) (ns : List (List ℕ)) → D.declareFrom mixed k s (length s) [] from ≡ D.declared c ds → c .statement ≡ P.declare ns
       → Does d t u n (λ w. activateAll W.rescanned ns w) r
 
 -- ACTIVATE
 pub record ActivatesAll (d s t u : List ℕ) (n from : ℕ) (r : Bool) : Type 0 where
   pub kept : Kept d t u n
-  pub does : (c : D.Clause) (xs : List P.Activation) → D.activateClause s from ≡ read c → c .statement ≡ P.activate xs → Does d t u n (λ w. activations xs w) r
+  pub does : (c : D.Clause) (xs : List P.Activation) → D.activateClause mixed s from ≡ read c → c .statement ≡ P.activate xs → Does d t u n (λ w. activations xs w) r
 
 -- DEACTIVATE
 pub record DeactivatesAll (d s t u : List ℕ) (n from : ℕ) (r : Bool) : Type 0 where
   pub kept : Kept d t u n
-  pub does : (c : D.Clause) (ns : List (List ℕ)) → D.deactivateClause s from ≡ read c → c .statement ≡ P.deactivate ns → Does d t u n (λ w. activateAll W.inactive ns w) r
+  pub does : (c : D.Clause) (ns : List (List ℕ)) → D.deactivateClause mixed s from ≡ read c → c .statement ≡ P.deactivate ns → Does d t u n (λ w. activateAll W.inactive ns w) r

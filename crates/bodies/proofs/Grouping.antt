@@ -6,6 +6,7 @@ use mathlib.Core.List.{List, [], _∷_}
 use Prim.Native.Nat.{ℕ, _+_}
 use lib.IntN.{ℤ, pos}
 use lib.ListN.{getD}
+use Rattle.definition.specs.Bytes.{mixed}
 use Rattle.definition.specs.Fixed as Fx
 use Rattle.definition.specs.Flow as F
 use Rattle.definition.specs.Flow.{Machine}
@@ -51,7 +52,7 @@ use Rattle.bodies.proofs.Doing.{stored-world}
 
 -- ---- BY or TO
 module _ (s : List ℕ) (at : ℕ) (t : Lexeme) (lex : Lexed s at t) (a : Bool) (ha : a ≡ isWordIn s t (66 ∷ 89 ∷ [])) where
-  by-is : a ≡ isWord "BY" (tokenAt s at .token)
+  by-is : a ≡ isWord "BY" (tokenAt mixed s at .token)
   by-is = ha ∙ is-word s at t lex "BY" (66 ∷ 89 ∷ []) refl
 
   pub word-by : a ≡ true → Wo.Of Si.By (t .to) ≡ wordAt s at
@@ -59,7 +60,7 @@ module _ (s : List ℕ) (at : ℕ) (t : Lexeme) (lex : Lexed s at t) (a : Bool) 
   word-by e = rw (lex .to, ← by-is, e)
 
   module _ (na : a ≡ false) (b : Bool) (hb : b ≡ isWordIn s t (84 ∷ 79 ∷ [])) where
-    to-is : b ≡ isWord "TO" (tokenAt s at .token)
+    to-is : b ≡ isWord "TO" (tokenAt mixed s at .token)
     to-is = hb ∙ is-word s at t lex "TO" (84 ∷ 79 ∷ []) refl
 
     pub word-upto : b ≡ true → Wo.Of Si.Upto (t .to) ≡ wordAt s at

@@ -5,6 +5,7 @@ use mathlib.Core.Path.{_≡_}
 use mathlib.Core.List.{List, [], _∷_}
 use lib.IntN.{ℤ, pos}
 use lib.ListN.{getD}
+use Rattle.definition.specs.Bytes.{mixed}
 use Rattle.definition.specs.Fixed as Fx
 use Rattle.definition.specs.Room.{over}
 use Rattle.definition.specs.Tokens.{tokenAt, isWord}
@@ -44,7 +45,7 @@ use Rattle.bodies.specs.Deeds.{testedIn, testedMeter}
 -- ---- bounds
 -- BY or TO that stands behind a place, and the place behind it
 unfoldable pub wordAt : List ℕ → ℕ → Word
-wordAt s at = cond (isWord "BY" (tokenAt s at .token)) (Wo.Of Si.By (tokenAt s at .to)) (cond (isWord "TO" (tokenAt s at .token)) (Wo.Of Si.Upto (tokenAt s at .to)) Wo.Neither)
+wordAt s at = cond (isWord "BY" (tokenAt mixed s at .token)) (Wo.Of Si.By (tokenAt mixed s at .to)) (cond (isWord "TO" (tokenAt mixed s at .token)) (Wo.Of Si.Upto (tokenAt mixed s at .to)) Wo.Neither)
 
 -- a frame with a number as stored; the first has BY 1
 abbrev pub frameBy : Frame → ℕ → Frame

@@ -9,6 +9,7 @@ use native.Mathlib.Nat.{zero-add}
 use native.Mathlib.Omega.{arith}
 use lib.Dec.{leb}
 use lib.ListN.{length}
+use Rattle.definition.specs.Bytes.{mixed}
 use Rattle.definition.specs.Text.{bytesOf}
 use Rattle.definition.specs.Tokens as T
 use Rattle.definition.specs.Tokens.{tokenAt, isSign}
@@ -40,17 +41,17 @@ use Rattle.callees.specs.Shown.{namesWorld}
 use Rattle.callees.specs.Answer.{ownerAt, spelledAt, parameterFor, parameterOf, ParameterIs, Listed, Names, calledFor, CountedIs, HeadedBy, CalleeIs, CalleeOf}
 
 -- ---- a sign behind a place
-pub told : (s : List ℕ) (at : ℕ) (l : Lexeme) (lex : Lexed s at l) (W : S.String) (w : List ℕ) (r b : Bool) → bytesOf W ≡ w → r ≡ isSignIn s l w → r ≡ b → isSign W (tokenAt s at .token) ≡ b
+pub told : (s : List ℕ) (at : ℕ) (l : Lexeme) (lex : Lexed s at l) (W : S.String) (w : List ℕ) (r b : Bool) → bytesOf W ≡ w → r ≡ isSignIn s l w → r ≡ b → isSign W (tokenAt mixed s at .token) ≡ b
 told s at l lex W w r b e f g = sym (L.is-sign s at l lex W w e) ∙ sym f ∙ g
 
 module _ (s : List ℕ) (at : ℕ) (l : Lexeme) (lex : Lexed s at l) (c : Lexeme) (y : Lexed s (l .to) c) (r : Bool) (f : r ≡ isSignIn s c (44 ∷ [])) where
-  comma : (b : Bool) → r ≡ b → isSign "," (tokenAt s (tokenAt s at .to) .token) ≡ b
+  comma : (b : Bool) → r ≡ b → isSign "," (tokenAt mixed s (tokenAt mixed s at .to) .token) ≡ b
   comma b g = rw (lex .to) at (told s (l .to) c y "," (44 ∷ []) r b refl f g)
 
-  pub last-not : r ≡ true → false ≡ not (isSign "," (tokenAt s (tokenAt s at .to) .token))
+  pub last-not : r ≡ true → false ≡ not (isSign "," (tokenAt mixed s (tokenAt mixed s at .to) .token))
   last-not g = rw (comma true g)
 
-  pub last-is : r ≡ false → true ≡ not (isSign "," (tokenAt s (tokenAt s at .to) .token))
+  pub last-is : r ≡ false → true ≡ not (isSign "," (tokenAt mixed s (tokenAt mixed s at .to) .token))
   last-is g = rw (comma false g)
 
 -- ---- a name is the bytes of its token
@@ -65,9 +66,9 @@ word-spelled T.wrong x y w e f = absurd (let z : _≡_ {A = ℕ} 0 1 = cc in ome
 
 pub record IsNamed (s : List ℕ) (at : ℕ) (n : Named) : Type 0 where
   pub spelling : n .spelling ≡ spelledAt s at
-  pub to : n .to ≡ tokenAt s at .to
+  pub to : n .to ≡ tokenAt mixed s at .to
 
-lexed-it : (s : List ℕ) (at : ℕ) → Lexed s at (lexemeFor (tokenAt s at))
+lexed-it : (s : List ℕ) (at : ℕ) → Lexed s at (lexemeFor (tokenAt mixed s at))
 lexed-it s at = record { kind = refl; from = refl; to = refl }
 
 never : {A : Type 0} (w : Why) (p : ℕ) (n : Named) → _≡_ {A = Reading Named} (refused w p) (read n) → A
@@ -77,15 +78,15 @@ true-false : {A : Type 0} → true ≡ false → A
 true-false e = absurd (let z : _≡_ {A = ℕ} 0 1 = cc in omega arith)
 
 module _ (s : List ℕ) (at : ℕ) (n : Named) where
-  sp : (w : List ℕ) → tokenAt s at .token ≡ T.word w → w ≡ spelledAt s at
+  sp : (w : List ℕ) → tokenAt mixed s at .token ≡ T.word w → w ≡ spelledAt s at
   unfolding spelling
-  sp w f = word-spelled (tokenAt s at .token) (spelledAt s at) (content s (tokenAt s at .from)) w (L.token-is s at (lexemeFor (tokenAt s at)) (lexed-it s at)) f
+  sp w f = word-spelled (tokenAt mixed s at .token) (spelledAt s at) (content s (tokenAt mixed s at .from)) w (L.token-is s at (lexemeFor (tokenAt mixed s at)) (lexed-it s at)) f
 
-  worded : (b : Bool) (w : List ℕ) → tokenAt s at .token ≡ T.word w → _≡_ {A = Reading Named} (cond b (read (record { spelling = w; place = tokenAt s at .from; to = tokenAt s at .to })) (refused OverLimit (tokenAt s at .from))) (read n) → IsNamed s at n
-  worded true w f g = let h : record { spelling = w; place = tokenAt s at .from; to = tokenAt s at .to } ≡ n = cc in record { spelling = sym (ap (λ (x : Named). x .spelling) h) ∙ sp w f; to = sym (ap (λ (x : Named). x .to) h) }
-  worded false w f g = never OverLimit (tokenAt s at .from) n g
+  worded : (b : Bool) (w : List ℕ) → tokenAt mixed s at .token ≡ T.word w → _≡_ {A = Reading Named} (cond b (read (record { spelling = w; place = tokenAt mixed s at .from; to = tokenAt mixed s at .to })) (refused OverLimit (tokenAt mixed s at .from))) (read n) → IsNamed s at n
+  worded true w f g = let h : record { spelling = w; place = tokenAt mixed s at .from; to = tokenAt mixed s at .to } ≡ n = cc in record { spelling = sym (ap (λ (x : Named). x .spelling) h) ∙ sp w f; to = sym (ap (λ (x : Named). x .to) h) }
+  worded false w f g = never OverLimit (tokenAt mixed s at .from) n g
 
-  named-by : (k : T.Token) → tokenAt s at .token ≡ k → nameOf k (tokenAt s at .from) (tokenAt s at .to) ≡ read n → IsNamed s at n
+  named-by : (k : T.Token) → tokenAt mixed s at .token ≡ k → nameOf k (tokenAt mixed s at .from) (tokenAt mixed s at .to) ≡ read n → IsNamed s at n
   named-by (T.word w) f g = worded (leb (length w) 31) w f g
   named-by (T.integer w) f g = never _ _ n g
   named-by (T.string w) f g = never _ _ n g
@@ -94,9 +95,9 @@ module _ (s : List ℕ) (at : ℕ) (n : Named) where
   named-by T.nothing f g = never _ _ n g
   named-by T.wrong f g = never _ _ n g
 
-  pub name-is : nameAt s at ≡ read n → IsNamed s at n
+  pub name-is : nameAt mixed s at ≡ read n → IsNamed s at n
   unfolding nameAt
-  name-is e = named-by (tokenAt s at .token) refl e
+  name-is e = named-by (tokenAt mixed s at .token) refl e
 
 -- ---- a list of names is no longer than the source
 pub listed-short : (s : List ℕ) (ns : List (List ℕ)) (at : ℕ) → Listed s ns at → at ≤ length s → at + length ns ≤ length s
@@ -104,8 +105,8 @@ listed-short s [] at k h = absurd k
 listed-short s (l ∷ []) at (n, e, f, g) h = let p : Past s at (n .to) = reads-it (nameAt-past s at h) e in omega (arith, p .above, p .within)
 listed-short s (l ∷ m ∷ ns) at (n, e, f, g, k) h =
     let p : Past s at (n .to) = reads-it (nameAt-past s at h) e in
-    let q : Lies s (n .to) (tokenAt s (n .to)) = tokenAt-lies s (n .to) (p .within) in
-    omega (arith, p .above, q .low, q .order, listed-short s (m ∷ ns) (tokenAt s (n .to) .to) k (q .high))
+    let q : Lies s (n .to) (tokenAt mixed s (n .to)) = tokenAt-lies s (n .to) (p .within) in
+    omega (arith, p .above, q .low, q .order, listed-short s (m ∷ ns) (tokenAt mixed s (n .to) .to) k (q .high))
 
 -- ---- counting
 abbrev pub calledPast : Place → ℕ → ℕ → Val.Answer (List E.Parameter) → Called
@@ -153,7 +154,7 @@ module _ (d s t : List ℕ) (c : ℕ) (p : Place) (list : ℕ) where
 
   module _ (n at : ℕ) (x : ParameterAt) (q : ParameterIs d s t c p at x) where
     -- of the first name, what the code found and what is asked
-    first-is : (l : List ℕ) (m : Named) → nameAt s at ≡ read m → m .spelling ≡ l → parameterOf d t c p l ≡ parameterFor x
+    first-is : (l : List ℕ) (m : Named) → nameAt mixed s at ≡ read m → m .spelling ≡ l → parameterOf d t c p l ≡ parameterFor x
     first-is l m e f = rw (← f, name-is s at m e .spelling) (sym (q .is))
 
     wrong-by : (f : x ≡ P.Wrong) (ms : List (List ℕ)) → Listed s ms at → calledPast p list n (asked ms) ≡ K.Fails WrongName
@@ -164,17 +165,17 @@ module _ (d s t : List ℕ) (c : ℕ) (p : Place) (list : ℕ) where
     pub counting-wrong : Counting n at → x ≡ P.Wrong → CountedIs d s t c p list (K.Fails WrongName)
     counting-wrong k f = record { is = λ ns l h. let r : Rest ns n at = k .is ns l h in sym (wrong-by f (r .rest) (r .listed)) ∙ r .same }
 
-    module _ (y : Parameter) (f : x ≡ P.Is y) (b : Bool) (g : b ≡ not (isSign "," (tokenAt s (tokenAt s at .to) .token))) where
+    module _ (y : Parameter) (f : x ≡ P.Is y) (b : Bool) (g : b ≡ not (isSign "," (tokenAt mixed s (tokenAt mixed s at .to) .token))) where
       abbrev found : E.Parameter
       found = record { at = y .address; type = y .«value_type» }
 
       abbrev behind : ℕ
-      behind = tokenAt s (tokenAt s at .to) .to
+      behind = tokenAt mixed s (tokenAt mixed s at .to) .to
 
       y-to : y .to ≡ behind
       y-to = let h : P.Is y ≡ P.Is (record { address = y .address; «value_type» = y .«value_type»; to = behind }) = rw f at (q .to) in let i : y ≡ record { address = y .address; «value_type» = y .«value_type»; to = behind } = cc in ap (λ (z : Parameter). z .to) i
 
-      sign-is : (m : Named) (v : Bool) → nameAt s at ≡ read m → isSign "," (tokenAt s (m .to) .token) ≡ v → b ≡ not v
+      sign-is : (m : Named) (v : Bool) → nameAt mixed s at ≡ read m → isSign "," (tokenAt mixed s (m .to) .token) ≡ v → b ≡ not v
       sign-is m v e h = g ∙ ap not (rw (name-is s at m e .to) at h)
 
       last-by : b ≡ true → (ms : List (List ℕ)) → Listed s ms at → calledPast p list n (asked ms) ≡ K.Is (record { place = p; list = list; count = n + 1 })
@@ -190,12 +191,12 @@ module _ (d s t : List ℕ) (c : ℕ) (p : Place) (list : ℕ) where
       more-by h ns (l ∷ []) (m, e, i, j) w v u = true-false (sym (sym h ∙ sign-is m false e j))
       more-by h ns (l ∷ o ∷ os) (m, e, i, j, k) w v u =
           let pa : Past s at (m .to) = reads-it (nameAt-past s at w) e in
-          let li : Lies s (m .to) (tokenAt s (m .to)) = tokenAt-lies s (m .to) (pa .within) in
-          let mt : m .to ≡ tokenAt s at .to = name-is s at m e .to in
+          let li : Lies s (m .to) (tokenAt mixed s (m .to)) = tokenAt-lies s (m .to) (pa .within) in
+          let mt : m .to ≡ tokenAt mixed s at .to = name-is s at m e .to in
           record {
             rest = o ∷ os;
             listed = rw y-to (rw mt at k);
-            within = let hi : tokenAt s (m .to) .to ≤ length s = li .high in rw y-to (rw mt at hi);
+            within = let hi : tokenAt mixed s (m .to) .to ≤ length s = li .high in rw y-to (rw mt at hi);
             total = omega (arith, v);
             same = sym (past-more n found (asked (o ∷ os))) ∙ ap (calledPast p list n) (sym (asked-some l (o ∷ os) found (first-is l m e i ∙ rw f))) ∙ u;
           }
@@ -216,7 +217,7 @@ module _ (d rows : List ℕ) (starts : Starts) (t : List ℕ) (n : ℕ) (b : Bod
   callee-none e = record { none = λ f. refl; some = λ p f. absurd (let z : _≡_ {A = ℕ} 0 1 = cc in omega arith) }
 
   module _ (p : Place) (e : b ≡ At p) (s : List ℕ) (f : s ≡ bodyIn d (p .member)) (own : List ℕ) (u : own ≡ partIn rows starts (p .member)) (x : Row) (g : x ≡ rowIn own (p .row)) (l : Lexeme) (lex : Lexed s (x .content) l) (v : Bool) (h : v ≡ isSignIn s l (40 ∷ [])) where
-    open-is : (o : Bool) → v ≡ o → isSign "(" (tokenAt s (x .content) .token) ≡ o
+    open-is : (o : Bool) → v ≡ o → isSign "(" (tokenAt mixed s (x .content) .token) ≡ o
     open-is o i = told s (x .content) l lex "(" (40 ∷ []) v o refl h i
 
     bodied-by : (r : Called) → CalleeIs d s t n p (x .content) r → CalleeOf d rows starts t n b r
@@ -225,27 +226,27 @@ module _ (d rows : List ℕ) (starts : Starts) (t : List ℕ) (n : ℕ) (b : Bod
       some = λ q i. let j : p ≡ q = cc in rw (← j, ← u, ← g, ← f) c;
     }
 
-    some-by : (r : Called) → CountedIs d s t n p (l .to) r → (o : Bool) → isSign "(" (tokenAt s (x .content) .token) ≡ o → o ≡ true → (list : ℕ) (ns : List (List ℕ)) → list ≡ cond o (tokenAt s (x .content) .to) (tokenAt s (x .content) .from) → HeadedBy o s ns list → x .content ≤ length s → r ≡ calledFor p list (E.parameters (ownerAt p) ns (namesWorld d t n))
+    some-by : (r : Called) → CountedIs d s t n p (l .to) r → (o : Bool) → isSign "(" (tokenAt mixed s (x .content) .token) ≡ o → o ≡ true → (list : ℕ) (ns : List (List ℕ)) → list ≡ cond o (tokenAt mixed s (x .content) .to) (tokenAt mixed s (x .content) .from) → HeadedBy o s ns list → x .content ≤ length s → r ≡ calledFor p list (E.parameters (ownerAt p) ns (namesWorld d t n))
     some-by r c false i j list ns y k w = true-false (sym j)
     some-by r c true i j list ns y k w =
         let z : list ≡ l .to = y ∙ sym (lex .to) in
         rw z (c .is ns (rw z at k) (rw (lex .to) (tokenAt-lies s (x .content) w .high)))
 
     pub callee-some : v ≡ true → (r : Called) → CountedIs d s t n p (l .to) r → CalleeOf d rows starts t n b r
-    callee-some i r c = bodied-by r record { is = λ list ns k w. some-by r c (isSign "(" (tokenAt s (x .content) .token)) refl (open-is true i) list ns (k .place) (k .names) w }
+    callee-some i r c = bodied-by r record { is = λ list ns k w. some-by r c (isSign "(" (tokenAt mixed s (x .content) .token)) refl (open-is true i) list ns (k .place) (k .names) w }
 
-    plain-by : (o : Bool) → o ≡ false → (list : ℕ) (ns : List (List ℕ)) → list ≡ cond o (tokenAt s (x .content) .to) (tokenAt s (x .content) .from) → HeadedBy o s ns list → K.Is (record { place = p; list = l .from; count = 0 }) ≡ calledFor p list (E.parameters (ownerAt p) ns (namesWorld d t n))
+    plain-by : (o : Bool) → o ≡ false → (list : ℕ) (ns : List (List ℕ)) → list ≡ cond o (tokenAt mixed s (x .content) .to) (tokenAt mixed s (x .content) .from) → HeadedBy o s ns list → K.Is (record { place = p; list = l .from; count = 0 }) ≡ calledFor p list (E.parameters (ownerAt p) ns (namesWorld d t n))
     unfolding calledFor E.parameters
     plain-by true j list ns y k = true-false j
     plain-by false j list ns y k = rw (k, y, lex .from)
 
     pub callee-plain : v ≡ false → CalleeOf d rows starts t n b (K.Is (record { place = p; list = l .from; count = 0 }))
-    callee-plain i = bodied-by (K.Is (record { place = p; list = l .from; count = 0 })) record { is = λ list ns k w. plain-by (isSign "(" (tokenAt s (x .content) .token)) (open-is false i) list ns (k .place) (k .names) }
+    callee-plain i = bodied-by (K.Is (record { place = p; list = l .from; count = 0 })) record { is = λ list ns k w. plain-by (isSign "(" (tokenAt mixed s (x .content) .token)) (open-is false i) list ns (k .place) (k .names) }
 
 -- ---- the first of a list, and the others
 pub record First (s : List ℕ) (l : List ℕ) (ns : List (List ℕ)) (at : ℕ) : Type 0 where
   pub spelled : l ≡ spelledAt s at
-  pub others : Names s ns (tokenAt s (tokenAt s at .to) .to)
+  pub others : Names s ns (tokenAt mixed s (tokenAt mixed s at .to) .to)
 
 pub first-of : (s l : List ℕ) (ns : List (List ℕ)) (at : ℕ) → Listed s (l ∷ ns) at → First s l ns at
 first-of s l [] at (n, e, f, g) = record { spelled = sym f ∙ name-is s at n e .spelling; others = tt }

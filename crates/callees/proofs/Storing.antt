@@ -14,6 +14,7 @@ use lib.IntN.{ℤ, pos}
 use mir.Syntax.{w64}
 use mir.Val.{Fits}
 use lib.ListN.{length, getD, set}
+use Rattle.definition.specs.Bytes.{mixed}
 use Rattle.definition.specs.Lists.{part}
 use Rattle.definition.specs.Room.{over}
 use Rattle.definition.specs.Fixed as F
@@ -437,10 +438,10 @@ module _ (d t : List ℕ) (n : ℕ) (y : Callee) (s : List ℕ) (k : Held) (w c�
         abbrev q₀ : E.Parameter
         q₀ = record { at = z .address; type = z .«value_type» }
 
-        z-to : z .to ≡ tokenAt s (tokenAt s at .to) .to
+        z-to : z .to ≡ tokenAt mixed s (tokenAt mixed s at .to) .to
         z-to =
-            let g : P.Is z ≡ P.Is (record { address = z .address; «value_type» = z .«value_type»; to = tokenAt s (tokenAt s at .to) .to }) = rw f at (pi .to) in
-            let j : z ≡ record { address = z .address; «value_type» = z .«value_type»; to = tokenAt s (tokenAt s at .to) .to } = cc in
+            let g : P.Is z ≡ P.Is (record { address = z .address; «value_type» = z .«value_type»; to = tokenAt mixed s (tokenAt mixed s at .to) .to }) = rw f at (pi .to) in
+            let j : z ≡ record { address = z .address; «value_type» = z .«value_type»; to = tokenAt mixed s (tokenAt mixed s at .to) .to } = cc in
             ap (λ (a : Parameter). a .to) j
 
         and-gives : (a : Val.Answer (List E.Parameter)) (q : E.Parameter) (qs : List E.Parameter) → Val.andThen a (λ ps. Val.gives (q₀ ∷ ps)) ≡ Val.gives (q ∷ qs) → (a ≡ Val.gives qs) × (q₀ ≡ q)

@@ -6,6 +6,7 @@ use mathlib.Core.Path.{_≡_}
 use mathlib.Core.List.{List, [], _∷_}
 use lib.ListN.{length, getD, set, take}
 use lib.IntN.{ℤ, pos}
+use Rattle.definition.specs.Bytes.{mixed}
 use Rattle.definition.specs.Lists.{part}
 use Rattle.definition.specs.Fixed as F
 use Rattle.definition.specs.Tokens.{tokenAt, isSign}
@@ -82,7 +83,7 @@ withTo P.Wrong to = P.Wrong
 
 -- the bytes of the token behind a place
 abbrev pub spelledAt : List ℕ → ℕ → List ℕ
-spelledAt s at = part (tokenAt s at .to - tokenAt s at .from) (tokenAt s at .from) s
+spelledAt s at = part (tokenAt mixed s at .to - tokenAt mixed s at .from) (tokenAt mixed s at .from) s
 
 abbrev pub parameterOf : List ℕ → List ℕ → ℕ → Place → List ℕ → Val.Answer E.Parameter
 parameterOf d t n p w = E.parameterAt (addressOf w (ownerAt p) (namesWorld d t n)) (namesWorld d t n)
@@ -90,13 +91,13 @@ parameterOf d t n p w = E.parameterAt (addressOf w (ownerAt p) (namesWorld d t n
 -- the parameter whose name stands behind a place of s, and the place behind the token that follows it
 pub record ParameterIs (d s t : List ℕ) (n : ℕ) (p : Place) (at : ℕ) (r : ParameterAt) : Type 0 where
   pub is : parameterFor r ≡ parameterOf d t n p (spelledAt s at)
-  pub to : r ≡ withTo r (tokenAt s (tokenAt s at .to) .to)
+  pub to : r ≡ withTo r (tokenAt mixed s (tokenAt mixed s at .to) .to)
 
 -- names with commas between them, from a place on
 abbrev pub Listed : List ℕ → List (List ℕ) → ℕ → Type 0
 Listed s [] at = ⊥
-Listed s (l ∷ []) at = (n : Named) × (nameAt s at ≡ read n) × (n .spelling ≡ l) × (isSign "," (tokenAt s (n .to) .token) ≡ false)
-Listed s (l ∷ m ∷ ns) at = (n : Named) × (nameAt s at ≡ read n) × (n .spelling ≡ l) × (isSign "," (tokenAt s (n .to) .token) ≡ true) × Listed s (m ∷ ns) (tokenAt s (n .to) .to)
+Listed s (l ∷ []) at = (n : Named) × (nameAt mixed s at ≡ read n) × (n .spelling ≡ l) × (isSign "," (tokenAt mixed s (n .to) .token) ≡ false)
+Listed s (l ∷ m ∷ ns) at = (n : Named) × (nameAt mixed s at ≡ read n) × (n .spelling ≡ l) × (isSign "," (tokenAt mixed s (n .to) .token) ≡ true) × Listed s (m ∷ ns) (tokenAt mixed s (n .to) .to)
 
 -- the callee for parameters that are all fine
 unfoldable pub calledFor : Place → ℕ → Val.Answer (List E.Parameter) → Called
@@ -112,8 +113,8 @@ HeadedBy true s ns list = Listed s ns list
 HeadedBy false s ns list = ns ≡ []
 
 pub record Headed (s : List ℕ) (at list : ℕ) (ns : List (List ℕ)) : Type 0 where
-  pub place : list ≡ cond (isSign "(" (tokenAt s at .token)) (tokenAt s at .to) (tokenAt s at .from)
-  pub names : HeadedBy (isSign "(" (tokenAt s at .token)) s ns list
+  pub place : list ≡ cond (isSign "(" (tokenAt mixed s at .token)) (tokenAt mixed s at .to) (tokenAt mixed s at .from)
+  pub names : HeadedBy (isSign "(" (tokenAt mixed s at .token)) s ns list
 
 pub record CalleeIs (d s t : List ℕ) (n : ℕ) (p : Place) (at : ℕ) (r : Called) : Type 0 where
   pub is : (list : ℕ) (ns : List (List ℕ)) → Headed s at list ns → at ≤ length s → r ≡ calledFor p list (E.parameters (ownerAt p) ns (namesWorld d t n))

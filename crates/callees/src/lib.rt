@@ -5,6 +5,7 @@ ghost use mathlib.Core.Path.{_≡_};
 ghost use mathlib.Core.Bool.{cond, not, _&&_};
 ghost use lib.Dec.{eqb};
 ghost use lib.ListN.{length};
+ghost use Rattle.definition.specs.Bytes.{mixed};
 ghost use Rattle.definition.specs.Tokens.{tokenAt, isSign};
 ghost use Prim.Native.Nat.{_-_};
 ghost use Rattle.definition.specs.Lists.{part};
@@ -262,7 +263,7 @@ fn counted(deck: &[u8], s: &[u8], names: &[u16], count: u16, p: Place, list: usi
 
 // Whether no comma follows the name at a place.
 fn is_last(s: &[u8], at: usize) -> bool
-    ensures { λ r. ⌜ r ≡ not (isSign "," (tokenAt (now (s .entry)) (tokenAt (now (s .entry)) at .to) .token)) ⌝ }
+    ensures { λ r. ⌜ r ≡ not (isSign "," (tokenAt mixed (now (s .entry)) (tokenAt mixed (now (s .entry)) at .to) .token)) ⌝ }
 {
     let t = token_at(s, at);
     let comma = token_at(s, t.to);

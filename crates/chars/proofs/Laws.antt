@@ -11,7 +11,7 @@ use lib.Dec.{leb, eqb}
 use lib.ListN.{getD}
 use Rattle.definition.specs.declared.Class.{Class}
 use Rattle.definition.specs.declared.Class.the-variants.{Letter, Digit, Break, Blank, LineFeed, Percent, Quote, Mark, Other}
-use Rattle.definition.specs.Bytes.{classOf, isLetter, isDigit, isAlphameric, isBlank, isMark}
+use Rattle.definition.specs.Bytes.{mixed, classOf, isLetter, isDigit, isAlphameric, isBlank, isMark}
 use Rattle.chars.specs.Code.{codeOf, fromCode}
 
 -- the list of a function's values at n numbers from i on, and its value at each place
@@ -29,7 +29,7 @@ tab-at f n k h = from f 0 n k h ∙ ap f (zero-add k)
 
 -- the number of a byte's class
 unfoldable pub codeAt : ℕ → ℕ
-codeAt b = codeOf (classOf b)
+codeAt b = codeOf (classOf mixed b)
 
 back : (c : Class) → fromCode (codeOf c) ≡ c
 back Other = refl
@@ -75,9 +75,9 @@ letter false false false false false false true m = refl
 letter false false false false false false false true = refl
 letter false false false false false false false false = refl
 
-pub is-letter : (b k : ℕ) → k ≡ codeOf (classOf b) → eqb k 1 ≡ isLetter b
+pub is-letter : (b k : ℕ) → k ≡ codeOf (classOf mixed b) → eqb k 1 ≡ isLetter mixed b
 unfolding classOf chain
-is-letter b k e = rw e (letter (isLetter b) (isDigit b) (eqb b 95) (isBlank b) (eqb b 10) (eqb b 37) (eqb b 39) (isMark b))
+is-letter b k e = rw e (letter (isLetter mixed b) (isDigit b) (eqb b 95) (isBlank b) (eqb b 10) (eqb b 37) (eqb b 39) (isMark b))
 
 alphameric : (l d u k f p q m : Bool) → cond (eqb (codeOf (chain l d u k f p q m)) 0) false (leb (codeOf (chain l d u k f p q m)) 3) ≡ (l || d || u)
 unfolding chain
@@ -91,9 +91,9 @@ alphameric false false false false false false true m = refl
 alphameric false false false false false false false true = refl
 alphameric false false false false false false false false = refl
 
-pub is-alphameric : (b k : ℕ) → k ≡ codeOf (classOf b) → cond (eqb k 0) false (leb k 3) ≡ isAlphameric b
+pub is-alphameric : (b k : ℕ) → k ≡ codeOf (classOf mixed b) → cond (eqb k 0) false (leb k 3) ≡ isAlphameric mixed b
 unfolding classOf isAlphameric chain
-is-alphameric b k e = rw e (alphameric (isLetter b) (isDigit b) (eqb b 95) (isBlank b) (eqb b 10) (eqb b 37) (eqb b 39) (isMark b))
+is-alphameric b k e = rw e (alphameric (isLetter mixed b) (isDigit b) (eqb b 95) (isBlank b) (eqb b 10) (eqb b 37) (eqb b 39) (isMark b))
 
 -- what a function that only tests its argument is proved by
 pub ruleset tests = (needs, lt-ltb, le-ltb, le-leb, lt-leb, eq-eqb, ne-eqb)

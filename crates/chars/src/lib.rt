@@ -1,6 +1,6 @@
 // The class of each byte, by one table of 256.
 ghost use mathlib.Core.Path.{_≡_};
-ghost use Rattle.definition.specs.Bytes.{classOf, isLetter, isAlphameric, isDigit, isBlank};
+ghost use Rattle.definition.specs.Bytes.{mixed, classOf, isLetter, isAlphameric, isDigit, isBlank};
 ghost use Rattle.definition.specs.Tokens.{isBit};
 ghost use Rattle.chars.specs.Code.{codeOf};
 use definition::Class;
@@ -266,13 +266,13 @@ const CODES: [u8; 256] = [
 ];
 
 fn code(b: u8) -> u8
-    ensures { λ r. ⌜ r ≡ codeOf (classOf b) ⌝ }
+    ensures { λ r. ⌜ r ≡ codeOf (classOf mixed b) ⌝ }
 {
     CODES[b as usize]
 }
 
 pub fn class(b: u8) -> Class
-    ensures { λ r. ⌜ r ≡ classOf b ⌝ }
+    ensures { λ r. ⌜ r ≡ classOf mixed b ⌝ }
 {
     let k = code(b);
     match k {
@@ -289,14 +289,14 @@ pub fn class(b: u8) -> Class
 }
 
 pub fn is_letter(b: u8) -> bool
-    ensures { λ r. ⌜ r ≡ isLetter b ⌝ }
+    ensures { λ r. ⌜ r ≡ isLetter mixed b ⌝ }
 {
     code(b) == 1
 }
 
 // A letter, a digit or `_`: what a name goes on with.
 pub fn is_alphameric(b: u8) -> bool
-    ensures { λ r. ⌜ r ≡ isAlphameric b ⌝ }
+    ensures { λ r. ⌜ r ≡ isAlphameric mixed b ⌝ }
 {
     let k = code(b);
     if k == 0 {

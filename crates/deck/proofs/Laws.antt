@@ -13,7 +13,7 @@ use borrow.Author.Tests.{eq-eqb, ne-eqb, le-leb, lt-leb}
 use lib.Dec.{eqb, leb}
 use lib.ListN.{length, getD, replicate}
 use Rattle.definition.specs.Lists.{part, number, all, past, same}
-use Rattle.definition.specs.Bytes.{isLetter, isAlphameric, isBlank}
+use Rattle.definition.specs.Bytes.{mixed, isLetter, isAlphameric, isBlank}
 use Rattle.definition.specs.Deck as D
 use Rattle.definition.specs.Deck.{Line, first, hasLibraries, count, libraryLength, linePlace, lineAt, linesFrom, lines, isMemberName, areNamed, isRepeated, areDistinct, isPadded, isCalled, find, follow, isSound, contents}
 use Rattle.definition.proofs.Joined.{padded-none, length-lines}
@@ -59,7 +59,7 @@ module _ (d : List ℕ) (at i n j : ℕ) (k : Blanks d at i n j) where
 
 pub record Passing (d : List ℕ) (at n j : ℕ) : Type 0 where
   pub low : j ≤ n
-  pub is : past isAlphameric (part (n - j) (at + j) d) ≡ past isAlphameric (part n at d)
+  pub is : past (isAlphameric mixed) (part (n - j) (at + j) d) ≡ past (isAlphameric mixed) (part n at d)
 
 pub passing-start : (d : List ℕ) (at n : ℕ) → Passing d at n 0
 passing-start d at n =
@@ -67,12 +67,12 @@ passing-start d at n =
     record { low = omega arith; is = rw (e, add-zero) }
 
 module _ (d : List ℕ) (at n j : ℕ) (k : Passing d at n j) where
-  pub passing-more : (b : ℕ) (t : Bool) → j < n → b ≡ getD d (at + j) 0 → t ≡ isAlphameric b → t ≡ true → Passing d at n (j + 1)
+  pub passing-more : (b : ℕ) (t : Bool) → j < n → b ≡ getD d (at + j) 0 → t ≡ isAlphameric mixed b → t ≡ true → Passing d at n (j + 1)
   passing-more b t h e f g = record { low = omega arith; is = rw (next d at n j h, ← e, ← f, g) at (k .is) }
 
-  pub passing-stop : (b : ℕ) (t : Bool) → j < n → b ≡ getD d (at + j) 0 → t ≡ isAlphameric b → t ≡ false → Word d at n j
+  pub passing-stop : (b : ℕ) (t : Bool) → j < n → b ≡ getD d (at + j) 0 → t ≡ isAlphameric mixed b → t ≡ false → Word d at n j
   passing-stop b t h e f g =
-      let q : past isAlphameric (part (n - j) (at + j) d) ≡ part (n - j) (at + j) d = rw (next d at n j h, ← e, ← f, g) in
+      let q : past (isAlphameric mixed) (part (n - j) (at + j) d) ≡ part (n - j) (at + j) d = rw (next d at n j h, ← e, ← f, g) in
       record { low = omega arith; is = sym q ∙ k .is }
 
   pub passing-done : n ≤ j → Word d at n j
@@ -172,15 +172,15 @@ unfolding lineAt
 library-none d k h = ap (λ (n : ℕ). part n (linePlace d k) d) (sym (length-none d false (sym h) refl))
 
 -- ---- a member's name
-module _ (d : List ℕ) (at b : ℕ) (t : Bool) (e : b ≡ getD d (at + 0) 0) (f : t ≡ isLetter b) where
-  begins : t ≡ isLetter (getD d at 0)
-  begins = f ∙ ap isLetter (e ∙ rw add-zero)
+module _ (d : List ℕ) (at b : ℕ) (t : Bool) (e : b ≡ getD d (at + 0) 0) (f : t ≡ isLetter mixed b) where
+  begins : t ≡ isLetter mixed (getD d at 0)
+  begins = f ∙ ap (isLetter mixed) (e ∙ rw add-zero)
 
-  pub member-name : (w : ℕ) (r : Bool) → t ≡ true → Word d at 8 w → r ≡ all isBlank (part (8 - w) (at + w) d) → r ≡ isMemberName (part 8 at d)
+  pub member-name : (w : ℕ) (r : Bool) → t ≡ true → Word d at 8 w → r ≡ all isBlank (part (8 - w) (at + w) d) → r ≡ isMemberName mixed (part 8 at d)
   unfolding isMemberName
   member-name w r g v h = h ∙ rw (← begins, g, v .is)
 
-  pub no-letter : t ≡ false → false ≡ isMemberName (part 8 at d)
+  pub no-letter : t ≡ false → false ≡ isMemberName mixed (part 8 at d)
   unfolding isMemberName
   no-letter g = rw (← begins, g)
 
@@ -197,25 +197,25 @@ lines-none d n k h = let e : n - k ≡ 0 = omega arith in rw e
 
 -- ---- the names of a line
 module _ (d : List ℕ) (k : ℕ) (b : Bool) (lib : b ≡ hasLibraries d) where
-  module _ (p : ℕ) (t : Bool) (has : b ≡ true) (e : p ≡ linePlace d k) (f : t ≡ isMemberName (part 8 p d)) where
-    of-library : t ≡ isMemberName (lineAt d k .library)
-    of-library = f ∙ ap isMemberName (library-is d k p (sym lib ∙ has) e)
+  module _ (p : ℕ) (t : Bool) (has : b ≡ true) (e : p ≡ linePlace d k) (f : t ≡ isMemberName mixed (part 8 p d)) where
+    of-library : t ≡ isMemberName mixed (lineAt d k .library)
+    of-library = f ∙ ap (isMemberName mixed) (library-is d k p (sym lib ∙ has) e)
 
     pub library-wrong : t ≡ false → false ≡ A.isNamed d k
     unfolding A.isNamed
     library-wrong g = rw (← lib, has, ← of-library, g)
 
-    pub both-named : t ≡ true → (q : ℕ) → q ≡ linePlace d k + libraryLength d → (r : Bool) → r ≡ isMemberName (part 8 q d) → r ≡ A.isNamed d k
+    pub both-named : t ≡ true → (q : ℕ) → q ≡ linePlace d k + libraryLength d → (r : Bool) → r ≡ isMemberName mixed (part 8 q d) → r ≡ A.isNamed d k
     unfolding A.isNamed
     both-named g q h r i = i ∙ rw (← lib, has, ← of-library, g, name-is d k q h)
 
-  pub alone-named : b ≡ false → (q : ℕ) → q ≡ linePlace d k + libraryLength d → (r : Bool) → r ≡ isMemberName (part 8 q d) → r ≡ A.isNamed d k
+  pub alone-named : b ≡ false → (q : ℕ) → q ≡ linePlace d k + libraryLength d → (r : Bool) → r ≡ isMemberName mixed (part 8 q d) → r ≡ A.isNamed d k
   unfolding A.isNamed
   alone-named g q h r i = i ∙ rw (← lib, g, name-is d k q h)
 
 pub record Naming (d : List ℕ) (n k : ℕ) : Type 0 where
   pub low : k ≤ n
-  pub is : areNamed (hasLibraries d) (linesFrom d k (n - k)) ≡ areNamed (hasLibraries d) (linesFrom d 0 n)
+  pub is : areNamed mixed (hasLibraries d) (linesFrom d k (n - k)) ≡ areNamed mixed (hasLibraries d) (linesFrom d 0 n)
 
 pub naming-start : (d : List ℕ) (n : ℕ) → Naming d n 0
 naming-start d n = let e : n - 0 ≡ n = omega arith in record { low = omega arith; is = rw e }
@@ -225,11 +225,11 @@ module _ (d : List ℕ) (n k : ℕ) (i : Naming d n k) (h : k < n) (t : Bool) (f
   unfolding areNamed A.isNamed
   naming-more g = record { low = omega arith; is = rw (lines-next d n k h, ← f, g) at (i .is) }
 
-  pub naming-no : t ≡ false → false ≡ areNamed (hasLibraries d) (linesFrom d 0 n)
+  pub naming-no : t ≡ false → false ≡ areNamed mixed (hasLibraries d) (linesFrom d 0 n)
   unfolding areNamed A.isNamed
   naming-no g = rw (lines-next d n k h, ← f, g) at (i .is)
 
-pub naming-done : (d : List ℕ) (n k : ℕ) → Naming d n k → n ≤ k → true ≡ areNamed (hasLibraries d) (linesFrom d 0 n)
+pub naming-done : (d : List ℕ) (n k : ℕ) → Naming d n k → n ≤ k → true ≡ areNamed mixed (hasLibraries d) (linesFrom d 0 n)
 unfolding areNamed
 naming-done d n k i h = rw (lines-none d n k h) at (i .is)
 
@@ -261,13 +261,13 @@ length-padded (suc m) at s xs = let h : m ≤ length (part m (suc at) s ++ xs) =
 
 -- of a name that is spelled elsewhere, padded with blanks at a place
 module _ (d : List ℕ) (at from len : ℕ) where
-  pub too-long : 8 < len → false ≡ isPadded (part len from d) (part 8 at d)
+  pub too-long : 8 < len → false ≡ isPadded mixed (part len from d) (part 8 at d)
   unfolding isPadded
   too-long h =
       same-length (part 8 at d) (part len from d ++ replicate (8 - length (part len from d)) 32)
       λ e. omega (arith, e, length-padded len from d (replicate (8 - length (part len from d)) 32), length-part 8 at d)
 
-  padded : len ≤ 8 → isPadded (part len from d) (part 8 at d) ≡ (same (part len at d) (part len from d) && all isBlank (part (8 - len) (at + len) d))
+  padded : len ≤ 8 → isPadded mixed (part len from d) (part 8 at d) ≡ (same (part len at d) (part len from d) && all isBlank (part (8 - len) (at + len) d))
   unfolding isPadded
   padded h =
       let e : len + (8 - len) ≡ 8 = omega arith in
@@ -277,51 +277,51 @@ module _ (d : List ℕ) (at from len : ℕ) where
       ∙ rw (blank-same (8 - len) (at + len) d))
 
   module _ (t : Bool) (h : len ≤ 8) (f : t ≡ same (part len at d) (part len from d)) where
-    pub padded-as : (r : Bool) → t ≡ true → r ≡ all isBlank (part (8 - len) (at + len) d) → r ≡ isPadded (part len from d) (part 8 at d)
+    pub padded-as : (r : Bool) → t ≡ true → r ≡ all isBlank (part (8 - len) (at + len) d) → r ≡ isPadded mixed (part len from d) (part 8 at d)
     padded-as r g q = q ∙ rw (padded h, ← f, g)
 
-    pub padded-not : t ≡ false → false ≡ isPadded (part len from d) (part 8 at d)
+    pub padded-not : t ≡ false → false ≡ isPadded mixed (part len from d) (part 8 at d)
     padded-not g = rw (padded h, ← f, g)
 
 module _ (d : List ℕ) (k : ℕ) (w : List ℕ) (b : Bool) (lib : b ≡ hasLibraries d) where
-  pub in-library : (p : ℕ) (r : Bool) → b ≡ true → p ≡ linePlace d k → r ≡ isPadded w (part 8 p d) → r ≡ isPadded w (lineAt d k .library)
-  in-library p r h e f = f ∙ ap (isPadded w) (library-is d k p (sym lib ∙ h) e)
+  pub in-library : (p : ℕ) (r : Bool) → b ≡ true → p ≡ linePlace d k → r ≡ isPadded mixed w (part 8 p d) → r ≡ isPadded mixed w (lineAt d k .library)
+  in-library p r h e f = f ∙ ap (isPadded mixed w) (library-is d k p (sym lib ∙ h) e)
 
-  pub in-none : b ≡ false → false ≡ isPadded w (lineAt d k .library)
-  in-none h = sym (ap (isPadded w) (library-none d k (sym lib ∙ h)) ∙ padded-none w)
+  pub in-none : b ≡ false → false ≡ isPadded mixed w (lineAt d k .library)
+  in-none h = sym (ap (isPadded mixed w) (library-none d k (sym lib ∙ h)) ∙ padded-none w)
 
 module _ (d : List ℕ) (k : ℕ) (x : Sought) where
-  pub called-bare : (w : Spelled) (p : ℕ) (r : Bool) → x ≡ S.Bare w → p ≡ linePlace d k + libraryLength d → r ≡ isPadded (A.spelled d w) (part 8 p d) → r ≡ isCalled (A.soughtIn d x) (lineAt d k)
+  pub called-bare : (w : Spelled) (p : ℕ) (r : Bool) → x ≡ S.Bare w → p ≡ linePlace d k + libraryLength d → r ≡ isPadded mixed (A.spelled d w) (part 8 p d) → r ≡ isCalled mixed (A.soughtIn d x) (lineAt d k)
   unfolding A.soughtIn isCalled
-  called-bare w p r i e f = f ∙ rw i (ap (isPadded (A.spelled d w)) (name-is d k p e))
+  called-bare w p r i e f = f ∙ rw i (ap (isPadded mixed (A.spelled d w)) (name-is d k p e))
 
-  module _ (l w : Spelled) (t : Bool) (i : x ≡ S.InLibrary l w) (f : t ≡ isPadded (A.spelled d l) (lineAt d k .library)) where
-    pub called-pair : (p : ℕ) (r : Bool) → t ≡ true → p ≡ linePlace d k + libraryLength d → r ≡ isPadded (A.spelled d w) (part 8 p d) → r ≡ isCalled (A.soughtIn d x) (lineAt d k)
+  module _ (l w : Spelled) (t : Bool) (i : x ≡ S.InLibrary l w) (f : t ≡ isPadded mixed (A.spelled d l) (lineAt d k .library)) where
+    pub called-pair : (p : ℕ) (r : Bool) → t ≡ true → p ≡ linePlace d k + libraryLength d → r ≡ isPadded mixed (A.spelled d w) (part 8 p d) → r ≡ isCalled mixed (A.soughtIn d x) (lineAt d k)
     unfolding A.soughtIn isCalled
     called-pair p r g e h = h ∙ rw (i, ← f, g, name-is d k p e)
 
-    pub called-other : t ≡ false → false ≡ isCalled (A.soughtIn d x) (lineAt d k)
+    pub called-other : t ≡ false → false ≡ isCalled mixed (A.soughtIn d x) (lineAt d k)
     unfolding A.soughtIn isCalled
     called-other g = rw (i, ← f, g)
 
 -- ---- the line that is sought
 pub record Finding (d : List ℕ) (x : D.Sought) (n k : ℕ) : Type 0 where
   pub all : n ≡ count d
-  pub is : find x k (linesFrom d k (n - k)) ≡ find x 0 (lines d)
+  pub is : find mixed x k (linesFrom d k (n - k)) ≡ find mixed x 0 (lines d)
 
 pub finding-start : (d : List ℕ) (x : D.Sought) (n : ℕ) → n ≡ count d → Finding d x n 0
 finding-start d x n e = let f : n - 0 ≡ count d = omega arith in record { all = e; is = rw f }
 
 module _ (d : List ℕ) (x : D.Sought) (n k : ℕ) (s : Finding d x n k) where
-  pub finding-more : (t : Bool) → k < n → t ≡ isCalled x (lineAt d k) → t ≡ false → Finding d x n (k + 1)
+  pub finding-more : (t : Bool) → k < n → t ≡ isCalled mixed x (lineAt d k) → t ≡ false → Finding d x n (k + 1)
   unfolding find
   finding-more t h e f = record { all = s .all; is = rw (add-one k) (rw (add-one k) at (rw (lines-next d n k h, ← e, f) at (s .is))) }
 
-  pub finding-here : (t : Bool) → k < n → t ≡ isCalled x (lineAt d k) → t ≡ true → F.the-variants.Line k ≡ A.foundFor (find x 0 (lines d))
+  pub finding-here : (t : Bool) → k < n → t ≡ isCalled mixed x (lineAt d k) → t ≡ true → F.the-variants.Line k ≡ A.foundFor (find mixed x 0 (lines d))
   unfolding find
   finding-here t h e f = ap A.foundFor (rw (lines-next d n k h, ← e, f) at (s .is))
 
-  pub finding-none : n ≤ k → F.the-variants.Nothing ≡ A.foundFor (find x 0 (lines d))
+  pub finding-none : n ≤ k → F.the-variants.Nothing ≡ A.foundFor (find mixed x 0 (lines d))
   unfolding find
   finding-none h = ap A.foundFor (rw (lines-none d n k h) at (s .is))
 
@@ -336,7 +336,7 @@ alike d j k p q n r e f g h =
     (same-append (part n p d) (part n q d) (part 8 (p + n) d) (part 8 (q + n) d) (length-part n p d ∙ sym (length-part n q d)) ∙ rw (e, f, g))
 
 pub record Repeating (d : List ℕ) (k i n j : ℕ) : Type 0 where
-  pub is : isRepeated (lineAt d k) (linesFrom d j (n - j)) ≡ isRepeated (lineAt d k) (linesFrom d i (n - i))
+  pub is : isRepeated mixed (lineAt d k) (linesFrom d j (n - j)) ≡ isRepeated mixed (lineAt d k) (linesFrom d i (n - i))
 
 pub repeating-start : (d : List ℕ) (k i n : ℕ) → Repeating d k i n i
 repeating-start d k i n = record { is = refl }
@@ -347,31 +347,31 @@ module _ (d : List ℕ) (k i n j : ℕ) (s : Repeating d k i n j) where
     unfolding isRepeated
     repeating-more f = record { is = rw (lines-next d n j h, ← e, f) at (s .is) }
 
-    pub repeating-here : t ≡ true → true ≡ isRepeated (lineAt d k) (linesFrom d i (n - i))
+    pub repeating-here : t ≡ true → true ≡ isRepeated mixed (lineAt d k) (linesFrom d i (n - i))
     unfolding isRepeated
     repeating-here f = rw (lines-next d n j h, ← e, f) at (s .is)
 
-  pub repeating-none : n ≤ j → false ≡ isRepeated (lineAt d k) (linesFrom d i (n - i))
+  pub repeating-none : n ≤ j → false ≡ isRepeated mixed (lineAt d k) (linesFrom d i (n - i))
   unfolding isRepeated
   repeating-none h = rw (lines-none d n j h) at (s .is)
 
 pub record Differing (d : List ℕ) (n k : ℕ) : Type 0 where
   pub low : k ≤ n
-  pub is : areDistinct (linesFrom d k (n - k)) ≡ areDistinct (linesFrom d 0 n)
+  pub is : areDistinct mixed (linesFrom d k (n - k)) ≡ areDistinct mixed (linesFrom d 0 n)
 
 pub differing-start : (d : List ℕ) (n : ℕ) → Differing d n 0
 differing-start d n = let e : n - 0 ≡ n = omega arith in record { low = omega arith; is = rw e }
 
-module _ (d : List ℕ) (n k : ℕ) (i : Differing d n k) (h : k < n) (t : Bool) (e : t ≡ isRepeated (lineAt d k) (linesFrom d (k + 1) (n - (k + 1)))) where
+module _ (d : List ℕ) (n k : ℕ) (i : Differing d n k) (h : k < n) (t : Bool) (e : t ≡ isRepeated mixed (lineAt d k) (linesFrom d (k + 1) (n - (k + 1)))) where
   pub differing-more : t ≡ false → Differing d n (k + 1)
   unfolding areDistinct
   differing-more g = record { low = omega arith; is = rw (lines-next d n k h, ← e, g) at (i .is) }
 
-  pub differing-no : t ≡ true → false ≡ areDistinct (linesFrom d 0 n)
+  pub differing-no : t ≡ true → false ≡ areDistinct mixed (linesFrom d 0 n)
   unfolding areDistinct
   differing-no g = rw (lines-next d n k h, ← e, g) at (i .is)
 
-pub differing-done : (d : List ℕ) (n k : ℕ) → Differing d n k → n ≤ k → true ≡ areDistinct (linesFrom d 0 n)
+pub differing-done : (d : List ℕ) (n k : ℕ) → Differing d n k → n ≤ k → true ≡ areDistinct mixed (linesFrom d 0 n)
 unfolding areDistinct
 differing-done d n k i h = rw (lines-none d n k h) at (i .is)
 
@@ -402,7 +402,7 @@ module _ (d : List ℕ) (n at k : ℕ) (i : Following d n at k) where
   following-done h = rw (lines-none d n k h) at (i .is)
 
 -- ---- the whole deck: the tests in their order
-pub of-big : (d : List ℕ) → 65536 < length d → C.the-variants.Malformed ≡ A.answerFor (contents d)
+pub of-big : (d : List ℕ) → 65536 < length d → C.the-variants.Malformed ≡ A.answerFor (contents mixed d)
 unfolding contents isSound
 of-big d h = rw (lt-leb (length d) 65536 h)
 
@@ -410,7 +410,7 @@ module _ (d : List ℕ) (n : ℕ) (e : n ≡ count d) (small : length d ≤ 6553
   size-ok : leb (length d) 65536 ≡ true
   size-ok = le-leb (length d) 65536 small
 
-  pub of-none : n < 1 → C.the-variants.Malformed ≡ A.answerFor (contents d)
+  pub of-none : n < 1 → C.the-variants.Malformed ≡ A.answerFor (contents mixed d)
   unfolding contents isSound
   of-none h = rw (size-ok, ← e, lt-leb 1 n h)
 
@@ -418,7 +418,7 @@ module _ (d : List ℕ) (n : ℕ) (e : n ≡ count d) (small : length d ≤ 6553
     some-ok : leb 1 n ≡ true
     some-ok = le-leb 1 n some
 
-    pub of-many : 32 < n → C.the-variants.Malformed ≡ A.answerFor (contents d)
+    pub of-many : 32 < n → C.the-variants.Malformed ≡ A.answerFor (contents mixed d)
     unfolding contents isSound
     of-many h = rw (size-ok, ← e, some-ok, lt-leb n 32 h)
 
@@ -426,29 +426,29 @@ module _ (d : List ℕ) (n : ℕ) (e : n ≡ count d) (small : length d ≤ 6553
       few-ok : leb n 32 ≡ true
       few-ok = le-leb n 32 few
 
-      pub of-cut : length d < p → C.the-variants.Malformed ≡ A.answerFor (contents d)
+      pub of-cut : length d < p → C.the-variants.Malformed ≡ A.answerFor (contents mixed d)
       unfolding contents isSound
       of-cut h = rw (size-ok, ← e, some-ok, few-ok, ← at, lt-leb p (length d) h)
 
-      module _ (there : p ≤ length d) (t : Bool) (f : t ≡ areNamed (hasLibraries d) (linesFrom d 0 n)) where
+      module _ (there : p ≤ length d) (t : Bool) (f : t ≡ areNamed mixed (hasLibraries d) (linesFrom d 0 n)) where
         there-ok : leb (linePlace d n) (length d) ≡ true
         there-ok = rw (← at) (le-leb p (length d) there)
 
-        pub of-unnamed : t ≡ false → C.the-variants.Malformed ≡ A.answerFor (contents d)
+        pub of-unnamed : t ≡ false → C.the-variants.Malformed ≡ A.answerFor (contents mixed d)
         unfolding contents isSound
         of-unnamed g = rw (size-ok, ← e, some-ok, few-ok, there-ok, ← f, g)
 
-        module _ (named : t ≡ true) (u : Bool) (i : u ≡ areDistinct (linesFrom d 0 n)) where
-          pub of-twice : u ≡ false → C.the-variants.Malformed ≡ A.answerFor (contents d)
+        module _ (named : t ≡ true) (u : Bool) (i : u ≡ areDistinct mixed (linesFrom d 0 n)) where
+          pub of-twice : u ≡ false → C.the-variants.Malformed ≡ A.answerFor (contents mixed d)
           unfolding contents isSound
           of-twice g = rw (size-ok, ← e, some-ok, few-ok, there-ok, ← f, named, ← i, g)
 
           module _ (distinct : u ≡ true) (v : Bool) (k : v ≡ follow (linePlace d n) (linesFrom d 0 n) (length d)) where
-            pub of-gap : v ≡ false → C.the-variants.Malformed ≡ A.answerFor (contents d)
+            pub of-gap : v ≡ false → C.the-variants.Malformed ≡ A.answerFor (contents mixed d)
             unfolding contents isSound
             of-gap g = rw (size-ok, ← e, some-ok, few-ok, there-ok, ← f, named, ← i, distinct, ← k, g)
 
-            pub of-sound : v ≡ true → C.the-variants.Sound (record { lines = n }) ≡ A.answerFor (contents d)
+            pub of-sound : v ≡ true → C.the-variants.Sound (record { lines = n }) ≡ A.answerFor (contents mixed d)
             unfolding contents isSound
             of-sound g = rw (size-ok, ← e, some-ok, few-ok, there-ok, ← f, named, ← i, distinct, ← k, g, length-lines d 0 n)
 

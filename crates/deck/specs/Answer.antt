@@ -3,6 +3,7 @@ use Prim.Native.Nat.{ℕ}
 use mathlib.Core.List.{List}
 use mathlib.Core.Bool.{Bool, true, cond, _&&_}
 use lib.ListN.{length}
+use Rattle.definition.specs.Bytes.{mixed}
 use Rattle.definition.specs.Lists.{part}
 use Rattle.definition.specs.Deck as D
 use Rattle.member.specs.Body.{bodyBytes}
@@ -30,7 +31,7 @@ foundFor (D.line k) = Line k
 
 -- line k, of those that `areNamed` tests
 unfoldable pub isNamed : List ℕ → ℕ → Bool
-isNamed d k = cond (D.hasLibraries d) (D.isMemberName (D.lineAt d k .library)) true && D.isMemberName (D.lineAt d k .name)
+isNamed d k = cond (D.hasLibraries d) (D.isMemberName mixed (D.lineAt d k .library)) true && D.isMemberName mixed (D.lineAt d k .name)
 
 -- the names that are spelled in the deck
 abbrev pub spelled : List ℕ → Spelled → List ℕ

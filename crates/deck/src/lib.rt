@@ -5,7 +5,7 @@ ghost use mathlib.Core.Bool.{_&&_};
 ghost use Prim.Native.Nat.{_+_, _-_, _*_, _≤_};
 ghost use lib.ListN.{length};
 ghost use Rattle.definition.specs.Lists.{part, all, same};
-ghost use Rattle.definition.specs.Bytes.{isBlank};
+ghost use Rattle.definition.specs.Bytes.{mixed, isBlank};
 ghost use Rattle.definition.specs.Deck.{hasLibraries, libraryLength, linePlace, lineAt, linesFrom, isMemberName, areNamed, isRepeated, areDistinct, isPadded, isCalled, follow};
 ghost use Rattle.definition.specs.Deck as D;
 ghost use Rattle.deck.specs.Answer.{answerFor, foundFor, refusalOf, bodyIn, isNamed, soughtIn};
@@ -139,7 +139,7 @@ fn is_blank_part(d: &[u8], at: usize, i: usize, n: usize) -> bool
 
 // Whether the bytes of a name at a place are an identifier padded with blanks.
 fn is_member_name(d: &[u8], at: usize) -> bool
-    ensures { λ r. ⌜ r ≡ isMemberName (part 8 at (now (d .entry))) ⌝ }
+    ensures { λ r. ⌜ r ≡ isMemberName mixed (part 8 at (now (d .entry))) ⌝ }
 {
     if is_letter(byte(d, at, 0)) {
         let w = word_length(d, at, Deck::NAME);
@@ -163,7 +163,7 @@ fn is_named(d: &[u8], k: u16) -> bool
 
 // Whether each of n lines is named so.
 fn are_named(d: &[u8], n: u16) -> bool
-    ensures { λ r. ⌜ r ≡ areNamed (hasLibraries (now (d .entry))) (linesFrom (now (d .entry)) 0 n) ⌝ }
+    ensures { λ r. ⌜ r ≡ areNamed mixed (hasLibraries (now (d .entry))) (linesFrom (now (d .entry)) 0 n) ⌝ }
 {
     let mut k = 0;
     while k < n {
@@ -178,7 +178,7 @@ fn are_named(d: &[u8], n: u16) -> bool
 
 // Whether the name at a place is the one that is spelled elsewhere, padded with blanks.
 fn is_padded(d: &[u8], at: usize, w: Spelled) -> bool
-    ensures { λ r. ⌜ r ≡ isPadded (part (w .len) (w .from) (now (d .entry))) (part 8 at (now (d .entry))) ⌝ }
+    ensures { λ r. ⌜ r ≡ isPadded mixed (part (w .len) (w .from) (now (d .entry))) (part 8 at (now (d .entry))) ⌝ }
 {
     let len = w.len;
     if Deck::NAME < len {
@@ -192,7 +192,7 @@ fn is_padded(d: &[u8], at: usize, w: Spelled) -> bool
 
 // Whether line k is in the library that is spelled elsewhere.
 fn is_in_library(d: &[u8], k: u16, w: Spelled) -> bool
-    ensures { λ r. ⌜ r ≡ isPadded (part (w .len) (w .from) (now (d .entry))) (lineAt (now (d .entry)) k .library) ⌝ }
+    ensures { λ r. ⌜ r ≡ isPadded mixed (part (w .len) (w .from) (now (d .entry))) (lineAt (now (d .entry)) k .library) ⌝ }
 {
     if has_libraries(d) {
         return is_padded(d, line_place(d, k), w);
@@ -202,7 +202,7 @@ fn is_in_library(d: &[u8], k: u16, w: Spelled) -> bool
 
 // Whether line k is called so.
 fn is_called(d: &[u8], k: u16, x: Sought) -> bool
-    ensures { λ r. ⌜ r ≡ isCalled (soughtIn (now (d .entry)) x) (lineAt (now (d .entry)) k) ⌝ }
+    ensures { λ r. ⌜ r ≡ isCalled mixed (soughtIn (now (d .entry)) x) (lineAt (now (d .entry)) k) ⌝ }
 {
     match x {
         Sought::Bare(w) => is_padded(d, name_place(d, k), w),
@@ -217,7 +217,7 @@ fn is_called(d: &[u8], k: u16, x: Sought) -> bool
 
 // The line of the member that is sought: the first that is called so.
 pub fn find(d: &[u8], x: Sought) -> Found
-    ensures { λ r. ⌜ r ≡ foundFor (D.find (soughtIn (now (d .entry)) x) 0 (D.lines (now (d .entry)))) ⌝ }
+    ensures { λ r. ⌜ r ≡ foundFor (D.find mixed (soughtIn (now (d .entry)) x) 0 (D.lines (now (d .entry)))) ⌝ }
 {
     let n = count(d);
     let mut k = 0;
@@ -245,7 +245,7 @@ fn is_alike(d: &[u8], j: u16, k: u16) -> bool
 
 // Whether one of the lines i to n has the names of line k.
 fn is_repeated(d: &[u8], k: u16, i: u16, n: u16) -> bool
-    ensures { λ r. ⌜ r ≡ isRepeated (lineAt (now (d .entry)) k) (linesFrom (now (d .entry)) i (n - i)) ⌝ }
+    ensures { λ r. ⌜ r ≡ isRepeated mixed (lineAt (now (d .entry)) k) (linesFrom (now (d .entry)) i (n - i)) ⌝ }
 {
     let mut j = i;
     while j < n {
@@ -259,7 +259,7 @@ fn is_repeated(d: &[u8], k: u16, i: u16, n: u16) -> bool
 
 // Whether no two of n lines have the same names.
 fn are_distinct(d: &[u8], n: u16) -> bool
-    ensures { λ r. ⌜ r ≡ areDistinct (linesFrom (now (d .entry)) 0 n) ⌝ }
+    ensures { λ r. ⌜ r ≡ areDistinct mixed (linesFrom (now (d .entry)) 0 n) ⌝ }
 {
     let mut k = 0;
     while k < n {
@@ -299,7 +299,7 @@ impl Deck {
 
     // The contents of a deck of any bytes.
     pub fn of(d: &[u8]) -> Contents
-        ensures { λ r. ⌜ r ≡ answerFor (D.contents (now (d .entry))) ⌝ }
+        ensures { λ r. ⌜ r ≡ answerFor (D.contents mixed (now (d .entry))) ⌝ }
     {
         if Deck::BYTES < d.len() {
             return Contents::Malformed;

@@ -17,7 +17,7 @@ use Rattle.definition.specs.Limits.{nameLength, openParentheses}
 use Rattle.definition.specs.Expressions.{Reading, read, refused, then, Operator, Prefix, Tree, binary, Parsed, Maybe, is, noOperator, infixOf, prefixOf, expectSign, expectWord, Named, nameOf, nameAt, Reader, arguments, referenceAt, primitive, prefixed, operand, chained, chain, levels, expression, wholeExpression}
 use Rattle.definition.proofs.Choices.{when-has, cond-has}
 use Rattle.definition.specs.Lists.{part, all, leading}
-use Rattle.definition.specs.Bytes.{isLetter, isDigit, isAlphameric, isBlank, isMark, classOf}
+use Rattle.definition.specs.Bytes.{mixed, isSmall, capital, isLetter, isDigit, isAlphameric, isBlank, isMark, classOf}
 use Rattle.definition.specs.declared.Class.{Class}
 use Rattle.definition.specs.declared.Class.the-variants.{Letter, Digit, Break, Blank, LineFeed, Percent, Quote, Mark, Other}
 use Rattle.definition.specs.Tokens.{Closed, closedAt, neverClosed, commentEnd, quoteEnd, isComment, pastComment, Token, word, integer, string, bits, sign, nothing, wrong, Lexeme, lexeme, isSign, isWord, Spaces, upTo, openComment, afterComment, isSpace, spaces, Quoted, quoted, unquoted, quotedAt, isBit, constantAt, isPair, signAt, runAt, lexemeOf, isTouching, lexemeAt, tokenAt, Cut, closedCut, pieceOf, pieceAt}
@@ -36,10 +36,10 @@ below s p test n e = go (leb (length s) p) refl
     go false z = leb-false (length s) p z
 
 -- what is so of a class by its tests is so of the class of a byte
-class-has : (b : ℕ) (Q : Class → Type 0) → (isLetter b ≡ true → Q Letter) → (isDigit b ≡ true → Q Digit) → Q Break → Q Blank → Q LineFeed → Q Percent → Q Quote → Q Mark → Q Other → Q (classOf b)
+class-has : (b : ℕ) (Q : Class → Type 0) → (isLetter mixed b ≡ true → Q Letter) → (isDigit b ≡ true → Q Digit) → Q Break → Q Blank → Q LineFeed → Q Percent → Q Quote → Q Mark → Q Other → Q (classOf mixed b)
 unfolding classOf
 class-has b Q letter digit break blank feed percent quote mark other =
-    cond-has Q (isLetter b) _ _ letter λ _. cond-has Q (isDigit b) _ _ digit λ _. cond-has Q (eqb b (code "_")) _ _ (λ _. break) λ _.
+    cond-has Q (isLetter mixed b) _ _ letter λ _. cond-has Q (isDigit b) _ _ digit λ _. cond-has Q (eqb b (code "_")) _ _ (λ _. break) λ _.
     cond-has Q (isBlank b) _ _ (λ _. blank) λ _. cond-has Q (eqb b 10) _ _ (λ _. feed) λ _. cond-has Q (eqb b (code "%")) _ _ (λ _. percent) λ _.
     cond-has Q (eqb b (code "'")) _ _ (λ _. quote) λ _. cond-has Q (isMark b) _ _ (λ _. mark) λ _. other
 
@@ -53,13 +53,13 @@ run-past test s p h e =
     let q : leading test (drop p s) ≡ getD s p 0 ∷ leading test (drop (suc p) s) = rw (drop-cons s p 0 h, e) in
     record { above = omega (arith, ap length q); within = omega (arith, leading-within test (drop p s), length-drop p s) }
 
-letter-alphameric : (b : ℕ) → isLetter b ≡ true → isAlphameric b ≡ true
+letter-alphameric : (b : ℕ) → isLetter mixed b ≡ true → isAlphameric mixed b ≡ true
 unfolding isAlphameric
 letter-alphameric b e = rw e
 
-digit-alphameric : (b : ℕ) → isDigit b ≡ true → isAlphameric b ≡ true
+digit-alphameric : (b : ℕ) → isDigit b ≡ true → isAlphameric mixed b ≡ true
 unfolding isAlphameric
-digit-alphameric b e = rw e (go (isLetter b))
+digit-alphameric b e = rw e (go (isLetter mixed b))
   where
     go : (t : Bool) → (t || true || eqb b (code "_")) ≡ true
     go true = refl
@@ -105,13 +105,13 @@ cut-past : (s : List ℕ) (p q : ℕ) (c : Closed) → p < length s → p ≤ q 
 cut-past s p q (closedAt x) h k z = omega arith
 cut-past s p q neverClosed h k z = omega arith
 
-pub pieceAt-past : (s : List ℕ) (p : ℕ) → p < length s → Past s p (pieceAt s p .to)
+pub pieceAt-past : (s : List ℕ) (p : ℕ) → p < length s → Past s p (pieceAt mixed s p .to)
 unfolding pieceAt pieceOf
 pieceAt-past s p h =
     let one : Past s p (p + 1) = omega arith in
-    class-has (getD s p 0) (λ c. Past s p (pieceOf c s p .to))
-    (λ e. run-past isAlphameric s p h (letter-alphameric (getD s p 0) e))
-    (λ e. run-past isAlphameric s p h (digit-alphameric (getD s p 0) e))
+    class-has (getD s p 0) (λ c. Past s p (pieceOf mixed c s p .to))
+    (λ e. run-past (isAlphameric mixed) s p h (letter-alphameric (getD s p 0) e))
+    (λ e. run-past (isAlphameric mixed) s p h (digit-alphameric (getD s p 0) e))
     one one one one
     (cut-past s p (p + 1) (quoteEnd (drop (p + 1) s) (p + 1)) h (omega arith) (quote-past s (p + 1)))
     (when-has (λ (x : Cut). Past s p (x .to)) (isComment s p) _ _ (λ _. cut-past s p (p + 2) (pastComment s p) h (omega arith) (comment-past s p)) λ _. one)
@@ -192,13 +192,13 @@ pair-below : (s : List ℕ) (p : ℕ) → isPair (part 2 p s) ≡ true → suc p
 pair-below s p e = below s (suc p) (λ b. isPair (getD s p 0 ∷ b ∷ [])) (pair-none (getD s p 0)) e
 
 module _ (s : List ℕ) (e p : ℕ) (h : e ≤ p) (k : p < length s) where
-  constant-lies : (x : Quoted) → QuotedIn (p + 1) (p + 1 + length (drop (p + 1) s)) x → Lies s e (constantAt s p x)
-  unfolding constantAt
+  constant-lies : (x : Quoted) → QuotedIn (p + 1) (p + 1 + length (drop (p + 1) s)) x → Lies s e (constantAt mixed s p x)
+  unfolding constantAt capital isSmall
   constant-lies unquoted z = no-token s e p wrong (λ x. x) h (omega arith)
   constant-lies (quoted bs q) z =
       let y : Past s p q = record { above = omega arith; within = omega (arith, z .0, z .1, length-drop (p + 1) s) } in
-      cond-has (Lies s e) (all isBit bs && eqb (getD s q 0) (code "B")) _ _
-      (λ t. a-token s e p (q + 1) (bits bs) h (omega (arith, below s q (λ b. all isBit bs && eqb b (code "B")) (and-false (all isBit bs)) t, y))) λ _.
+      cond-has (Lies s e) (all isBit bs && eqb (capital mixed (getD s q 0)) (code "B")) _ _
+      (λ t. a-token s e p (q + 1) (bits bs) h (omega (arith, below s q (λ b. all isBit bs && eqb (capital mixed b) (code "B")) (and-false (all isBit bs)) t, y))) λ _.
       a-token s e p q (string bs) h y
 
   sign-lies : Lies s e (signAt s p)
@@ -207,26 +207,26 @@ module _ (s : List ℕ) (e p : ℕ) (h : e ≤ p) (k : p < length s) where
       cond-has (Lies s e) (isPair (part 2 p s)) _ _ (λ t. a-token s e p (p + 2) _ h (omega (arith, pair-below s p t))) λ _.
       a-token s e p (p + 1) _ h (omega arith)
 
-  token-lies : Lies s e (lexemeOf (classOf (getD s p 0)) s p)
+  token-lies : Lies s e (lexemeOf mixed (classOf mixed (getD s p 0)) s p)
   unfolding lexemeOf runAt
   token-lies =
       let none : Lies s e (lexeme wrong p p) = no-token s e p wrong (λ x. x) h (omega arith) in
-      class-has (getD s p 0) (λ c. Lies s e (lexemeOf c s p))
-      (λ t. a-token s e p _ _ h (run-past isAlphameric s p k (letter-alphameric (getD s p 0) t)))
+      class-has (getD s p 0) (λ c. Lies s e (lexemeOf mixed c s p))
+      (λ t. a-token s e p _ _ h (run-past (isAlphameric mixed) s p k (letter-alphameric (getD s p 0) t)))
       (λ t. a-token s e p _ _ h (run-past isDigit s p k t))
       none none none sign-lies
       (constant-lies (quotedAt (drop (p + 1) s) [] (p + 1)) (quoted-in (drop (p + 1) s) [] (p + 1)))
       sign-lies none
 
-lexeme-lies : (s : List ℕ) (e : ℕ) (x : Spaces) → SpacesIn e (length s) x → Lies s e (lexemeAt s e x)
+lexeme-lies : (s : List ℕ) (e : ℕ) (x : Spaces) → SpacesIn e (length s) x → Lies s e (lexemeAt mixed s e x)
 unfolding lexemeAt
 lexeme-lies s e (openComment p) h = no-token s e p wrong (λ x. x) (h .0) (h .1)
 lexeme-lies s e (upTo p) h =
     when-has (Lies s e) (leb (length s) p) _ _ (λ _. no-token s e p nothing (λ x. x) (h .0) (h .1)) λ t.
-    when-has (Lies s e) (eqb e p && isTouching s p) _ _ (λ _. no-token s e p wrong (λ x. x) (h .0) (h .1)) λ _.
+    when-has (Lies s e) (eqb e p && isTouching mixed s p) _ _ (λ _. no-token s e p wrong (λ x. x) (h .0) (h .1)) λ _.
     token-lies s e p (h .0) (leb-false (length s) p t)
 
-pub tokenAt-lies : (s : List ℕ) (e : ℕ) → e ≤ length s → Lies s e (tokenAt s e)
+pub tokenAt-lies : (s : List ℕ) (e : ℕ) → e ≤ length s → Lies s e (tokenAt mixed s e)
 unfolding tokenAt
 tokenAt-lies s e h = lexeme-lies s e (spaces (length s) s e) (spaces-in (length s) s e h)
 
@@ -274,20 +274,20 @@ name-has P nothing from to h = refuses
 name-has P wrong from to h = refuses
 
 module _ (s : List ℕ) where
-  real-past : (at : ℕ) → at ≤ length s → Real (tokenAt s at .token) → Past s at (tokenAt s at .to)
-  real-past at h r = let t : Lies s at (tokenAt s at) = tokenAt-lies s at h in omega (arith, t, t .some r)
+  real-past : (at : ℕ) → at ≤ length s → Real (tokenAt mixed s at .token) → Past s at (tokenAt mixed s at .to)
+  real-past at h r = let t : Lies s at (tokenAt mixed s at) = tokenAt-lies s at h in omega (arith, t, t .some r)
 
-  pub expectSign-past : (w : String) (at : ℕ) → at ≤ length s → Reads (Past s at) (expectSign w s at)
+  pub expectSign-past : (w : String) (at : ℕ) → at ≤ length s → Reads (Past s at) (expectSign mixed w s at)
   unfolding expectSign
-  expectSign-past w at h = cond-has (Reads (Past s at)) (isSign w (tokenAt s at .token)) _ _ (λ e. reads (real-past at h (sign-real w (tokenAt s at .token) e))) λ _. refuses
+  expectSign-past w at h = cond-has (Reads (Past s at)) (isSign w (tokenAt mixed s at .token)) _ _ (λ e. reads (real-past at h (sign-real w (tokenAt mixed s at .token) e))) λ _. refuses
 
-  pub expectWord-past : (w : String) (at : ℕ) → at ≤ length s → Reads (Past s at) (expectWord w s at)
+  pub expectWord-past : (w : String) (at : ℕ) → at ≤ length s → Reads (Past s at) (expectWord mixed w s at)
   unfolding expectWord
-  expectWord-past w at h = cond-has (Reads (Past s at)) (isWord w (tokenAt s at .token)) _ _ (λ e. reads (real-past at h (word-real w (tokenAt s at .token) e))) λ _. refuses
+  expectWord-past w at h = cond-has (Reads (Past s at)) (isWord w (tokenAt mixed s at .token)) _ _ (λ e. reads (real-past at h (word-real w (tokenAt mixed s at .token) e))) λ _. refuses
 
-  pub nameAt-past : (at : ℕ) → at ≤ length s → Reads (λ (n : Named). Past s at (n .to)) (nameAt s at)
+  pub nameAt-past : (at : ℕ) → at ≤ length s → Reads (λ (n : Named). Past s at (n .to)) (nameAt mixed s at)
   unfolding nameAt
-  nameAt-past at h = name-has (λ n. Past s at (n .to)) (tokenAt s at .token) (tokenAt s at .from) (tokenAt s at .to) λ r w. real-past at h r
+  nameAt-past at h = name-has (λ n. Past s at (n .to)) (tokenAt mixed s at .token) (tokenAt mixed s at .from) (tokenAt mixed s at .to) λ r w. real-past at h r
 
   -- ---- expressions, where what is inside parentheses ends so
   abbrev pub Ends : ℕ → Reading Parsed → Type 0
@@ -300,29 +300,29 @@ module _ (s : List ℕ) where
   ends-from low at h (reads {a} k) = let z : Past s low (a .to) = omega arith in reads z
   ends-from low at h refuses = refuses
 
-  pub arguments-end : (inside : Reader) → Ended inside → (f : ℕ) → Ended (arguments inside s f)
+  pub arguments-end : (inside : Reader) → Ended inside → (f : ℕ) → Ended (arguments mixed inside s f)
   unfolding arguments
   arguments-end inside h zero at k = refuses
   arguments-end inside h (suc f) at k =
       then-reads _ (h at k) λ a e.
-      let t : Lies s (a .to) (tokenAt s (a .to)) = tokenAt-lies s (a .to) (e .within) in
-      when-has (Ends at) (isSign "," (tokenAt s (a .to) .token)) _ _
-      (λ _. then-reads _ (arguments-end inside h f (tokenAt s (a .to) .to) (t .high)) λ r g. reads (omega arith))
+      let t : Lies s (a .to) (tokenAt mixed s (a .to)) = tokenAt-lies s (a .to) (e .within) in
+      when-has (Ends at) (isSign "," (tokenAt mixed s (a .to) .token)) _ _
+      (λ _. then-reads _ (arguments-end inside h f (tokenAt mixed s (a .to) .to) (t .high)) λ r g. reads (omega arith))
       λ _. then-reads _ (expectSign-past ")" (a .to) (e .within)) λ q g. reads (omega arith)
 
   module _ (inside : ℕ → Reader) (h : (p : ℕ) → Ended (inside p)) where
-    reference-end : (at : ℕ) (n : Named) (u : Lexeme) → Past s at (n .to) → n .to ≤ u .to → u .to ≤ length s → Ends at (referenceAt inside s n u)
+    reference-end : (at : ℕ) (n : Named) (u : Lexeme) → Past s at (n .to) → n .to ≤ u .to → u .to ≤ length s → Ends at (referenceAt mixed inside s n u)
     unfolding referenceAt
     reference-end at n u k l m =
         when-has (Ends at) (isSign "(" (u .token)) _ _
         (λ _. then-reads _ (arguments-end (inside (u .from)) (h (u .from)) (length s) (u .to) m) λ r g. reads (omega arith))
         λ _. reads k
 
-    pub primitive-end : (at : ℕ) (t : Token) (from to : ℕ) → (Real t → Past s at to) → Ends at (primitive inside s t from to)
+    pub primitive-end : (at : ℕ) (t : Token) (from to : ℕ) → (Real t → Past s at to) → Ends at (primitive mixed inside s t from to)
     unfolding primitive
     primitive-end at (word w) from to k = then-reads _ (name-has (λ n. n .to ≡ to) (word w) from to λ _ _. refl) λ n e.
-        let t : Lies s to (tokenAt s to) = tokenAt-lies s to (k tt .within) in
-        reference-end at n (tokenAt s to) (rw e (k tt)) (omega (arith, t)) (t .high)
+        let t : Lies s to (tokenAt mixed s to) = tokenAt-lies s to (k tt .within) in
+        reference-end at n (tokenAt mixed s to) (rw e (k tt)) (omega (arith, t)) (t .high)
     primitive-end at (integer w) from to k = reads (k tt)
     primitive-end at (string w) from to k = reads (k tt)
     primitive-end at (bits w) from to k = reads (k tt)
@@ -337,39 +337,39 @@ module _ (s : List ℕ) where
     prefixed-end at (is o) again first k l = then-reads _ k λ r e. reads e
     prefixed-end at noOperator again first k l = l
 
-    pub operand-end : (f : ℕ) → Ended (operand inside s f)
+    pub operand-end : (f : ℕ) → Ended (operand mixed inside s f)
     unfolding operand
     operand-end zero at k = refuses
     operand-end (suc f) at k =
-        let t : Lies s at (tokenAt s at) = tokenAt-lies s at k in
-        prefixed-end at (prefixOf (tokenAt s at .token)) _ _
-        (ends-from at (tokenAt s at .to) (omega (arith, t)) (operand-end f (tokenAt s at .to) (t .high)))
-        (primitive-end at (tokenAt s at .token) (tokenAt s at .from) (tokenAt s at .to) (real-past at k))
+        let t : Lies s at (tokenAt mixed s at) = tokenAt-lies s at k in
+        prefixed-end at (prefixOf (tokenAt mixed s at .token)) _ _
+        (ends-from at (tokenAt mixed s at .to) (omega (arith, t)) (operand-end f (tokenAt mixed s at .to) (t .high)))
+        (primitive-end at (tokenAt mixed s at .token) (tokenAt mixed s at .from) (tokenAt mixed s at .to) (real-past at k))
 
   chained-end : (low : ℕ) (o : Maybe Operator) (go : Operator → Reading Parsed) (stop : Reading Parsed) → ((o : Operator) → Ends low (go o)) → Ends low stop → Ends low (chained o go stop)
   chained-end low (is o) go stop h k = h o
   chained-end low noOperator go stop h k = k
 
-  pub chain-end : (l : ℕ) (next : Reader) → Ended next → (f : ℕ) (t : Tree) (low at : ℕ) → Past s low at → Ends low (chain l next s f t at)
+  pub chain-end : (l : ℕ) (next : Reader) → Ended next → (f : ℕ) (t : Tree) (low at : ℕ) → Past s low at → Ends low (chain mixed l next s f t at)
   unfolding chain
   chain-end l next h zero t low at k = refuses
   chain-end l next h (suc f) t low at k =
-      let u : Lies s at (tokenAt s at) = tokenAt-lies s at (k .within) in
-      chained-end low (infixOf l (tokenAt s at .token)) _ _
-      (λ o. then-reads _ (h (tokenAt s at .to) (u .high)) λ r e. chain-end l next h f (binary o t (r .tree)) low (r .to) (omega (arith, k, u, e)))
+      let u : Lies s at (tokenAt mixed s at) = tokenAt-lies s at (k .within) in
+      chained-end low (infixOf l (tokenAt mixed s at .token)) _ _
+      (λ o. then-reads _ (h (tokenAt mixed s at .to) (u .high)) λ r e. chain-end l next h f (binary o t (r .tree)) low (r .to) (omega (arith, k, u, e)))
       (reads k)
 
-  pub levels-end : (inner : Reader) → Ended inner → (l : ℕ) → Ended (levels inner s l)
+  pub levels-end : (inner : Reader) → Ended inner → (l : ℕ) → Ended (levels mixed inner s l)
   unfolding levels
   levels-end inner h zero at k = h at k
   levels-end inner h (suc l) at k =
-      then-reads _ (levels-end inner h l at k) λ r e. chain-end l (levels inner s l) (levels-end inner h l) (suc (length s)) (r .tree) at (r .to) e
+      then-reads _ (levels-end inner h l at k) λ r e. chain-end l (levels mixed inner s l) (levels-end inner h l) (suc (length s)) (r .tree) at (r .to) e
 
-  pub expression-end : (d : ℕ) → Ended (expression d s)
+  pub expression-end : (d : ℕ) → Ended (expression mixed d s)
   unfolding expression
   expression-end zero at k = levels-end _ (operand-end (λ p q. refused overLimit p) (λ p q _. refuses) (suc (length s))) 6 at k
-  expression-end (suc d) at k = levels-end _ (operand-end (λ p q. expression d s q) (λ p. expression-end d) (suc (length s))) 6 at k
+  expression-end (suc d) at k = levels-end _ (operand-end (λ p q. expression mixed d s q) (λ p. expression-end d) (suc (length s))) 6 at k
 
 -- THE EXPRESSION at a place ends past it and within the source
-pub wholeExpression-past : (s : List ℕ) (at : ℕ) (r : Parsed) → wholeExpression s at ≡ read r → at ≤ length s → (at < r .to) × (r .to ≤ length s)
+pub wholeExpression-past : (s : List ℕ) (at : ℕ) (r : Parsed) → wholeExpression mixed s at ≡ read r → at ≤ length s → (at < r .to) × (r .to ≤ length s)
 wholeExpression-past s at r e h = let p : Past s at (r .to) = reads-it (expression-end s openParentheses at h) e in (p .above, p .within)

@@ -8,6 +8,7 @@ use mathlib.Core.Path.{_≡_, refl, ap, _∙_}
 use lib.Dec.{leb}
 use lib.ListN.{length, length-append}
 use borrow.Author.Tests.{leb-false}
+use Rattle.definition.specs.Bytes.{mixed}
 use Rattle.definition.specs.Limits.{includeLevels, textBytes, originLineBytes}
 use Rattle.definition.specs.Reading.{readMember}
 use Rattle.definition.specs.Events.{Event, blank, copied, replaced, bytesIn, textOf, Line, linesOf, listBytes}
@@ -82,7 +83,7 @@ module _ (y : Layout) (joint : ℕ → ℕ) (bytes lines : ℕ) where
   result-within (leaves {a = went t} {w} e h) = world-within w h
   result-within (stops h) = none-within _ _ _ _
 
-  main-within : {e : Entering} (d : List ℕ) → SoundEntering rooms e → Within (runMain e d)
+  main-within : {e : Entering} (d : List ℕ) → SoundEntering rooms e → Within (runMain mixed e d)
   main-within d unreadable-any = none-within _ _ _ _
   main-within d (entered-sound {w} h) = result-within (member-leaves rooms d (text-out rooms d (happens d)) includeLevels 0 [] w h)
 
@@ -93,7 +94,7 @@ begun y joint textRoom listRoom steps = record { text = omega arith; list = rw (
 run-within : (y : Layout) (joint : ℕ → ℕ) (d : List ℕ) (textRoom listRoom steps : ℕ) → Within y joint (capped textRoom) (listRoom / originLineBytes) (ranIn y d textRoom listRoom steps)
 run-within y joint d textRoom listRoom steps =
     main-within y joint (capped textRoom) (listRoom / originLineBytes) d
-    (enter-leaves (rooms y joint (capped textRoom) (listRoom / originLineBytes)) 0 (readMember (bodyOf d 0)) (begun y joint textRoom listRoom steps))
+    (enter-leaves (rooms y joint (capped textRoom) (listRoom / originLineBytes)) 0 (readMember mixed (bodyOf d 0)) (begun y joint textRoom listRoom steps))
 
 -- "Twelve bytes a line"
 list-length : (ls : List Line) → length (listBytes ls) ≡ 12 * length ls
@@ -127,7 +128,7 @@ module _ (textRoom listRoom : ℕ) where
   }
 
 -- THE EXPANSION of a deck fits, plain or cards
-pub fitting : (y : Layout) (roomy : Bool) (d : List ℕ) (textRoom listRoom steps : ℕ) → Fitting textRoom listRoom (expansionOf y roomy d textRoom listRoom steps)
+pub fitting : (y : Layout) (roomy : Bool) (d : List ℕ) (textRoom listRoom steps : ℕ) → Fitting textRoom listRoom (expansionOf mixed y roomy d textRoom listRoom steps)
 fitting y roomy d t l s = each-way (Fitting t l) y roomy d t l s (λ _. none-fitting t l _ _ _ _) (λ _ _ _. none-fitting t l _ _ _ _) (λ _ _ _. none-fitting t l _ _ _ _) λ _ _ _. run-fitting y
   where
     run-fitting : (y : Layout) → Fitting t l (toldAs y (ranDeck y d) (ranIn y (ranDeck y d) t l s))
@@ -136,18 +137,18 @@ fitting y roomy d t l s = each-way (Fitting t l) y roomy d t l s (λ _. none-fit
 
 -- the same of a plain deck, part by part
 module _ (roomy : Bool) (d : List ℕ) (textRoom listRoom steps : ℕ) where
-  plain-fitting : Fitting textRoom listRoom (expansion roomy d textRoom listRoom steps)
+  plain-fitting : Fitting textRoom listRoom (expansion mixed roomy d textRoom listRoom steps)
   unfolding expansionOf
   plain-fitting = fitting plain roomy d textRoom listRoom steps
 
-  pub text-fits : length (expansion roomy d textRoom listRoom steps .text) ≤ textRoom
+  pub text-fits : length (expansion mixed roomy d textRoom listRoom steps .text) ≤ textRoom
   text-fits = plain-fitting .text
 
-  pub list-fits : length (listBytes (expansion roomy d textRoom listRoom steps .lines)) ≤ listRoom
+  pub list-fits : length (listBytes (expansion mixed roomy d textRoom listRoom steps .lines)) ≤ listRoom
   list-fits = plain-fitting .list
 
-  pub stretches-full : FullLines (expansion roomy d textRoom listRoom steps .lines)
+  pub stretches-full : FullLines (expansion mixed roomy d textRoom listRoom steps .lines)
   stretches-full = plain-fitting .full
 
-  pub views-agree : sizes (expansion roomy d textRoom listRoom steps .lines) ≡ length (expansion roomy d textRoom listRoom steps .text)
+  pub views-agree : sizes (expansion mixed roomy d textRoom listRoom steps .lines) ≡ length (expansion mixed roomy d textRoom listRoom steps .text)
   views-agree = plain-fitting .agree

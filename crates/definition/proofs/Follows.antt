@@ -11,6 +11,7 @@ use lib.Dec.{leb, ltb, eqb}
 use lib.IntN.{ℤ}
 use lib.ListN.{length}
 use borrow.Author.Tests.{leb-true, le-leb, ltb-true, ltb-false, lt-ltb, le-ltb}
+use Rattle.definition.specs.Bytes.{mixed}
 use Rattle.definition.specs.Choice.{when}
 use Rattle.definition.specs.Steps.{isLeft, usedAfter}
 use Rattle.definition.specs.Limits.{valueLength, unfinishedBytes}
@@ -551,11 +552,11 @@ module _ (a b : ℕ) (c : Extra) (gs : List Pass) (Short : Why → Type 0) (spar
           when-follows (eqb (length xs) (length (x .parameters))) _ _ _ _
           (bind-follows _ _ (scanArguments-follows t (x .parameters) xs u w) λ vs z. up-to q (call-follows x vs z)) halt
 
-      replace-entry : (t : List ℕ) (p : ℕ) (x : Callee) (w : World) → Fol (replaceEntry run scan t p y i u x w) (replaceEntry run scan t p y j u x (grow w))
+      replace-entry : (t : List ℕ) (p : ℕ) (x : Callee) (w : World) → Fol (replaceEntry mixed run scan t p y i u x w) (replaceEntry mixed run scan t p y j u x (grow w))
       unfolding replaceEntry
-      replace-entry t p x w = when-follows (eqb (length (x .parameters)) 0) _ _ _ _ (up-to p (call-follows x [] w)) (list-follows t x (listAt t p) w)
+      replace-entry t p x w = when-follows (eqb (length (x .parameters)) 0) _ _ _ _ (up-to p (call-follows x [] w)) (list-follows t x (listAt mixed t p) w)
 
-      replace-as : (d : Denotation) (t : List ℕ) (p x : ℕ) (w : World) → Fol (replaceAs d run scan t p x y i u w) (replaceAs d run scan t p x y j u (grow w))
+      replace-as : (d : Denotation) (t : List ℕ) (p x : ℕ) (w : World) → Fol (replaceAs mixed d run scan t p x y i u w) (replaceAs mixed d run scan t p x y j u (grow w))
       replace-as (variableOf k) t p x w = replace-cell (valueAt x w) p y i j u w h
       replace-as (entryOf e z) t p x w = bind-follows _ _ (callee-follows z w) λ k v. replace-entry t p k v
       replace-as (labelAt m r z) t p x w = halt
@@ -577,14 +578,14 @@ module _ (a b : ℕ) (c : Extra) (gs : List Pass) (Short : Why → Type 0) (spar
     token-follows (active x y) out p q f g k w = rw (waiting-same u (length out) h)
         (bind-follows _ _ (replaces t q x y (after i (length out)) (after j (length out)) (waiting i u (length out)) w (wider-after (length out) h)) λ r v. k (out ++ r .bytes) (r .to) v)
 
-    scanOn-follows : (f : ℕ) (out : List ℕ) (p : ℕ) (w : World) → Fol (scanOn replace i t u f out p w) (scanOn replace j t u f out p (grow w))
+    scanOn-follows : (f : ℕ) (out : List ℕ) (p : ℕ) (w : World) → Fol (scanOn mixed replace i t u f out p w) (scanOn mixed replace j t u f out p (grow w))
     unfolding scanOn
     scanOn-follows zero out p w = goes
     scanOn-follows (suc f) out p w = when-follows (leb (length t) p) _ _ _ _ goes
-        (bind-follows _ _ (charge-follows w) λ _ v. rw (active-same (pieceAt t p .piece) v) (token-follows (activeIn (pieceAt t p .piece) v) out p (pieceAt t p .to) _ _ (scanOn-follows f) v))
+        (bind-follows _ _ (charge-follows w) λ _ v. rw (active-same (pieceAt mixed t p .piece) v) (token-follows (activeIn (pieceAt mixed t p .piece) v) out p (pieceAt mixed t p .to) _ _ (scanOn-follows f) v))
 
-  pub replacer-follows : (run : Call) → FollowingCall run → (n : ℕ) → FollowingReplacer (replacer run n)
+  pub replacer-follows : (run : Call) → FollowingCall run → (n : ℕ) → FollowingReplacer (replacer mixed run n)
   unfolding replacer
   replacer-follows run runs zero t p x y i j u w h = halt
   replacer-follows run runs (suc n) t p x y i j u w h =
-      replace-as (scanWith (replacer run n)) (λ g h l v z k. scanOn-follows (replacer run n) (replacer-follows run runs n) g h k l v (suc (length l)) [] 0 z) run runs y i j h u (W.denotation x w) t p x w
+      replace-as (scanWith mixed (replacer mixed run n)) (λ g h l v z k. scanOn-follows (replacer mixed run n) (replacer-follows run runs n) g h k l v (suc (length l)) [] 0 z) run runs y i j h u (W.denotation x w) t p x w

@@ -8,6 +8,7 @@ use mathlib.Core.Path.{_≡_, refl, ap, _∙_}
 use lib.Dec.{leb, eqb}
 use lib.ListN.{length}
 use borrow.Author.Tests.{leb-true, leb-false, le-leb}
+use Rattle.definition.specs.Bytes.{mixed}
 use Rattle.definition.specs.Choice.{when}
 use Rattle.definition.specs.Limits.{runningProcedures, replacementLevels}
 use Rattle.definition.specs.Refusal.{Why, roomFull, declaredTwice}
@@ -120,7 +121,7 @@ module _ (a b : ℕ) (c : Extra) (gs : List Pass) (Short : Why → Type 0) (spar
       go (more-room p r) = text {r = w .textLeft} {s = w .textLeft + b} r (omega arith)
       go (no-more p q r) = let z : w .textLeft + b ≡ w .textLeft = omega arith in rw z (even)
 
-  replace-here : (m place : ℕ) (t : List ℕ) (q x : ℕ) (y : Activity) → Awake y → (g : List ℕ → ℕ → Pass) (w : World) → F (replaceHere m place t q x y g w) (replaceHere m place t q x y g (G w))
+  replace-here : (m place : ℕ) (t : List ℕ) (q x : ℕ) (y : Activity) → Awake y → (g : List ℕ → ℕ → Pass) (w : World) → F (replaceHere mixed m place t q x y g w) (replaceHere mixed m place t q x y g (G w))
   unfolding replaceHere
   replace-here m place t q x y awake g w =
       room-follows (leb 1 (w .linesLeft)) _ _ _ (w .used) (leb-more 1 (w .linesLeft) (c .lines (w .layout) (w .events))) (λ i j. lines-same (replaced m place []) w j)
@@ -128,16 +129,16 @@ module _ (a b : ℕ) (c : Extra) (gs : List Pass) (Short : Why → Type 0) (spar
       (replacer-leaves (still w) callOut (calls-leaves (still w) runningProcedures []) replacementLevels t q x y (toText (w .textLeft)) 0 w awake (still-begun w))
       λ r v k l. goes-by (withEvent (replaced m place (r .bytes)) (g (r .bytes) (r .to)) 1 (G v)) (event-grown (replaced m place (r .bytes)) (g (r .bytes) (r .to)) v tt (omega (arith, leb-true 1 (w .linesLeft) h, l .linesLeft)) (omega (arith, k, l .textLeft)))
 
-  token-here : (x : Active) → AllAwake x → (m place : ℕ) (t : List ℕ) (p q : ℕ) (g : List ℕ → ℕ → Pass) (w : World) → p < q → F (tokenHere x m place t p q g w) (tokenHere x m place t p q g (G w))
+  token-here : (x : Active) → AllAwake x → (m place : ℕ) (t : List ℕ) (p q : ℕ) (g : List ℕ → ℕ → Pass) (w : World) → p < q → F (tokenHere mixed x m place t p q g w) (tokenHere mixed x m place t p q g (G w))
   token-here notActive k m place t p q g w h = bind-follows a b c gs Short spare _ _ (copy-here m place (part (q - p) p t) (g (part (q - p) p t) q) w (omega (arith, length-part (q - p) p t))) λ _ v. goes
   token-here (active x y) k m place t p q g w h = replace-here m place t q x y k g w
 
-  turn-here : (m from : ℕ) (t : List ℕ) (p : ℕ) (v : World) → p < pieceAt t p .to → F (tokenHere (activeIn (pieceAt t p .piece) v) m (from + p) t p (pieceAt t p .to) (λ l q. passOf m (from + p) (pieceAt t p .piece) v l (from + q)) v) (tokenHere (activeIn (pieceAt t p .piece) (G v)) m (from + p) t p (pieceAt t p .to) (λ l q. passOf m (from + p) (pieceAt t p .piece) (G v) l (from + q)) (G v))
+  turn-here : (m from : ℕ) (t : List ℕ) (p : ℕ) (v : World) → p < pieceAt mixed t p .to → F (tokenHere mixed (activeIn (pieceAt mixed t p .piece) v) m (from + p) t p (pieceAt mixed t p .to) (λ l q. passOf m (from + p) (pieceAt mixed t p .piece) v l (from + q)) v) (tokenHere mixed (activeIn (pieceAt mixed t p .piece) (G v)) m (from + p) t p (pieceAt mixed t p .to) (λ l q. passOf m (from + p) (pieceAt mixed t p .piece) (G v) l (from + q)) (G v))
   turn-here m from t p v h =
-      rw (active-same a b c gs Short spare (pieceAt t p .piece) v)
-      (token-here (activeIn (pieceAt t p .piece) v) (awake-in (pieceAt t p .piece) v) m (from + p) t p (pieceAt t p .to) (λ l q. passOf m (from + p) (pieceAt t p .piece) v l (from + q)) v h)
+      rw (active-same a b c gs Short spare (pieceAt mixed t p .piece) v)
+      (token-here (activeIn (pieceAt mixed t p .piece) v) (awake-in (pieceAt mixed t p .piece) v) m (from + p) t p (pieceAt mixed t p .to) (λ l q. passOf m (from + p) (pieceAt mixed t p .piece) v l (from + q)) v h)
 
-  text-follows : (m from : ℕ) (t : List ℕ) (f p : ℕ) (w : World) → T (textOn m from t f p w) (textOn m from t f p (G w))
+  text-follows : (m from : ℕ) (t : List ℕ) (f p : ℕ) (w : World) → T (textOn mixed m from t f p w) (textOn mixed m from t f p (G w))
   unfolding textOn
   text-follows m from t zero p w = goes
   text-follows m from t (suc f) p w =
@@ -145,7 +146,7 @@ module _ (a b : ℕ) (c : Extra) (gs : List Pass) (Short : Why → Type 0) (spar
       λ e. bind-follows a b c gs Short spare _ _ (at-place m (from + p) (bind-follows a b c gs Short spare _ _ (charge-follows a b c gs Short spare w) λ _ v. turn-here m from t p v (pieceAt-past t p (leb-false (length t) p e) .above)))
       λ q x. text-follows m from t f q x
 
-  pub text-out : (m : ℕ) (s : List ℕ) (x : Stretch) (w : World) → T (textOut m s x w) (textOut m s x (G w))
+  pub text-out : (m : ℕ) (s : List ℕ) (x : Stretch) (w : World) → T (textOut mixed m s x w) (textOut mixed m s x (G w))
   unfolding textOut
   text-out m s x w = bind-follows a b c gs Short spare _ _ (at-place m (x .from) (put-out (blank m (x .from)) (W.began m x) w tt)) λ _ v. text-follows m (x .from) _ _ 0 v
 
@@ -255,7 +256,7 @@ module _ (a b : ℕ) (c : Extra) (gs : List Pass) (Short : Why → Type 0) (spar
 
   -- ---- a member, by what INCLUDE does in it
   module _ (d : List ℕ) where
-    pub act-as : (s : Statement) (i j : Level) (p m n : ℕ) (ps : List Place) → ((ns : List Deck.Sought) (w : World) → T (includeAll i d p m n ps ns w) (includeAll j d p m n ps ns (G w))) → (w : World) → T (actAs s i d p m n ps w) (actAs s j d p m n ps (G w))
+    pub act-as : (s : Statement) (i j : Level) (p m n : ℕ) (ps : List Place) → ((ns : List Deck.Sought) (w : World) → T (includeAll mixed i d p m n ps ns w) (includeAll mixed j d p m n ps ns (G w))) → (w : World) → T (actAs mixed s i d p m n ps w) (actAs mixed s j d p m n ps (G w))
     act-as null i j p m n ps h w = goes
     act-as (declare ns) i j p m n ps h w = at-place m p (bind-follows a b c gs Short spare _ _ (activate-all rescanned ns w) λ _ v. goes)
     act-as (procedure ns t) i j p m n ps h w = goes
@@ -270,11 +271,11 @@ module _ (a b : ℕ) (c : Extra) (gs : List Pass) (Short : Why → Type 0) (spar
     act-as (return x) i j p m n ps h w = goes
 
     -- of a machine that differs from a member's in its deeds alone
-    pub source-follows : (i : Level) (m : ℕ) (ps : List Place) (s : Source) (act : ℕ → World → Res Stop Deed) → ((n : ℕ) (w : World) → T (act n w) (memberMachine i d m ps s .act n (G w))) → (w : World) → T (bind (leadOut (acting act (memberMachine i d m ps s)) (s .lead) w) λ _ v. runOn (acting act (memberMachine i d m ps s)) (v .limit - v .used) (firstOf (s .first)) [] v) (runSource i d m ps s (G w))
+    pub source-follows : (i : Level) (m : ℕ) (ps : List Place) (s : Source) (act : ℕ → World → Res Stop Deed) → ((n : ℕ) (w : World) → T (act n w) (memberMachine mixed i d m ps s .act n (G w))) → (w : World) → T (bind (leadOut (acting act (memberMachine mixed i d m ps s)) (s .lead) w) λ _ v. runOn (acting act (memberMachine mixed i d m ps s)) (v .limit - v .used) (firstOf (s .first)) [] v) (runSource mixed i d m ps s (G w))
     unfolding runSource memberMachine
     source-follows i m ps s act h w =
-        let M : Machine Stop = acting act (memberMachine i d m ps s) in
-        let N : Machine Stop = memberMachine i d m ps s in
+        let M : Machine Stop = acting act (memberMachine mixed i d m ps s) in
+        let N : Machine Stop = memberMachine mixed i d m ps s in
         bind-follows a b c gs Short spare _ _
         (lead-follows a b c gs Short spare M (N .fault) (N .value) (N .out) (N .act) (N .jump) (λ x e. same) (λ x e k. k) (λ x v. evaluate-follows a b c gs Short spare callOut (calls-follows a b c gs Short spare runningProcedures []) W.everyone x 0 v) (λ x v. text-out m (bodyOf d m) x v) h (λ n t v. at-place m (rowOf (s .rows) n .place) (jump-from (addressOf t W.everyone v) m (s .rows) ps n v)) (s .lead) w)
         λ _ v. runOn-follows a b c gs Short spare M (N .fault) (N .value) (N .out) (N .act) (N .jump) (λ x e. same) (λ x e k. k) (λ x v. evaluate-follows a b c gs Short spare callOut (calls-follows a b c gs Short spare runningProcedures []) W.everyone x 0 v) (λ x v. text-out m (bodyOf d m) x v) h (λ n t v. at-place m (rowOf (s .rows) n .place) (jump-from (addressOf t W.everyone v) m (s .rows) ps n v)) (firstOf (s .first)) [] v
@@ -284,21 +285,21 @@ module _ (a b : ℕ) (c : Extra) (gs : List Pass) (Short : Why → Type 0) (spar
     Levels noLevel = Unit {0}
     Levels (level i) = FollowingInner i i
 
-    include-at : (f : Deck.Found) (l : Level) → Levels l → (p m n : ℕ) (ps : List Place) (x y : World → Res Stop Deed) → ((w : World) → T (x w) (y (G w))) → (w : World) → T (includeAt f l d p m n ps w x) (includeAt f l d p m n ps (G w) y)
+    include-at : (f : Deck.Found) (l : Level) → Levels l → (p m n : ℕ) (ps : List Place) (x y : World → Res Stop Deed) → ((w : World) → T (x w) (y (G w))) → (w : World) → T (includeAt mixed f l d p m n ps w x) (includeAt mixed f l d p m n ps (G w) y)
     include-at Deck.none l h p m n ps x y k w = halts same
     include-at (Deck.line q) noLevel h p m n ps x y k w = halts same
-    include-at (Deck.line q) (level i) h p m n ps x y k w = include-entered x y k (enter-follows q (readMember (bodyOf d q)) w) i i q (h q) m n ps w
+    include-at (Deck.line q) (level i) h p m n ps x y k w = include-entered x y k (enter-follows q (readMember mixed (bodyOf d q)) w) i i q (h q) m n ps w
 
-    include-all : (l : Level) → Levels l → (p m n : ℕ) (ps : List Place) (xs : List Deck.Sought) (w : World) → T (includeAll l d p m n ps xs w) (includeAll l d p m n ps xs (G w))
+    include-all : (l : Level) → Levels l → (p m n : ℕ) (ps : List Place) (xs : List Deck.Sought) (w : World) → T (includeAll mixed l d p m n ps xs w) (includeAll mixed l d p m n ps xs (G w))
     unfolding includeAll
     include-all l h p m n ps [] w = goes
-    include-all l h p m n ps (x ∷ xs) w = include-at (Deck.find x 0 (Deck.lines d)) l h p m n ps _ _ (include-all l h p m n ps xs) w
+    include-all l h p m n ps (x ∷ xs) w = include-at (Deck.find mixed x 0 (Deck.lines d)) l h p m n ps _ _ (include-all l h p m n ps xs) w
 
-    run-source : (l : Level) → Levels l → (m : ℕ) (ps : List Place) (s : Source) (w : World) → T (runSource l d m ps s w) (runSource l d m ps s (G w))
+    run-source : (l : Level) → Levels l → (m : ℕ) (ps : List Place) (s : Source) (w : World) → T (runSource mixed l d m ps s w) (runSource mixed l d m ps s (G w))
     unfolding runSource memberMachine
-    run-source l h m ps s w = source-follows l m ps s (memberMachine l d m ps s .act) (λ n v. act-as (rowOf (s .rows) n .statement) l l (rowOf (s .rows) n .place) m n ps (include-all l h (rowOf (s .rows) n .place) m n ps) v) w
+    run-source l h m ps s w = source-follows l m ps s (memberMachine mixed l d m ps s .act) (λ n v. act-as (rowOf (s .rows) n .statement) l l (rowOf (s .rows) n .place) m n ps (include-all l h (rowOf (s .rows) n .place) m n ps) v) w
 
-    pub member-follows : (n : ℕ) → FollowingInner (runMember n d) (runMember n d)
+    pub member-follows : (n : ℕ) → FollowingInner (runMember mixed n d) (runMember mixed n d)
     unfolding runMember
-    member-follows zero m ps w = run-source noLevel tt m ps (readMember (bodyOf d m)) w
-    member-follows (suc n) m ps w = run-source (level (runMember n d)) (member-follows n) m ps (readMember (bodyOf d m)) w
+    member-follows zero m ps w = run-source noLevel tt m ps (readMember mixed (bodyOf d m)) w
+    member-follows (suc n) m ps w = run-source (level (runMember mixed n d)) (member-follows n) m ps (readMember mixed (bodyOf d m)) w

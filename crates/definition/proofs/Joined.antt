@@ -9,6 +9,7 @@ use mathlib.Core.Path.{_≡_, refl, sym, ap, subst, _∙_}
 use lib.Dec.{leb, eqb}
 use lib.ListN.{length, getD, length-append, List·getD-append}
 use borrow.Author.Tests.{leb-true, leb-false, le-leb, eqb-true, eq-eqb}
+use Rattle.definition.specs.Bytes.{mixed, folded}
 use Rattle.definition.specs.Limits.{deckBytes, deckLines}
 use Rattle.definition.specs.Lists.{part, number, bytes}
 use Rattle.definition.specs.Deck.{Line, first, hasLibraries, count, libraryLength, linePlace, lineAt, linesFrom, lines, areNamed, isRepeated, areDistinct, Sought, bare, inLibrary, isPadded, isCalled, none, line, find, follow, isSound}
@@ -79,8 +80,8 @@ columns-part (suc n) at q size d h =
     λ i. x i ++ y i
 
 -- ---- a line without a library is in none
-pub padded-none : (w : List ℕ) → isPadded w [] ≡ false
-unfolding isPadded
+pub padded-none : (w : List ℕ) → isPadded mixed w [] ≡ false
+unfolding isPadded folded
 padded-none [] = refl
 padded-none (x ∷ w) = refl
 
@@ -194,23 +195,23 @@ module _ (d : List ℕ) where
       λ i. (u ∙ w) i ∷ v i
 
 -- ---- what soundness asks of them
-named-joined : (b : Bool) (at : ℕ) (ls : List Line) → areNamed b (contentsFrom at ls) ≡ areNamed b ls
+named-joined : (b : Bool) (at : ℕ) (ls : List Line) → areNamed mixed b (contentsFrom at ls) ≡ areNamed mixed b ls
 unfolding areNamed
 named-joined b at [] = refl
 named-joined b at (l ∷ ls) = rw (named-joined b (at + joinedSize l) ls)
 
-find-joined : (x : Sought) (k at : ℕ) (ls : List Line) → find x k (contentsFrom at ls) ≡ find x k ls
+find-joined : (x : Sought) (k at : ℕ) (ls : List Line) → find mixed x k (contentsFrom at ls) ≡ find mixed x k ls
 unfolding find isCalled
 find-joined x k at [] = refl
 find-joined (bare w) k at (l ∷ ls) = rw (find-joined (bare w) (suc k) (at + joinedSize l) ls)
 find-joined (inLibrary v w) k at (l ∷ ls) = rw (find-joined (inLibrary v w) (suc k) (at + joinedSize l) ls)
 
-repeated-joined : (b at z : ℕ) (l : Line) (ls : List Line) → isRepeated (record { library = l .library; name = l .name; offset = b; size = z }) (contentsFrom at ls) ≡ isRepeated l ls
+repeated-joined : (b at z : ℕ) (l : Line) (ls : List Line) → isRepeated mixed (record { library = l .library; name = l .name; offset = b; size = z }) (contentsFrom at ls) ≡ isRepeated mixed l ls
 unfolding isRepeated
 repeated-joined b at z l [] = refl
 repeated-joined b at z l (m ∷ ms) = rw (repeated-joined b (at + joinedSize m) z l ms)
 
-distinct-joined : (at : ℕ) (ls : List Line) → areDistinct (contentsFrom at ls) ≡ areDistinct ls
+distinct-joined : (at : ℕ) (ls : List Line) → areDistinct mixed (contentsFrom at ls) ≡ areDistinct mixed ls
 unfolding areDistinct
 distinct-joined at [] = refl
 distinct-joined at (l ∷ ls) = rw (repeated-joined at (at + joinedSize l) (joinedSize l) l ls, distinct-joined (at + joinedSize l) ls)
@@ -284,19 +285,19 @@ pub record Sound (d : List ℕ) : Type 0 where
   pub some : 1 ≤ count d
   pub members : count d ≤ deckLines
   pub contents : linePlace d (count d) ≤ length d
-  pub named : areNamed (hasLibraries d) (lines d) ≡ true
-  pub distinct : areDistinct (lines d) ≡ true
+  pub named : areNamed mixed (hasLibraries d) (lines d) ≡ true
+  pub distinct : areDistinct mixed (lines d) ≡ true
   pub following : follow (linePlace d (count d)) (lines d) (length d) ≡ true
 
-pub sound-parts : (d : List ℕ) → isSound d ≡ true → Sound d
+pub sound-parts : (d : List ℕ) → isSound mixed d ≡ true → Sound d
 unfolding isSound
 sound-parts d h =
     let a : Bool = leb (length d) deckBytes in
     let b : Bool = leb 1 (count d) in
     let c : Bool = leb (count d) deckLines in
     let e : Bool = leb (linePlace d (count d)) (length d) in
-    let f : Bool = areNamed (hasLibraries d) (lines d) in
-    let g : Bool = areDistinct (lines d) in
+    let f : Bool = areNamed mixed (hasLibraries d) (lines d) in
+    let g : Bool = areDistinct mixed (lines d) in
     let t : Bool = follow (linePlace d (count d)) (lines d) (length d) in
     let h₆ : (a && b && c && e && f && g) ≡ true = and-left _ t h in
     let h₅ : (a && b && c && e && f) ≡ true = and-left _ g h₆ in
@@ -305,12 +306,12 @@ sound-parts d h =
     let h₂ : (a && b) ≡ true = and-left _ c h₃ in
     record { few = leb-true _ _ (and-left a b h₂); some = leb-true _ _ (and-right a b h₂); members = leb-true _ _ (and-right (a && b) c h₃); contents = leb-true _ _ (and-right (a && b && c) e h₄); named = and-right (a && b && c && e) f h₅; distinct = and-right (a && b && c && e && f) g h₆; following = and-right (a && b && c && e && f && g) t h }
 
-pub sound-whole : (d : List ℕ) → Sound d → isSound d ≡ true
+pub sound-whole : (d : List ℕ) → Sound d → isSound mixed d ≡ true
 unfolding isSound
 sound-whole d s =
     both-true _ _ (both-true _ _ (both-true _ _ (both-true _ _ (both-true _ _ (both-true _ _ (le-leb _ _ (s .few)) (le-leb _ _ (s .some))) (le-leb _ _ (s .members))) (le-leb _ _ (s .contents))) (s .named)) (s .distinct)) (s .following)
 
-module _ (d : List ℕ) (sound : isSound d ≡ true) where
+module _ (d : List ℕ) (sound : isSound mixed d ≡ true) where
   parts : Sound d
   parts = sound-parts d sound
 
@@ -352,7 +353,7 @@ module _ (d : List ℕ) (sound : isSound d ≡ true) where
   pub joined-shorter : length (joined d) ≤ length d
   joined-shorter = omega (arith, length-joined, length-bodies (linePlace d (count d)) (length d) (lines d) d (parts .following))
 
-  pub sound-joined : isSound (joined d) ≡ true
+  pub sound-joined : isSound mixed (joined d) ≡ true
   sound-joined = sound-whole (joined d) (record {
     few = omega (arith, joined-shorter, parts .few);
     some = rw count-joined (parts .some);
@@ -364,7 +365,7 @@ module _ (d : List ℕ) (sound : isSound d ≡ true) where
   })
 
   -- how a member is found
-  pub found-joined : (x : Sought) (k : ℕ) → find x k (lines (joined d)) ≡ find x k (lines d)
+  pub found-joined : (x : Sought) (k : ℕ) → find mixed x k (lines (joined d)) ≡ find mixed x k (lines d)
   found-joined x k = rw contents-joined (find-joined x k (linePlace d (count d)) (lines d))
 
   module _ (m : ℕ) (h : m < count d) where
@@ -414,7 +415,7 @@ module _ (d : List ℕ) (sound : isSound d ≡ true) where
         (byte-in-columns (records (lineAt d m)) (lineAt d m .offset) p d j ∙ sym (getD-part (lineAt d m .size) (column p) (lineAt d m .offset) d (omega arith)))
 
 -- decks with the same contents, joined, have the same contents
-pub lines-alike : (d e : List ℕ) → isSound d ≡ true → isSound e ≡ true → lines e ≡ lines d → count e ≡ count d → Alike d e → lines (joined e) ≡ lines (joined d)
+pub lines-alike : (d e : List ℕ) → isSound mixed d ≡ true → isSound mixed e ≡ true → lines e ≡ lines d → count e ≡ count d → Alike d e → lines (joined e) ≡ lines (joined d)
 lines-alike d e s t h k like =
     let p : linePlace e (count e) ≡ linePlace d (count d) = alike-place d e (count e) like ∙ ap (linePlace d) k in
     contents-joined e t ∙ (λ i. contentsFrom (p i) (h i)) ∙ sym (contents-joined d s)
@@ -430,5 +431,5 @@ even-at k (l ∷ ls) m e = go (eqb (l .size % 80) 0) refl e m (λ n. even-at (su
     go true f e zero h = eqb-true (l .size % 80) 0 f
     go true f e (suc n) h = h n e
 
-pub whole-records : (d : List ℕ) → isSound d ≡ true → uneven 0 (lines d) ≡ none → (m : ℕ) → m < count d → lineAt d m .size % 80 ≡ 0
+pub whole-records : (d : List ℕ) → isSound mixed d ≡ true → uneven 0 (lines d) ≡ none → (m : ℕ) → m < count d → lineAt d m .size % 80 ≡ 0
 whole-records d s e m h = ap (λ (l : Line). l .size % 80) (sym (line-given d s m h)) ∙ even-at 0 (lines d) m e

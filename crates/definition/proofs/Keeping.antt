@@ -9,6 +9,7 @@ use lib.Dec.{leb, ltb, eqb}
 use lib.IntN.{ℤ}
 use lib.ListN.{length, length-append}
 use borrow.Author.Tests.{leb-true, ltb-true}
+use Rattle.definition.specs.Bytes.{mixed}
 use Rattle.definition.specs.Choice.{when}
 use Rattle.definition.specs.Steps.{isLeft, usedAfter}
 use Rattle.definition.specs.Limits.{valueLength, unfinishedBytes}
@@ -575,11 +576,11 @@ module _ {Sound : World → Type 0} {Of : Value → Type 0} {Left : ℕ → Type
           when-leaves (eqb (length xs) (length (c .parameters))) _ _
           (bind-leaves (scanArguments-leaves t (c .parameters) xs u w h) λ vs z e k. up-to i q (call-leaves c vs e k)) (halt h)
 
-      replace-entry : (t : List ℕ) (p : ℕ) (c : Callee) {w : World} → Sound w → Leaves (λ r. FitsIn i (r .bytes)) (replaceEntry run scan t p x i u c w)
+      replace-entry : (t : List ℕ) (p : ℕ) (c : Callee) {w : World} → Sound w → Leaves (λ r. FitsIn i (r .bytes)) (replaceEntry mixed run scan t p x i u c w)
       unfolding replaceEntry
-      replace-entry t p c {w} h = when-leaves (eqb (length (c .parameters)) 0) _ _ (up-to i p (call-leaves c [] tt h)) (list-leaves t c (listAt t p) h)
+      replace-entry t p c {w} h = when-leaves (eqb (length (c .parameters)) 0) _ _ (up-to i p (call-leaves c [] tt h)) (list-leaves t c (listAt mixed t p) h)
 
-      replace-as : (d : Denotation) (t : List ℕ) (p a : ℕ) {w : World} → Sound w → Leaves (λ r. FitsIn i (r .bytes)) (replaceAs d run scan t p a x i u w)
+      replace-as : (d : Denotation) (t : List ℕ) (p a : ℕ) {w : World} → Sound w → Leaves (λ r. FitsIn i (r .bytes)) (replaceAs mixed d run scan t p a x i u w)
       replace-as (variableOf k) t p a {w} h = replace-cell (valueAt a w) p x y i u h
       replace-as (entryOf e b) t p a {w} h = bind-leaves (ask-leaves (any-given (callee b w)) h) λ c v _ k. replace-entry t p c k
       replace-as (labelAt m r z) t p a h = halt h
@@ -593,17 +594,17 @@ module _ {Sound : World → Type 0} {Of : Value → Type 0} {Left : ℕ → Type
     token-leaves (active a x) y out e p q f k {w} h =
         bind-leaves (replaces t q a x (after i (length out)) _ w y h) λ r v g j. k (out ++ r .bytes) (r .to) v (fits-after i out (r .bytes) e g) j
 
-    pub scanOn-leaves : (f : ℕ) (out : List ℕ) (p : ℕ) (w : World) → FitsIn i out → Sound w → Leaves (FitsIn i) (scanOn replace i t u f out p w)
+    pub scanOn-leaves : (f : ℕ) (out : List ℕ) (p : ℕ) (w : World) → FitsIn i out → Sound w → Leaves (FitsIn i) (scanOn mixed replace i t u f out p w)
     unfolding scanOn
     scanOn-leaves zero out p w e h = leaves e h
     scanOn-leaves (suc f) out p w e h = when-leaves (leb (length t) p) _ _ (leaves e h)
-        (bind-leaves (charge-leaves h) λ _ v _ k. token-leaves (activeIn (pieceAt t p .piece) v) (awake-in (pieceAt t p .piece) v) out e p (pieceAt t p .to) _ (scanOn-leaves f) k)
+        (bind-leaves (charge-leaves h) λ _ v _ k. token-leaves (activeIn (pieceAt mixed t p .piece) v) (awake-in (pieceAt mixed t p .piece) v) out e p (pieceAt mixed t p .to) _ (scanOn-leaves f) k)
 
-  pub replacer-leaves : (run : Call) → KeepingCall run → (n : ℕ) → KeepingReplacer (replacer run n)
+  pub replacer-leaves : (run : Call) → KeepingCall run → (n : ℕ) → KeepingReplacer (replacer mixed run n)
   unfolding replacer
   replacer-leaves run runs zero t p a x i u w y h = halt h
   replacer-leaves run runs (suc n) t p a x i u w y h =
-      replace-as (scanWith (replacer run n)) (λ j l v z k. scanOn-leaves (replacer run n) (replacer-leaves run runs n) j l v (suc (length l)) [] 0 z (omega arith) k) run runs x y i u (W.denotation a w) t p a h
+      replace-as (scanWith mixed (replacer mixed run n)) (λ j l v z k. scanOn-leaves (replacer mixed run n) (replacer-leaves run runs n) j l v (suc (length l)) [] 0 z (omega arith) k) run runs x y i u (W.denotation a w) t p a h
 
   -- ---- entering a member
   data SoundDeclaring : Declaring → Type 0 where

@@ -8,6 +8,7 @@ use mathlib.Core.Path.{_≡_, refl, _∙_}
 use lib.Dec.{leb}
 use lib.ListN.{length}
 use borrow.Author.Tests.{leb-true, leb-false}
+use Rattle.definition.specs.Bytes.{mixed}
 use Rattle.definition.specs.Limits.{runningProcedures, replacementLevels}
 use Rattle.definition.specs.Program.{Statement, null, declare, procedure, assign, conditional, group, iterated, goto, include, activate, deactivate, return, row, Stretch, Row, Activation, Source}
 use Rattle.definition.specs.Values.{Value}
@@ -89,7 +90,7 @@ module _ {Sound : World → Type 0} {Of : Value → Type 0} {Left : ℕ → Type
   copy-here m place l g {w} i c f h = put-out (copied m place l) g (takes (w .layout) (joins (w .events) m place) place l) i c refl (f, tt) h
 
   -- the rooms are as they were before a replacement, and its outcome fits
-  replace-here : (m place : ℕ) (t : List ℕ) (q a : ℕ) (x : Activity) → Awake x → (to : List ℕ → ℕ → Pass) {w : World} → In m → Sound w → Leaves laws Any (replaceHere m place t q a x to w)
+  replace-here : (m place : ℕ) (t : List ℕ) (q a : ℕ) (x : Activity) → Awake x → (to : List ℕ → ℕ → Pass) {w : World} → In m → Sound w → Leaves laws Any (replaceHere mixed m place t q a x to w)
   unfolding replaceHere
   replace-here m place t q a x y to {w} i h =
       when-has (Leaves laws Any) (leb 1 (w .linesLeft)) _ _
@@ -97,7 +98,7 @@ module _ {Sound : World → Type 0} {Of : Value → Type 0} {Left : ℕ → Type
       (replacer-leaves (still w) callOut (calls-leaves (still w) runningProcedures []) replacementLevels t q a x (toText (w .textLeft)) 0 w y (still-begun w))
       λ r v f k _ g. passes laws (happens (replaced m place (r .bytes)) (to (r .bytes) (r .to)) 1 v i (record { true = tt; right = refl; lines = omega (arith, leb-true 1 (w .linesLeft) e, g .linesLeft); bytes = omega (arith, f, g .textLeft); full = tt }) k)) λ _. halt laws h
 
-  token-here : (x : Active) → AllAwake x → (m place : ℕ) (t : List ℕ) (p q : ℕ) (g : List ℕ → ℕ → Pass) {w : World} → In m → p < q → (part (q - p) p t ≡ part (q - p) place (bodyOf d m)) × (place + (q - p) ≤ length (bodyOf d m)) → Sound w → Leaves laws Any (tokenHere x m place t p q g w)
+  token-here : (x : Active) → AllAwake x → (m place : ℕ) (t : List ℕ) (p q : ℕ) (g : List ℕ → ℕ → Pass) {w : World} → In m → p < q → (part (q - p) p t ≡ part (q - p) place (bodyOf d m)) × (place + (q - p) ≤ length (bodyOf d m)) → Sound w → Leaves laws Any (tokenHere mixed x m place t p q g w)
   token-here notActive y m place t p q g i l c h = bind-any laws (copy-here m place (part (q - p) p t) (g (part (q - p) p t) q) i (rw length-part c) (omega (arith, length-part (q - p) p t)) h) λ _ v k. passes laws k
   token-here (active a x) y m place t p q g i l c h = replace-here m place t q a x y g i h
 
@@ -105,16 +106,16 @@ module _ {Sound : World → Type 0} {Of : Value → Type 0} {Left : ℕ → Type
   abbrev Lies : ℕ → ℕ → List ℕ → Type 0
   Lies m from t = (p q : ℕ) → p < q → q ≤ length t → (part (q - p) p t ≡ part (q - p) (from + p) (bodyOf d m)) × (from + p + (q - p) ≤ length (bodyOf d m))
 
-  text-leaves : (m from : ℕ) (t : List ℕ) → In m → Lies m from t → (f p : ℕ) (w : World) → Sound w → Leaves laws Any (textOn m from t f p w)
+  text-leaves : (m from : ℕ) (t : List ℕ) → In m → Lies m from t → (f p : ℕ) (w : World) → Sound w → Leaves laws Any (textOn mixed m from t f p w)
   unfolding textOn
   text-leaves m from t i z zero p w h = passes laws h
   text-leaves m from t i z (suc f) p w h = when-has (Leaves laws Any) (leb (length t) p) _ _ (λ _. passes laws h) λ e.
-      let l : p < pieceAt t p .to = pieceAt-past t p (leb-false (length t) p e) .above in
-      let k : pieceAt t p .to ≤ length t = pieceAt-past t p (leb-false (length t) p e) .within in
-      bind-any laws (placed-leaves laws _ (bind-any laws (charge-leaves laws h) λ _ v g. token-here (activeIn (pieceAt t p .piece) v) (awake-in (pieceAt t p .piece) v) m (from + p) t p (pieceAt t p .to) _ i l (z p (pieceAt t p .to) l k) g)) λ q x g.
+      let l : p < pieceAt mixed t p .to = pieceAt-past t p (leb-false (length t) p e) .above in
+      let k : pieceAt mixed t p .to ≤ length t = pieceAt-past t p (leb-false (length t) p e) .within in
+      bind-any laws (placed-leaves laws _ (bind-any laws (charge-leaves laws h) λ _ v g. token-here (activeIn (pieceAt mixed t p .piece) v) (awake-in (pieceAt mixed t p .piece) v) m (from + p) t p (pieceAt mixed t p .to) _ i l (z p (pieceAt mixed t p .to) l k) g)) λ q x g.
       text-leaves m from t i z f q x g
 
-  pub text-out-in : (m : ℕ) (x : Stretch) (w : World) → In m → TextOf (readMember (bodyOf d m)) x → Sound w → Leaves laws Any (textOut m (bodyOf d m) x w)
+  pub text-out-in : (m : ℕ) (x : Stretch) (w : World) → In m → TextOf (readMember mixed (bodyOf d m)) x → Sound w → Leaves laws Any (textOut mixed m (bodyOf d m) x w)
   unfolding textOut
   text-out-in m x w i o h =
       let n : ℕ = x .to - x .from in
@@ -123,7 +124,7 @@ module _ {Sound : World → Type 0} {Of : Value → Type 0} {Left : ℕ → Type
       text-leaves m (x .from) (part n (x .from) (bodyOf d m)) i (λ p q j k. (part-of-part (q - p) p n (x .from) (bodyOf d m) (omega (arith, length-part n (x .from) (bodyOf d m))), omega (arith, length-part n (x .from) (bodyOf d m)))) _ 0 v k
 
 -- ---- members, where program text keeps
-module _ {Sound : World → Type 0} {Of : Value → Type 0} {Left : ℕ → Type 0} (laws : Laws Sound Of Left) (d : List ℕ) (In : ℕ → Type 0) (founds : (x : Deck.Sought) (k : ℕ) → Deck.find x 0 (Deck.lines d) ≡ Deck.line k → In k) (texts : (m : ℕ) (x : Stretch) (w : World) → In m → TextOf (readMember (bodyOf d m)) x → Sound w → Leaves laws Any (textOut m (bodyOf d m) x w)) where
+module _ {Sound : World → Type 0} {Of : Value → Type 0} {Left : ℕ → Type 0} (laws : Laws Sound Of Left) (d : List ℕ) (In : ℕ → Type 0) (founds : (x : Deck.Sought) (k : ℕ) → Deck.find mixed x 0 (Deck.lines d) ≡ Deck.line k → In k) (texts : (m : ℕ) (x : Stretch) (w : World) → In m → TextOf (readMember mixed (bodyOf d m)) x → Sound w → Leaves laws Any (textOut mixed m (bodyOf d m) x w)) where
   awaken : (x : Activity) (a : ℕ) {w : World} → Sound w → Sound (W.setActivity x a w)
   awaken x a {w} h = laws .changed (W.setActivity x a w) w h (record { limit = refl; used = refl; layout = refl; events = refl; textLeft = refl; linesLeft = refl; passes = refl }) refl
 
@@ -181,18 +182,18 @@ module _ {Sound : World → Type 0} {Of : Value → Type 0} {Left : ℕ → Type
     include-entered unreadable-any inner is k j m n ps h = halt laws h
     include-entered (entered-sound {w = v} g) inner is k j m n ps h = bind-leaves laws (is k j (record { member = m; row = n } ∷ ps) v g) λ x y _ i. came-out m x i
 
-    include-at : (f : Deck.Found) → ((k : ℕ) → f ≡ Deck.line k → In k) → (l : Level) → KeepingLevel l → (p m n : ℕ) (ps : List Place) {w : World} → Sound w → Leaves laws (OfDeed Of) (includeAt f l d p m n ps w next)
+    include-at : (f : Deck.Found) → ((k : ℕ) → f ≡ Deck.line k → In k) → (l : Level) → KeepingLevel l → (p m n : ℕ) (ps : List Place) {w : World} → Sound w → Leaves laws (OfDeed Of) (includeAt mixed f l d p m n ps w next)
     include-at Deck.none j l is p m n ps h = halt laws h
     include-at (Deck.line k) j noLevel is p m n ps h = halt laws h
-    include-at (Deck.line k) j (level inner) is p m n ps {w} h = include-entered (enter-leaves laws k (readMember (bodyOf d k)) h) inner is k (j k refl) m n ps h
+    include-at (Deck.line k) j (level inner) is p m n ps {w} h = include-entered (enter-leaves laws k (readMember mixed (bodyOf d k)) h) inner is k (j k refl) m n ps h
 
   module _ (l : Level) (is : KeepingLevel l) where
-    pub include-all-in : (p m n : ℕ) (ps : List Place) (xs : List Deck.Sought) (w : World) → Sound w → Leaves laws (OfDeed Of) (includeAll l d p m n ps xs w)
+    pub include-all-in : (p m n : ℕ) (ps : List Place) (xs : List Deck.Sought) (w : World) → Sound w → Leaves laws (OfDeed Of) (includeAll mixed l d p m n ps xs w)
     unfolding includeAll
     include-all-in p m n ps [] w h = leaves tt h
-    include-all-in p m n ps (x ∷ xs) w h = include-at (λ v. includeAll l d p m n ps xs v) (include-all-in p m n ps xs) (Deck.find x 0 (Deck.lines d)) (founds x) l is p m n ps h
+    include-all-in p m n ps (x ∷ xs) w h = include-at (λ v. includeAll mixed l d p m n ps xs v) (include-all-in p m n ps xs) (Deck.find mixed x 0 (Deck.lines d)) (founds x) l is p m n ps h
 
-    act-as : (s : Statement) (p m n : ℕ) (ps : List Place) {w : World} → Sound w → Leaves laws (OfDeed Of) (actAs s l d p m n ps w)
+    act-as : (s : Statement) (p m n : ℕ) (ps : List Place) {w : World} → Sound w → Leaves laws (OfDeed Of) (actAs mixed s l d p m n ps w)
     act-as null p m n ps h = leaves tt h
     act-as (declare ns) p m n ps {w} h = placed-leaves laws _ (bind-leaves laws (activate-all rescanned ns w h) λ _ v _ k. leaves tt k)
     act-as (procedure ns t) p m n ps h = leaves tt h
@@ -206,27 +207,27 @@ module _ {Sound : World → Type 0} {Of : Value → Type 0} {Left : ℕ → Type
     act-as (deactivate ns) p m n ps {w} h = placed-leaves laws _ (bind-leaves laws (activate-all inactive ns w h) λ _ v _ k. leaves tt k)
     act-as (return x) p m n ps h = leaves tt h
 
-    source-leaves : (m : ℕ) → In m → (ps : List Place) (s : Source) → ((x : Stretch) → TextOf s x → TextOf (readMember (bodyOf d m)) x) → {w : World} → Sound w → Leaves laws (OfEnd Of) (runSource l d m ps s w)
+    source-leaves : (m : ℕ) → In m → (ps : List Place) (s : Source) → ((x : Stretch) → TextOf s x → TextOf (readMember mixed (bodyOf d m)) x) → {w : World} → Sound w → Leaves laws (OfEnd Of) (runSource mixed l d m ps s w)
     unfolding runSource memberMachine
     source-leaves m j ps s i {w} h =
-        let M : Machine Stop = memberMachine l d m ps s in
+        let M : Machine Stop = memberMachine mixed l d m ps s in
         let values : (x : Tree) (v : World) → Sound v → Leaves laws Of (M .value x v) = λ x v k. evaluate-leaves laws callOut (calls-leaves laws runningProcedures []) W.everyone x 0 v k in
         let acts : (n : ℕ) (v : World) → Sound v → Leaves laws (OfDeed Of) (M .act n v) = λ n v k. act-as (W.rowOf (s .rows) n .statement) _ m n ps k in
         let jumps : (n : ℕ) (t : List ℕ) (v : World) → Sound v → Leaves laws Any (M .jump n t v) = λ n t v k. placed-leaves laws _ (jump-from (W.addressOf t W.everyone v) m (s .rows) ps n k) in
         bind-any laws (lead-leaves laws M (TextOf s) behind leading values (λ x v k. texts m x v j (i x k)) acts jumps (s .lead) first h)
         λ _ v k. runOn-leaves laws M (TextOf s) behind leading values (λ x v k. texts m x v j (i x k)) acts jumps _ _ [] v k
 
-  pub member-leaves-in : (n : ℕ) → KeepingInner (runMember n d)
+  pub member-leaves-in : (n : ℕ) → KeepingInner (runMember mixed n d)
   unfolding runMember
-  member-leaves-in zero m j ps w h = source-leaves noLevel tt m j ps (readMember (bodyOf d m)) (λ x k. k) h
-  member-leaves-in (suc n) m j ps w h = source-leaves (level (runMember n d)) (member-leaves-in n) m j ps (readMember (bodyOf d m)) (λ x k. k) h
+  member-leaves-in zero m j ps w h = source-leaves noLevel tt m j ps (readMember mixed (bodyOf d m)) (λ x k. k) h
+  member-leaves-in (suc n) m j ps w h = source-leaves (level (runMember mixed n d)) (member-leaves-in n) m j ps (readMember mixed (bodyOf d m)) (λ x k. k) h
 
 -- ---- the same where nothing is said of members
 module _ {Sound : World → Type 0} {Of : Value → Type 0} {Left : ℕ → Type 0} (laws : Laws Sound Of Left) (d : List ℕ) where
-  pub text-out : ((e : Event) (g : Pass) (n : ℕ) (w : World) → Takes d e n w → Sound w → Sound (W.withEvent e g n w)) → (m : ℕ) (x : Stretch) (w : World) → TextOf (readMember (bodyOf d m)) x → Sound w → Leaves laws Any (textOut m (bodyOf d m) x w)
+  pub text-out : ((e : Event) (g : Pass) (n : ℕ) (w : World) → Takes d e n w → Sound w → Sound (W.withEvent e g n w)) → (m : ℕ) (x : Stretch) (w : World) → TextOf (readMember mixed (bodyOf d m)) x → Sound w → Leaves laws Any (textOut mixed m (bodyOf d m) x w)
   text-out happens m x w o h = text-out-in laws d Any (λ e g n v _. happens e g n v) m x w tt o h
 
-  module _ (texts : (m : ℕ) (x : Stretch) (w : World) → TextOf (readMember (bodyOf d m)) x → Sound w → Leaves laws Any (textOut m (bodyOf d m) x w)) where
+  module _ (texts : (m : ℕ) (x : Stretch) (w : World) → TextOf (readMember mixed (bodyOf d m)) x → Sound w → Leaves laws Any (textOut mixed m (bodyOf d m) x w)) where
     abbrev pub KeepingEach : Inner → Type 0
     KeepingEach inner = (k : ℕ) (ps : List Place) (w : World) → Sound w → Leaves laws (OfEnd Of) (inner k ps w)
 
@@ -234,9 +235,9 @@ module _ {Sound : World → Type 0} {Of : Value → Type 0} {Left : ℕ → Type
     KeepingEachLevel noLevel = Unit {0}
     KeepingEachLevel (level inner) = KeepingEach inner
 
-    pub include-all : (l : Level) → KeepingEachLevel l → (p m n : ℕ) (ps : List Place) (xs : List Deck.Sought) (w : World) → Sound w → Leaves laws (OfDeed Of) (includeAll l d p m n ps xs w)
+    pub include-all : (l : Level) → KeepingEachLevel l → (p m n : ℕ) (ps : List Place) (xs : List Deck.Sought) (w : World) → Sound w → Leaves laws (OfDeed Of) (includeAll mixed l d p m n ps xs w)
     include-all noLevel is p m n ps xs w h = include-all-in laws d Any (λ x k e. tt) (λ m x w _. texts m x w) noLevel tt p m n ps xs w h
     include-all (level inner) is p m n ps xs w h = include-all-in laws d Any (λ x k e. tt) (λ m x w _. texts m x w) (level inner) (λ k _. is k) p m n ps xs w h
 
-    pub member-leaves : (n : ℕ) → KeepingEach (runMember n d)
+    pub member-leaves : (n : ℕ) → KeepingEach (runMember mixed n d)
     member-leaves n m ps w h = member-leaves-in laws d Any (λ x k e. tt) (λ m x w _. texts m x w) n m tt ps w h

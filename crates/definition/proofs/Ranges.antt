@@ -13,7 +13,7 @@ use lib.Signed.{quotZ}
 use borrow.Author.Tests.{leb-true}
 use Rattle.definition.specs.Limits.{fixedWidth, valueLength, unfinishedBytes}
 use Rattle.definition.specs.Lists.{all, past, leading}
-use Rattle.definition.specs.Bytes.{isDigit, isBlank}
+use Rattle.definition.specs.Bytes.{mixed, isDigit, isBlank}
 use Rattle.definition.specs.Tokens.{isBit}
 use Rattle.definition.specs.Fixed as Fixed
 use Rattle.definition.specs.Fixed.{Result, inRange, ranged}
@@ -301,5 +301,5 @@ ranges = record {
 pub evaluate-fine : (n : ℕ) (ps : List Place) (k : Owner) (x : Tree) (u : ℕ) (w : World) → FineWorld w → {v : Value} {y : World} → evaluate (calls n ps) k x u w ≡ good v y → Fine v × FineWorld y
 evaluate-fine n ps k x u w h e = leaves-it ranges (evaluate-leaves ranges (calls n ps) (calls-leaves ranges n ps) k x u w h) e
 
-pub member-fine : (n : ℕ) (d : List ℕ) (m : ℕ) (ps : List Place) (w : World) → FineWorld w → {x : End} {y : World} → runMember n d m ps w ≡ good x y → FineWorld y
+pub member-fine : (n : ℕ) (d : List ℕ) (m : ℕ) (ps : List Place) (w : World) → FineWorld w → {x : End} {y : World} → runMember mixed n d m ps w ≡ good x y → FineWorld y
 member-fine n d m ps w h e = leaves-it ranges (member-leaves ranges d (text-out ranges d λ e _ k v _ g. record { cells = g .cells }) n m ps w h) e .1

@@ -4,6 +4,7 @@ use Prim.Native.Nat.{ℕ}
 use mathlib.Core.Bool.{Bool}
 use mathlib.Core.List.{List, []}
 use mathlib.Core.Path.{_≡_, refl, ap}
+use Rattle.definition.specs.Bytes.{mixed}
 use Rattle.definition.specs.Room.{zeros}
 use Rattle.definition.specs.Reading.{readMember}
 use Rattle.definition.specs.Events.{listBytes}
@@ -27,9 +28,9 @@ result-empty (good (returned v) w) h = absurd (h refl)
 result-empty (good (went t) w) h = absurd (h refl)
 result-empty (bad s u) h = (refl, refl)
 
-main-empty : (e : Entering) (d : List ℕ) → Empty (runMain e d)
+main-empty : (e : Entering) (d : List ℕ) → Empty (runMain mixed e d)
 main-empty (unreadable e p) d h = (refl, refl)
-main-empty (entered w) d h = result-empty (runMember includeLevels d 0 [] w) h
+main-empty (entered w) d h = result-empty (runMember mixed includeLevels d 0 [] w) h
 
 told-empty : (y : Layout) (d : List ℕ) (x : Expansion) → Empty x → Empty (toldAs y d x)
 unfolding asGiven
@@ -37,11 +38,11 @@ told-empty plain d x h n = h n
 told-empty cards d x h n = (h n .0, ap (asGiven (sizeIn d)) (h n .1))
 
 -- plain or cards
-pub refused-empty : (y : Layout) (roomy : Bool) (d : List ℕ) (textRoom listRoom steps : ℕ) → Empty (expansionOf y roomy d textRoom listRoom steps)
+pub refused-empty : (y : Layout) (roomy : Bool) (d : List ℕ) (textRoom listRoom steps : ℕ) → Empty (expansionOf mixed y roomy d textRoom listRoom steps)
 refused-empty y roomy d textRoom listRoom steps =
     let e : List ℕ = ranDeck y d in
     each-way Empty y roomy d textRoom listRoom steps (λ _ _. (refl, refl)) (λ _ _ _ _. (refl, refl)) (λ _ _ _ _. (refl, refl))
-    λ _ _ _. told-empty y e (ranIn y e textRoom listRoom steps) (main-empty (enter 0 (readMember (bodyOf e 0)) (worldFor y textRoom listRoom steps)) e)
+    λ _ _ _. told-empty y e (ranIn y e textRoom listRoom steps) (main-empty (enter 0 (readMember mixed (bodyOf e 0)) (worldFor y textRoom listRoom steps)) e)
 
 -- the rooms after a refusal
 pub refused-text : (x : Expansion) → Empty x → (x .number ≡ 0 → ⊥) → (n : ℕ) → textRoomAfter n x ≡ zeros n

@@ -9,6 +9,7 @@ use Prim.Native.Char.{code}
 use lib.Dec.{leb, eqb}
 use lib.ListN.{length, getD}
 use borrow.Author.Tests.{leb-false}
+use Rattle.definition.specs.Bytes.{mixed}
 use Rattle.definition.specs.Limits.{openGroups}
 use Rattle.definition.specs.Refusal.{Why, syntax, overLimit}
 use Rattle.definition.specs.Tokens as Tokens
@@ -91,68 +92,68 @@ module _ (s : List ℕ) where
   elsed-fine (elseTo q) i os st f h k = going (like _ refl refl h)
   elsed-fine noElse i os st f h k = k
 
-  complete-in : (k : Where) (i : ℕ) (os : List Open) (n e : ℕ) (st : State) (f : ℕ → Turn) → Fine st → FineTurn (f i) → FineTurn (completeIn k s i os n e st f)
+  complete-in : (k : Where) (i : ℕ) (os : List Open) (n e : ℕ) (st : State) (f : ℕ → Turn) → Fine st → FineTurn (f i) → FineTurn (completeIn mixed k s i os n e st f)
   complete-in inProgram i os n e st f h g = going h
   complete-in inGroup i os n e st f h g = going h
   complete-in inBody i os n e st f h g = going h
-  complete-in inThen i os n e st f h g = elsed-fine (elseAt (isInside (st .scope)) s e) i os st _ h g
+  complete-in inThen i os n e st f h g = elsed-fine (elseAt mixed (isInside (st .scope)) s e) i os st _ h g
   complete-in inElse i os n e st f h g = g
 
-  complete-fine : (os : List Open) (n e : ℕ) (st : State) → Fine st → FineTurn (complete s os n e st)
+  complete-fine : (os : List Open) (n e : ℕ) (st : State) → Fine st → FineTurn (complete mixed s os n e st)
   unfolding complete
   complete-fine [] n e st h = finishing h
   complete-fine (o ∷ os) n e st h = complete-in (o .kind) (o .row) os n e _ _ (like _ refl refl h) (complete-fine os (o .row) e st h)
 
-  opened-fine : (o : Opens) (n : ℕ) (ns : List Named) (e : ℕ) (st : State) → Fine st → FineTurn (opened o s n ns e st)
+  opened-fine : (o : Opens) (n : ℕ) (ns : List Named) (e : ℕ) (st : State) → Fine st → FineTurn (opened mixed o s n ns e st)
   opened-fine opensNothing n ns e st h = complete-fine (st .opened) n e st h
   opened-fine opensGroup n ns e st h = going (like _ refl refl h)
   opened-fine opensBody n ns e st h = going (like _ refl refl h)
   opened-fine opensThen n ns e st h = going (like _ refl refl h)
 
-  taken-fine : (p : ℕ) (ns : List Named) (st : State) (c : Clause) (ds : List Declared) → Fine st → FineTurn (taken s p ns st c ds)
+  taken-fine : (p : ℕ) (ns : List Named) (st : State) (c : Clause) (ds : List Declared) → Fine st → FineTurn (taken mixed s p ns st c ds)
   unfolding taken
   taken-fine p ns st c ds h = opened-fine (c .opens) _ ns (c .to) _ (like _ refl refl (add-row (c .statement) p st h))
 
   untaken-fine : (p : ℕ) (ns : List Named) (st : State) (w : Why) (q : ℕ) (ds : List Declared) → Fine st → FineTurn (untaken p ns st w q ds)
   untaken-fine p ns st w q ds h = stopping (like _ refl refl h)
 
-  take-read : (p : ℕ) (ns : List Named) (st : State) (r : Reading Clause) → Fine st → FineTurn (takeRead s p ns st r)
+  take-read : (p : ℕ) (ns : List Named) (st : State) (r : Reading Clause) → Fine st → FineTurn (takeRead mixed s p ns st r)
   take-read p ns st (read c) h = taken-fine p ns st c [] h
   take-read p ns st (refused w q) h = untaken-fine p ns st w q [] h
 
-  take-declared : (p : ℕ) (ns : List Named) (st : State) (r : Declaring) → Fine st → FineTurn (takeDeclared s p ns st r)
+  take-declared : (p : ℕ) (ns : List Named) (st : State) (r : Declaring) → Fine st → FineTurn (takeDeclared mixed s p ns st r)
   take-declared p ns st (declared c ds) h = taken-fine p ns st c ds h
   take-declared p ns st (undeclared w q ds) h = untaken-fine p ns st w q ds h
 
-  common-fine : (t : Lexeme) (st : State) (f : Reading Clause → Turn) (g : Unit {0} → Turn) → ((r : Reading Clause) → FineTurn (f r)) → FineTurn (g tt) → FineTurn (common s t st f g)
+  common-fine : (t : Lexeme) (st : State) (f : Reading Clause → Turn) (g : Unit {0} → Turn) → ((r : Reading Clause) → FineTurn (f r)) → FineTurn (g tt) → FineTurn (common mixed s t st f g)
   unfolding common
   common-fine t st f g h k =
       when-has FineTurn (isWord "IF" (t .token)) _ _ (λ _. h _) λ _. when-has FineTurn (isWord "DO" (t .token)) _ _ (λ _. h _) λ _.
       when-has FineTurn (isWord "GOTO" (t .token)) _ _ (λ _. h _) λ _. when-has FineTurn (isWord "GO" (t .token)) _ _ (λ _. h _) λ _. k
 
-  list-fine : (p : ℕ) (ns : List Named) (t : Lexeme) (st : State) (g : Unit {0} → Turn) → Fine st → FineTurn (g tt) → FineTurn (inList s p ns t st g)
+  list-fine : (p : ℕ) (ns : List Named) (t : Lexeme) (st : State) (g : Unit {0} → Turn) → Fine st → FineTurn (g tt) → FineTurn (inList mixed s p ns t st g)
   unfolding inList
   list-fine p ns t st g h k =
-      when-has FineTurn (isList (kindOf (st .opened)) && isDeclare (t .token)) _ _ (λ _. take-declared p ns st (declareFrom (st .scope) s (length s) [] (t .to)) h) λ _.
-      when-has FineTurn (isList (kindOf (st .opened)) && not (isInside (st .scope)) && not (isNone ns) && isProcedure (t .token)) _ _ (λ _. take-declared p ns st (procedureClause (inside (length (st .rows))) s (t .to)) h) λ _. k
+      when-has FineTurn (isList (kindOf (st .opened)) && isDeclare (t .token)) _ _ (λ _. take-declared p ns st (declareFrom mixed (st .scope) s (length s) [] (t .to)) h) λ _.
+      when-has FineTurn (isList (kindOf (st .opened)) && not (isInside (st .scope)) && not (isNone ns) && isProcedure (t .token)) _ _ (λ _. take-declared p ns st (procedureClause mixed (inside (length (st .rows))) s (t .to)) h) λ _. k
 
-  outer-fine : (k : Scope) (t : Lexeme) (f : Reading Clause → Turn) (g : Unit {0} → Turn) → ((r : Reading Clause) → FineTurn (f r)) → FineTurn (g tt) → FineTurn (outer k s t f g)
+  outer-fine : (k : Scope) (t : Lexeme) (f : Reading Clause → Turn) (g : Unit {0} → Turn) → ((r : Reading Clause) → FineTurn (f r)) → FineTurn (g tt) → FineTurn (outer mixed k s t f g)
   outer-fine global t f g h k =
       when-has FineTurn (isWord "INCLUDE" (t .token)) _ _ (λ _. h _) λ _. when-has FineTurn (isWord "ACTIVATE" (t .token) || isWord "ACT" (t .token)) _ _ (λ _. h _) λ _.
       when-has FineTurn (isWord "DEACTIVATE" (t .token) || isWord "DEACT" (t .token)) _ _ (λ _. h _) λ _. k
   outer-fine (inside r) t f g h k = when-has FineTurn (isWord "RETURN" (t .token)) _ _ (λ _. h _) λ _. k
 
-  by-word : (p : ℕ) (ns : List Named) (w : List ℕ) (t u : Lexeme) (st : State) → Fine st → FineTurn (byWord s p ns w t u st)
+  by-word : (p : ℕ) (ns : List Named) (w : List ℕ) (t u : Lexeme) (st : State) → Fine st → FineTurn (byWord mixed s p ns w t u st)
   unfolding byWord
   by-word p ns w t u st h =
-      when-has FineTurn (isSign "=" (u .token)) _ _ (λ _. take-read p ns st (assignment s w (u .to)) h) λ _.
+      when-has FineTurn (isSign "=" (u .token)) _ _ (λ _. take-read p ns st (assignment mixed s w (u .to)) h) λ _.
       common-fine t st _ _ (λ r. take-read p ns st r h) (outer-fine (st .scope) t _ _ (λ r. take-read p ns st r h) (list-fine p ns t st _ h (untaken-fine p ns st syntax (u .from) [] h)))
 
-  by-name : (n : Reading Named) (p : ℕ) (ns : List Named) (t : Lexeme) (st : State) → Fine st → FineTurn (byName n s p ns t st)
+  by-name : (n : Reading Named) (p : ℕ) (ns : List Named) (t : Lexeme) (st : State) → Fine st → FineTurn (byName mixed n s p ns t st)
   by-name (read n) p ns t st h = by-word p ns (n .spelling) t _ st h
   by-name (refused w q) p ns t st h = untaken-fine p ns st w q [] h
 
-  by-token : (x : Token) (p : ℕ) (ns : List Named) (t : Lexeme) (st : State) → Fine st → FineTurn (byToken x s p ns t st)
+  by-token : (x : Token) (p : ℕ) (ns : List Named) (t : Lexeme) (st : State) → Fine st → FineTurn (byToken mixed x s p ns t st)
   by-token (word w) p ns t st h = by-name (nameOf (word w) (t .from) (t .to)) p ns t st h
   by-token (integer w) p ns t st h = untaken-fine p ns st syntax _ [] h
   by-token (string w) p ns t st h = untaken-fine p ns st syntax _ [] h
@@ -161,22 +162,22 @@ module _ (s : List ℕ) where
   by-token nothing p ns t st h = untaken-fine p ns st syntax _ [] h
   by-token wrong p ns t st h = untaken-fine p ns st syntax _ [] h
 
-  end-read : (ns : List Named) (o : Open) (os : List Open) (st : State) (r : Reading ℕ) → Fine st → FineTurn (endRead s ns o os st r)
+  end-read : (ns : List Named) (o : Open) (os : List Open) (st : State) (r : Reading ℕ) → Fine st → FineTurn (endRead mixed s ns o os st r)
   end-read ns o os st (read e) h = complete-fine os (o .row) e _ (like _ refl refl h)
   end-read ns o os st (refused w q) h = stopping (like _ refl refl h)
 
-  end-at : (ns : List Named) (p : ℕ) (os : List Open) (st : State) → Fine st → FineTurn (endAt s ns p os st)
+  end-at : (ns : List Named) (p : ℕ) (os : List Open) (st : State) → Fine st → FineTurn (endAt mixed s ns p os st)
   end-at ns p [] st h = stopping h
-  end-at ns p (o ∷ os) st h = end-read ns o os st (endName s (o .labels) p) h
+  end-at ns p (o ∷ os) st h = end-read ns o os st (endName mixed s (o .labels) p) h
 
   too-long : (ps : List ℕ) (f : ℕ → Turn) (g : Unit {0} → Turn) → ((p : ℕ) → FineTurn (f p)) → FineTurn (g tt) → FineTurn (longLabel ps f g)
   too-long [] f g h k = k
   too-long (p ∷ ps) f g h k = h p
 
-  clause-fine : (p : ℕ) (L : Labelled) (st : State) → Fine st → FineTurn (clauseFrom s p L st)
+  clause-fine : (p : ℕ) (L : Labelled) (st : State) → Fine st → FineTurn (clauseFrom mixed s p L st)
   unfolding clauseFrom
   clause-fine p L st h =
-      when-has FineTurn (isInGroup (kindOf (st .opened)) && isEnd s (L .behind)) _ _
+      when-has FineTurn (isInGroup (kindOf (st .opened)) && isEnd mixed s (L .behind)) _ _
       (λ _. too-long (L .long) _ _ (λ q. stopping (like _ refl refl h)) (end-at (L .labels) _ (st .opened) st h)) λ _.
       when-has FineTurn (isFull st) _ _ (λ _. stopping h) λ _.
       too-long (L .long) _ _ (λ q. untaken-fine p (L .labels) st overLimit q [] h) (by-token (L .behind .token) p (L .labels) (L .behind) st h)
@@ -192,16 +193,16 @@ module _ (s : List ℕ) where
   text-on plain p q f h k = k q
   text-on unclosed p q f h k = at-open h
 
-  text-ends : (f p : ℕ) → EndsIn (textEnd f s p)
+  text-ends : (f p : ℕ) → EndsIn (textEnd mixed f s p)
   unfolding textEnd
   text-ends zero p = at-end
   text-ends (suc f) p =
       when-has EndsIn (leb (length s) p) _ _ (λ _. at-end) λ e.
       let h : p ≤ length s = omega (arith, leb-false (length s) p e) in
-      when-has EndsIn (eqb (getD s p 0) (code "%")) _ _ (λ _. at-percent h) λ _. text-on (pieceAt s p .piece) p (pieceAt s p .to) (textEnd f s) h (text-ends f)
+      when-has EndsIn (eqb (getD s p 0) (code "%")) _ _ (λ _. at-percent h) λ _. text-on (pieceAt mixed s p .piece) p (pieceAt mixed s p .to) (textEnd mixed f s) h (text-ends f)
 
-  texted-fine : {e : TextEnd} → EndsIn e → (f : ℕ → State) → ((p : ℕ) → p ≤ length s → Fine (f p)) → FineTurn (texted e s f)
-  texted-fine (at-percent {p} h) f k = clause-fine p (labels s (p + 1)) (f p) (k p h)
+  texted-fine : {e : TextEnd} → EndsIn e → (f : ℕ → State) → ((p : ℕ) → p ≤ length s → Fine (f p)) → FineTurn (texted mixed e s f)
+  texted-fine (at-percent {p} h) f k = clause-fine p (labels mixed s (p + 1)) (f p) (k p h)
   texted-fine at-end f k = cond-has FineTurn (leb (length (f 0 .opened)) 1) _ _ (λ _. finishing (k (length s) (omega arith))) λ _. stopping (k (length s) (omega arith))
   texted-fine (at-open {p} h) f k = stopping (k p h)
 
@@ -216,42 +217,42 @@ module _ (s : List ℕ) where
       at-kind inThen = k
       at-kind inElse = k
 
-  not-end : (n : Reading Named) (st : State) → Fine st → FineTurn (notEnd n s st)
+  not-end : (n : Reading Named) (st : State) → Fine st → FineTurn (notEnd mixed n s st)
   not-end (read n) st h = stopping h
   not-end (refused w p) st h = stopping h
 
-  procedure-end : (L : Labelled) (st : State) → Fine st → FineTurn (procedureEnd s L st)
+  procedure-end : (L : Labelled) (st : State) → Fine st → FineTurn (procedureEnd mixed s L st)
   procedure-end L st h =
       too-long (L .long) _ _ (λ q. stopping (like _ refl refl h))
       (when-has FineTurn (isWord "END" (L .behind .token)) _ _ (λ _. end-at (L .labels) _ (st .opened) st h) λ _. not-end (nameOf (L .behind .token) (L .behind .from) (L .behind .to)) _ (like _ refl refl h))
 
-  inner-fine : (p : ℕ) (t : Lexeme) (st : State) → Fine st → FineTurn (innerAt s p t st)
+  inner-fine : (p : ℕ) (t : Lexeme) (st : State) → Fine st → FineTurn (innerAt mixed s p t st)
   unfolding innerAt
   inner-fine p t st h =
-      when-has FineTurn (isInBody (kindOf (st .opened)) && isSign "%" (t .token)) _ _ (λ _. procedure-end (labels s (t .to)) st h) λ _.
+      when-has FineTurn (isInBody (kindOf (st .opened)) && isSign "%" (t .token)) _ _ (λ _. procedure-end (labels mixed s (t .to)) st h) λ _.
       when-has FineTurn (begins (t .token)) _ _ (λ _. clause-fine (t .from) _ st h) λ _. stopping h
 
   deep-fine : (p : ℕ) (st : State) (f : Unit {0} → Turn) → Fine st → FineTurn (f tt) → FineTurn (deepEnough p st f)
   unfolding deepEnough
   deep-fine p st f h k = when-has FineTurn (leb (depth (st .opened)) openGroups) _ _ (λ _. k) λ _. stopping h
 
-  alternative-fine : (k : Scope) (p : ℕ) (t : Lexeme) (st : State) → Fine st → FineTurn (alternativeAt k s p t st)
+  alternative-fine : (k : Scope) (p : ℕ) (t : Lexeme) (st : State) → Fine st → FineTurn (alternativeAt mixed k s p t st)
   alternative-fine global p t st h = when-has FineTurn (isSign "%" (t .token)) _ _ (λ _. deep-fine (t .from) st _ h (clause-fine (t .from) _ st h)) λ _. stopping h
   alternative-fine (inside r) p t st h = when-has FineTurn (begins (t .token)) _ _ (λ _. deep-fine (t .from) st _ h (clause-fine (t .from) _ st h)) λ _. stopping h
 
-  turn-fine : (m : Mode) (p : ℕ) (st : State) → Fine st → FineTurn (turn s m p st)
+  turn-fine : (m : Mode) (p : ℕ) (st : State) → Fine st → FineTurn (turn mixed s m p st)
   unfolding turn
   turn-fine leadingText p st h = texted-fine (text-ends (suc (length s)) p) _ (λ q i. lead-in (st .opened) p q st i h)
   turn-fine (textBehind n) p st h = texted-fine (text-ends (suc (length s)) p) _ (λ q i. record { lead = h .lead; rows = change-fine n (setText (R.stretch p q)) (λ r j. (j .0, i)) (st .rows) (h .rows) })
-  turn-fine alternative p st h = alternative-fine (st .scope) p (tokenAt s p) st h
-  turn-fine inner p st h = inner-fine p (tokenAt s p) st h
+  turn-fine alternative p st h = alternative-fine (st .scope) p (tokenAt mixed s p) st h
+  turn-fine inner p st h = inner-fine p (tokenAt mixed s p) st h
 
   -- a member that was read: its texts lie within
   pub record Inside (x : Source) : Type 0 where
     pub lead : x .lead .to ≤ length s
     pub rows : FineRows (x .rows)
 
-  read-fine : (f : ℕ) {t : Turn} → FineTurn t → Inside (readOn s f t)
+  read-fine : (f : ℕ) {t : Turn} → FineTurn t → Inside (readOn mixed s f t)
   unfolding readOn
   read-fine zero (going h) = record { lead = h .lead; rows = h .rows }
   read-fine zero (stopping h) = record { lead = h .lead; rows = h .rows }
@@ -260,7 +261,7 @@ module _ (s : List ℕ) where
   read-fine (suc f) (stopping h) = record { lead = h .lead; rows = h .rows }
   read-fine (suc f) (finishing h) = record { lead = h .lead; rows = h .rows }
 
-  pub member-inside : Inside (readMember s)
+  pub member-inside : Inside (readMember mixed s)
   unfolding readMember
   member-inside = read-fine (suc (suc (length s))) (going (record { lead = omega arith; rows = tt }))
 
@@ -275,7 +276,7 @@ pub data TextOf (x : Source) : Stretch → Type 0 where
   behind : (n : ℕ) → TextOf x (rowOf (x .rows) n .text)
   leading : (n : ℕ) → TextOf x (rowOf (x .rows) n .lead)
 
-pub text-inside : (s : List ℕ) {t : Stretch} → TextOf (readMember s) t → t .to ≤ length s
+pub text-inside : (s : List ℕ) {t : Stretch} → TextOf (readMember mixed s) t → t .to ≤ length s
 text-inside s first = member-inside s .lead
-text-inside s (behind n) = row-inside s (readMember s .rows) (member-inside s .rows) n .1
-text-inside s (leading n) = row-inside s (readMember s .rows) (member-inside s .rows) n .0
+text-inside s (behind n) = row-inside s (readMember mixed s .rows) (member-inside s .rows) n .1
+text-inside s (leading n) = row-inside s (readMember mixed s .rows) (member-inside s .rows) n .0

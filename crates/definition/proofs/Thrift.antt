@@ -5,6 +5,7 @@ use native.Mathlib.Omega.{arith}
 use mathlib.Core.Bool.{Bool}
 use mathlib.Core.List.{List, []}
 use mathlib.Core.Path.{_≡_, refl, _∙_}
+use Rattle.definition.specs.Bytes.{mixed}
 use Rattle.definition.specs.Limits.{includeLevels}
 use Rattle.definition.specs.Reading.{readMember}
 use Rattle.definition.specs.Expressions.{Tree}
@@ -75,21 +76,21 @@ result-used (good (returned v) w) = refl
 result-used (good (went t) w) = refl
 result-used (bad s u) = refl
 
-main-fits : (limit : ℕ) {e : Entering} (d : List ℕ) → SoundEntering (thrift 0 limit) e → runMain e d .steps ≤ limit
+main-fits : (limit : ℕ) {e : Entering} (d : List ℕ) → SoundEntering (thrift 0 limit) e → runMain mixed e d .steps ≤ limit
 main-fits limit d unreadable-any = omega arith
 main-fits limit d (entered-sound {w} h) = rw result-used (spent-by 0 limit (member-leaves (thrift 0 limit) d (text-out (thrift 0 limit) d λ e _ n v _ k. record { same = k .same; spent = k .spent }) includeLevels 0 [] w h) .1)
 
 run-fits : (y : Layout) (d : List ℕ) (textRoom listRoom steps : ℕ) → ranIn y d textRoom listRoom steps .steps ≤ steps
 run-fits y d textRoom listRoom steps =
     let h : Kept 0 steps (worldFor y textRoom listRoom steps) = record { same = refl; spent = omega arith } in
-    main-fits steps d (enter-leaves (thrift 0 steps) 0 (readMember (bodyOf d 0)) h)
+    main-fits steps d (enter-leaves (thrift 0 steps) 0 (readMember mixed (bodyOf d 0)) h)
 
 told-steps : (y : Layout) (d : List ℕ) (x : Expansion) → toldAs y d x .steps ≡ x .steps
 told-steps plain d x = refl
 told-steps cards d x = refl
 
 -- plain or cards
-pub expansion-fits : (y : Layout) (roomy : Bool) (d : List ℕ) (textRoom listRoom steps : ℕ) → expansionOf y roomy d textRoom listRoom steps .steps ≤ steps
+pub expansion-fits : (y : Layout) (roomy : Bool) (d : List ℕ) (textRoom listRoom steps : ℕ) → expansionOf mixed y roomy d textRoom listRoom steps .steps ≤ steps
 expansion-fits y roomy d textRoom listRoom steps =
     let e : List ℕ = ranDeck y d in
     each-way (λ (x : Expansion). x .steps ≤ steps) y roomy d textRoom listRoom steps (λ _. omega arith) (λ _ _ _. omega arith) (λ _ _ _. omega arith)

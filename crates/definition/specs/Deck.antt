@@ -6,7 +6,7 @@ use lib.Dec.{leb, eqb}
 use lib.ListN.{getD, length, replicate}
 use Rattle.definition.specs.Limits.{deckBytes, deckLines, memberNameLength}
 use Rattle.definition.specs.Lists.{part, number, all, past, same}
-use Rattle.definition.specs.Bytes.{isLetter, isAlphameric, isBlank}
+use Rattle.definition.specs.Bytes.{Letters, isLetter, isAlphameric, isBlank, folded}
 
 -- a line of the contents: the names of its library and its member with their blanks, where the body begins, and how long
 -- it is; a line of 01's layout has no library
@@ -57,22 +57,26 @@ abbrev pub lines : List ℕ → List Line
 lines d = linesFrom d 0 (count d)
 
 -- "an identifier padded with blanks"
-unfoldable pub isMemberName : List ℕ → Bool
-isMemberName w = isLetter (getD w 0 0) && all isBlank (past isAlphameric w)
+unfoldable pub isMemberName : Letters → List ℕ → Bool
+isMemberName α w = isLetter α (getD w 0 0) && all isBlank (past (isAlphameric α) w)
 
 -- the library's name follows the same rule, where the layout has one
-unfoldable pub areNamed : Bool → List Line → Bool
-areNamed b [] = true
-areNamed b (l ∷ ls) = cond b (isMemberName (l .library)) true && isMemberName (l .name) && areNamed b ls
+unfoldable pub areNamed : Letters → Bool → List Line → Bool
+areNamed α b [] = true
+areNamed α b (l ∷ ls) = cond b (isMemberName α (l .library)) true && isMemberName α (l .name) && areNamed α b ls
+
+-- 02, C-15: "names equal but for case are one name .. member names" too
+abbrev pub isOne : Letters → List ℕ → List ℕ → Bool
+isOne α a b = same (folded α a) (folded α b)
 
 -- 02, C-14: "Names must be distinct as pairs."
-unfoldable pub isRepeated : Line → List Line → Bool
-isRepeated l [] = false
-isRepeated l (m ∷ ms) = cond (same (m .library) (l .library) && same (m .name) (l .name)) true (isRepeated l ms)
+unfoldable pub isRepeated : Letters → Line → List Line → Bool
+isRepeated α l [] = false
+isRepeated α l (m ∷ ms) = cond (isOne α (m .library) (l .library) && isOne α (m .name) (l .name)) true (isRepeated α l ms)
 
-unfoldable pub areDistinct : List Line → Bool
-areDistinct [] = true
-areDistinct (l ∷ ls) = not (isRepeated l ls) && areDistinct ls
+unfoldable pub areDistinct : Letters → List Line → Bool
+areDistinct α [] = true
+areDistinct α (l ∷ ls) = not (isRepeated α l ls) && areDistinct α ls
 
 -- ---- how a member is looked up
 -- what INCLUDE names: a member, or 02, C-14: `library(member)`
@@ -81,23 +85,23 @@ pub data Sought : Type 0 where
   inLibrary : List ℕ → List ℕ → Sought
 
 -- whether a name of the contents is the word w, padded with blanks
-unfoldable pub isPadded : List ℕ → List ℕ → Bool
-isPadded w n = same n (w ++ replicate (memberNameLength - length w) 32)
+unfoldable pub isPadded : Letters → List ℕ → List ℕ → Bool
+isPadded α w n = same (folded α n) (w ++ replicate (memberNameLength - length w) 32)
 
 -- "A bare member name means the first line with that member name, library ignored."; in a line of 01's layout "no line
 -- meets" a library, since it has none
-unfoldable pub isCalled : Sought → Line → Bool
-isCalled (bare w) l = isPadded w (l .name)
-isCalled (inLibrary k w) l = isPadded k (l .library) && isPadded w (l .name)
+unfoldable pub isCalled : Letters → Sought → Line → Bool
+isCalled α (bare w) l = isPadded α w (l .name)
+isCalled α (inLibrary k w) l = isPadded α k (l .library) && isPadded α w (l .name)
 
 pub data Found : Type 0 where
   none : Found
   line : ℕ → Found
 
 -- the first line that is called so; the lines are numbered from k on
-unfoldable pub find : Sought → ℕ → List Line → Found
-find x k [] = none
-find x k (l ∷ ls) = cond (isCalled x l) (line k) (find x (suc k) ls)
+unfoldable pub find : Letters → Sought → ℕ → List Line → Found
+find α x k [] = none
+find α x k (l ∷ ls) = cond (isCalled α x l) (line k) (find α x (suc k) ls)
 
 -- "Bodies follow in order without gaps; the deck ends with the last. Offsets .. must say just that."
 unfoldable pub follow : ℕ → List Line → ℕ → Bool
@@ -105,18 +109,18 @@ follow at [] end = eqb at end
 follow at (l ∷ ls) end = eqb (l .offset) at && follow (at + l .size) ls end
 
 -- all that "The deck" asks of the bytes d
-unfoldable pub isSound : List ℕ → Bool
-isSound d =
+unfoldable pub isSound : Letters → List ℕ → Bool
+isSound α d =
     leb (length d) deckBytes
     && leb 1 (count d)
     && leb (count d) deckLines
     && leb (linePlace d (count d)) (length d)
-    && areNamed (hasLibraries d) (lines d)
-    && areDistinct (lines d)
+    && areNamed α (hasLibraries d) (lines d)
+    && areDistinct α (lines d)
     && follow (linePlace d (count d)) (lines d) (length d)
 
-unfoldable pub contents : List ℕ → Contents
-contents d = cond (isSound d) (holds (lines d)) malformed
+unfoldable pub contents : Letters → List ℕ → Contents
+contents α d = cond (isSound α d) (holds (lines d)) malformed
 
 -- "A member is looked at through a view": the byte of a body at a place, 0 past its end
 unfoldable pub bodyByte : List ℕ → Line → ℕ → ℕ

@@ -5,6 +5,7 @@ use Prim.Native.Nat.{ℕ, _/_}
 use mathlib.Core.Bool.{Bool, cond}
 use mathlib.Core.List.{List, []}
 use lib.Dec.{leb, eqb}
+use Rattle.definition.specs.Bytes.{Letters}
 use Rattle.definition.specs.Choice.{when}
 use Rattle.definition.specs.Limits.{includeLevels, textBytes, originLineBytes}
 use Rattle.definition.specs.Refusal.{Why, malformedDeck, shortRoom, unevenBody, numberOf}
@@ -50,9 +51,9 @@ result (good (went t) w) = finished w
 result (bad s u) = refusal (s .why) (s .member) (s .place) u
 
 -- "The main program is read before anything runs"; line 0 is the main program
-abbrev pub runMain : Entering → List ℕ → Expansion
-runMain (unreadable e p) d = refusal e 0 p 0
-runMain (entered w) d = result (runMember includeLevels d 0 [] w)
+abbrev pub runMain : Letters → Entering → List ℕ → Expansion
+runMain α (unreadable e p) d = refusal e 0 p 0
+runMain α (entered w) d = result (runMember α includeLevels d 0 [] w)
 
 -- the text room counts "at 4,294,967,295 bytes at most"
 abbrev pub capped : ℕ → ℕ
@@ -65,11 +66,11 @@ abbrev pub mainWorld : ℕ → ℕ → ℕ → World
 mainWorld textRoom listRoom steps = worldFor plain textRoom listRoom steps
 
 -- THE EXPANSION of the plain deck d; `roomy` says whether the working rooms are long enough
-unfoldable pub expansion : Bool → List ℕ → ℕ → ℕ → ℕ → Expansion
-expansion roomy d textRoom listRoom steps =
-    when (isSound d)
+unfoldable pub expansion : Letters → Bool → List ℕ → ℕ → ℕ → ℕ → Expansion
+expansion α roomy d textRoom listRoom steps =
+    when (isSound α d)
     (λ _. when roomy
-    (λ _. runMain (enter 0 (readMember (bodyOf d 0)) (mainWorld textRoom listRoom steps)) d)
+    (λ _. runMain α (enter 0 (readMember α (bodyOf d 0)) (mainWorld textRoom listRoom steps)) d)
     (λ _. refusal shortRoom 0 0 0))
     (λ _. refusal malformedDeck 0 0 0)
 
@@ -87,21 +88,21 @@ told d x = record {
   lines = asGiven (sizeIn d) (x .lines);
 }
 
-abbrev pub runCards : List ℕ → ℕ → ℕ → ℕ → Expansion
-runCards d textRoom listRoom steps =
-    told d (runMain (enter 0 (readMember (bodyOf d 0)) (worldFor cards textRoom listRoom steps)) d)
+abbrev pub runCards : Letters → List ℕ → ℕ → ℕ → ℕ → Expansion
+runCards α d textRoom listRoom steps =
+    told d (runMain α (enter 0 (readMember α (bodyOf d 0)) (worldFor cards textRoom listRoom steps)) d)
 
 -- "Refusals: 20, .. after 1 and before 2, place the first such member at offset 0"
-abbrev pub cardsIn : Deck.Found → Bool → List ℕ → ℕ → ℕ → ℕ → Expansion
-cardsIn (Deck.line k) roomy d textRoom listRoom steps = refusal unevenBody k 0 0
-cardsIn Deck.none roomy d textRoom listRoom steps =
-    when roomy (λ _. runCards (joined d) textRoom listRoom steps) (λ _. refusal shortRoom 0 0 0)
+abbrev pub cardsIn : Letters → Deck.Found → Bool → List ℕ → ℕ → ℕ → ℕ → Expansion
+cardsIn α (Deck.line k) roomy d textRoom listRoom steps = refusal unevenBody k 0 0
+cardsIn α Deck.none roomy d textRoom listRoom steps =
+    when roomy (λ _. runCards α (joined d) textRoom listRoom steps) (λ _. refusal shortRoom 0 0 0)
 
 -- THE EXPANSION of the deck d: "The caller says whether a deck is plain or cards"
-unfoldable pub expansionOf : Layout → Bool → List ℕ → ℕ → ℕ → ℕ → Expansion
-expansionOf plain roomy d textRoom listRoom steps = expansion roomy d textRoom listRoom steps
-expansionOf cards roomy d textRoom listRoom steps =
-    when (isSound d) (λ _. cardsIn (uneven 0 (Deck.lines d)) roomy d textRoom listRoom steps)
+unfoldable pub expansionOf : Letters → Layout → Bool → List ℕ → ℕ → ℕ → ℕ → Expansion
+expansionOf α plain roomy d textRoom listRoom steps = expansion α roomy d textRoom listRoom steps
+expansionOf α cards roomy d textRoom listRoom steps =
+    when (isSound α d) (λ _. cardsIn α (uneven 0 (Deck.lines d)) roomy d textRoom listRoom steps)
     (λ _. refusal malformedDeck 0 0 0)
 
 -- "Past the reported ends both rooms are zero."

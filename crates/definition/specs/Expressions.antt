@@ -10,6 +10,7 @@ pub use Rattle.definition.specs.declared.Operator.{Operator}
 pub use Rattle.definition.specs.declared.Operator.the-variants.{OrOp as orOp, AndOp as andOp, Greater as greater, GreaterEqual as greaterEqual, Equal as equal, Less as less, LessEqual as lessEqual, NotGreater as notGreater, NotEqual as notEqual, NotLess as notLess, CatOp as catOp, Plus as plus, Minus as minus, Times as times, Divided as divided}
 pub use Rattle.definition.specs.declared.Prefix.{Prefix}
 pub use Rattle.definition.specs.declared.Prefix.the-variants.{Positive as positive, Negative as negative, Complement as complement}
+use Rattle.definition.specs.Bytes.{Letters}
 use Rattle.definition.specs.Choice.{when}
 use Rattle.definition.specs.Limits.{nameLength, openParentheses}
 use Rattle.definition.specs.Refusal.{Why, syntax, overLimit}
@@ -76,13 +77,13 @@ prefixOf t =
     orElse (isSign "+" t) positive (orElse (isSign "-" t) negative (orElse (isSign "^" t) complement noOperator))
 
 -- ---- tokens that must follow
-unfoldable pub expectSign : String → List ℕ → ℕ → Reading ℕ
-expectSign w s at =
-    cond (isSign w (tokenAt s at .token)) (read (tokenAt s at .to)) (refused syntax (tokenAt s at .from))
+unfoldable pub expectSign : Letters → String → List ℕ → ℕ → Reading ℕ
+expectSign α w s at =
+    cond (isSign w (tokenAt α s at .token)) (read (tokenAt α s at .to)) (refused syntax (tokenAt α s at .from))
 
-unfoldable pub expectWord : String → List ℕ → ℕ → Reading ℕ
-expectWord w s at =
-    cond (isWord w (tokenAt s at .token)) (read (tokenAt s at .to)) (refused syntax (tokenAt s at .from))
+unfoldable pub expectWord : Letters → String → List ℕ → ℕ → Reading ℕ
+expectWord α w s at =
+    cond (isWord w (tokenAt α s at .token)) (read (tokenAt α s at .to)) (refused syntax (tokenAt α s at .from))
 
 -- a name, and the place of its token
 pub record Named : Type 0 where
@@ -101,8 +102,8 @@ nameOf (sign w) from to = refused syntax from
 nameOf nothing from to = refused syntax from
 nameOf wrong from to = refused syntax from
 
-unfoldable pub nameAt : List ℕ → ℕ → Reading Named
-nameAt s at = nameOf (tokenAt s at .token) (tokenAt s at .from) (tokenAt s at .to)
+unfoldable pub nameAt : Letters → List ℕ → ℕ → Reading Named
+nameAt α s at = nameOf (tokenAt α s at .token) (tokenAt α s at .from) (tokenAt α s at .to)
 
 -- ---- expressions. `inside p at` reads the expression at a place behind the parenthesis at p
 
@@ -110,45 +111,45 @@ abbrev pub Reader : Type 0
 Reader = ℕ → Reading Parsed
 
 -- arguments, from the place behind `(` or a comma; f is more than the turns
-unfoldable pub arguments : Reader → List ℕ → ℕ → ℕ → Reading Parsed
-arguments inside s zero at = refused syntax at
-arguments inside s (suc f) at = then (inside at) λ a.
-    when (isSign "," (tokenAt s (a .to) .token))
-    (λ _. then (arguments inside s f (tokenAt s (a .to) .to)) λ r. read (parsed (more (a .tree) (r .tree)) (r .to)))
-    (λ _. then (expectSign ")" s (a .to)) λ e. read (parsed (more (a .tree) none) e))
+unfoldable pub arguments : Letters → Reader → List ℕ → ℕ → ℕ → Reading Parsed
+arguments α inside s zero at = refused syntax at
+arguments α inside s (suc f) at = then (inside at) λ a.
+    when (isSign "," (tokenAt α s (a .to) .token))
+    (λ _. then (arguments α inside s f (tokenAt α s (a .to) .to)) λ r. read (parsed (more (a .tree) (r .tree)) (r .to)))
+    (λ _. then (expectSign α ")" s (a .to)) λ e. read (parsed (more (a .tree) none) e))
 
 -- 000, 3.2.1 (27): reference ::= identifier [ ( { , . expression ... } ) ]
-unfoldable pub referenceAt : (ℕ → Reader) → List ℕ → Named → Lexeme → Reading Parsed
-referenceAt inside s n u =
+unfoldable pub referenceAt : Letters → (ℕ → Reader) → List ℕ → Named → Lexeme → Reading Parsed
+referenceAt α inside s n u =
     when (isSign "(" (u .token))
-    (λ _. then (arguments (inside (u .from)) s (length s) (u .to)) λ r.
+    (λ _. then (arguments α (inside (u .from)) s (length s) (u .to)) λ r.
     read (parsed (call (n .spelling) (r .tree)) (r .to)))
     (λ _. read (parsed (reference (n .spelling)) (n .to)))
 
 -- 000, 3.2.1 (26): primitive-expression ::= ( expression ) | reference | constant
-unfoldable pub primitive : (ℕ → Reader) → List ℕ → Token → ℕ → ℕ → Reading Parsed
-primitive inside s (word w) from to = then (nameOf (word w) from to) λ n. referenceAt inside s n (tokenAt s to)
-primitive inside s (integer w) from to = read (parsed (integerOf w) to)
-primitive inside s (string w) from to = read (parsed (stringOf w) to)
-primitive inside s (bits w) from to = read (parsed (bitsOf w) to)
-primitive inside s (sign w) from to =
+unfoldable pub primitive : Letters → (ℕ → Reader) → List ℕ → Token → ℕ → ℕ → Reading Parsed
+primitive α inside s (word w) from to = then (nameOf (word w) from to) λ n. referenceAt α inside s n (tokenAt α s to)
+primitive α inside s (integer w) from to = read (parsed (integerOf w) to)
+primitive α inside s (string w) from to = read (parsed (stringOf w) to)
+primitive α inside s (bits w) from to = read (parsed (bitsOf w) to)
+primitive α inside s (sign w) from to =
     when (isSign "(" (sign w))
-    (λ _. then (inside from to) λ r. then (expectSign ")" s (r .to)) λ e. read (parsed (r .tree) e))
+    (λ _. then (inside from to) λ r. then (expectSign α ")" s (r .to)) λ e. read (parsed (r .tree) e))
     (λ _. refused syntax from)
-primitive inside s nothing from to = refused syntax from
-primitive inside s wrong from to = refused syntax from
+primitive α inside s nothing from to = refused syntax from
+primitive α inside s wrong from to = refused syntax from
 
 -- 000, 3.2.1 (25): expression-one ::= primitive-expression | { + | - | not } expression-one
 abbrev pub prefixed : Maybe Prefix → (Unit {0} → Reading Parsed) → (Unit {0} → Reading Parsed) → Reading Parsed
 prefixed (is o) again first = then (again tt) λ r. read (parsed (unary o (r .tree)) (r .to))
 prefixed noOperator again first = first tt
 
-unfoldable pub operand : (ℕ → Reader) → List ℕ → ℕ → ℕ → Reading Parsed
-operand inside s zero at = refused syntax at
-operand inside s (suc f) at =
-    prefixed (prefixOf (tokenAt s at .token))
-    (λ _. operand inside s f (tokenAt s at .to))
-    (λ _. primitive inside s (tokenAt s at .token) (tokenAt s at .from) (tokenAt s at .to))
+unfoldable pub operand : Letters → (ℕ → Reader) → List ℕ → ℕ → ℕ → Reading Parsed
+operand α inside s zero at = refused syntax at
+operand α inside s (suc f) at =
+    prefixed (prefixOf (tokenAt α s at .token))
+    (λ _. operand α inside s f (tokenAt α s at .to))
+    (λ _. primitive α inside s (tokenAt α s at .token) (tokenAt α s at .from) (tokenAt α s at .to))
 
 -- what follows the tree t that ends at a place: operators of level l, each with what `next` reads; "Infix goes left to
 -- right"
@@ -156,23 +157,23 @@ abbrev pub chained : Maybe Operator → (Operator → Reading Parsed) → Readin
 chained (is o) go stop = go o
 chained noOperator go stop = stop
 
-unfoldable pub chain : ℕ → Reader → List ℕ → ℕ → Tree → ℕ → Reading Parsed
-chain l next s zero t at = refused syntax at
-chain l next s (suc f) t at =
-    chained (infixOf l (tokenAt s at .token))
-    (λ o. then (next (tokenAt s at .to)) λ r. chain l next s f (binary o t (r .tree)) (r .to))
+unfoldable pub chain : Letters → ℕ → Reader → List ℕ → ℕ → Tree → ℕ → Reading Parsed
+chain α l next s zero t at = refused syntax at
+chain α l next s (suc f) t at =
+    chained (infixOf l (tokenAt α s at .token))
+    (λ o. then (next (tokenAt α s at .to)) λ r. chain α l next s f (binary o t (r .tree)) (r .to))
     (read (parsed t at))
 
 -- n levels of infix operators over operands
-unfoldable pub levels : Reader → List ℕ → ℕ → Reader
-levels inner s zero at = inner at
-levels inner s (suc l) at =
-    then (levels inner s l at) λ r. chain l (levels inner s l) s (suc (length s)) (r .tree) (r .to)
+unfoldable pub levels : Letters → Reader → List ℕ → ℕ → Reader
+levels α inner s zero at = inner at
+levels α inner s (suc l) at =
+    then (levels α inner s l at) λ r. chain α l (levels α inner s l) s (suc (length s)) (r .tree) (r .to)
 
 -- THE EXPRESSION at a place, with d parentheses that may still be opened
-unfoldable pub expression : ℕ → List ℕ → ℕ → Reading Parsed
-expression zero s at = levels (operand (λ p q. refused overLimit p) s (suc (length s))) s 6 at
-expression (suc d) s at = levels (operand (λ p q. expression d s q) s (suc (length s))) s 6 at
+unfoldable pub expression : Letters → ℕ → List ℕ → ℕ → Reading Parsed
+expression α zero s at = levels α (operand α (λ p q. refused overLimit p) s (suc (length s))) s 6 at
+expression α (suc d) s at = levels α (operand α (λ p q. expression α d s q) s (suc (length s))) s 6 at
 
-abbrev pub wholeExpression : List ℕ → ℕ → Reading Parsed
-wholeExpression s at = expression openParentheses s at
+abbrev pub wholeExpression : Letters → List ℕ → ℕ → Reading Parsed
+wholeExpression α s at = expression α openParentheses s at

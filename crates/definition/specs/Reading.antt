@@ -5,6 +5,7 @@ use mathlib.Core.Bool.{Bool, true, false, not, cond, _&&_, _||_}
 use mathlib.Core.List.{List, [], _∷_, _++_}
 use lib.Dec.{leb, ltb}
 use lib.ListN.{length}
+use Rattle.definition.specs.Bytes.{Letters}
 use Rattle.definition.specs.Choice.{when}
 use Rattle.definition.specs.Limits.{memberSentences, openGroups}
 use Rattle.definition.specs.Lists.{isOneOf}
@@ -217,13 +218,13 @@ pub data Else : Type 0 where
   elseTo : ℕ → Else
   noElse : Else
 
-unfoldable pub elseWord : List ℕ → Lexeme → Else
-elseWord s t =
-    cond (isWord "ELSE" (t .token) && isDecided (tokenAt s (t .to) .token)) (elseTo (t .to)) noElse
+unfoldable pub elseWord : Letters → List ℕ → Lexeme → Else
+elseWord α s t =
+    cond (isWord "ELSE" (t .token) && isDecided (tokenAt α s (t .to) .token)) (elseTo (t .to)) noElse
 
-unfoldable pub elseAt : Bool → List ℕ → ℕ → Else
-elseAt true s e = elseWord s (tokenAt s e)
-elseAt false s e = when (isSign "%" (tokenAt s e .token)) (λ _. elseWord s (tokenAt s (tokenAt s e .to))) (λ _. noElse)
+unfoldable pub elseAt : Letters → Bool → List ℕ → ℕ → Else
+elseAt α true s e = elseWord α s (tokenAt α s e)
+elseAt α false s e = when (isSign "%" (tokenAt α s e .token)) (λ _. elseWord α s (tokenAt α s (tokenAt α s e .to))) (λ _. noElse)
 
 -- the statement of row n ends at e. "ELSE goes with the nearest IF."
 abbrev pub elsed : Else → ℕ → List Open → State → (Unit {0} → Turn) → Turn
@@ -234,17 +235,17 @@ abbrev pub behind : Scope → ℕ → Mode
 behind global n = textBehind n
 behind (inside r) n = inner
 
-abbrev pub completeIn : Where → List ℕ → ℕ → List Open → ℕ → ℕ → State → (ℕ → Turn) → Turn
-completeIn inProgram s i os n e st up = go (behind (st .scope) n) e st
-completeIn inGroup s i os n e st up = go (behind (st .scope) n) e st
-completeIn inBody s i os n e st up = go (behind (st .scope) n) e st
-completeIn inThen s i os n e st up = elsed (elseAt (isInside (st .scope)) s e) i os st (λ _. up i)
-completeIn inElse s i os n e st up = up i
+abbrev pub completeIn : Letters → Where → List ℕ → ℕ → List Open → ℕ → ℕ → State → (ℕ → Turn) → Turn
+completeIn α inProgram s i os n e st up = go (behind (st .scope) n) e st
+completeIn α inGroup s i os n e st up = go (behind (st .scope) n) e st
+completeIn α inBody s i os n e st up = go (behind (st .scope) n) e st
+completeIn α inThen s i os n e st up = elsed (elseAt α (isInside (st .scope)) s e) i os st (λ _. up i)
+completeIn α inElse s i os n e st up = up i
 
-unfoldable pub complete : List ℕ → List Open → ℕ → ℕ → State → Turn
-complete s [] n e st = finish st
-complete s (o ∷ os) n e st =
-    completeIn (o .kind) s (o .row) os n e (withOpened (o ∷ os) (st .scope) st) (λ i. complete s os i e st)
+unfoldable pub complete : Letters → List ℕ → List Open → ℕ → ℕ → State → Turn
+complete α s [] n e st = finish st
+complete α s (o ∷ os) n e st =
+    completeIn α (o .kind) s (o .row) os n e (withOpened (o ∷ os) (st .scope) st) (λ i. complete α s os i e st)
 
 -- ---- labels, and the token behind them; `long` are the places of those over 31 bytes
 pub record Labelled : Type 0 where
@@ -266,29 +267,29 @@ addLabel (read n) ns long f = f (ns ++ n ∷ []) long
 addLabel (refused w p) ns long f = f ns (long ++ p ∷ [])
 
 -- "An identifier followed by `:` is a label"; f is more than the turns
-unfoldable pub labelsFrom : List ℕ → ℕ → List Named → List ℕ → ℕ → Labelled
-labelsFrom s zero ns long at = record { labels = ns; long = long; behind = tokenAt s at }
-labelsFrom s (suc f) ns long at =
-    when (isName (tokenAt s at .token) && isSign ":" (tokenAt s (tokenAt s at .to) .token))
-    (λ _. addLabel (nameOf (tokenAt s at .token) (tokenAt s at .from) (tokenAt s at .to)) ns long
-    (λ ms more. labelsFrom s f ms more (tokenAt s (tokenAt s at .to) .to)))
-    (λ _. record { labels = ns; long = long; behind = tokenAt s at })
+unfoldable pub labelsFrom : Letters → List ℕ → ℕ → List Named → List ℕ → ℕ → Labelled
+labelsFrom α s zero ns long at = record { labels = ns; long = long; behind = tokenAt α s at }
+labelsFrom α s (suc f) ns long at =
+    when (isName (tokenAt α s at .token) && isSign ":" (tokenAt α s (tokenAt α s at .to) .token))
+    (λ _. addLabel (nameOf (tokenAt α s at .token) (tokenAt α s at .from) (tokenAt α s at .to)) ns long
+    (λ ms more. labelsFrom α s f ms more (tokenAt α s (tokenAt α s at .to) .to)))
+    (λ _. record { labels = ns; long = long; behind = tokenAt α s at })
 
-abbrev pub labels : List ℕ → ℕ → Labelled
-labels s at = labelsFrom s (length s) [] [] at
+abbrev pub labels : Letters → List ℕ → ℕ → Labelled
+labels α s at = labelsFrom α s (length s) [] [] at
 
 abbrev pub spelled : List Named → List (List ℕ)
 spelled [] = []
 spelled (n ∷ ns) = n .spelling ∷ spelled ns
 
 -- ---- a statement that was read at p, with its labels
-abbrev pub opened : Opens → List ℕ → ℕ → List Named → ℕ → State → Turn
-opened opensNothing s n ns e st = complete s (st .opened) n e st
-opened opensGroup s n ns e st =
+abbrev pub opened : Letters → Opens → List ℕ → ℕ → List Named → ℕ → State → Turn
+opened α opensNothing s n ns e st = complete α s (st .opened) n e st
+opened α opensGroup s n ns e st =
     go (cond (isInside (st .scope)) inner leadingText) e
     (withOpened (opening inGroup n (spelled ns) ∷ st .opened) (st .scope) st)
-opened opensBody s n ns e st = go inner e (withOpened (opening inBody n (spelled ns) ∷ st .opened) (inside n) st)
-opened opensThen s n ns e st = go alternative e (withOpened (opening inThen n [] ∷ st .opened) (st .scope) st)
+opened α opensBody s n ns e st = go inner e (withOpened (opening inBody n (spelled ns) ∷ st .opened) (inside n) st)
+opened α opensThen s n ns e st = go alternative e (withOpened (opening inThen n [] ∷ st .opened) (st .scope) st)
 
 -- labels before what opens a body are entry names
 abbrev pub labelMeaning : Opens → ℕ → Meaning
@@ -297,10 +298,10 @@ labelMeaning opensGroup n = label n
 labelMeaning opensBody n = body n
 labelMeaning opensThen n = label n
 
-unfoldable pub taken : List ℕ → ℕ → List Named → State → Clause → List Declared → Turn
-taken s p ns st c ds =
+unfoldable pub taken : Letters → List ℕ → ℕ → List Named → State → Clause → List Declared → Turn
+taken α s p ns st c ds =
     let n = length (st .rows) in
-    opened (c .opens) s n ns (c .to)
+    opened α (c .opens) s n ns (c .to)
     (withNames (means (st .scope) (labelMeaning (c .opens) n) ns ++ ds) (addRow (c .statement) p st))
 
 -- the labels of what turns out wrong: they are names, and count as such
@@ -311,13 +312,13 @@ named ns st = withNames (means (st .scope) (label 0) ns) st
 abbrev pub untaken : ℕ → List Named → State → Why → ℕ → List Declared → Turn
 untaken p ns st w q ds = stop w q (p ∷ []) (withNames (means (st .scope) (label 0) ns ++ ds) st)
 
-abbrev pub takeRead : List ℕ → ℕ → List Named → State → Reading Clause → Turn
-takeRead s p ns st (read c) = taken s p ns st c []
-takeRead s p ns st (refused w q) = untaken p ns st w q []
+abbrev pub takeRead : Letters → List ℕ → ℕ → List Named → State → Reading Clause → Turn
+takeRead α s p ns st (read c) = taken α s p ns st c []
+takeRead α s p ns st (refused w q) = untaken p ns st w q []
 
-abbrev pub takeDeclared : List ℕ → ℕ → List Named → State → Declaring → Turn
-takeDeclared s p ns st (declared c ds) = taken s p ns st c ds
-takeDeclared s p ns st (undeclared w q ds) = untaken p ns st w q ds
+abbrev pub takeDeclared : Letters → List ℕ → ℕ → List Named → State → Declaring → Turn
+takeDeclared α s p ns st (declared c ds) = taken α s p ns st c ds
+takeDeclared α s p ns st (undeclared w q ds) = untaken p ns st w q ds
 
 -- ---- which statement begins with the word t; u is the token behind it
 abbrev pub isNone : List Named → Bool
@@ -331,59 +332,59 @@ abbrev pub isProcedure : Token → Bool
 isProcedure t = isWord "PROCEDURE" t || isWord "PROC" t
 
 -- "a 17th group": at its DO
-unfoldable pub doAt : List ℕ → ℕ → ℕ → State → Reading Clause
-doAt s from to st = when (ltb (depth (st .opened)) openGroups) (λ _. doClause s to) (λ _. refused overLimit from)
+unfoldable pub doAt : Letters → List ℕ → ℕ → ℕ → State → Reading Clause
+doAt α s from to st = when (ltb (depth (st .opened)) openGroups) (λ _. doClause α s to) (λ _. refused overLimit from)
 
 -- statements of either kind
-unfoldable pub common : List ℕ → Lexeme → State → (Reading Clause → Turn) → (Unit {0} → Turn) → Turn
-common s t st take other =
-    when (isWord "IF" (t .token)) (λ _. take (ifClause (isInside (st .scope)) s (t .to)))
-    (λ _. when (isWord "DO" (t .token)) (λ _. take (doAt s (t .from) (t .to) st))
-    (λ _. when (isWord "GOTO" (t .token)) (λ _. take (gotoClause s (t .to)))
-    (λ _. when (isWord "GO" (t .token)) (λ _. take (then (expectWord "TO" s (t .to)) (gotoClause s)))
+unfoldable pub common : Letters → List ℕ → Lexeme → State → (Reading Clause → Turn) → (Unit {0} → Turn) → Turn
+common α s t st take other =
+    when (isWord "IF" (t .token)) (λ _. take (ifClause α (isInside (st .scope)) s (t .to)))
+    (λ _. when (isWord "DO" (t .token)) (λ _. take (doAt α s (t .from) (t .to) st))
+    (λ _. when (isWord "GOTO" (t .token)) (λ _. take (gotoClause α s (t .to)))
+    (λ _. when (isWord "GO" (t .token)) (λ _. take (then (expectWord α "TO" s (t .to)) (gotoClause α s)))
     other)))
 
 -- statements of a list alone
-unfoldable pub inList : List ℕ → ℕ → List Named → Lexeme → State → (Unit {0} → Turn) → Turn
-inList s p ns t st other =
+unfoldable pub inList : Letters → List ℕ → ℕ → List Named → Lexeme → State → (Unit {0} → Turn) → Turn
+inList α s p ns t st other =
     when (isList (kindOf (st .opened)) && isDeclare (t .token))
-    (λ _. takeDeclared s p ns st (declareFrom (st .scope) s (length s) [] (t .to)))
+    (λ _. takeDeclared α s p ns st (declareFrom α (st .scope) s (length s) [] (t .to)))
     (λ _. when (isList (kindOf (st .opened)) && not (isInside (st .scope)) && not (isNone ns) && isProcedure (t .token))
-    (λ _. takeDeclared s p ns st (procedureClause (inside (length (st .rows))) s (t .to)))
+    (λ _. takeDeclared α s p ns st (procedureClause α (inside (length (st .rows))) s (t .to)))
     other)
 
-abbrev pub outer : Scope → List ℕ → Lexeme → (Reading Clause → Turn) → (Unit {0} → Turn) → Turn
-outer global s t take other =
-    when (isWord "INCLUDE" (t .token)) (λ _. take (includeClause s (t .to)))
-    (λ _. when (isWord "ACTIVATE" (t .token) || isWord "ACT" (t .token)) (λ _. take (activateClause s (t .to)))
-    (λ _. when (isWord "DEACTIVATE" (t .token) || isWord "DEACT" (t .token)) (λ _. take (deactivateClause s (t .to)))
+abbrev pub outer : Letters → Scope → List ℕ → Lexeme → (Reading Clause → Turn) → (Unit {0} → Turn) → Turn
+outer α global s t take other =
+    when (isWord "INCLUDE" (t .token)) (λ _. take (includeClause α s (t .to)))
+    (λ _. when (isWord "ACTIVATE" (t .token) || isWord "ACT" (t .token)) (λ _. take (activateClause α s (t .to)))
+    (λ _. when (isWord "DEACTIVATE" (t .token) || isWord "DEACT" (t .token)) (λ _. take (deactivateClause α s (t .to)))
     other))
-outer (inside r) s t take other = when (isWord "RETURN" (t .token)) (λ _. take (returnClause s (t .to))) other
+outer α (inside r) s t take other = when (isWord "RETURN" (t .token)) (λ _. take (returnClause α s (t .to))) other
 
 -- "by `=` an assignment"; a word that begins no statement here is not wrong, but the token behind it is
-unfoldable pub byWord : List ℕ → ℕ → List Named → List ℕ → Lexeme → Lexeme → State → Turn
-byWord s p ns w t u st =
-    when (isSign "=" (u .token)) (λ _. takeRead s p ns st (assignment s w (u .to)))
-    (λ _. common s t st (takeRead s p ns st)
-    (λ _. outer (st .scope) s t (takeRead s p ns st)
-    (λ _. inList s p ns t st
+unfoldable pub byWord : Letters → List ℕ → ℕ → List Named → List ℕ → Lexeme → Lexeme → State → Turn
+byWord α s p ns w t u st =
+    when (isSign "=" (u .token)) (λ _. takeRead α s p ns st (assignment α s w (u .to)))
+    (λ _. common α s t st (takeRead α s p ns st)
+    (λ _. outer α (st .scope) s t (takeRead α s p ns st)
+    (λ _. inList α s p ns t st
     (λ _. untaken p ns st syntax (u .from) []))))
 
-abbrev pub byName : Reading Named → List ℕ → ℕ → List Named → Lexeme → State → Turn
-byName (read n) s p ns t st = byWord s p ns (n .spelling) t (tokenAt s (t .to)) st
-byName (refused w q) s p ns t st = untaken p ns st w q []
+abbrev pub byName : Letters → Reading Named → List ℕ → ℕ → List Named → Lexeme → State → Turn
+byName α (read n) s p ns t st = byWord α s p ns (n .spelling) t (tokenAt α s (t .to)) st
+byName α (refused w q) s p ns t st = untaken p ns st w q []
 
-abbrev pub byToken : Token → List ℕ → ℕ → List Named → Lexeme → State → Turn
-byToken (word w) s p ns t st = byName (nameOf (word w) (t .from) (t .to)) s p ns t st
-byToken (integer w) s p ns t st = untaken p ns st syntax (t .from) []
-byToken (string w) s p ns t st = untaken p ns st syntax (t .from) []
-byToken (bits w) s p ns t st = untaken p ns st syntax (t .from) []
-byToken (sign w) s p ns t st =
+abbrev pub byToken : Letters → Token → List ℕ → ℕ → List Named → Lexeme → State → Turn
+byToken α (word w) s p ns t st = byName α (nameOf (word w) (t .from) (t .to)) s p ns t st
+byToken α (integer w) s p ns t st = untaken p ns st syntax (t .from) []
+byToken α (string w) s p ns t st = untaken p ns st syntax (t .from) []
+byToken α (bits w) s p ns t st = untaken p ns st syntax (t .from) []
+byToken α (sign w) s p ns t st =
     when (isSign ";" (sign w))
-    (λ _. taken s p ns st (clause null opensNothing (t .to)) [])
+    (λ _. taken α s p ns st (clause null opensNothing (t .to)) [])
     (λ _. untaken p ns st syntax (t .from) [])
-byToken nothing s p ns t st = untaken p ns st syntax (t .from) []
-byToken wrong s p ns t st = untaken p ns st syntax (t .from) []
+byToken α nothing s p ns t st = untaken p ns st syntax (t .from) []
+byToken α wrong s p ns t st = untaken p ns st syntax (t .from) []
 
 -- ---- END, from behind it: "A name after END must be a label of what it ends, else 3."
 abbrev pub mayName : Token → List (List ℕ) → Bool
@@ -395,13 +396,13 @@ mayName (sign w) ls = false
 mayName nothing ls = false
 mayName wrong ls = false
 
-unfoldable pub endName : List ℕ → List (List ℕ) → ℕ → Reading ℕ
-endName s ls at =
-    when (isSign ";" (tokenAt s at .token)) (λ _. read (tokenAt s at .to))
-    (λ _. when (mayName (tokenAt s at .token) ls)
-    (λ _. when (isSign ";" (tokenAt s (tokenAt s at .to) .token)) (λ _. read (tokenAt s (tokenAt s at .to) .to))
-    (λ _. refused syntax (tokenAt s (tokenAt s at .to) .from)))
-    (λ _. refused syntax (tokenAt s at .from)))
+unfoldable pub endName : Letters → List ℕ → List (List ℕ) → ℕ → Reading ℕ
+endName α s ls at =
+    when (isSign ";" (tokenAt α s at .token)) (λ _. read (tokenAt α s at .to))
+    (λ _. when (mayName (tokenAt α s at .token) ls)
+    (λ _. when (isSign ";" (tokenAt α s (tokenAt α s at .to) .token)) (λ _. read (tokenAt α s (tokenAt α s at .to) .to))
+    (λ _. refused syntax (tokenAt α s (tokenAt α s at .to) .from)))
+    (λ _. refused syntax (tokenAt α s at .from)))
 
 abbrev pub scopeOut : Where → Scope → Scope
 scopeOut inProgram k = k
@@ -410,46 +411,46 @@ scopeOut inBody k = global
 scopeOut inThen k = k
 scopeOut inElse k = k
 
-abbrev pub endRead : List ℕ → List Named → Open → List Open → State → Reading ℕ → Turn
-endRead s ns o os st (read e) =
-    complete s os (o .row) e
+abbrev pub endRead : Letters → List ℕ → List Named → Open → List Open → State → Reading ℕ → Turn
+endRead α s ns o os st (read e) =
+    complete α s os (o .row) e
     (withOpened os (scopeOut (o .kind) (st .scope)) (withNames (means (st .scope) (endLabel (o .row)) ns) st))
-endRead s ns o os st (refused w q) = stop w q [] (withNames (means (st .scope) (endLabel (o .row)) ns) st)
+endRead α s ns o os st (refused w q) = stop w q [] (withNames (means (st .scope) (endLabel (o .row)) ns) st)
 
-abbrev pub endAt : List ℕ → List Named → ℕ → List Open → State → Turn
-endAt s ns at [] st = stop syntax at [] st
-endAt s ns at (o ∷ os) st = endRead s ns o os st (endName s (o .labels) at)
+abbrev pub endAt : Letters → List ℕ → List Named → ℕ → List Open → State → Turn
+endAt α s ns at [] st = stop syntax at [] st
+endAt α s ns at (o ∷ os) st = endRead α s ns o os st (endName α s (o .labels) at)
 
 -- ---- a clause at p, from behind its `%` or in a procedure from its first token
 unfoldable pub isFull : State → Bool
 isFull st = leb memberSentences (length (st .rows))
 
 -- "over 1,024 sentences": at its `%`, also where it turns out wrong; END is no sentence
-unfoldable pub isEnd : List ℕ → Lexeme → Bool
-isEnd s t = isWord "END" (t .token) && isDecided (tokenAt s (t .to) .token)
+unfoldable pub isEnd : Letters → List ℕ → Lexeme → Bool
+isEnd α s t = isWord "END" (t .token) && isDecided (tokenAt α s (t .to) .token)
 
 abbrev pub longLabel : List ℕ → (ℕ → Turn) → (Unit {0} → Turn) → Turn
 longLabel [] f on = on tt
 longLabel (p ∷ ps) f on = f p
 
-unfoldable pub clauseFrom : List ℕ → ℕ → Labelled → State → Turn
-clauseFrom s p L st =
-    when (isInGroup (kindOf (st .opened)) && isEnd s (L .behind))
+unfoldable pub clauseFrom : Letters → List ℕ → ℕ → Labelled → State → Turn
+clauseFrom α s p L st =
+    when (isInGroup (kindOf (st .opened)) && isEnd α s (L .behind))
     (λ _. longLabel (L .long) (λ q. stop overLimit q [] (named (L .labels) st))
-    (λ _. endAt s (L .labels) (L .behind .to) (st .opened) st))
+    (λ _. endAt α s (L .labels) (L .behind .to) (st .opened) st))
     (λ _. when (isFull st) (λ _. stop overLimit p (p ∷ []) st)
     (λ _. longLabel (L .long) (λ q. untaken p (L .labels) st overLimit q [])
-    (λ _. byToken (L .behind .token) s p (L .labels) (L .behind) st)))
+    (λ _. byToken α (L .behind .token) s p (L .labels) (L .behind) st)))
 
-abbrev pub clauseAt : List ℕ → ℕ → ℕ → State → Turn
-clauseAt s p at st = clauseFrom s p (labels s at) st
+abbrev pub clauseAt : Letters → List ℕ → ℕ → ℕ → State → Turn
+clauseAt α s p at st = clauseFrom α s p (labels α s at) st
 
 -- ---- texts
-abbrev pub texted : TextEnd → List ℕ → (ℕ → State) → Turn
-texted (percentAt p) s f = clauseAt s p (p + 1) (f p)
-texted atEnd s f =
+abbrev pub texted : Letters → TextEnd → List ℕ → (ℕ → State) → Turn
+texted α (percentAt p) s f = clauseAt α s p (p + 1) (f p)
+texted α atEnd s f =
     cond (leb (length (f 0 .opened)) 1) (finish (f (length s))) (stop syntax (length s) [] (f (length s)))
-texted (openAt p) s f = stop syntax p [] (f p)
+texted α (openAt p) s f = stop syntax p [] (f p)
 
 -- only the program and groups begin with a text
 abbrev pub leadIn : List Open → ℕ → ℕ → State → State
@@ -465,46 +466,46 @@ leadIn (o ∷ os) at p st = leadOf (o .kind) (o .row)
 
 -- ---- in a procedure: `%` begins only its END
 -- another word could still be a label, and the token behind it is wrong
-abbrev pub notEnd : Reading Named → List ℕ → State → Turn
-notEnd (read n) s st = stop syntax (tokenAt s (n .to) .from) [] st
-notEnd (refused w p) s st = stop w p [] st
+abbrev pub notEnd : Letters → Reading Named → List ℕ → State → Turn
+notEnd α (read n) s st = stop syntax (tokenAt α s (n .to) .from) [] st
+notEnd α (refused w p) s st = stop w p [] st
 
-abbrev pub procedureEnd : List ℕ → Labelled → State → Turn
-procedureEnd s L st =
+abbrev pub procedureEnd : Letters → List ℕ → Labelled → State → Turn
+procedureEnd α s L st =
     longLabel (L .long) (λ q. stop overLimit q [] (named (L .labels) st))
-    (λ _. when (isWord "END" (L .behind .token)) (λ _. endAt s (L .labels) (L .behind .to) (st .opened) st)
-    (λ _. notEnd (nameOf (L .behind .token) (L .behind .from) (L .behind .to)) s (named (L .labels) st)))
+    (λ _. when (isWord "END" (L .behind .token)) (λ _. endAt α s (L .labels) (L .behind .to) (st .opened) st)
+    (λ _. notEnd α (nameOf (L .behind .token) (L .behind .from) (L .behind .to)) s (named (L .labels) st)))
 
 -- whether a token can begin a statement
 abbrev pub begins : Token → Bool
 begins t = isName t || isSign ";" t
 
-unfoldable pub innerAt : List ℕ → ℕ → Lexeme → State → Turn
-innerAt s at t st =
-    when (isInBody (kindOf (st .opened)) && isSign "%" (t .token)) (λ _. procedureEnd s (labels s (t .to)) st)
-    (λ _. when (begins (t .token)) (λ _. clauseAt s (t .from) at st)
+unfoldable pub innerAt : Letters → List ℕ → ℕ → Lexeme → State → Turn
+innerAt α s at t st =
+    when (isInBody (kindOf (st .opened)) && isSign "%" (t .token)) (λ _. procedureEnd α s (labels α s (t .to)) st)
+    (λ _. when (begins (t .token)) (λ _. clauseAt α s (t .from) at st)
     (λ _. stop syntax (t .from) [] st))
 
 -- ---- an alternative: "the 17th alternative at its `%`"
 unfoldable pub deepEnough : ℕ → State → (Unit {0} → Turn) → Turn
 deepEnough p st on = when (leb (depth (st .opened)) openGroups) on (λ _. stop overLimit p (p ∷ []) st)
 
-abbrev pub alternativeAt : Scope → List ℕ → ℕ → Lexeme → State → Turn
-alternativeAt global s at t st =
+abbrev pub alternativeAt : Letters → Scope → List ℕ → ℕ → Lexeme → State → Turn
+alternativeAt α global s at t st =
     when (isSign "%" (t .token))
-    (λ _. deepEnough (t .from) st (λ _. clauseAt s (t .from) (t .to) st))
+    (λ _. deepEnough (t .from) st (λ _. clauseAt α s (t .from) (t .to) st))
     (λ _. stop syntax (t .from) [] st)
-alternativeAt (inside r) s at t st =
+alternativeAt α (inside r) s at t st =
     when (begins (t .token))
-    (λ _. deepEnough (t .from) st (λ _. clauseAt s (t .from) at st))
+    (λ _. deepEnough (t .from) st (λ _. clauseAt α s (t .from) at st))
     (λ _. stop syntax (t .from) [] st)
 
-unfoldable pub turn : List ℕ → Mode → ℕ → State → Turn
-turn s leadingText at st = texted (textEnd (suc (length s)) s at) s (λ p. leadIn (st .opened) at p st)
-turn s (textBehind n) at st =
-    texted (textEnd (suc (length s)) s at) s (λ p. withRows (change n (setText (stretch at p)) (st .rows)) st)
-turn s alternative at st = alternativeAt (st .scope) s at (tokenAt s at) st
-turn s inner at st = innerAt s at (tokenAt s at) st
+unfoldable pub turn : Letters → List ℕ → Mode → ℕ → State → Turn
+turn α s leadingText at st = texted α (textEnd α (suc (length s)) s at) s (λ p. leadIn (st .opened) at p st)
+turn α s (textBehind n) at st =
+    texted α (textEnd α (suc (length s)) s at) s (λ p. withRows (change n (setText (stretch at p)) (st .rows)) st)
+turn α s alternative at st = alternativeAt α (st .scope) s at (tokenAt α s at) st
+turn α s inner at st = innerAt α s at (tokenAt α s at) st
 
 -- ---- the member
 abbrev pub places : List Row → List ℕ
@@ -522,17 +523,17 @@ source st begun f = record {
 }
 
 -- f is more than the turns, so that none are lacking where more are to come
-unfoldable pub readOn : List ℕ → ℕ → Turn → Source
-readOn s zero (go m at st) = source st [] (faulty syntax at)
-readOn s zero (stop w p begun st) = source st begun (faulty w p)
-readOn s zero (finish st) = source st [] sound
-readOn s (suc f) (go m at st) = readOn s f (turn s m at st)
-readOn s (suc f) (stop w p begun st) = source st begun (faulty w p)
-readOn s (suc f) (finish st) = source st [] sound
+unfoldable pub readOn : Letters → List ℕ → ℕ → Turn → Source
+readOn α s zero (go m at st) = source st [] (faulty syntax at)
+readOn α s zero (stop w p begun st) = source st begun (faulty w p)
+readOn α s zero (finish st) = source st [] sound
+readOn α s (suc f) (go m at st) = readOn α s f (turn α s m at st)
+readOn α s (suc f) (stop w p begun st) = source st begun (faulty w p)
+readOn α s (suc f) (finish st) = source st [] sound
 
 abbrev pub start : State
 start = state (stretch 0 0) nowhere [] [] (opening inProgram 0 [] ∷ []) global
 
 -- THE MEMBER whose body is s
-unfoldable pub readMember : List ℕ → Source
-readMember s = readOn s (suc (suc (length s))) (go leadingText 0 start)
+unfoldable pub readMember : Letters → List ℕ → Source
+readMember α s = readOn α s (suc (suc (length s))) (go leadingText 0 start)

@@ -7,6 +7,7 @@ use mathlib.Core.Bool.{Bool, cond, _&&_}
 use mathlib.Core.List.{List, [], _∷_}
 use lib.Dec.{leb, eqb}
 use lib.ListN.{length}
+use Rattle.definition.specs.Bytes.{Letters}
 use Rattle.definition.specs.Choice.{when}
 use Rattle.definition.specs.Limits.{replacementLevels}
 use Rattle.definition.specs.Lists.{part}
@@ -54,10 +55,10 @@ copyHere m place l g w =
     putOut (copied m place l) g (takes (w .layout) (joins (w .events) m place) place l) w
 
 -- "a replacement at its name"; g is its pass by its outcome and where the scan goes on
-unfoldable pub replaceHere : ℕ → ℕ → List ℕ → ℕ → ℕ → Activity → (List ℕ → ℕ → Pass) → World → Res Why ℕ
-replaceHere m place t q a act g w =
+unfoldable pub replaceHere : Letters → ℕ → ℕ → List ℕ → ℕ → ℕ → Activity → (List ℕ → ℕ → Pass) → World → Res Why ℕ
+replaceHere α m place t q a act g w =
     when (leb 1 (w .linesLeft))
-    (λ _. bind (replacer callOut replacementLevels t q a act (toText (w .textLeft)) 0 w) λ r v.
+    (λ _. bind (replacer α callOut replacementLevels t q a act (toText (w .textLeft)) 0 w) λ r v.
     good (r .to) (withEvent (replaced m place (r .bytes)) (g (r .bytes) (r .to)) 1 v))
     (λ _. bad roomFull (w .used))
 
@@ -76,26 +77,26 @@ passOf m place x w l to = passedBy (record {
   to = to;
 })
 
-abbrev pub tokenHere : Active → ℕ → ℕ → List ℕ → ℕ → ℕ → (List ℕ → ℕ → Pass) → World → Res Why ℕ
-tokenHere notActive m place t p q g w =
+abbrev pub tokenHere : Letters → Active → ℕ → ℕ → List ℕ → ℕ → ℕ → (List ℕ → ℕ → Pass) → World → Res Why ℕ
+tokenHere α notActive m place t p q g w =
     bind (copyHere m place (part (q - p) p t) (g (part (q - p) p t) q) w) λ _ v. good q v
-tokenHere (active a act) m place t p q g w = replaceHere m place t q a act g w
+tokenHere α (active a act) m place t p q g w = replaceHere α m place t q a act g w
 
 -- f is more than the turns
-unfoldable pub textOn : ℕ → ℕ → List ℕ → ℕ → ℕ → World → Res Stop (Unit {0})
-textOn m from t zero p w = good tt w
-textOn m from t (suc f) p w =
+unfoldable pub textOn : Letters → ℕ → ℕ → List ℕ → ℕ → ℕ → World → Res Stop (Unit {0})
+textOn α m from t zero p w = good tt w
+textOn α m from t (suc f) p w =
     when (leb (length t) p) (λ _. good tt w)
     (λ _. bind (placed (stop m (from + p)) (bind (charge w) λ _ v.
-    tokenHere (activeIn (pieceAt t p .piece) v) m (from + p) t p (pieceAt t p .to)
-    (λ l q. passOf m (from + p) (pieceAt t p .piece) v l (from + q)) v)) λ q x.
-    textOn m from t f q x)
+    tokenHere α (activeIn (pieceAt α t p .piece) v) m (from + p) t p (pieceAt α t p .to)
+    (λ l q. passOf m (from + p) (pieceAt α t p .piece) v l (from + q)) v)) λ q x.
+    textOn α m from t f q x)
 
 -- one blank, then the text
-unfoldable pub textOut : ℕ → List ℕ → Stretch → World → Res Stop (Unit {0})
-textOut m s x w =
+unfoldable pub textOut : Letters → ℕ → List ℕ → Stretch → World → Res Stop (Unit {0})
+textOut α m s x w =
     bind (placed (stop m (x .from)) (putOut (blank m (x .from)) (began m x) 1 w)) λ _ v.
-    textOn m (x .from) (part (x .to - x .from) (x .from) s) (suc (x .to - x .from)) 0 v
+    textOn α m (x .from) (part (x .to - x .from) (x .from) s) (suc (x .to - x .from)) 0 v
 
 -- ---- ACTIVATE, DEACTIVATE and DECLARE: of a variable or an entry, else 6
 abbrev pub activated : Denotation → Activity → ℕ → World → Res Why (Unit {0})
@@ -167,55 +168,55 @@ includeEntered (unreadable e p) inner k m n on w next = bad (stop k p e) (w .use
 includeEntered (entered v) inner k m n on w next =
     bind (inner k (record { member = m; row = n } ∷ on) v) λ x y. cameOut m x y next
 
-abbrev pub includeAt : Deck.Found → Level → List ℕ → ℕ → ℕ → ℕ → List Place → World → (World → Res Stop Deed)
+abbrev pub includeAt : Letters → Deck.Found → Level → List ℕ → ℕ → ℕ → ℕ → List Place → World → (World → Res Stop Deed)
     → Res Stop Deed
-includeAt Deck.none inner d p m n on w next = bad (stop m p unknownMember) (w .used)
-includeAt (Deck.line k) noLevel d p m n on w next = bad (stop m p tooDeep) (w .used)
-includeAt (Deck.line k) (level inner) d p m n on w next =
-    includeEntered (enter k (readMember (bodyOf d k)) w) inner k m n on w next
+includeAt α Deck.none inner d p m n on w next = bad (stop m p unknownMember) (w .used)
+includeAt α (Deck.line k) noLevel d p m n on w next = bad (stop m p tooDeep) (w .used)
+includeAt α (Deck.line k) (level inner) d p m n on w next =
+    includeEntered (enter k (readMember α (bodyOf d k)) w) inner k m n on w next
 
-unfoldable pub includeAll : Level → List ℕ → ℕ → ℕ → ℕ → List Place → List Deck.Sought → World → Res Stop Deed
-includeAll inner d p m n on [] w = good passed w
-includeAll inner d p m n on (x ∷ xs) w =
-    includeAt (Deck.find x 0 (Deck.lines d)) inner d p m n on w (λ v. includeAll inner d p m n on xs v)
+unfoldable pub includeAll : Letters → Level → List ℕ → ℕ → ℕ → ℕ → List Place → List Deck.Sought → World → Res Stop Deed
+includeAll α inner d p m n on [] w = good passed w
+includeAll α inner d p m n on (x ∷ xs) w =
+    includeAt α (Deck.find α x 0 (Deck.lines d)) inner d p m n on w (λ v. includeAll α inner d p m n on xs v)
 
 -- ---- what the statements of a member do that are no control; others do not come here
 abbrev pub deed : Res Why (Unit {0}) → Res Why Deed
 deed r = bind r λ _ w. good passed w
 
-abbrev pub actAs : Statement → Level → List ℕ → ℕ → ℕ → ℕ → List Place → World → Res Stop Deed
-actAs null inner d p m n on w = good passed w
-actAs (declare ns) inner d p m n on w = placed (stop m p) (deed (activateAll rescanned ns w))
-actAs (procedure ns t) inner d p m n on w = good passed w
-actAs (assign t x) inner d p m n on w = good passed w
-actAs (conditional x) inner d p m n on w = good passed w
-actAs group inner d p m n on w = good passed w
-actAs (iterated t x bs) inner d p m n on w = good passed w
-actAs (goto t) inner d p m n on w = good passed w
-actAs (include ns) inner d p m n on w = includeAll inner d p m n on ns w
-actAs (activate xs) inner d p m n on w = placed (stop m p) (deed (activations xs w))
-actAs (deactivate ns) inner d p m n on w = placed (stop m p) (deed (activateAll inactive ns w))
-actAs (return x) inner d p m n on w = good passed w
+abbrev pub actAs : Letters → Statement → Level → List ℕ → ℕ → ℕ → ℕ → List Place → World → Res Stop Deed
+actAs α null inner d p m n on w = good passed w
+actAs α (declare ns) inner d p m n on w = placed (stop m p) (deed (activateAll rescanned ns w))
+actAs α (procedure ns t) inner d p m n on w = good passed w
+actAs α (assign t x) inner d p m n on w = good passed w
+actAs α (conditional x) inner d p m n on w = good passed w
+actAs α group inner d p m n on w = good passed w
+actAs α (iterated t x bs) inner d p m n on w = good passed w
+actAs α (goto t) inner d p m n on w = good passed w
+actAs α (include ns) inner d p m n on w = includeAll α inner d p m n on ns w
+actAs α (activate xs) inner d p m n on w = placed (stop m p) (deed (activations xs w))
+actAs α (deactivate ns) inner d p m n on w = placed (stop m p) (deed (activateAll inactive ns w))
+actAs α (return x) inner d p m n on w = good passed w
 
 -- ---- a member
-unfoldable pub memberMachine : Level → List ℕ → ℕ → List Place → Source → Machine Stop
-memberMachine inner d m on s = record {
+unfoldable pub memberMachine : Letters → Level → List ℕ → ℕ → List Place → Source → Machine Stop
+memberMachine α inner d m on s = record {
   rows = s .rows;
   owner = everyone;
   fault = λ r e. stop m (r .place) e;
   value = λ x w. evaluate callOut everyone x 0 w;
   waiting = 0;
-  out = λ x w. textOut m (bodyOf d m) x w;
-  act = λ n w. actAs (rowOf (s .rows) n .statement) inner d (rowOf (s .rows) n .place) m n on w;
+  out = λ x w. textOut α m (bodyOf d m) x w;
+  act = λ n w. actAs α (rowOf (s .rows) n .statement) inner d (rowOf (s .rows) n .place) m n on w;
   jump = λ n t w. placed (stop m (rowOf (s .rows) n .place)) (jumpFrom (addressOf t everyone w) m (s .rows) on n w);
 }
 
-unfoldable pub runSource : Level → List ℕ → ℕ → List Place → Source → World → Res Stop End
-runSource inner d m on s w =
-    bind (leadOut (memberMachine inner d m on s) (s .lead) w) λ _ v.
-    runOn (memberMachine inner d m on s) (v .limit - v .used) (firstOf (s .first)) [] v
+unfoldable pub runSource : Letters → Level → List ℕ → ℕ → List Place → Source → World → Res Stop End
+runSource α inner d m on s w =
+    bind (leadOut (memberMachine α inner d m on s) (s .lead) w) λ _ v.
+    runOn (memberMachine α inner d m on s) (v .limit - v .used) (firstOf (s .first)) [] v
 
 -- a member that was entered, with n include levels left
-unfoldable pub runMember : ℕ → List ℕ → Inner
-runMember zero d m on w = runSource noLevel d m on (readMember (bodyOf d m)) w
-runMember (suc n) d m on w = runSource (level (runMember n d)) d m on (readMember (bodyOf d m)) w
+unfoldable pub runMember : Letters → ℕ → List ℕ → Inner
+runMember α zero d m on w = runSource α noLevel d m on (readMember α (bodyOf d m)) w
+runMember α (suc n) d m on w = runSource α (level (runMember α n d)) d m on (readMember α (bodyOf d m)) w

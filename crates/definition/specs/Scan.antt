@@ -10,7 +10,7 @@ use lib.ListN.{length, getD, drop}
 use Rattle.definition.specs.Choice.{when}
 use Rattle.definition.specs.Limits.{valueLength, unfinishedBytes}
 use Rattle.definition.specs.Lists.{part, leading}
-use Rattle.definition.specs.Bytes.{isBlank}
+use Rattle.definition.specs.Bytes.{Letters, isBlank}
 use Rattle.definition.specs.Refusal.{Why, wrongName, noValue, wrongArguments, tooDeep, tooLong, roomFull}
 use Rattle.definition.specs.Tokens.{Piece, name, plain, unclosed, pieceAt}
 use Rattle.definition.specs.Values.{Value, characters, toCharacters, convert, sizeOf}
@@ -81,22 +81,22 @@ pub data Arguments : Type 0 where
 
 -- "cut at outer commas, `()` being one empty argument": the argument that begins at `from`, with d parentheses open in
 -- it
-unfoldable pub cutOn : ℕ → List ℕ → ℕ → ℕ → List Argument → ℕ → Arguments
-cutOn zero t d from xs p = noList
-cutOn (suc f) t d from xs p =
+unfoldable pub cutOn : Letters → ℕ → List ℕ → ℕ → ℕ → List Argument → ℕ → Arguments
+cutOn α zero t d from xs p = noList
+cutOn α (suc f) t d from xs p =
     when (leb (length t) p) (λ _. noList)
-    (λ _. when (eqb (getD t p 0) (code "(")) (λ _. cutOn f t (suc d) from xs (p + 1))
+    (λ _. when (eqb (getD t p 0) (code "(")) (λ _. cutOn α f t (suc d) from xs (p + 1))
     (λ _. when (eqb (getD t p 0) (code ")") && eqb d 0)
     (λ _. listUpTo (xs ++ record { from = from; to = p } ∷ []) (p + 1))
-    (λ _. when (eqb (getD t p 0) (code ")")) (λ _. cutOn f t (d - 1) from xs (p + 1))
+    (λ _. when (eqb (getD t p 0) (code ")")) (λ _. cutOn α f t (d - 1) from xs (p + 1))
     (λ _. when (eqb (getD t p 0) (code ",") && eqb d 0)
-    (λ _. cutOn f t d (p + 1) (xs ++ record { from = from; to = p } ∷ []) (p + 1))
-    (λ _. cutOn f t d from xs (pieceAt t p .to))))))
+    (λ _. cutOn α f t d (p + 1) (xs ++ record { from = from; to = p } ∷ []) (p + 1))
+    (λ _. cutOn α f t d from xs (pieceAt α t p .to))))))
 
-unfoldable pub listAt : List ℕ → ℕ → Arguments
-listAt t p =
+unfoldable pub listAt : Letters → List ℕ → ℕ → Arguments
+listAt α t p =
     let q = p + length (leading isBlank (drop p t)) in
-    when (eqb (getD t q 0) (code "(")) (λ _. cutOn (length t) t 0 (q + 1) [] (q + 1)) (λ _. noList)
+    when (eqb (getD t q 0) (code "(")) (λ _. cutOn α (length t) t 0 (q + 1) [] (q + 1)) (λ _. noList)
 
 -- "each argument in turn is scanned, then converted"; there are as many as parameters
 unfoldable pub scanArguments : Scanner → List ℕ → List Parameter → List Argument → ℕ → World → Res Why (List Value)
@@ -130,21 +130,21 @@ withList run scan t act into u c (listUpTo xs q) w =
     (λ _. bad wrongArguments (w .used))
 
 -- "Without parameters nothing is read on."
-unfoldable pub replaceEntry : Call → Scanner → List ℕ → ℕ → Activity → Into → ℕ → Callee → World → Res Why Replaced
-replaceEntry run scan t p act into u c w =
+unfoldable pub replaceEntry : Letters → Call → Scanner → List ℕ → ℕ → Activity → Into → ℕ → Callee → World → Res Why Replaced
+replaceEntry α run scan t p act into u c w =
     when (eqb (length (c .parameters)) 0) (λ _. upTo p (callWith run scan act into u c [] w))
-    (λ _. withList run scan t act into u c (listAt t p) w)
+    (λ _. withList run scan t act into u c (listAt α t p) w)
 
 abbrev pub replaceCell : Cell → Scanner → ℕ → Activity → Into → ℕ → World → Res Why Replaced
 replaceCell W.noValue scan p act into u w = bad noValue (w .used)
 replaceCell (W.holds v) scan p act into u w = upTo p (outcome act scan into u (toCharacters v) w)
 
-abbrev pub replaceAs : Denotation → Call → Scanner → List ℕ → ℕ → ℕ → Activity → Into → ℕ → World → Res Why Replaced
-replaceAs (variableOf k) run scan t p a act into u w = replaceCell (valueAt a w) scan p act into u w
-replaceAs (entryOf e b) run scan t p a act into u w =
-    bind (ask (callee b w) w) λ c v. replaceEntry run scan t p act into u c v
-replaceAs (labelAt m r x) run scan t p a act into u w = bad wrongName (w .used)
-replaceAs builtinName run scan t p a act into u w = bad wrongName (w .used)
+abbrev pub replaceAs : Letters → Denotation → Call → Scanner → List ℕ → ℕ → ℕ → Activity → Into → ℕ → World → Res Why Replaced
+replaceAs α (variableOf k) run scan t p a act into u w = replaceCell (valueAt a w) scan p act into u w
+replaceAs α (entryOf e b) run scan t p a act into u w =
+    bind (ask (callee b w) w) λ c v. replaceEntry α run scan t p act into u c v
+replaceAs α (labelAt m r x) run scan t p a act into u w = bad wrongName (w .used)
+replaceAs α builtinName run scan t p a act into u w = bad wrongName (w .used)
 
 -- ---- the tokens of a value or an argument, one after the other; `out` is the outcome so far
 abbrev pub copyToken : Into → List ℕ → List ℕ → ℕ → ℕ → ℕ → World → (List ℕ → ℕ → World → Res Why (List ℕ))
@@ -165,19 +165,19 @@ activeIn plain w = notActive
 activeIn unclosed w = notActive
 
 -- f is more than the turns
-unfoldable pub scanOn : Replacer → Into → List ℕ → ℕ → ℕ → List ℕ → ℕ → World → Res Why (List ℕ)
-scanOn replace into t u zero out p w = good out w
-scanOn replace into t u (suc f) out p w =
+unfoldable pub scanOn : Letters → Replacer → Into → List ℕ → ℕ → ℕ → List ℕ → ℕ → World → Res Why (List ℕ)
+scanOn α replace into t u zero out p w = good out w
+scanOn α replace into t u (suc f) out p w =
     when (leb (length t) p) (λ _. good out w)
     (λ _. bind (charge w) λ _ v.
-    token (activeIn (pieceAt t p .piece) v) replace into t out u p (pieceAt t p .to) v
-    (λ o q x. scanOn replace into t u f o q x))
+    token (activeIn (pieceAt α t p .piece) v) replace into t out u p (pieceAt α t p .to) v
+    (λ o q x. scanOn α replace into t u f o q x))
 
-abbrev pub scanWith : Replacer → Scanner
-scanWith replace into t u w = scanOn replace into t u (suc (length t)) [] 0 w
+abbrev pub scanWith : Letters → Replacer → Scanner
+scanWith α replace into t u w = scanOn α replace into t u (suc (length t)) [] 0 w
 
 -- "A replacement in program text is level 1; one met while scanning a value or an argument is one deeper": n levels are
 -- left
-unfoldable pub replacer : Call → ℕ → Replacer
-replacer run zero t p a act into u w = bad tooDeep (w .used)
-replacer run (suc n) t p a act into u w = replaceAs (denotation a w) run (scanWith (replacer run n)) t p a act into u w
+unfoldable pub replacer : Letters → Call → ℕ → Replacer
+replacer α run zero t p a act into u w = bad tooDeep (w .used)
+replacer α run (suc n) t p a act into u w = replaceAs α (denotation a w) run (scanWith α (replacer α run n)) t p a act into u w

@@ -11,7 +11,7 @@ use lib.ListN.{length, getD, drop}
 use Rattle.definition.specs.Choice.{when}
 use Rattle.definition.specs.Text.{bytesOf}
 use Rattle.definition.specs.Lists.{part, all, leading, same, isOneOf}
-use Rattle.definition.specs.Bytes.{classOf, isDigit, isAlphameric, isBlank}
+use Rattle.definition.specs.Bytes.{Letters, capital, folded, classOf, isDigit, isAlphameric, isBlank}
 use Rattle.definition.specs.declared.Class.{Class}
 use Rattle.definition.specs.declared.Class.the-variants.{Letter, Digit, Break, Blank, LineFeed, Percent, Quote, Mark, Other}
 
@@ -118,10 +118,10 @@ unfoldable pub isBit : ℕ → Bool
 isBit b = eqb b (code "0") || eqb b (code "1")
 
 -- "a string of 0 and 1 directly followed by B is a bit string"
-unfoldable pub constantAt : List ℕ → ℕ → Quoted → Lexeme
-constantAt s p unquoted = lexeme wrong p p
-constantAt s p (quoted bs q) =
-    cond (all isBit bs && eqb (getD s q 0) (code "B")) (lexeme (bits bs) p (q + 1)) (lexeme (string bs) p q)
+unfoldable pub constantAt : Letters → List ℕ → ℕ → Quoted → Lexeme
+constantAt α s p unquoted = lexeme wrong p p
+constantAt α s p (quoted bs q) =
+    cond (all isBit bs && eqb (capital α (getD s q 0)) (code "B")) (lexeme (bits bs) p (q + 1)) (lexeme (string bs) p q)
 
 -- the delimiters of two bytes
 unfoldable pub isPair : List ℕ → Bool
@@ -134,36 +134,36 @@ unfoldable pub runAt : (List ℕ → Token) → (ℕ → Bool) → List ℕ → 
 runAt t test s p = lexeme (t (leading test (drop p s))) p (p + length (leading test (drop p s)))
 
 -- the token that begins at a place with a byte of a class
-unfoldable pub lexemeOf : Class → List ℕ → ℕ → Lexeme
-lexemeOf Letter s p = runAt word isAlphameric s p
-lexemeOf Digit s p = runAt integer isDigit s p
-lexemeOf Quote s p = constantAt s p (quotedAt (drop (p + 1) s) [] (p + 1))
-lexemeOf Mark s p = signAt s p
-lexemeOf Percent s p = signAt s p
-lexemeOf Break s p = lexeme wrong p p
-lexemeOf Blank s p = lexeme wrong p p
-lexemeOf LineFeed s p = lexeme wrong p p
-lexemeOf Other s p = lexeme wrong p p
+unfoldable pub lexemeOf : Letters → Class → List ℕ → ℕ → Lexeme
+lexemeOf α Letter s p = runAt (λ w. word (folded α w)) (isAlphameric α) s p
+lexemeOf α Digit s p = runAt integer isDigit s p
+lexemeOf α Quote s p = constantAt α s p (quotedAt (drop (p + 1) s) [] (p + 1))
+lexemeOf α Mark s p = signAt s p
+lexemeOf α Percent s p = signAt s p
+lexemeOf α Break s p = lexeme wrong p p
+lexemeOf α Blank s p = lexeme wrong p p
+lexemeOf α LineFeed s p = lexeme wrong p p
+lexemeOf α Other s p = lexeme wrong p p
 
 -- 000, 3.1.1: "Between two adjacent non-delimiters the notation variable space must be inserted": two of them touch at
 -- p
-unfoldable pub isTouching : List ℕ → ℕ → Bool
-isTouching s p = isSolid (getD s (p - 1) 0) && isSolid (getD s p 0)
+unfoldable pub isTouching : Letters → List ℕ → ℕ → Bool
+isTouching α s p = isSolid (getD s (p - 1) 0) && isSolid (getD s p 0)
   where
     isSolid : ℕ → Bool
-    isSolid b = isAlphameric b || eqb b (code "'")
+    isSolid b = isAlphameric α b || eqb b (code "'")
 
 -- the token at p where the one before it ends at e
-unfoldable pub lexemeAt : List ℕ → ℕ → Spaces → Lexeme
-lexemeAt s e (openComment p) = lexeme wrong p p
-lexemeAt s e (upTo p) =
+unfoldable pub lexemeAt : Letters → List ℕ → ℕ → Spaces → Lexeme
+lexemeAt α s e (openComment p) = lexeme wrong p p
+lexemeAt α s e (upTo p) =
     when (leb (length s) p) (λ _. lexeme nothing p p)
-    (λ _. when (eqb e p && isTouching s p) (λ _. lexeme wrong p p)
-    (λ _. lexemeOf (classOf (getD s p 0)) s p))
+    (λ _. when (eqb e p && isTouching α s p) (λ _. lexeme wrong p p)
+    (λ _. lexemeOf α (classOf α (getD s p 0)) s p))
 
 -- THE STATEMENT TOKEN: the first after the place e, where the token before it ends
-unfoldable pub tokenAt : List ℕ → ℕ → Lexeme
-tokenAt s e = lexemeAt s e (spaces (length s) s e)
+unfoldable pub tokenAt : Letters → List ℕ → ℕ → Lexeme
+tokenAt α s e = lexemeAt α s e (spaces (length s) s e)
 
 -- ---- the tokens of a text ("Scanning")
 
@@ -186,20 +186,20 @@ abbrev pub closedCut : List ℕ → Closed → Cut
 closedCut s (closedAt q) = cut plain q
 closedCut s neverClosed = cut unclosed (length s)
 
-unfoldable pub pieceOf : Class → List ℕ → ℕ → Cut
-pieceOf Letter s p = cut (name (leading isAlphameric (drop p s))) (p + length (leading isAlphameric (drop p s)))
-pieceOf Digit s p = cut plain (p + length (leading isAlphameric (drop p s)))
-pieceOf Quote s p = closedCut s (quoteEnd (drop (p + 1) s) (p + 1))
-pieceOf Mark s p = when (isComment s p) (λ _. closedCut s (pastComment s p)) (λ _. cut plain (p + 1))
-pieceOf Percent s p = cut plain (p + 1)
-pieceOf Break s p = cut plain (p + 1)
-pieceOf Blank s p = cut plain (p + 1)
-pieceOf LineFeed s p = cut plain (p + 1)
-pieceOf Other s p = cut plain (p + 1)
+unfoldable pub pieceOf : Letters → Class → List ℕ → ℕ → Cut
+pieceOf α Letter s p = cut (name (folded α (leading (isAlphameric α) (drop p s)))) (p + length (leading (isAlphameric α) (drop p s)))
+pieceOf α Digit s p = cut plain (p + length (leading (isAlphameric α) (drop p s)))
+pieceOf α Quote s p = closedCut s (quoteEnd (drop (p + 1) s) (p + 1))
+pieceOf α Mark s p = when (isComment s p) (λ _. closedCut s (pastComment s p)) (λ _. cut plain (p + 1))
+pieceOf α Percent s p = cut plain (p + 1)
+pieceOf α Break s p = cut plain (p + 1)
+pieceOf α Blank s p = cut plain (p + 1)
+pieceOf α LineFeed s p = cut plain (p + 1)
+pieceOf α Other s p = cut plain (p + 1)
 
 -- THE TEXT TOKEN at a place
-unfoldable pub pieceAt : List ℕ → ℕ → Cut
-pieceAt s p = pieceOf (classOf (getD s p 0)) s p
+unfoldable pub pieceAt : Letters → List ℕ → ℕ → Cut
+pieceAt α s p = pieceOf α (classOf α (getD s p 0)) s p
 
 -- "Text ends at a `%` outside strings and comments": where a text that begins at p ends, or the token in it that is
 -- open
@@ -213,9 +213,9 @@ textOn (name w) p q f = f q
 textOn plain p q f = f q
 textOn unclosed p q f = openAt p
 
-unfoldable pub textEnd : ℕ → List ℕ → ℕ → TextEnd
-textEnd zero s p = atEnd
-textEnd (suc f) s p =
+unfoldable pub textEnd : Letters → ℕ → List ℕ → ℕ → TextEnd
+textEnd α zero s p = atEnd
+textEnd α (suc f) s p =
     when (leb (length s) p) (λ _. atEnd)
     (λ _. when (eqb (getD s p 0) (code "%")) (λ _. percentAt p)
-    (λ _. textOn (pieceAt s p .piece) p (pieceAt s p .to) (textEnd f s)))
+    (λ _. textOn (pieceAt α s p .piece) p (pieceAt α s p .to) (textEnd α f s)))

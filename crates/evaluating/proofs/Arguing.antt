@@ -10,6 +10,7 @@ use native.Mathlib.Omega.{arith}
 use borrow.Author.Tests.{lt-ltb, le-ltb}
 use lib.Dec.{ltb}
 use lib.ListN.{length}
+use Rattle.definition.specs.Bytes.{mixed}
 use Rattle.definition.specs.Choice.{when}
 use Rattle.definition.specs.Tokens.{tokenAt, isSign}
 use Rattle.definition.specs.Expressions as E
@@ -59,39 +60,39 @@ use Rattle.operands.proofs.Taking.{One, path-place, path-kept, path-more, subje
 module _ (left : ℕ) (s : List ℕ) (p : ℕ) where
   -- what follows an argument: others, or the end
   pub data Rests (f at : ℕ) (rest : Tree) (to : ℕ) : Type 0 where
-    going : E.arguments (insideOf left s p) s f at ≡ read (parsed rest to) → Rests f at rest to
+    going : E.arguments mixed (insideOf left s p) s f at ≡ read (parsed rest to) → Rests f at rest to
     ending : rest ≡ none → at ≡ to → Rests f at rest to
 
   pub record After (f : ℕ) (a z : Parsed) : Type 0 where
     pub rest : Tree
     pub tree : more (a .tree) rest ≡ z .tree
-    pub rests : Rests f (tokenAt s (a .to) .to) rest (z .to)
+    pub rests : Rests f (tokenAt mixed s (a .to) .to) rest (z .to)
 
   abbrev next : ℕ → Parsed → Reading Parsed
   next f a =
-      when (isSign "," (tokenAt s (a .to) .token))
-      (λ _. then (E.arguments (insideOf left s p) s f (tokenAt s (a .to) .to)) λ r. read (parsed (more (a .tree) (r .tree)) (r .to)))
-      (λ _. then (expectSign ")" s (a .to)) λ e. read (parsed (more (a .tree) none) e))
+      when (isSign "," (tokenAt mixed s (a .to) .token))
+      (λ _. then (E.arguments mixed (insideOf left s p) s f (tokenAt mixed s (a .to) .to)) λ r. read (parsed (more (a .tree) (r .tree)) (r .to)))
+      (λ _. then (expectSign mixed ")" s (a .to)) λ e. read (parsed (more (a .tree) none) e))
 
-  after-comma : (f : ℕ) (a z : Parsed) → IsRead (E.arguments (insideOf left s p) s f (tokenAt s (a .to) .to)) (λ r. read (parsed (more (a .tree) (r .tree)) (r .to))) z → After f a z
+  after-comma : (f : ℕ) (a z : Parsed) → IsRead (E.arguments mixed (insideOf left s p) s f (tokenAt mixed s (a .to) .to)) (λ r. read (parsed (more (a .tree) (r .tree)) (r .to))) z → After f a z
   after-comma f a z k =
       let d : parsed (more (a .tree) (k .first .tree)) (k .first .to) ≡ z = read-same (parsed (more (a .tree) (k .first .tree)) (k .first .to)) z (k .rest) in
       record { rest = k .first .tree; tree = ap (λ (i : Parsed). i .tree) d; rests = going (k .is ∙ ap (λ (i : ℕ). read (parsed (k .first .tree) i)) (ap (λ (i : Parsed). i .to) d)) }
 
-  after-end : (f : ℕ) (a z : Parsed) → IsRead (expectSign ")" s (a .to)) (λ e. read (parsed (more (a .tree) none) e)) z → After f a z
+  after-end : (f : ℕ) (a z : Parsed) → IsRead (expectSign mixed ")" s (a .to)) (λ e. read (parsed (more (a .tree) none) e)) z → After f a z
   after-end f a z k =
       let d : parsed (more (a .tree) none) (k .first) ≡ z = read-same (parsed (more (a .tree) none) (k .first)) z (k .rest) in
       record { rest = none; tree = ap (λ (i : Parsed). i .tree) d; rests = ending refl (sym (expect-is ")" s (a .to) (k .first) (k .is)) ∙ ap (λ (i : Parsed). i .to) d) }
 
-  after-by : (f : ℕ) (a z : Parsed) (b : Bool) → when b (λ _. then (E.arguments (insideOf left s p) s f (tokenAt s (a .to) .to)) λ r. read (parsed (more (a .tree) (r .tree)) (r .to))) (λ _. then (expectSign ")" s (a .to)) λ e. read (parsed (more (a .tree) none) e)) ≡ read z → After f a z
-  after-by f a z true q = after-comma f a z (then-read (E.arguments (insideOf left s p) s f (tokenAt s (a .to) .to)) (λ r. read (parsed (more (a .tree) (r .tree)) (r .to))) z q)
-  after-by f a z false q = after-end f a z (then-read (expectSign ")" s (a .to)) (λ e. read (parsed (more (a .tree) none) e)) z q)
+  after-by : (f : ℕ) (a z : Parsed) (b : Bool) → when b (λ _. then (E.arguments mixed (insideOf left s p) s f (tokenAt mixed s (a .to) .to)) λ r. read (parsed (more (a .tree) (r .tree)) (r .to))) (λ _. then (expectSign mixed ")" s (a .to)) λ e. read (parsed (more (a .tree) none) e)) ≡ read z → After f a z
+  after-by f a z true q = after-comma f a z (then-read (E.arguments mixed (insideOf left s p) s f (tokenAt mixed s (a .to) .to)) (λ r. read (parsed (more (a .tree) (r .tree)) (r .to))) z q)
+  after-by f a z false q = after-end f a z (then-read (expectSign mixed ")" s (a .to)) (λ e. read (parsed (more (a .tree) none) e)) z q)
 
-  turn : (f at : ℕ) (z : Parsed) → E.arguments (insideOf left s p) s (suc f) at ≡ read z → IsRead (insideOf left s p at) (next f) z
+  turn : (f at : ℕ) (z : Parsed) → E.arguments mixed (insideOf left s p) s (suc f) at ≡ read z → IsRead (insideOf left s p at) (next f) z
   unfolding E.arguments
   turn f at z e = then-read (insideOf left s p at) (next f) z e
 
-  no-turn : (at : ℕ) (z : Parsed) {A : Type 0} → E.arguments (insideOf left s p) s 0 at ≡ read z → A
+  no-turn : (at : ℕ) (z : Parsed) {A : Type 0} → E.arguments mixed (insideOf left s p) s 0 at ≡ read z → A
   unfolding E.arguments
   no-turn at z e = never Syntax at z e
 
@@ -112,14 +113,14 @@ module _ (left : ℕ) (s : List ℕ) (p : ℕ) where
     pub rest : Tree
     pub is : insideOf left s p at ≡ read first
     pub tree-is : tree ≡ more (first .tree) rest
-    pub reads : Reads e rest (tokenAt s (first .to) .to)
+    pub reads : Reads e rest (tokenAt mixed s (first .to) .to)
 
   step-with : (f at : ℕ) (z : Parsed) (k : IsRead (insideOf left s p at) (next f) z) → After f (k .first) z → Step (z .to) (z .tree) at
   step-with f at z k a = record { first = k .first; rest = a .rest; is = k .is; tree-is = sym (a .tree); reads = record { fuel = f; rests = a .rests } }
 
-  step-at : (f at : ℕ) (z : Parsed) → E.arguments (insideOf left s p) s f at ≡ read z → Step (z .to) (z .tree) at
+  step-at : (f at : ℕ) (z : Parsed) → E.arguments mixed (insideOf left s p) s f at ≡ read z → Step (z .to) (z .tree) at
   step-at zero at z q = no-turn at z q
-  step-at (suc f) at z q = let k : IsRead (insideOf left s p at) (next f) z = turn f at z q in step-with f at z k (after-by f (k .first) z (isSign "," (tokenAt s (k .first .to) .token)) (k .rest))
+  step-at (suc f) at z q = let k : IsRead (insideOf left s p at) (next f) z = turn f at z q in step-with f at z k (after-by f (k .first) z (isSign "," (tokenAt mixed s (k .first .to) .token)) (k .rest))
 
   pub step : (e : ℕ) (tree : Tree) (at f : ℕ) → Rests f at tree e → 0 < count tree → Step e tree at
   step e tree at f (going q) h = step-at f at (parsed tree e) q
@@ -208,7 +209,7 @@ module _ (deck rows names s c₀ l₀ h₀ w₀ : List ℕ) (from left u : ℕ) 
     pub low-size : length l ≡ length l₀
     pub high-size : length h ≡ length h₀
     pub work-size : length w ≡ length w₀
-    pub is : (B : World) → Shows deck rows names c₀ l₀ h₀ w₀ u x m₀ B → (p : ℕ) (y : Tree) (e : ℕ) → E.arguments (insideOf left s p) s (length s) from ≡ read (parsed y e) → wantedBy t ≡ count y
+    pub is : (B : World) → Shows deck rows names c₀ l₀ h₀ w₀ u x m₀ B → (p : ℕ) (y : Tree) (e : ℕ) → E.arguments mixed (insideOf left s p) s (length s) from ≡ read (parsed y e) → wantedBy t ≡ count y
         → (ws : List Ev.Wish) → Coming deck names (x .names) t 0 (firstListed t) ws → count y ≤ length ws → length ws ≤ 256
         → Took B p e ws (count y) (taken x y ws u (worldIn B c₀ l₀ h₀ (m₀ .used))) turns i listed top at f k m c l h w
 

@@ -6,6 +6,7 @@ use mathlib.Core.List.{List, _∷_}
 use Prim.Native.Nat.{ℕ, _+_, _-_, _<_}
 use native.Mathlib.Omega.{arith}
 use lib.ListN.{length, getD}
+use Rattle.definition.specs.Bytes.{mixed}
 use Rattle.definition.specs.Choice.{when}
 use Rattle.definition.specs.Expressions.{Tree, wholeExpression}
 use Rattle.definition.specs.Program as D
@@ -526,7 +527,7 @@ module _ (deck s t rows names c l h w : List ℕ) (p : Place) (n : ℕ) (fs : Fr
   unfolding F.statement bodyMachine
   act-is B G a q v = rw q
 
-  statement-return : rowIn t n .statement ≡ S.Return → (o : Lexeme) → Lexed s (rowIn t n .content) o → (c₁ l₁ h₁ w₁ : List ℕ) → length w₁ ≡ length w → (b : Evaluated) → Evaluates deck rows names c l h w u x m c₁ l₁ h₁ w₁ b (wholeExpression s (o .to))
+  statement-return : rowIn t n .statement ≡ S.Return → (o : Lexeme) → Lexed s (rowIn t n .content) o → (c₁ l₁ h₁ w₁ : List ℕ) → length w₁ ≡ length w → (b : Evaluated) → Evaluates deck rows names c l h w u x m c₁ l₁ h₁ w₁ b (wholeExpression mixed s (o .to))
       → (w₂ : List ℕ) (r : Turned) → ReturnIs w₁ u fs (rowIn t (p .row) .«value_type») b w₂ r → StatementIs deck s t rows names c l h w p n fs u x m c₁ l₁ h₁ w₂ r
   unfolding F.statement bodyMachine
   statement-return e o lo c₁ l₁ h₁ w₁ z₁ b ev w₂ r ri = statement-by c₁ l₁ h₁ w₂ r (λ B G k. of B G k (rowOf (rowsOf (p .member) B) n .statement) refl (stated B G k) (sym (kind-is B G k) ∙ e))
@@ -535,7 +536,7 @@ module _ (deck s t rows names c l h w : List ℕ) (p : Place) (n : ℕ) (fs : Fr
       returned B G k a q st =
           let W₁ : World = worldIn B c l h (m .used) in
           let oq : o .to ≡ st .0 = lo .to ∙ sym (expect-is "(" s (rowIn t n .content) (st .0) (st .2)) in
-          let gv : Gave B u w c₁ l₁ h₁ w₁ b (st .1) (valueOf x a u W₁) = ev .is B (k .shows) a (st .1) (ap (wholeExpression s) oq ∙ st .3) in
+          let gv : Gave B u w c₁ l₁ h₁ w₁ b (st .1) (valueOf x a u W₁) = ev .is B (k .shows) a (st .1) (ap (wholeExpression mixed s) oq ∙ st .3) in
           let T₁ : ValueType = rowIn t (p .row) .«value_type» in
           let V₁ : bodyOf x p u B .value a W₁ ≡ valueOf x a u W₁ = serves B G k .value a W₁ in
           let R : F.statement (bodyOf x p u B) (D.return a) G n W₁ ≡ bind (wishedOn u (Ev.asType T₁) (valueOf x a u W₁)) (λ v z. good (F.ended (F.returned v)) z) =
@@ -586,6 +587,6 @@ module _ (deck s t rows names c l h w : List ℕ) (p : Place) (n : ℕ) (fs : Fr
     pub row-goto : q .statement ≡ S.Goto → (r : Turned) → JumpsIn deck s t names fs n x m r → StatementIs deck s t rows names c l h w p n fs u x m c l h w r
     row-goto e = statement-goto (kind-of S.Goto e)
 
-    pub row-return : q .statement ≡ S.Return → (o : Lexeme) → Lexed s (q .content) o → (c₁ l₁ h₁ w₁ : List ℕ) → length w₁ ≡ length w → (b : Evaluated) → Evaluates deck rows names c l h w u x m c₁ l₁ h₁ w₁ b (wholeExpression s (o .to))
+    pub row-return : q .statement ≡ S.Return → (o : Lexeme) → Lexed s (q .content) o → (c₁ l₁ h₁ w₁ : List ℕ) → length w₁ ≡ length w → (b : Evaluated) → Evaluates deck rows names c l h w u x m c₁ l₁ h₁ w₁ b (wholeExpression mixed s (o .to))
         → (v : Row) → v ≡ rowIn t (p .row) → (w₂ : List ℕ) (r : Turned) → ReturnIs w₁ u fs (v .«value_type») b w₂ r → StatementIs deck s t rows names c l h w p n fs u x m c₁ l₁ h₁ w₂ r
     row-return e o lo c₁ l₁ h₁ w₁ z₁ b ev v ev₂ w₂ r ri = statement-return (kind-of S.Return e) o (subst (λ (i : Row). Lexed s (i .content) o) eq lo) c₁ l₁ h₁ w₁ z₁ b ev w₂ r (subst (λ (i : Row). ReturnIs w₁ u fs (i .«value_type») b w₂ r) ev₂ ri)

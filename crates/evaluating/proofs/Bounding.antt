@@ -7,6 +7,7 @@ use Prim.Native.Nat.{ℕ, _-_, _≤_}
 use native.Mathlib.Omega.{arith}
 use lib.IntN.{ℤ, pos}
 use lib.ListN.{length, getD}
+use Rattle.definition.specs.Bytes.{mixed}
 use Rattle.definition.specs.Fixed.{inRange}
 use Rattle.definition.specs.Tokens.{tokenAt, isWord}
 use Rattle.definition.specs.Expressions.{read, Tree, parsed, wholeExpression}
@@ -62,15 +63,15 @@ use Rattle.evaluating.specs.Statements.{WidensAs, widenedMeter, boundedO
 use Rattle.evaluating.proofs.Stating.{onMeant, meant-cond, spelled, means, meant-now}
 
 -- ---- the next bound
-word-by : (s : List ℕ) (at : ℕ) → isWord "BY" (tokenAt s at .token) ≡ true → wordAt s at ≡ Wo.Of Sid.By (tokenAt s at .to)
+word-by : (s : List ℕ) (at : ℕ) → isWord "BY" (tokenAt mixed s at .token) ≡ true → wordAt s at ≡ Wo.Of Sid.By (tokenAt mixed s at .to)
 unfolding wordAt
 word-by s at e = rw e
 
-word-to : (s : List ℕ) (at : ℕ) → isWord "BY" (tokenAt s at .token) ≡ false → isWord "TO" (tokenAt s at .token) ≡ true → wordAt s at ≡ Wo.Of Sid.Upto (tokenAt s at .to)
+word-to : (s : List ℕ) (at : ℕ) → isWord "BY" (tokenAt mixed s at .token) ≡ false → isWord "TO" (tokenAt mixed s at .token) ≡ true → wordAt s at ≡ Wo.Of Sid.Upto (tokenAt mixed s at .to)
 unfolding wordAt
 word-to s at e f = rw (e, f)
 
-word-none : (s : List ℕ) (at : ℕ) → isWord "BY" (tokenAt s at .token) ≡ false → isWord "TO" (tokenAt s at .token) ≡ false → wordAt s at ≡ Wo.Neither
+word-none : (s : List ℕ) (at : ℕ) → isWord "BY" (tokenAt mixed s at .token) ≡ false → isWord "TO" (tokenAt mixed s at .token) ≡ false → wordAt s at ≡ Wo.Neither
 unfolding wordAt
 word-none s at e f = rw (e, f)
 
@@ -107,8 +108,8 @@ module _ (deck s rows names c l h w : List ℕ) (u : ℕ) (x : Scene) (y : Widen
 
         by : (B : World) (m₁ : Meter) (d : F.Frame) (f₁ : Frame) → FrameShown f₁ d → Leaves B u w c l h w m₁ → (bs : List D.Bound) → Bounded s bs q → WidensAs B s c l h (boundedOn x u bs d (worldIn B c l h (m₁ .used))) (boundsLeft bs) (Wd.Is f₁ q m₁) × Leaves B u w c l h w m₁
         by B m₁ d f₁ fs lv [] bd = ((d, fs, refl, bd), lv)
-        by B m₁ d f₁ fs lv (D.by t ∷ bs) bd = no-word Sid.By (tokenAt s q .to) (sym (word-by s q (bd .1)) ∙ none)
-        by B m₁ d f₁ fs lv (D.upto t ∷ bs) bd = no-word Sid.Upto (tokenAt s q .to) (sym (word-to s q (bd .1) (bd .2)) ∙ none)
+        by B m₁ d f₁ fs lv (D.by t ∷ bs) bd = no-word Sid.By (tokenAt mixed s q .to) (sym (word-by s q (bd .1)) ∙ none)
+        by B m₁ d f₁ fs lv (D.upto t ∷ bs) bd = no-word Sid.Upto (tokenAt mixed s q .to) (sym (word-to s q (bd .1) (bd .2)) ∙ none)
 
         go : (f₁ : Frame) (q₁ : ℕ) (m₁ : Meter) → Wd.Is f q m ≡ Wd.Is f₁ q₁ m₁ → (B : World) → Shows deck rows names c l h w u x m₁ B → (bs : List D.Bound) (d : F.Frame) → Bounded s bs q₁ → FrameShown f₁ d
             → WidensAs B s c l h (boundedOn x u bs d (worldIn B c l h (m₁ .used))) (boundsLeft bs) (Wd.Is f q m) × Leaves B u w c l h w m
@@ -118,13 +119,13 @@ module _ (deck s rows names c l h w : List ℕ) (u : ℕ) (x : Scene) (y : Widen
             let jm : m ≡ m₁ = cc in
             rw (jf, jm) (by B m₁ d f₁ fs (record { below = refl; limit = sh .limit; slots = sh .slots }) bs (rw (← jq) at bd))
 
-    module _ (a : Side) (p : ℕ) (e : v ≡ Wo.Of a p) (c₁ l₁ h₁ w₁ : List ℕ) (b : Evaluated) (ev : Evaluates deck rows names c l h w u x m c₁ l₁ h₁ w₁ b (wholeExpression s p))
+    module _ (a : Side) (p : ℕ) (e : v ≡ Wo.Of a p) (c₁ l₁ h₁ w₁ : List ℕ) (b : Evaluated) (ev : Evaluates deck rows names c l h w u x m c₁ l₁ h₁ w₁ b (wholeExpression mixed s p))
         (n : Bound) (bi : BoundIs w₁ u b n) (r : Widened) (er : r ≡ widenedBy f a n) where
       some : wordAt s q ≡ Wo.Of a p
       some = sym gv ∙ e
 
       -- what the expression t is, and what the definition makes of it
-      module _ (B : World) (sh : Shows deck rows names c l h w u x m B) (t : Tree) (k : ℕ) (rd : wholeExpression s p ≡ read (parsed t k)) where
+      module _ (B : World) (sh : Shows deck rows names c l h w u x m B) (t : Tree) (k : ℕ) (rd : wholeExpression mixed s p ≡ read (parsed t k)) where
         gave : Gave B u w c₁ l₁ h₁ w₁ b k (valueOf x t u (worldIn B c l h (m .used)))
         gave = ev .is B sh t k rd
 
@@ -140,7 +141,7 @@ module _ (deck s rows names c l h w : List ℕ) (u : ℕ) (x : Scene) (y : Widen
         range : (z : Fixed) (q₁ : ℕ) (m₁ : Meter) → n ≡ Bo.Is z q₁ m₁ → inRange (z .value) ≡ true
         range z q₁ m₁ i = bound-range B c₁ l₁ h₁ w₁ u b z q₁ m₁ (rw i at bi) (gave-fine B c l h x t u (m .used) w c₁ l₁ h₁ w₁ b k (sh .slots) gave)
 
-      by-side : (B : World) (sh : Shows deck rows names c l h w u x m B) (t : Tree) (k : ℕ) (rd : wholeExpression s p ≡ read (parsed t k)) (bs : List D.Bound) (d : F.Frame) → Bounded s bs k → FrameShown f d → a ≡ Sid.By
+      by-side : (B : World) (sh : Shows deck rows names c l h w u x m B) (t : Tree) (k : ℕ) (rd : wholeExpression mixed s p ≡ read (parsed t k)) (bs : List D.Bound) (d : F.Frame) → Bounded s bs k → FrameShown f d → a ≡ Sid.By
           → (n₁ : Bound) → n ≡ n₁ → WidensAs B s c₁ l₁ h₁ (F.bounded (sceneMachine x u) (D.by t) d (worldIn B c l h (m .used))) bs (widenedBy f a n₁) × Leaves B u w c₁ l₁ h₁ w₁ (widenedMeter (widenedBy f a n₁))
       by-side B sh t k rd bs d bd fs ea (Bo.Is z q₁ m₁) i =
           let nu : good (z .value) (worldIn B c₁ l₁ h₁ (m₁ .used)) ≡ numberOn (valueOf x t u (worldIn B c l h (m .used))) = rw i at (number B sh t k rd) in
@@ -154,7 +155,7 @@ module _ (deck s rows names c l h w : List ℕ) (u : ℕ) (x : Scene) (y : Widen
           let nu : bad e₁ (m₁ .used) ≡ numberOn (valueOf x t u (worldIn B c l h (m .used))) = rw i at (number B sh t k rd) in
           (bounded-by x u t d (worldIn B c l h (m .used)) ∙ rw (← nu), rw i at (leaves B sh t k rd))
 
-      to-side : (B : World) (sh : Shows deck rows names c l h w u x m B) (t : Tree) (k : ℕ) (rd : wholeExpression s p ≡ read (parsed t k)) (bs : List D.Bound) (d : F.Frame) → Bounded s bs k → FrameShown f d → a ≡ Sid.Upto
+      to-side : (B : World) (sh : Shows deck rows names c l h w u x m B) (t : Tree) (k : ℕ) (rd : wholeExpression mixed s p ≡ read (parsed t k)) (bs : List D.Bound) (d : F.Frame) → Bounded s bs k → FrameShown f d → a ≡ Sid.Upto
           → (n₁ : Bound) → n ≡ n₁ → WidensAs B s c₁ l₁ h₁ (F.bounded (sceneMachine x u) (D.upto t) d (worldIn B c l h (m .used))) bs (widenedBy f a n₁) × Leaves B u w c₁ l₁ h₁ w₁ (widenedMeter (widenedBy f a n₁))
       to-side B sh t k rd bs d bd fs ea (Bo.Is z q₁ m₁) i =
           let nu : good (z .value) (worldIn B c₁ l₁ h₁ (m₁ .used)) ≡ numberOn (valueOf x t u (worldIn B c l h (m .used))) = rw i at (number B sh t k rd) in
@@ -172,14 +173,14 @@ module _ (deck s rows names c l h w : List ℕ) (u : ℕ) (x : Scene) (y : Widen
           → WidensAs B s c₁ l₁ h₁ (boundedOn x u bs d (worldIn B c l h (m .used))) (boundsLeft bs) (widenedBy f a n) × Leaves B u w c₁ l₁ h₁ w₁ (widenedMeter (widenedBy f a n))
       by-bounds B sh [] d bd fs = no-word a p (sym some ∙ word-none s q (bd .0) (bd .1))
       by-bounds B sh (D.by t ∷ bs) d bd fs =
-          let o : Wo.Of Sid.By (tokenAt s q .to) ≡ Wo.Of a p = sym (word-by s q (bd .1)) ∙ some in
+          let o : Wo.Of Sid.By (tokenAt mixed s q .to) ≡ Wo.Of a p = sym (word-by s q (bd .1)) ∙ some in
           let ea : a ≡ Sid.By = cc in
-          let ep : tokenAt s q .to ≡ p = cc in
+          let ep : tokenAt mixed s q .to ≡ p = cc in
           by-side B sh t (bd .0) (rw ep at (bd .2)) bs d (bd .3) fs ea n refl
       by-bounds B sh (D.upto t ∷ bs) d bd fs =
-          let o : Wo.Of Sid.Upto (tokenAt s q .to) ≡ Wo.Of a p = sym (word-to s q (bd .1) (bd .2)) ∙ some in
+          let o : Wo.Of Sid.Upto (tokenAt mixed s q .to) ≡ Wo.Of a p = sym (word-to s q (bd .1) (bd .2)) ∙ some in
           let ea : a ≡ Sid.Upto = cc in
-          let ep : tokenAt s q .to ≡ p = cc in
+          let ep : tokenAt mixed s q .to ≡ p = cc in
           to-side B sh t (bd .0) (rw ep at (bd .3)) bs d (bd .4) fs ea n refl
 
       pub bounded-some : BoundedIs deck s rows names c l h w u x y c₁ l₁ h₁ w₁ r
@@ -331,12 +332,12 @@ module _ (deck s rows names c l h w : List ℕ) (g at u : ℕ) (x : Scene) (m : 
     );
   }
 
-  module _ (a : ℕ) (e : v ≡ L.To a) (o : Lexeme) (lo : Lexed s (t .to) o) (c₁ l₁ h₁ w₁ : List ℕ) (z₁ : length w₁ ≡ length w) (b : Evaluated) (eb : Evaluates deck rows names c l h w u x m c₁ l₁ h₁ w₁ b (wholeExpression s (o .to)))
+  module _ (a : ℕ) (e : v ≡ L.To a) (o : Lexeme) (lo : Lexed s (t .to) o) (c₁ l₁ h₁ w₁ : List ℕ) (z₁ : length w₁ ≡ length w) (b : Evaluated) (eb : Evaluates deck rows names c l h w u x m c₁ l₁ h₁ w₁ b (wholeExpression mixed s (o .to)))
       (n : Bound) (bi : BoundIs w₁ u b n) (f : Frame) (ef : f ≡ firstFrame g a) (c₂ l₂ h₂ w₂ : List ℕ) (r : Started) (bo : BoundsIs deck s rows names c₁ l₁ h₁ w₁ f n u x c₂ l₂ h₂ w₂ r) where
     is-fixed : ti .name ≡ M.AVariable a FixedType
     is-fixed = fixed-at a (ti .name) (sym e ∙ ev ∙ ap controlOf (ti .variable))
 
-    module _ (B : World) (sh : Shows deck rows names c l h w u x m B) (nm : List ℕ) (tr : Tree) (bs : List D.Bound) (es : part (t .to - t .from) (t .from) s ≡ nm) (k : ℕ) (rd : wholeExpression s (o .to) ≡ read (parsed tr k)) (few : length bs ≤ 2) (bd : Bounded s bs k) where
+    module _ (B : World) (sh : Shows deck rows names c l h w u x m B) (nm : List ℕ) (tr : Tree) (bs : List D.Bound) (es : part (t .to - t .from) (t .from) s ≡ nm) (k : ℕ) (rd : wholeExpression mixed s (o .to) ≡ read (parsed tr k)) (few : length bs ≤ 2) (bd : Bounded s bs k) where
       abbrev now : World
       now = worldIn B c l h (m .used)
 
@@ -377,6 +378,6 @@ module _ (deck s rows names c l h w : List ℕ) (g at u : ℕ) (x : Scene) (m : 
     start-done = record {
       is = λ B sh nm tr bs st.
           let es : part (t .to - t .from) (t .from) s ≡ nm = spelled deck s rows names c l h w at u x m t lex y ti (st .0) (st .1) ∙ st .2 in
-          let oq : o .to ≡ st .3 .0 = lo .to ∙ ap (λ (i : ℕ). tokenAt s i .to) (lex .to ∙ sym (name-is s at (st .0) (st .1) .to)) ∙ sym (expect-is "=" s (st .0 .to) (st .3 .0) (st .3 .2)) in
-          by B sh nm tr bs es (st .3 .1) (ap (wholeExpression s) oq ∙ st .3 .3) (st .3 .4) (st .3 .5) n refl;
+          let oq : o .to ≡ st .3 .0 = lo .to ∙ ap (λ (i : ℕ). tokenAt mixed s i .to) (lex .to ∙ sym (name-is s at (st .0) (st .1) .to)) ∙ sym (expect-is "=" s (st .0 .to) (st .3 .0) (st .3 .2)) in
+          by B sh nm tr bs es (st .3 .1) (ap (wholeExpression mixed s) oq ∙ st .3 .3) (st .3 .4) (st .3 .5) n refl;
     }

@@ -7,6 +7,7 @@ use Prim.Native.Nat.{ℕ, suc, _+_, _-_, _<_, _≤_}
 use native.Mathlib.Omega.{arith}
 use lib.Dec.{leb}
 use lib.ListN.{length}
+use Rattle.definition.specs.Bytes.{mixed}
 use Rattle.definition.specs.Choice.{when}
 use Rattle.definition.specs.Tokens as T
 use Rattle.definition.specs.Tokens.{tokenAt, isSign}
@@ -69,7 +70,7 @@ module _ (deck rows names s c l h w : List ℕ) (at n left u : ℕ) (x : Scene) 
 
   module _ (big : 1 ≤ n) (c₁ l₁ h₁ w₁ : List ℕ) (y : Evaluated) (g : Evaluates deck rows names c l h w u x m c₁ l₁ h₁ w₁ y (levelsIn left s (n - 1) at)) where
     abbrev chained : Tree → ℕ → Reading Parsed
-    chained t e = chain (n - 1) (levelsIn left s (n - 1)) s (suc (length s)) t e
+    chained t e = chain mixed (n - 1) (levelsIn left s (n - 1)) s (suc (length s)) t e
 
     first-gave : (B : World) → Shows deck rows names c l h w u x m B → (z : Parsed) → levelsIn left s (n - 1) at ≡ read z → Gave B u w c₁ l₁ h₁ w₁ y (z .to) (valueOf x (z .tree) u (worldIn B c l h (m .used)))
     first-gave B sh z a = g .is B sh (z .tree) (z .to) a
@@ -101,19 +102,19 @@ module _ (deck rows names s c l h w : List ℕ) (at n left u : ℕ) (x : Scene) 
       levels-chain = record { is = λ B sh t e p. let j : IsRead (levelsIn left s (n - 1) at) (λ r. chained (r .tree) (r .to)) (parsed t e) = levels-first (operandIn left s) s n at t e big p in chain-by B sh t e (j .first) (j .is) (j .rest) }
 
 -- ---- a chain
-infix-some : (l : ℕ) (s : List ℕ) (at : ℕ) (n : InfixAt) (o : Operator) (q : ℕ) → n ≡ infixAt l s at → n ≡ I.Is o q → (infixOf l (tokenAt s at .token) ≡ is o) × (q ≡ tokenAt s at .to)
+infix-some : (l : ℕ) (s : List ℕ) (at : ℕ) (n : InfixAt) (o : Operator) (q : ℕ) → n ≡ infixAt l s at → n ≡ I.Is o q → (infixOf l (tokenAt mixed s at .token) ≡ is o) × (q ≡ tokenAt mixed s at .to)
 unfolding infixAt
-infix-some l s at n o q e f = by (infixOf l (tokenAt s at .token)) (sym f ∙ e)
+infix-some l s at n o q e f = by (infixOf l (tokenAt mixed s at .token)) (sym f ∙ e)
   where
-    by : (x : Maybe Operator) → I.Is o q ≡ infixFor x (tokenAt s at .to) → (x ≡ is o) × (q ≡ tokenAt s at .to)
-    by (is p) g = let h : p ≡ o = cc in let k : q ≡ tokenAt s at .to = cc in (ap is h, k)
+    by : (x : Maybe Operator) → I.Is o q ≡ infixFor x (tokenAt mixed s at .to) → (x ≡ is o) × (q ≡ tokenAt mixed s at .to)
+    by (is p) g = let h : p ≡ o = cc in let k : q ≡ tokenAt mixed s at .to = cc in (ap is h, k)
     by noOperator g = absurd (let z : _≡_ {A = ℕ} 0 1 = cc in omega arith)
 
-infix-other : (l : ℕ) (s : List ℕ) (at : ℕ) (n : InfixAt) → n ≡ infixAt l s at → n ≡ I.Other → infixOf l (tokenAt s at .token) ≡ noOperator
+infix-other : (l : ℕ) (s : List ℕ) (at : ℕ) (n : InfixAt) → n ≡ infixAt l s at → n ≡ I.Other → infixOf l (tokenAt mixed s at .token) ≡ noOperator
 unfolding infixAt
-infix-other l s at n e f = by (infixOf l (tokenAt s at .token)) (sym f ∙ e)
+infix-other l s at n e f = by (infixOf l (tokenAt mixed s at .token)) (sym f ∙ e)
   where
-    by : (x : Maybe Operator) → I.Other ≡ infixFor x (tokenAt s at .to) → x ≡ noOperator
+    by : (x : Maybe Operator) → I.Other ≡ infixFor x (tokenAt mixed s at .to) → x ≡ noOperator
     by (is p) g = absurd (let z : _≡_ {A = ℕ} 0 1 = cc in omega arith)
     by noOperator g = refl
 
@@ -125,7 +126,7 @@ module _ (deck rows names s c₀ l₀ h₀ w₀ : List ℕ) (v : Value) (from le
   pub record Chained (B z₀ : World) (z : Parsed) (turns : ℕ) (y : Value) (at : ℕ) (m : Meter) (c l h w : List ℕ) : Type 0 where
     pub tree : Tree
     pub value : valueOf x tree u z₀ ≡ good (valueIn w u y) (worldIn B c l h (m .used))
-    pub same : chain level next s turns tree at ≡ read z
+    pub same : chain mixed level next s turns tree at ≡ read z
     pub shows : Shows deck rows names c l h w u x m B
     pub fits : u + sizeFor y ≤ 65536
     pub below : Below u w₀ w
@@ -137,7 +138,7 @@ module _ (deck rows names s c₀ l₀ h₀ w₀ : List ℕ) (v : Value) (from le
     pub high-size : length h ≡ length h₀
     pub work-size : length w ≡ length w₀
     pub is : (B : World) → Shows deck rows names c₀ l₀ h₀ w₀ u x m₀ B → u + sizeFor v ≤ 65536 → (t₀ : Tree) (z₀ : World) → valueOf x t₀ u z₀ ≡ good (valueIn w₀ u v) (worldIn B c₀ l₀ h₀ (m₀ .used))
-        → (t : Tree) (e : ℕ) → chain level next s (suc (length s)) t₀ from ≡ read (parsed t e) → Chained B z₀ (parsed t e) turns y at m c l h w
+        → (t : Tree) (e : ℕ) → chain mixed level next s (suc (length s)) t₀ from ≡ read (parsed t e) → Chained B z₀ (parsed t e) turns y at m c l h w
 
   pub chaining-start : (n : ℕ) → n ≡ length s + 1 → Chaining n v from m₀ c₀ l₀ h₀ w₀
   chaining-start n e = record {
@@ -157,7 +158,7 @@ module _ (deck rows names s c₀ l₀ h₀ w₀ : List ℕ) (v : Value) (from le
         by B z₀ t e j = let d : turns ≡ 0 = omega (arith, o) in chain-none level next s (j .tree) at (parsed t e) (rw d at (j .same))
 
     module _ (some : 0 < turns) (n : InfixAt) (ni : n ≡ infixAt level s at) where
-      turned : (B z₀ : World) (z : Parsed) → (j : Chained B z₀ z turns y at m c l h w) → chain level next s (suc (turns - 1)) (j .tree) at ≡ read z
+      turned : (B z₀ : World) (z : Parsed) → (j : Chained B z₀ z turns y at m c l h w) → chain mixed level next s (suc (turns - 1)) (j .tree) at ≡ read z
       turned B z₀ z j = let d : turns ≡ suc (turns - 1) = omega (arith, some) in rw d at (j .same)
 
       done-by : n ≡ I.Other → (B z₀ : World) (t : Tree) (e : ℕ) → Chained B z₀ (parsed t e) turns y at m c l h w → Gave B u w₀ c l h w (Is y at m) e (valueOf x t u z₀)
@@ -177,7 +178,7 @@ module _ (deck rows names s c₀ l₀ h₀ w₀ : List ℕ) (v : Value) (from le
           pub tree : Tree
           pub place : ℕ
           pub value : resIn B c₁ l₁ h₁ w₂ u r ≡ valueOf x tree u z₀
-          pub same : chain level next s (turns - 1) tree place ≡ read z
+          pub same : chain mixed level next s (turns - 1) tree place ≡ read z
           pub end : r ≡ withEnd r place
           pub below : Below u w w₂
           pub fits : u + sizeOf r ≤ 65536
@@ -187,7 +188,7 @@ module _ (deck rows names s c₀ l₀ h₀ w₀ : List ℕ) (v : Value) (from le
         top-is : u + sizeFor y ≤ 65536 → top ≡ u + sizeFor y
         top-is f = et ∙ ap (topOf u) es ∙ top-in u (sizeFor y) f
 
-        after-by : (B z₀ : World) (z : Parsed) (j : Chained B z₀ z turns y at m c l h w) (p : Parsed) → next q ≡ read p → chain level next s (turns - 1) (binary o (j .tree) (p .tree)) (p .to) ≡ read z → After B z₀ z
+        after-by : (B z₀ : World) (z : Parsed) (j : Chained B z₀ z turns y at m c l h w) (p : Parsed) → next q ≡ read p → chain mixed level next s (turns - 1) (binary o (j .tree) (p .tree)) (p .to) ≡ read z → After B z₀ z
         after-by B z₀ z j p a d =
             let tp : top ≡ u + sizeFor y = top-is (j .fits) in
             let sh : Shows deck rows names c l h w top x m B = shows-as deck rows names c l h w u x m B (j .shows) c l h w top m (j .shows .slots) refl (omega (arith, tp, j .fits)) (j .shows .limit) in
@@ -211,8 +212,8 @@ module _ (deck rows names s c₀ l₀ h₀ w₀ : List ℕ) (v : Value) (from le
 
         after : (B z₀ : World) (z : Parsed) → Chained B z₀ z turns y at m c l h w → After B z₀ z
         after B z₀ z j =
-            let i : (infixOf level (tokenAt s at .token) ≡ is o) × (q ≡ tokenAt s at .to) = infix-some level s at n o q ni no in
-            let a : IsRead (next (tokenAt s at .to)) (λ p. chain level next s (turns - 1) (binary o (j .tree) (p .tree)) (p .to)) z = chain-more level next s (turns - 1) (j .tree) at z o (i .0) (turned B z₀ z j) in
+            let i : (infixOf level (tokenAt mixed s at .token) ≡ is o) × (q ≡ tokenAt mixed s at .to) = infix-some level s at n o q ni no in
+            let a : IsRead (next (tokenAt mixed s at .to)) (λ p. chain mixed level next s (turns - 1) (binary o (j .tree) (p .tree)) (p .to)) z = chain-more level next s (turns - 1) (j .tree) at z o (i .0) (turned B z₀ z j) in
             after-by B z₀ z j (a .first) (ap next (i .1) ∙ a .is) (a .rest)
 
         failed-with : (f : Why) (i : Meter) → r ≡ Failed f i → (B z₀ : World) (t : Tree) (e : ℕ) → Chained B z₀ (parsed t e) turns y at m c l h w → After B z₀ (parsed t e) → Gave B u w₀ c₁ l₁ h₁ w₂ (Failed f i) e (valueOf x t u z₀)
@@ -276,7 +277,7 @@ inside-over deck rows names s c l h w at left u x m c′ l′ h′ w′ r k = re
 pub inside-some : (deck rows names s c l h w : List ℕ) (at left u : ℕ) (x : Scene) (m : Meter) (c′ l′ h′ w′ : List ℕ) (r : Evaluated) → 1 ≤ left → Evaluates deck rows names c l h w u x m c′ l′ h′ w′ r (levelsIn (left - 1) s 6 at) → Evaluates deck rows names c l h w u x m c′ l′ h′ w′ r (insideOf left s 0 at)
 inside-some deck rows names s c l h w at left u x m c′ l′ h′ w′ r k g = record { is = λ B sh t e q. g .is B sh t e (sym (inside-is left s 0 at k) ∙ q) }
 
-pub whole : (deck rows names s c l h w : List ℕ) (at u : ℕ) (x : Scene) (m : Meter) (c′ l′ h′ w′ : List ℕ) (r : Evaluated) → Evaluates deck rows names c l h w u x m c′ l′ h′ w′ r (levelsIn 16 s 6 at) → Evaluates deck rows names c l h w u x m c′ l′ h′ w′ r (wholeExpression s at)
+pub whole : (deck rows names s c l h w : List ℕ) (at u : ℕ) (x : Scene) (m : Meter) (c′ l′ h′ w′ : List ℕ) (r : Evaluated) → Evaluates deck rows names c l h w u x m c′ l′ h′ w′ r (levelsIn 16 s 6 at) → Evaluates deck rows names c l h w u x m c′ l′ h′ w′ r (wholeExpression mixed s at)
 whole deck rows names s c l h w at u x m c′ l′ h′ w′ r g = record { is = λ B sh t e q. g .is B sh t e (sym (expression-is 16 s at) ∙ q) }
 
 -- ---- primitives
@@ -294,10 +295,10 @@ module _ (deck rows names s c l h w : List ℕ) (at left u : ℕ) (x : Scene) (m
   abbrev here : Reading Parsed
   here = primitiveAt (insideOf left s) s at
 
-  token-of : (k : Kind) → t .kind ≡ k → tokenAt s at .token ≡ tokenFor k (spelling s t) (content s (t .from))
+  token-of : (k : Kind) → t .kind ≡ k → tokenAt mixed s at .token ≡ tokenFor k (spelling s t) (content s (t .from))
   token-of k e = L.token-is s at t lex ∙ ap (λ (i : Kind). tokenFor i (spelling s t) (content s (t .from))) e
 
-  here-is : (k : Kind) → t .kind ≡ k → here ≡ primitive (insideOf left s) s (tokenFor k (spelling s t) (content s (t .from))) (t .from) (t .to)
+  here-is : (k : Kind) → t .kind ≡ k → here ≡ primitive mixed (insideOf left s) s (tokenFor k (spelling s t) (content s (t .from))) (t .from) (t .to)
   here-is k e = rw (token-of k e, lex .from, lex .to)
 
   constant-by : (z : Tree) → here ≡ read (parsed z (t .to)) → (w′ : List ℕ) (r : Evaluated) → ConstantIs z w u (t .to) m w′ r → Evaluates deck rows names c l h w u x m c l h w′ r here
@@ -330,20 +331,20 @@ module _ (deck rows names s c l h w : List ℕ) (at left u : ℕ) (x : Scene) (m
   abbrev named : Named
   named = record { spelling = spelling s t; place = t .from; to = t .to }
 
-  word-is : (b : Bool) (z : Parsed) → then (cond b (read named) (refused OverLimit (t .from))) (λ n. referenceAt (insideOf left s) s n (tokenAt s (t .to))) ≡ read z → referenceAt (insideOf left s) s named (tokenAt s (t .to)) ≡ read z
+  word-is : (b : Bool) (z : Parsed) → then (cond b (read named) (refused OverLimit (t .from))) (λ n. referenceAt mixed (insideOf left s) s n (tokenAt mixed s (t .to))) ≡ read z → referenceAt mixed (insideOf left s) s named (tokenAt mixed s (t .to)) ≡ read z
   word-is true z e = e
   word-is false z e = never OverLimit (t .from) z e
 
-  here-word : t .kind ≡ K.Word → (z : Parsed) → here ≡ read z → referenceAt (insideOf left s) s named (tokenAt s (t .to)) ≡ read z
+  here-word : t .kind ≡ K.Word → (z : Parsed) → here ≡ read z → referenceAt mixed (insideOf left s) s named (tokenAt mixed s (t .to)) ≡ read z
   unfolding primitive
   here-word e z q = word-is (leb (length (spelling s t)) 31) z (sym (here-is K.Word e) ∙ q)
 
-  pub primitive-word : t .kind ≡ K.Word → (c′ l′ h′ w′ : List ℕ) (r : Evaluated) → Evaluates deck rows names c l h w u x m c′ l′ h′ w′ r (referenceAt (insideOf left s) s named (tokenAt s (t .to))) → Evaluates deck rows names c l h w u x m c′ l′ h′ w′ r here
+  pub primitive-word : t .kind ≡ K.Word → (c′ l′ h′ w′ : List ℕ) (r : Evaluated) → Evaluates deck rows names c l h w u x m c′ l′ h′ w′ r (referenceAt mixed (insideOf left s) s named (tokenAt mixed s (t .to))) → Evaluates deck rows names c l h w u x m c′ l′ h′ w′ r here
   primitive-word e c′ l′ h′ w′ r g = record { is = λ B sh y q i. g .is B sh y q (here-word e (parsed y q) i) }
 
   -- a parenthesis
   abbrev closing : Parsed → Reading Parsed
-  closing p = then (expectSign ")" s (p .to)) λ e. read (parsed (p .tree) e)
+  closing p = then (expectSign mixed ")" s (p .to)) λ e. read (parsed (p .tree) e)
 
   sign-is : (b : Bool) (z : Parsed) → when b (λ _. then (insideOf left s (t .from) (t .to)) closing) (λ _. refused Syntax (t .from)) ≡ read z → IsRead (insideOf left s (t .from) (t .to)) closing z
   sign-is true z e = then-read (insideOf left s (t .from) (t .to)) closing z e
@@ -370,10 +371,10 @@ module _ (deck rows names s c l h w : List ℕ) (at left u : ℕ) (x : Scene) (m
     end-meter (Is v q k) f = refl
     end-meter (Failed v k) f = refl
 
-    closed-by : (B : World) → Shows deck rows names c l h w u x m B → (y : Tree) (q : ℕ) (p : Parsed) → insideOf left s (t .from) (t .to) ≡ read p → (i : ℕ) → expectSign ")" s (p .to) ≡ read i → p .tree ≡ y → i ≡ q → Gave B u w c₁ l₁ h₁ w₁ r q (valueOf x y u (worldIn B c l h (m .used)))
+    closed-by : (B : World) → Shows deck rows names c l h w u x m B → (y : Tree) (q : ℕ) (p : Parsed) → insideOf left s (t .from) (t .to) ≡ read p → (i : ℕ) → expectSign mixed ")" s (p .to) ≡ read i → p .tree ≡ y → i ≡ q → Gave B u w c₁ l₁ h₁ w₁ r q (valueOf x y u (worldIn B c l h (m .used)))
     closed-by B sh y q p a i f j k =
         let G : Gave B u w c₁ l₁ h₁ w₁ b (p .to) (valueOf x (p .tree) u (worldIn B c l h (m .used))) = g .is B sh (p .tree) (p .to) (inside-same left s (t .from) 0 (t .to) p a) in
-        let z : tokenAt s (p .to) .to ≡ q = sym (expect-is ")" s (p .to) i f) ∙ k in
+        let z : tokenAt mixed s (p .to) .to ≡ q = sym (expect-is ")" s (p .to) i f) ∙ k in
         let d : r ≡ withEnd b q = cl .is (p .to) (G .end) ∙ ap (withEnd b) z in
         record {
           is = ap (resIn B c₁ l₁ h₁ w₁ u) d ∙ end-res B b q ∙ G .is ∙ ap (λ (v : Tree). valueOf x v u (worldIn B c l h (m .used))) j;
@@ -384,7 +385,7 @@ module _ (deck rows names s c l h w : List ℕ) (at left u : ℕ) (x : Scene) (m
           slots = G .slots;
         }
 
-    closed-with : (B : World) → Shows deck rows names c l h w u x m B → (y : Tree) (q : ℕ) (p : Parsed) → insideOf left s (t .from) (t .to) ≡ read p → IsRead (expectSign ")" s (p .to)) (λ e. read (parsed (p .tree) e)) (parsed y q) → Gave B u w c₁ l₁ h₁ w₁ r q (valueOf x y u (worldIn B c l h (m .used)))
+    closed-with : (B : World) → Shows deck rows names c l h w u x m B → (y : Tree) (q : ℕ) (p : Parsed) → insideOf left s (t .from) (t .to) ≡ read p → IsRead (expectSign mixed ")" s (p .to)) (λ e. read (parsed (p .tree) e)) (parsed y q) → Gave B u w c₁ l₁ h₁ w₁ r q (valueOf x y u (worldIn B c l h (m .used)))
     closed-with B sh y q p a k =
         let d : parsed (p .tree) (k .first) ≡ parsed y q = read-same (parsed (p .tree) (k .first)) (parsed y q) (k .rest) in
         closed-by B sh y q p a (k .first) (k .is) (ap (λ (v : Parsed). v .tree) d) (ap (λ (v : Parsed). v .to) d)
@@ -393,7 +394,7 @@ module _ (deck rows names s c l h w : List ℕ) (at left u : ℕ) (x : Scene) (m
     primitive-sign = record {
       is = λ B sh y q i.
           let k : IsRead (insideOf left s (t .from) (t .to)) closing (parsed y q) = here-sign e (parsed y q) i in
-          closed-with B sh y q (k .first) (k .is) (then-read (expectSign ")" s (k .first .to)) (λ e. read (parsed (k .first .tree) e)) (parsed y q) (k .rest));
+          closed-with B sh y q (k .first) (k .is) (then-read (expectSign mixed ")" s (k .first .to)) (λ e. read (parsed (k .first .tree) e)) (parsed y q) (k .rest));
     }
 
 -- ---- a name, with a list or without
@@ -417,14 +418,14 @@ module _ (deck rows names s c l h w : List ℕ) (left u : ℕ) (x : Scene) (m : 
     meant-now B sh = meant-in (worldIn B c l h (m .used)) (sh .named .identifiers) (sh .named .denotations)
 
     module _ (v : Lexeme) (lex : Lexed s (t .to) v) (o : Bool) (f : o ≡ isSignIn s v (40 ∷ [])) where
-      opens : (b : Bool) → o ≡ b → isSign "(" (tokenAt s (t .to) .token) ≡ b
+      opens : (b : Bool) → o ≡ b → isSign "(" (tokenAt mixed s (t .to) .token) ≡ b
       opens b g = sym (L.is-sign s (t .to) v lex "(" (40 ∷ []) refl) ∙ sym f ∙ g
 
-      plain-is : o ≡ false → referenceAt (insideOf left s) s name (tokenAt s (t .to)) ≡ read (parsed (E.reference (spelling s t)) (t .to))
+      plain-is : o ≡ false → referenceAt mixed (insideOf left s) s name (tokenAt mixed s (t .to)) ≡ read (parsed (E.reference (spelling s t)) (t .to))
       unfolding referenceAt
       plain-is g = rw (opens false g)
 
-      pub reference-plain : o ≡ false → (c′ l′ h′ w′ : List ℕ) (r : Evaluated) → NameIs deck rows names c l h w u x m y (t .to) c′ l′ h′ w′ r → Evaluates deck rows names c l h w u x m c′ l′ h′ w′ r (referenceAt (insideOf left s) s name (tokenAt s (t .to)))
+      pub reference-plain : o ≡ false → (c′ l′ h′ w′ : List ℕ) (r : Evaluated) → NameIs deck rows names c l h w u x m y (t .to) c′ l′ h′ w′ r → Evaluates deck rows names c l h w u x m c′ l′ h′ w′ r (referenceAt mixed (insideOf left s) s name (tokenAt mixed s (t .to)))
       reference-plain g c′ l′ h′ w′ r k = record { is = λ B sh z e q. by B sh z e (read-same (parsed (E.reference (spelling s t)) (t .to)) (parsed z e) (sym (plain-is g) ∙ q)) }
         where
           by : (B : World) → Shows deck rows names c l h w u x m B → (z : Tree) (e : ℕ) → parsed (E.reference (spelling s t)) (t .to) ≡ parsed z e → Gave B u w c′ l′ h′ w′ r e (valueOf x z u (worldIn B c l h (m .used)))
@@ -436,25 +437,25 @@ module _ (deck rows names s c l h w : List ℕ) (left u : ℕ) (x : Scene) (m : 
       abbrev argued : Parsed → Reading Parsed
       argued p = read (parsed (E.call (spelling s t) (p .tree)) (p .to))
 
-      listed-is : o ≡ true → (z : Parsed) → referenceAt (insideOf left s) s name (tokenAt s (t .to)) ≡ read z → IsRead (E.arguments (insideOf left s (tokenAt s (t .to) .from)) s (length s) (tokenAt s (t .to) .to)) argued z
+      listed-is : o ≡ true → (z : Parsed) → referenceAt mixed (insideOf left s) s name (tokenAt mixed s (t .to)) ≡ read z → IsRead (E.arguments mixed (insideOf left s (tokenAt mixed s (t .to) .from)) s (length s) (tokenAt mixed s (t .to) .to)) argued z
       unfolding referenceAt
-      listed-is g z e = then-read (E.arguments (insideOf left s (tokenAt s (t .to) .from)) s (length s) (tokenAt s (t .to) .to)) argued z (rw (opens true g) at e)
+      listed-is g z e = then-read (E.arguments mixed (insideOf left s (tokenAt mixed s (t .to) .from)) s (length s) (tokenAt mixed s (t .to) .to)) argued z (rw (opens true g) at e)
 
       value-call : (xs : Tree) (w : World) → valueOf x (E.call (spelling s t) xs) u w ≡ listedName (runIn x) (λ ws v z. Ev.arguments (runIn x) (ownerOf (x .owner)) xs ws v z) (Ev.count xs) (meant (ownerOf (x .owner)) (spelling s t) w) u w
       unfolding valueOf evaluate
       value-call xs w = refl
 
-      pub reference-listed : o ≡ true → (c′ l′ h′ w′ : List ℕ) (r : Evaluated) → ListedIs deck s rows names c l h w (v .to) left u x m y c′ l′ h′ w′ r → Evaluates deck rows names c l h w u x m c′ l′ h′ w′ r (referenceAt (insideOf left s) s name (tokenAt s (t .to)))
+      pub reference-listed : o ≡ true → (c′ l′ h′ w′ : List ℕ) (r : Evaluated) → ListedIs deck s rows names c l h w (v .to) left u x m y c′ l′ h′ w′ r → Evaluates deck rows names c l h w u x m c′ l′ h′ w′ r (referenceAt mixed (insideOf left s) s name (tokenAt mixed s (t .to)))
       reference-listed g c′ l′ h′ w′ r k = record { is = λ B sh z e q. by B sh z e (listed-is g (parsed z e) q) }
         where
-          with : (B : World) → Shows deck rows names c l h w u x m B → (z : Tree) (e : ℕ) (p : Parsed) → E.arguments (insideOf left s (tokenAt s (t .to) .from)) s (length s) (v .to) ≡ read p → parsed (E.call (spelling s t) (p .tree)) (p .to) ≡ parsed z e → Gave B u w c′ l′ h′ w′ r e (valueOf x z u (worldIn B c l h (m .used)))
+          with : (B : World) → Shows deck rows names c l h w u x m B → (z : Tree) (e : ℕ) (p : Parsed) → E.arguments mixed (insideOf left s (tokenAt mixed s (t .to) .from)) s (length s) (v .to) ≡ read p → parsed (E.call (spelling s t) (p .tree)) (p .to) ≡ parsed z e → Gave B u w c′ l′ h′ w′ r e (valueOf x z u (worldIn B c l h (m .used)))
           with B sh z e p a d =
               gave-as B u w c′ l′ h′ w′ r (p .to) e _ (valueOf x z u (worldIn B c l h (m .used))) (ap (λ (i : Parsed). i .to) d)
               (ap (λ (i : Ev.Meant). listedName (runIn x) (λ ws v z. Ev.arguments (runIn x) (ownerOf (x .owner)) (p .tree) ws v z) (Ev.count (p .tree)) i u (worldIn B c l h (m .used))) (meant-now B sh)
               ∙ sym (value-call (p .tree) (worldIn B c l h (m .used))) ∙ ap (λ (i : Parsed). valueOf x (i .tree) u (worldIn B c l h (m .used))) d)
-              (k .is B sh (means B sh) (tokenAt s (t .to) .from) (p .tree) (p .to) a)
+              (k .is B sh (means B sh) (tokenAt mixed s (t .to) .from) (p .tree) (p .to) a)
 
-          by : (B : World) → Shows deck rows names c l h w u x m B → (z : Tree) (e : ℕ) → IsRead (E.arguments (insideOf left s (tokenAt s (t .to) .from)) s (length s) (tokenAt s (t .to) .to)) argued (parsed z e) → Gave B u w c′ l′ h′ w′ r e (valueOf x z u (worldIn B c l h (m .used)))
+          by : (B : World) → Shows deck rows names c l h w u x m B → (z : Tree) (e : ℕ) → IsRead (E.arguments mixed (insideOf left s (tokenAt mixed s (t .to) .from)) s (length s) (tokenAt mixed s (t .to) .to)) argued (parsed z e) → Gave B u w c′ l′ h′ w′ r e (valueOf x z u (worldIn B c l h (m .used)))
           by B sh z e i = with B sh z e (i .first) (rw (lex .to) (i .is)) (read-same (parsed (E.call (spelling s t) (i .first .tree)) (i .first .to)) (parsed z e) (i .rest))
 
 -- ---- what a name without a list gives that is no entry

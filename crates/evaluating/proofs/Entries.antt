@@ -8,6 +8,7 @@ use native.Mathlib.Omega.{arith}
 use borrow.Author.Tests.{ne-eqb}
 use lib.Dec.{eqb}
 use lib.ListN.{length, getD}
+use Rattle.definition.specs.Bytes.{mixed}
 use Rattle.definition.specs.Choice.{when}
 use Rattle.definition.specs.Program as D
 use Rattle.definition.specs.Tokens.{tokenAt, isSign}
@@ -99,7 +100,7 @@ module _ (deck rows names c l h w : List ℕ) (u : ℕ) (x : Scene) (m : Meter) 
       record {
         list = t .1 .0;
         listed = q .1 .0;
-        placed = names-of (isSign "(" (tokenAt (bodyIn deck (p .member)) (rowIn (partIn rows (x .starts) (p .member)) (p .row) .content) .token)) (bodyIn deck (p .member)) (q .1 .0) (t .1 .0) (t .1 .1 .names);
+        placed = names-of (isSign "(" (tokenAt mixed (bodyIn deck (p .member)) (rowIn (partIn rows (x .starts) (p .member)) (p .row) .content) .token)) (bodyIn deck (p .member)) (q .1 .0) (t .1 .0) (t .1 .1 .names);
         within = record { within = q .0; names = q .1 .0; type = q .1 .1; is = q .1 .2 };
         few = λ ps f. sh .rowed .parameters (p .member) (p .row) (q .1 .0) (q .1 .1) ps (q .0) (q .1 .2) (parameters-there deck names (x .names) B₁ (sh .named .identifiers) (sh .named .denotations) (ownerAt p) (q .1 .0) ∙ f);
         called = co .some p e .is (t .1 .0) (q .1 .0) (t .1 .1) (t .0);

@@ -6,6 +6,7 @@ use mathlib.Core.List.{List, [], _∷_}
 use Prim.Native.Nat.{ℕ, suc, _+_, _-_, _≤_}
 use native.Mathlib.Omega.{arith}
 use lib.ListN.{length}
+use Rattle.definition.specs.Bytes.{mixed}
 use Rattle.definition.specs.Choice.{when}
 use Rattle.definition.specs.Expressions as E
 use Rattle.definition.specs.Expressions.{read, parsed, Tree}
@@ -245,7 +246,7 @@ module _ (deck s rows names c l h w : List ℕ) (at left u : ℕ) (x : Scene) (m
     aimed : (B₁ : World) → Shows deck rows names c l h w u x m B₁ → Means y B₁ → (tr : Tree) → n ≡ count tr → Aimed B₁ tr t
     aimed B₁ sh me tr en = aimed-by B₁ sh tr en y refl (rw et at (ai .is)) me
 
-    args : (B₁ : World) → Shows deck rows names c l h w u x m B₁ → (p : ℕ) (tr : Tree) (e : ℕ) → E.arguments (insideOf left s p) s (length s) at ≡ read (parsed tr e) → (a : Aimed B₁ tr t) → Args B₁ u w c₁ l₁ h₁ w₁ f k (a .ws) (count tr) e (asked x tr (a .ws) u (worldIn B₁ c l h (m .used))) o
+    args : (B₁ : World) → Shows deck rows names c l h w u x m B₁ → (p : ℕ) (tr : Tree) (e : ℕ) → E.arguments mixed (insideOf left s p) s (length s) at ≡ read (parsed tr e) → (a : Aimed B₁ tr t) → Args B₁ u w c₁ l₁ h₁ w₁ f k (a .ws) (count tr) e (asked x tr (a .ws) u (worldIn B₁ c l h (m .used))) o
     args B₁ sh p tr e q a = ti .is B₁ sh p tr e q (a .wanted) (a .ws) (a .coming) (a .enough) (a .few)
 
     refused-by : (g : Why) (m₁ : Meter) → o ≡ Oc.Failed g m₁ → (B₁ : World) → Shows deck rows names c l h w u x m B₁ → (tr : Tree) (e : ℕ) (a : Aimed B₁ tr t) → Args B₁ u w c₁ l₁ h₁ w₁ f k (a .ws) (count tr) e (asked x tr (a .ws) u (worldIn B₁ c l h (m .used))) o → Gave B₁ u w c₁ l₁ h₁ w₁ (Failed g m₁) e (named x tr (meantFor y) u (worldIn B₁ c l h (m .used)))

@@ -6,6 +6,7 @@ use mathlib.Core.List.{List}
 use Prim.Native.Nat.{ℕ, _-_, _≤_}
 use native.Mathlib.Omega.{arith}
 use lib.ListN.{length, getD}
+use Rattle.definition.specs.Bytes.{mixed}
 use Rattle.definition.specs.Lists.{part}
 use Rattle.definition.specs.Tokens.{tokenAt}
 use Rattle.definition.specs.Expressions.{read, Tree, parsed, Named, nameAt, expectSign, wholeExpression}
@@ -47,7 +48,7 @@ use Rattle.operands.proofs.Leaves.{variable-denotes}
 
 -- ---- IF
 module _ (deck s rows names c l h w : List ℕ) (at u : ℕ) (x : Scene) (m : Meter) (c₁ l₁ h₁ w₁ : List ℕ) (z₁ : length w₁ ≡ length w) (y : Evaluated)
-    (ev : Evaluates deck rows names c l h w u x m c₁ l₁ h₁ w₁ y (wholeExpression s at)) where
+    (ev : Evaluates deck rows names c l h w u x m c₁ l₁ h₁ w₁ y (wholeExpression mixed s at)) where
   truth-is : (t : Tree) (W₁ : World) → F.truth (sceneMachine x u) t W₁ ≡ truthOn u (valueOf x t u W₁)
   unfolding F.truth truthOn
   truth-is t W₁ = refl
@@ -55,7 +56,7 @@ module _ (deck s rows names c l h w : List ℕ) (at u : ℕ) (x : Scene) (m : Me
   pub test-done : (w₂ : List ℕ) (r : Tested) → TruthIs w₁ u y w₂ r → TestIs deck s rows names c l h w at u x m c₁ l₁ h₁ w₂ r
   test-done w₂ r ti = record { is = λ B sh t st. by B sh t (st .0) (st .1) }
     where
-      by : (B : World) → Shows deck rows names c l h w u x m B → (t : Tree) (e : ℕ) → wholeExpression s at ≡ read (parsed t e) → (testedIn B c₁ l₁ h₁ r ≡ F.truth (sceneMachine x u) t (worldIn B c l h (m .used))) × Leaves B u w c₁ l₁ h₁ w₂ (testedMeter r)
+      by : (B : World) → Shows deck rows names c l h w u x m B → (t : Tree) (e : ℕ) → wholeExpression mixed s at ≡ read (parsed t e) → (testedIn B c₁ l₁ h₁ r ≡ F.truth (sceneMachine x u) t (worldIn B c l h (m .used))) × Leaves B u w c₁ l₁ h₁ w₂ (testedMeter r)
       by B sh t e q =
           let G : Gave B u w c₁ l₁ h₁ w₁ y e (valueOf x t u (worldIn B c l h (m .used))) = ev .is B sh t e q in
           let i : 65536 ≤ length w₁ = omega (arith, z₁, sh .work) in (
@@ -97,7 +98,7 @@ at-by a k M.NoSuch e = clash (cc)
 
 -- ---- assignment
 module _ (deck s rows names c l h w : List ℕ) (at u : ℕ) (x : Scene) (m : Meter) (t : Lexeme) (lex : Lexed s at t) (y : Variable) (ti : TargetIs deck s names (x .names) (x .owner) t y) where
-  pub spelled : (nm : Named) → nameAt s at ≡ read nm → part (t .to - t .from) (t .from) s ≡ nm .spelling
+  pub spelled : (nm : Named) → nameAt mixed s at ≡ read nm → part (t .to - t .from) (t .from) s ≡ nm .spelling
   spelled nm q = rw (lex .from, lex .to) (sym (name-is s at nm q .spelling))
 
   pub means : (B : World) → Shows deck rows names c l h w u x m B → (n : List ℕ) → part (t .to - t .from) (t .from) s ≡ n → meantFor (ti .name) ≡ meant (ownerOf (x .owner)) n B
@@ -123,16 +124,16 @@ module _ (deck s rows names c l h w : List ℕ) (at u : ℕ) (x : Scene) (m : Me
   }
 
   module _ (a : ℕ) (k : ValueType) (ey : y ≡ Va.At a k) (g : Lexeme) (lg : Lexed s (t .to) g) (c₁ l₁ h₁ w₁ : List ℕ) (z₁ : length w₁ ≡ length w) (b : Evaluated)
-      (ev : Evaluates deck rows names c l h w u x m c₁ l₁ h₁ w₁ b (wholeExpression s (g .to))) (c₂ l₂ h₂ w₂ : List ℕ) (r : Done) (si : StoredIs c₁ l₁ h₁ w₁ a k u b c₂ l₂ h₂ w₂ r) where
+      (ev : Evaluates deck rows names c l h w u x m c₁ l₁ h₁ w₁ b (wholeExpression mixed s (g .to))) (c₂ l₂ h₂ w₂ : List ℕ) (r : Done) (si : StoredIs c₁ l₁ h₁ w₁ a k u b c₂ l₂ h₂ w₂ r) where
     is-at : ti .name ≡ M.AVariable a k
     is-at = at-by a k (ti .name) (sym ey ∙ ti .variable)
 
-    done-by : (B : World) → Shows deck rows names c l h w u x m B → (n : List ℕ) (tr : Tree) (nm : Named) → nameAt s at ≡ read nm → nm .spelling ≡ n → (q e : ℕ) → expectSign "=" s (nm .to) ≡ read q → wholeExpression s q ≡ read (parsed tr e) → (doneIn B c₂ l₂ h₂ r ≡ F.assigned (sceneMachine x u) n tr (worldIn B c l h (m .used))) × Leaves B u w c₂ l₂ h₂ w₂ (doneMeter r)
+    done-by : (B : World) → Shows deck rows names c l h w u x m B → (n : List ℕ) (tr : Tree) (nm : Named) → nameAt mixed s at ≡ read nm → nm .spelling ≡ n → (q e : ℕ) → expectSign mixed "=" s (nm .to) ≡ read q → wholeExpression mixed s q ≡ read (parsed tr e) → (doneIn B c₂ l₂ h₂ r ≡ F.assigned (sceneMachine x u) n tr (worldIn B c l h (m .used))) × Leaves B u w c₂ l₂ h₂ w₂ (doneMeter r)
     done-by B sh n tr nm q₁ q₂ q e q₃ q₄ =
         let W₁ : World = worldIn B c l h (m .used) in
         let es : part (t .to - t .from) (t .from) s ≡ n = spelled nm q₁ ∙ q₂ in
-        let gq : g .to ≡ q = lg .to ∙ ap (λ (i : ℕ). tokenAt s i .to) (lex .to ∙ sym (name-is s at nm q₁ .to)) ∙ sym (expect-is "=" s (nm .to) q q₃) in
-        let G : Gave B u w c₁ l₁ h₁ w₁ b e (valueOf x tr u W₁) = ev .is B sh tr e (ap (wholeExpression s) gq ∙ q₄) in
+        let gq : g .to ≡ q = lg .to ∙ ap (λ (i : ℕ). tokenAt mixed s i .to) (lex .to ∙ sym (name-is s at nm q₁ .to)) ∙ sym (expect-is "=" s (nm .to) q q₃) in
+        let G : Gave B u w c₁ l₁ h₁ w₁ b e (valueOf x tr u W₁) = ev .is B sh tr e (ap (wholeExpression mixed s) gq ∙ q₄) in
         let dn : getD (B .denotations) a builtinName ≡ variableOf k = variable-denotes a k B (record { scope = ownerOf (x .owner); spelling = n; is = ap meantFor (sym is-at) ∙ means B sh n es }) in
         let S₁ : (doneIn B c₂ l₂ h₂ r ≡ storedOn k a u (resIn B c₁ l₁ h₁ w₁ u b)) × Leaves B u w₁ c₂ l₂ h₂ w₂ (doneMeter r) = si .is B (G .slots) dn (omega (arith, z₁, sh .work)) (G .fits) (gave-fine B c l h x tr u (m .used) w c₁ l₁ h₁ w₁ b e (sh .slots) G) (G .limit) in
         let Q : F.assigned (sceneMachine x u) n tr W₁ ≡ storedOn k a u (valueOf x tr u W₁) = assigned-is x u n tr W₁ ∙ ap (λ (i : Ev.Meant). onMeant i (λ a k. storedOn k a u (valueOf x tr u W₁)) W₁) (sym (meant-now B sh n es) ∙ ap meantFor is-at) in

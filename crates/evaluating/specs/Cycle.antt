@@ -3,6 +3,7 @@ use Prim.Native.Nat.{ℕ, suc, _+_, _≤_}
 use mathlib.Core.Path.{_≡_}
 use mathlib.Core.List.{List}
 use lib.ListN.{length}
+use Rattle.definition.specs.Bytes.{mixed}
 use Rattle.definition.specs.Expressions as E
 use Rattle.definition.specs.Expressions.{Reading, read, Parsed, parsed, Tree}
 use Rattle.definition.specs.Program as D
@@ -43,7 +44,7 @@ pub record Evaluates (deck rows names c l h w : List ℕ) (u : ℕ) (x : Scene) 
 -- the same of a chain, where v at u is the value of the tree so far
 pub record Chains (deck rows names s c l h w : List ℕ) (v : Value) (from level left u : ℕ) (x : Scene) (m : Meter) (c′ l′ h′ w′ : List ℕ) (r : Evaluated) : Type 0 where
   pub is : (B : World) → Shows deck rows names c l h w u x m B → u + sizeFor v ≤ 65536 → (t₀ : Tree) (w₀ : World) → valueOf x t₀ u w₀ ≡ good (valueIn w u v) (worldIn B c l h (m .used))
-      → (t : Tree) (e : ℕ) → E.chain level (levelsIn left s level) s (suc (length s)) t₀ from ≡ read (parsed t e) → Gave B u w c′ l′ h′ w′ r e (valueOf x t u w₀)
+      → (t : Tree) (e : ℕ) → E.chain mixed level (levelsIn left s level) s (suc (length s)) t₀ from ≡ read (parsed t e) → Gave B u w c′ l′ h′ w′ r e (valueOf x t u w₀)
 
 -- ---- names
 -- a name without a list, behind which the place is `to`
@@ -52,7 +53,7 @@ pub record NameIs (deck rows names c l h w : List ℕ) (u : ℕ) (x : Scene) (m 
 
 -- a name with a list, which begins at `at`
 pub record ListedIs (deck s rows names c l h w : List ℕ) (at left u : ℕ) (x : Scene) (m : Meter) (y : Meant) (c′ l′ h′ w′ : List ℕ) (r : Evaluated) : Type 0 where
-  pub is : (B : World) → Shows deck rows names c l h w u x m B → Means y B → (p : ℕ) (t : Tree) (e : ℕ) → E.arguments (insideOf left s p) s (length s) at ≡ read (parsed t e)
+  pub is : (B : World) → Shows deck rows names c l h w u x m B → Means y B → (p : ℕ) (t : Tree) (e : ℕ) → E.arguments mixed (insideOf left s p) s (length s) at ≡ read (parsed t e)
       → Gave B u w c′ l′ h′ w′ r e (listedName (runIn x) (λ ws v z. Ev.arguments (runIn x) (ownerOf (x .owner)) t ws v z) (Ev.count t) (meantFor y) u (worldIn B c l h (m .used)))
 
 -- ---- arguments
@@ -83,7 +84,7 @@ pub record Args (B : World) (u : ℕ) (w c′ l′ h′ w′ : List ℕ) (f : Va
 
 -- THE CONTRACT of `arguments`: those of the list at `from` for the target t
 pub record TakenIs (deck s rows names c l h w : List ℕ) (from left u : ℕ) (t : Target) (x : Scene) (m : Meter) (c′ l′ h′ w′ : List ℕ) (f : Value) (k : Held) (r : Outcome) : Type 0 where
-  pub is : (B : World) → Shows deck rows names c l h w u x m B → (p : ℕ) (y : Tree) (e : ℕ) → E.arguments (insideOf left s p) s (length s) from ≡ read (parsed y e) → wantedBy t ≡ Ev.count y
+  pub is : (B : World) → Shows deck rows names c l h w u x m B → (p : ℕ) (y : Tree) (e : ℕ) → E.arguments mixed (insideOf left s p) s (length s) from ≡ read (parsed y e) → wantedBy t ≡ Ev.count y
       → (ws : List Ev.Wish) → Coming deck names (x .names) t 0 (firstListed t) ws → Ev.count y ≤ length ws → length ws ≤ 256
       → Args B u w c′ l′ h′ w′ f k ws (Ev.count y) e (Ev.arguments (runIn x) (ownerOf (x .owner)) y ws u (worldIn B c l h (m .used))) r
 

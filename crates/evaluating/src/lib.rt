@@ -3,6 +3,7 @@
 pub mod deeds;
 
 ghost use Prim.Native.Nat.{_-_};
+ghost use Rattle.definition.specs.Bytes.{mixed};
 ghost use Rattle.definition.specs.Tokens.{tokenAt};
 ghost use Rattle.definition.specs.Expressions as E;
 ghost use Rattle.tokens.specs.Answer.{spelling};
@@ -310,7 +311,7 @@ fn reference(
     c: Scene,
     m: Meter,
 ) -> Evaluated
-    ensures { λ r. ⌜ Evaluates (now (deck .entry)) (now (rows .entry)) (now (names .entry)) (now (cells .entry)) (now (low .entry)) (now (high .entry)) (now (work .entry)) u c m (now (cells .exit)) (now (low .exit)) (now (high .exit)) (now (work .exit)) r (E.referenceAt (insideOf left (now (s .entry))) (now (s .entry)) (record { spelling = spelling (now (s .entry)) t; place = t .from; to = t .to }) (tokenAt (now (s .entry)) (t .to))) ⌝ }
+    ensures { λ r. ⌜ Evaluates (now (deck .entry)) (now (rows .entry)) (now (names .entry)) (now (cells .entry)) (now (low .entry)) (now (high .entry)) (now (work .entry)) u c m (now (cells .exit)) (now (low .exit)) (now (high .exit)) (now (work .exit)) r (E.referenceAt mixed (insideOf left (now (s .entry))) (now (s .entry)) (record { spelling = spelling (now (s .entry)) t; place = t .from; to = t .to }) (tokenAt mixed (now (s .entry)) (t .to))) ⌝ }
 {
     let owner = c.owner;
     let x = meant_by(deck, s, names, c.names, owner, t.from, t.to);
@@ -591,7 +592,7 @@ pub fn evaluate(
     c: Scene,
     m: Meter,
 ) -> Evaluated
-    ensures { λ r. ⌜ Evaluates (now (deck .entry)) (now (rows .entry)) (now (names .entry)) (now (cells .entry)) (now (low .entry)) (now (high .entry)) (now (work .entry)) u c m (now (cells .exit)) (now (low .exit)) (now (high .exit)) (now (work .exit)) r (E.wholeExpression (now (s .entry)) at) ⌝ }
+    ensures { λ r. ⌜ Evaluates (now (deck .entry)) (now (rows .entry)) (now (names .entry)) (now (cells .entry)) (now (low .entry)) (now (high .entry)) (now (work .entry)) u c m (now (cells .exit)) (now (low .exit)) (now (high .exit)) (now (work .exit)) r (E.wholeExpression mixed (now (s .entry)) at) ⌝ }
 {
     levels(
         deck,

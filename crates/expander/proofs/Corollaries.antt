@@ -14,6 +14,7 @@ use Rattle.definition.specs.declared.Why.{Why}
 use Rattle.definition.specs.declared.Why.the-variants as W
 use Rattle.definition.specs.declared.Layout.{Layout}
 use Rattle.definition.specs.declared.Layout.the-variants.{Plain, Cards}
+use Rattle.definition.specs.Bytes.{mixed}
 use Rattle.definition.specs.Refusal.{numberOf}
 use Rattle.definition.specs.Limits.{includeLevels}
 use Rattle.definition.specs.Room.{over, zeros}
@@ -118,51 +119,51 @@ result-few (good (returned v) w) = omega arith
 result-few (good (went t) w) = omega arith
 result-few (bad s u) = most-number (s .why)
 
-main-few : (e : Entering) (d : List ℕ) → Few (runMain e d)
+main-few : (e : Entering) (d : List ℕ) → Few (runMain mixed e d)
 main-few (unreadable e p) d = most-number e
-main-few (entered w) d = result-few (runMember includeLevels d 0 [] w)
+main-few (entered w) d = result-few (runMember mixed includeLevels d 0 [] w)
 
 told-few : (y : Layout) (d : List ℕ) (x : X.Expansion) → Few x → Few (toldAs y d x)
 told-few Plain d x h = h
 told-few Cards d x h = h
 
-expansion-few : (y : Layout) (roomy : Bool) (d : List ℕ) (t l steps : ℕ) → Few (expansionOf y roomy d t l steps)
+expansion-few : (y : Layout) (roomy : Bool) (d : List ℕ) (t l steps : ℕ) → Few (expansionOf mixed y roomy d t l steps)
 expansion-few y roomy d t l steps =
     let e : List ℕ = ranDeck y d in
     each-way Few y roomy d t l steps (λ _. omega arith) (λ _ _ _. omega arith) (λ _ _ _. omega arith)
-    λ _ _ _. told-few y e (ranIn y e t l steps) (main-few (enter 0 (readMember (bodyOf e 0)) (worldFor y t l steps)) e)
+    λ _ _ _. told-few y e (ranIn y e t l steps) (main-few (enter 0 (readMember mixed (bodyOf e 0)) (worldFor y t l steps)) e)
 
 -- ---- demand 3 in each layout
-cut-in : (y : Layout) (roomy : Bool) (d : List ℕ) (t l steps : ℕ) → Origin.Partition d (expansionOf y roomy d t l steps)
+cut-in : (y : Layout) (roomy : Bool) (d : List ℕ) (t l steps : ℕ) → Origin.Partition d (expansionOf mixed y roomy d t l steps)
 unfolding expansionOf
 cut-in Plain roomy d t l steps = partition d roomy t l steps
 cut-in Cards roomy d t l steps = as-given d roomy t l steps .partition
 
-records-in : (y : Layout) (roomy : Bool) (d : List ℕ) (t l steps : ℕ) → y ≡ Cards → InRecords (expansionOf y roomy d t l steps .lines)
+records-in : (y : Layout) (roomy : Bool) (d : List ℕ) (t l steps : ℕ) → y ≡ Cards → InRecords (expansionOf mixed y roomy d t l steps .lines)
 records-in y roomy d t l steps e = rw e (as-given d roomy t l steps .records)
 
-honest-in : (y : Layout) (roomy : Bool) (d : List ℕ) (t l steps : ℕ) → y ≡ Plain → Passes.Honest d (passing roomy d t l steps) (expansionOf y roomy d t l steps)
+honest-in : (y : Layout) (roomy : Bool) (d : List ℕ) (t l steps : ℕ) → y ≡ Plain → Passes.Honest d (passing roomy d t l steps) (expansionOf mixed y roomy d t l steps)
 unfolding expansionOf
 honest-in y roomy d t l steps e = rw e (honest d roomy t l steps)
 
-honest-cards-in : (y : Layout) (roomy : Bool) (d : List ℕ) (t l steps : ℕ) → y ≡ Cards → roomy ≡ true → isSound d ≡ true → unevenIn y d ≡ Deck.none
-    → Passes.Honest (joined d) (Passes.mainPasses (enter 0 (readMember (bodyOf (joined d) 0)) (worldFor Cards t l steps)) (joined d)) (rejoinedOf (expansionOf y roomy d t l steps))
+honest-cards-in : (y : Layout) (roomy : Bool) (d : List ℕ) (t l steps : ℕ) → y ≡ Cards → roomy ≡ true → isSound mixed d ≡ true → unevenIn y d ≡ Deck.none
+    → Passes.Honest (joined d) (Passes.mainPasses (enter 0 (readMember mixed (bodyOf (joined d) 0)) (worldFor Cards t l steps)) (joined d)) (rejoinedOf (expansionOf mixed y roomy d t l steps))
 honest-cards-in y roomy d t l steps e f sound even = rw (e, f) (honest-cards d t l steps sound (rw e at even))
 
-unread-in : (y : Layout) (roomy : Bool) (d : List ℕ) (k : ℕ) (b : List ℕ) (t l steps : ℕ) → isSound d ≡ true → 0 < k → k < Deck.count d → length b ≡ Deck.lineAt d k .size → NeverIn y k d t l steps
-    → expansionOf y roomy (withBody k b d) t l steps ≡ expansionOf y roomy d t l steps
+unread-in : (y : Layout) (roomy : Bool) (d : List ℕ) (k : ℕ) (b : List ℕ) (t l steps : ℕ) → isSound mixed d ≡ true → 0 < k → k < Deck.count d → length b ≡ Deck.lineAt d k .size → NeverIn y k d t l steps
+    → expansionOf mixed y roomy (withBody k b d) t l steps ≡ expansionOf mixed y roomy d t l steps
 unfolding expansionOf
 unread-in Plain roomy d k b t l steps s i j f n = unread d roomy k b t l steps s i j f n
 unread-in Cards roomy d k b t l steps s i j f n = unread-cards d roomy k b t l steps s i j f n
 
 -- ---- cards and the joined deck
-tied-in : (d : List ℕ) (roomy : Bool) (t l steps : ℕ) → isSound d ≡ true → uneven 0 (Deck.lines d) ≡ Deck.none → (expansionOf Cards roomy d t l steps .number ≡ 2 → ⊥) → (expansionOf Cards roomy d t l steps .number ≡ 17 → ⊥)
-    → expansionOf Cards roomy d t l steps ≡ told (joined d) (expansionOf Plain roomy (joined d) t l steps)
+tied-in : (d : List ℕ) (roomy : Bool) (t l steps : ℕ) → isSound mixed d ≡ true → uneven 0 (Deck.lines d) ≡ Deck.none → (expansionOf mixed Cards roomy d t l steps .number ≡ 2 → ⊥) → (expansionOf mixed Cards roomy d t l steps .number ≡ 17 → ⊥)
+    → expansionOf mixed Cards roomy d t l steps ≡ told (joined d) (expansionOf mixed Plain roomy (joined d) t l steps)
 unfolding expansionOf
 tied-in d roomy t l steps s e i j = tied-unless-short d roomy t l steps s e i j
 
-rejoins-in : (d : List ℕ) (roomy : Bool) (t l steps : ℕ) → isSound d ≡ true → uneven 0 (Deck.lines d) ≡ Deck.none → (expansionOf Cards roomy d t l steps .number ≡ 17 → ⊥)
-    → rejoined (expansionOf Cards roomy d t l steps .lines) ≡ expansionOf Plain roomy (joined d) t l steps .lines
+rejoins-in : (d : List ℕ) (roomy : Bool) (t l steps : ℕ) → isSound mixed d ≡ true → uneven 0 (Deck.lines d) ≡ Deck.none → (expansionOf mixed Cards roomy d t l steps .number ≡ 17 → ⊥)
+    → rejoined (expansionOf mixed Cards roomy d t l steps .lines) ≡ expansionOf mixed Plain roomy (joined d) t l steps .lines
 unfolding expansionOf
 rejoins-in d roomy t l steps s e i = rejoins d roomy t l steps s e i
 
@@ -265,7 +266,7 @@ module _ (c : Call) (h : Meets c) where
       let p = honest-in (c .layout) (isRoomy (c .working)) (c .deck) (length (c .text)) (length (c .list)) (c .steps) e in
       record { told = rw (read-off .text, read-off .lines k) (p .told); scans = p .scans; listed = rw (read-off .lines k) (p .listed) }
 
-  pub is-honest-cards : Countable c → c .layout ≡ Cards → isRoomy (c .working) ≡ true → isSound (c .deck) ≡ true → unevenIn (c .layout) (c .deck) ≡ Deck.none → HonestCards c
+  pub is-honest-cards : Countable c → c .layout ≡ Cards → isRoomy (c .working) ≡ true → isSound mixed (c .deck) ≡ true → unevenIn (c .layout) (c .deck) ≡ Deck.none → HonestCards c
   is-honest-cards k e roomy sound even =
       let p = honest-cards-in (c .layout) (isRoomy (c .working)) (c .deck) (length (c .text)) (length (c .list)) (c .steps) e roomy sound even in
       record { told = rw (read-off .text, read-off .lines k) (p .told); scans = p .scans; listed = rw (read-off .lines k) (p .listed) }
@@ -291,7 +292,7 @@ longer-roomy v w h e =
     )
 
 -- an expansion by what it is made of
-made-of : (y z : Layout) (roomy r : Bool) (d f : List ℕ) (t u l m steps more : ℕ) → z ≡ y → r ≡ roomy → f ≡ d → u ≡ t → m ≡ l → more ≡ steps → expansionOf z r f u m more ≡ expansionOf y roomy d t l steps
+made-of : (y z : Layout) (roomy r : Bool) (d f : List ℕ) (t u l m steps more : ℕ) → z ≡ y → r ≡ roomy → f ≡ d → u ≡ t → m ≡ l → more ≡ steps → expansionOf mixed z r f u m more ≡ expansionOf mixed y roomy d t l steps
 made-of y z roomy r d f t u l m steps more o a b i j n = rw (o, a, b, i, j, n)
 
 module _ (c e : Call) (h : Meets c) (k : Meets e) where
@@ -333,11 +334,11 @@ module _ (c e : Call) (h : Meets c) (k : Meets e) where
       (g .text) (g .list)
 
   -- the plain expansion of the joined deck
-  beside-is : Beside c e → definedFor e ≡ expansionOf Plain (isRoomy (c .working)) (joined (c .deck)) (length (c .text)) (length (c .list)) (c .steps)
+  beside-is : Beside c e → definedFor e ≡ expansionOf mixed Plain (isRoomy (c .working)) (joined (c .deck)) (length (c .text)) (length (c .list)) (c .steps)
   beside-is g = made-of Plain (e .layout) (isRoomy (c .working)) (isRoomy (e .working)) (joined (c .deck)) (e .deck) (length (c .text)) (length (e .text)) (length (c .list)) (length (e .list)) (c .steps) (e .steps) (g .plain) (g .working) (g .deck) (g .text) (g .list) (g .steps)
 
-  cards-is : Beside c e → definedFor c ≡ expansionOf Cards (isRoomy (c .working)) (c .deck) (length (c .text)) (length (c .list)) (c .steps)
-  cards-is g = ap (λ (y : Layout). expansionOf y (isRoomy (c .working)) (c .deck) (length (c .text)) (length (c .list)) (c .steps)) (g .cards)
+  cards-is : Beside c e → definedFor c ≡ expansionOf mixed Cards (isRoomy (c .working)) (c .deck) (length (c .text)) (length (c .list)) (c .steps)
+  cards-is g = ap (λ (y : Layout). expansionOf mixed y (isRoomy (c .working)) (c .deck) (length (c .text)) (length (c .list)) (c .steps)) (g .cards)
 
   pub is-tied : Tied c e
   is-tied g i j s v two full =
@@ -345,7 +346,7 @@ module _ (c e : Call) (h : Meets c) (k : Meets e) where
       let t : ℕ = length (c .text) in
       let l : ℕ = length (c .list) in
       let even : uneven 0 (Deck.lines (c .deck)) ≡ Deck.none = rw (g .cards) at v in
-      let number : expansionOf Cards roomy (c .deck) t l (c .steps) .number ≡ c .answer .number = sym (number-is c h ∙ ap (λ (x : X.Expansion). x .number) (cards-is g)) in (
+      let number : expansionOf mixed Cards roomy (c .deck) t l (c .steps) .number ≡ c .answer .number = sym (number-is c h ∙ ap (λ (x : X.Expansion). x .number) (cards-is g)) in (
         whole c h i ∙ cards-is g ∙ tied-in (c .deck) roomy t l (c .steps) s even (λ n. two (sym number ∙ n)) (λ n. full (sym number ∙ n)) ∙ ap (told (joined (c .deck))) (sym (whole e k j ∙ beside-is g)),
         ap rejoined (read-off c h .lines i ∙ ap (λ (x : X.Expansion). x .lines) (cards-is g)) ∙ rejoins-in (c .deck) roomy t l (c .steps) s even (λ n. full (sym number ∙ n)) ∙ sym (read-off e k .lines j ∙ ap (λ (x : X.Expansion). x .lines) (beside-is g)),
       )

@@ -13,6 +13,7 @@ use Rattle.definition.specs.declared.Why.{Why}
 use Rattle.definition.specs.declared.Why.the-variants as W
 use Rattle.definition.specs.declared.Layout.{Layout}
 use Rattle.definition.specs.declared.Layout.the-variants.{Plain, Cards}
+use Rattle.definition.specs.Bytes.{mixed}
 use Rattle.definition.specs.Refusal.{numberOf}
 use Rattle.definition.specs.Limits.{includeLevels}
 use Rattle.definition.specs.Room.{over, zeros}
@@ -102,13 +103,13 @@ told-sound : (b : Bool) (ls : List D.Line) (k : Deck) → Sound k ≡ C.answerFo
 told-sound true ls k e = refl
 told-sound false ls k e = let z : _≡_ {A = ℕ} 0 1 = cc in absurd (omega arith)
 
-pub sound-not : (d : List ℕ) (c : Contents) → c ≡ C.answerFor (D.contents d) → c ≡ Malformed → false ≡ D.isSound d
+pub sound-not : (d : List ℕ) (c : Contents) → c ≡ C.answerFor (D.contents mixed d) → c ≡ Malformed → false ≡ D.isSound mixed d
 unfolding D.contents
-sound-not d c e f = told-malformed (D.isSound d) (D.lines d) (sym f ∙ e)
+sound-not d c e f = told-malformed (D.isSound mixed d) (D.lines d) (sym f ∙ e)
 
-pub sound-is : (d : List ℕ) (c : Contents) (k : Deck) → c ≡ C.answerFor (D.contents d) → c ≡ Sound k → true ≡ D.isSound d
+pub sound-is : (d : List ℕ) (c : Contents) (k : Deck) → c ≡ C.answerFor (D.contents mixed d) → c ≡ Sound k → true ≡ D.isSound mixed d
 unfolding D.contents
-sound-is d c k e f = told-sound (D.isSound d) (D.lines d) k (sym f ∙ e)
+sound-is d c k e f = told-sound (D.isSound mixed d) (D.lines d) k (sym f ∙ e)
 
 pub uneven-plain : (y : Layout) (d : List ℕ) → y ≡ Plain → Nothing ≡ C.foundFor (unevenIn y d)
 uneven-plain y d e = rw e
@@ -136,13 +137,13 @@ pub first-runs : (a b : Early) → a ≡ Runs → b ≡ firstOf a b
 first-runs a b e = rw e
 
 pub early-is : (y : Layout) (d : List ℕ) (roomy sound : Bool) (f : Found) (one twenty two later r : Early)
-    → sound ≡ D.isSound d → one ≡ malformedFor sound → f ≡ C.foundFor (unevenIn y d) → twenty ≡ unevenFor f → two ≡ shortFor roomy → later ≡ firstOf twenty two → r ≡ firstOf one later → r ≡ earlyFor y d roomy
+    → sound ≡ D.isSound mixed d → one ≡ malformedFor sound → f ≡ C.foundFor (unevenIn y d) → twenty ≡ unevenFor f → two ≡ shortFor roomy → later ≡ firstOf twenty two → r ≡ firstOf one later → r ≡ earlyFor y d roomy
 unfolding earlyFor
 early-is y d roomy sound f one twenty two later r s a e b c h k = k ∙ rw (h, a, b, c, s, e)
 
 -- a run begins just where the deck is sound, no body is uneven, and the rooms are long
 record Free (y : Layout) (d : List ℕ) (long : Bool) : Type 0 where
-  sound : D.isSound d ≡ true
+  sound : D.isSound mixed d ≡ true
   even : unevenIn y d ≡ D.none
   roomy : long ≡ true
 
@@ -155,7 +156,7 @@ module _ (y : Layout) (d : List ℕ) (roomy : Bool) where
   abbrev byCases : Bool → D.Found → Bool → Early
   byCases s f r = firstOf (malformedFor s) (firstOf (unevenFor (C.foundFor f)) (shortFor r))
 
-  free-by : (s : Bool) (f : D.Found) (r : Bool) → D.isSound d ≡ s → unevenIn y d ≡ f → roomy ≡ r → byCases s f r ≡ Runs → Free y d roomy
+  free-by : (s : Bool) (f : D.Found) (r : Bool) → D.isSound mixed d ≡ s → unevenIn y d ≡ f → roomy ≡ r → byCases s f r ≡ Runs → Free y d roomy
   free-by false f r a b c e = let z : _≡_ {A = ℕ} 0 1 = cc in absurd (omega arith)
   free-by true (D.line k) r a b c e = let z : _≡_ {A = ℕ} 0 1 = cc in absurd (omega arith)
   free-by true D.none false a b c e = let z : _≡_ {A = ℕ} 0 1 = cc in absurd (omega arith)
@@ -163,10 +164,10 @@ module _ (y : Layout) (d : List ℕ) (roomy : Bool) where
 
   free : earlyFor y d roomy ≡ Runs → Free y d roomy
   unfolding earlyFor
-  free e = free-by (D.isSound d) (unevenIn y d) roomy refl refl refl e
+  free e = free-by (D.isSound mixed d) (unevenIn y d) roomy refl refl refl e
 
   module _ (t l steps : ℕ) where
-    refused-by : (x : Expansion) (s : Bool) (f : D.Found) (r : Bool) → D.isSound d ≡ s → unevenIn y d ≡ f → roomy ≡ r → byCases s f r ≡ Refused x → Early-told x (expansionOf y roomy d t l steps)
+    refused-by : (x : Expansion) (s : Bool) (f : D.Found) (r : Bool) → D.isSound mixed d ≡ s → unevenIn y d ≡ f → roomy ≡ r → byCases s f r ≡ Refused x → Early-told x (expansionOf mixed y roomy d t l steps)
     refused-by x false f r a b c e =
         let k : bare 1 ≡ x = cc in
         rw (malformed-is roomy d t l steps y a) (record { numbers = sym k; number = some-number W.MalformedDeck })
@@ -178,18 +179,18 @@ module _ (y : Layout) (d : List ℕ) (roomy : Bool) where
         rw (short-is roomy d t l steps y a b c) (record { numbers = sym k; number = some-number W.ShortRoom })
     refused-by x true D.none true a b c e = let z : _≡_ {A = ℕ} 0 1 = cc in absurd (omega arith)
 
-    early-refused : (x : Expansion) → earlyFor y d roomy ≡ Refused x → Early-told x (expansionOf y roomy d t l steps)
+    early-refused : (x : Expansion) → earlyFor y d roomy ≡ Refused x → Early-told x (expansionOf mixed y roomy d t l steps)
     unfolding earlyFor
-    early-refused x e = refused-by x (D.isSound d) (unevenIn y d) roomy refl refl refl e
+    early-refused x e = refused-by x (D.isSound mixed d) (unevenIn y d) roomy refl refl refl e
 
 -- ---- THE RUN: what the definition calls the run of the main program is its member 0, entered and run
-main-entered : (e : N.Entering) (d : List ℕ) (w : World) → w .used ≡ 0 → X.runMain e d ≡ X.result (enteredRun e 0 w (λ v. runMember includeLevels d 0 [] v))
+main-entered : (e : N.Entering) (d : List ℕ) (w : World) → w .used ≡ 0 → X.runMain mixed e d ≡ X.result (enteredRun e 0 w (λ v. runMember mixed includeLevels d 0 [] v))
 main-entered (N.unreadable e p) d w h = ap (λ (u : ℕ). X.refusal e 0 p u) (sym h)
 main-entered (N.entered v) d w h = refl
 
-main-is : (d : List ℕ) (w : World) → w .used ≡ 0 → X.runMain (N.enter 0 (readMember (bodyOf d 0)) w) d ≡ X.result (enterRun includeLevels d 0 [] w)
+main-is : (d : List ℕ) (w : World) → w .used ≡ 0 → X.runMain mixed (N.enter 0 (readMember mixed (bodyOf d 0)) w) d ≡ X.result (enterRun includeLevels d 0 [] w)
 unfolding enterRun
-main-is d w h = main-entered (N.enter 0 (readMember (bodyOf d 0)) w) d w h
+main-is d w h = main-entered (N.enter 0 (readMember mixed (bodyOf d 0)) w) d w h
 
 -- ---- what a run of the deck d answers, as it is told
 small-is : (n m k : ℕ) → n ≡ m → m + k ≤ 4294967295 → n % 4294967296 ≡ m
@@ -267,13 +268,13 @@ module _ (y : Layout) (d t l : List ℕ) (w : Working) (steps : ℕ) (x : Expans
   of-free roomy e r f h run = record { is = λ zt zl. run .is (sym (ap (earlyFor y d) r) ∙ sym f ∙ h) zt zl }
 
   -- the run of the deck e that is run for d
-  of-run : (e : List ℕ) (r : Ran) → (D.isSound d ≡ true → 65536 ≤ length (w .joined) → e ≡ ranDeck y d) → RunIs y e (w .rows) (w .names) (w .cells) (w .low) (w .high) (w .work) t l steps t′ l′ r → x ≡ answerFor y e r → RanFor y d t l w steps x t′ l′
+  of-run : (e : List ℕ) (r : Ran) → (D.isSound mixed d ≡ true → 65536 ≤ length (w .joined) → e ≡ ranDeck y d) → RunIs y e (w .rows) (w .names) (w .cells) (w .low) (w .high) (w .work) t l steps t′ l′ r → x ≡ answerFor y e r → RanFor y d t l w steps x t′ l′
   of-run e r same run h = record {
     is = λ z zt zl.
         let f : Free y d (isRoomy w) = free y d (isRoomy w) z in
         let long : Long w = long-rooms w (f .roomy) in
         let s : e ≡ ranDeck y d = same (f .sound) (long .joined) in
-        let sound : D.isSound e ≡ true = ap D.isSound s ∙ ran-sound y d (f .sound) in
+        let sound : D.isSound mixed e ≡ true = ap (D.isSound mixed) s ∙ ran-sound y d (f .sound) in
         let R : Res Run.Stop F.End = enterRun includeLevels e 0 [] (worldFor y (length t) (length l) steps) in
         let main : ranIn y e (length t) (length l) steps ≡ X.result R = main-is e (worldFor y (length t) (length l) steps) refl in
         let near : X.result R .offset < 65536 = subst (λ (v : X.Expansion). v .offset < 65536) main (ran-near e sound y (length t) (length l) steps) in
@@ -357,7 +358,7 @@ expanded y d t t₁ t₂ t₃ l l₁ l₂ l₃ b m e steps x zt zl dec kt kl a c
     let nl : length l₁ ≡ length l = ap length zl ∙ length-replicate {A = ℕ} (length l) 0 in
     let z : X.Expansion = answerOf y d t l b steps in
     let none : Empty z = refused-empty y (isRoomy b) d (length t) (length l) steps in
-    let an : Answered z x t₂ l₂ = subst (λ (n : ℕ). Answered (expansionOf y (isRoomy b) d n (length l) steps) x t₂ l₂) nt (subst (λ (n : ℕ). Answered (expansionOf y (isRoomy b) d (length t₁) n steps) x t₂ l₂) nl (dec .is (zero-again (length t) t₁ zt) (zero-again (length l) l₁ zl))) in
+    let an : Answered z x t₂ l₂ = subst (λ (n : ℕ). Answered (expansionOf mixed y (isRoomy b) d n (length l) steps) x t₂ l₂) nt (subst (λ (n : ℕ). Answered (expansionOf mixed y (isRoomy b) d (length t₁) n steps) x t₂ l₂) nl (dec .is (zero-again (length t) t₁ zt) (zero-again (length l) l₁ zl))) in
     let num : x .number ≡ z .number = ap (λ (r : Expansion). r .number) (an .numbers) in
     record {
       numbers = an .numbers;

@@ -4,6 +4,7 @@ use mathlib.Core.Bool.{Bool, cond}
 use mathlib.Core.List.{List}
 use lib.ListN.{length}
 use Rattle.definition.specs.declared.Layout.{Layout}
+use Rattle.definition.specs.Bytes.{mixed}
 use Rattle.definition.specs.Refusal.{numberOf}
 use Rattle.definition.specs.Deck.{isSound}
 use Rattle.definition.specs.Cards.{unevenIn}
@@ -58,7 +59,7 @@ firstOf (Refused x) b = Refused x
 firstOf Runs b = b
 
 unfoldable pub earlyFor : Layout → List ℕ → Bool → Early
-earlyFor y d roomy = firstOf (malformedFor (isSound d)) (firstOf (unevenFor (foundFor (unevenIn y d))) (shortFor roomy))
+earlyFor y d roomy = firstOf (malformedFor (isSound mixed d)) (firstOf (unevenFor (foundFor (unevenIn y d))) (shortFor roomy))
 
 -- ---- the numbers for what a run of the deck d answers, as the code makes them of its own
 abbrev pub refusedFor : Layout → List ℕ → Stop → Progress → Expansion

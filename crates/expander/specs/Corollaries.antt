@@ -7,6 +7,7 @@ use mathlib.Core.List.{List, _++_, reverse}
 use lib.ListN.{length, take, drop}
 use Rattle.definition.specs.declared.Layout.{Layout}
 use Rattle.definition.specs.declared.Layout.the-variants.{Plain, Cards}
+use Rattle.definition.specs.Bytes.{mixed}
 use Rattle.definition.specs.Room.{zeros}
 use Rattle.definition.specs.Deck as Deck
 use Rattle.definition.specs.Deck.{isSound}
@@ -59,12 +60,12 @@ Countable c = length (c .list) < 51539607552
 -- ---- demand 1: the numbers. 1 is given exactly when the deck is malformed, 20 exactly when it is sound and a body of card images is no
 -- whole number of records, 2 exactly when neither is so and a working room is too short
 pub record Numbered (c : Call) : Type 0 where
-  pub malformed : isSound (c .deck) ≡ false → c .answer ≡ bare 1
-  pub one : c .answer .number ≡ 1 → isSound (c .deck) ≡ false
-  pub uneven : (k : ℕ) → isSound (c .deck) ≡ true → unevenIn (c .layout) (c .deck) ≡ Deck.line k → c .answer ≡ refusalAt 20 k 0 0
-  pub twenty : c .answer .number ≡ 20 → (isSound (c .deck) ≡ true) × (unevenIn (c .layout) (c .deck) ≡ Deck.line (c .answer .member))
-  pub short : isSound (c .deck) ≡ true → unevenIn (c .layout) (c .deck) ≡ Deck.none → isRoomy (c .working) ≡ false → c .answer ≡ bare 2
-  pub two : c .answer .number ≡ 2 → (isSound (c .deck) ≡ true) × (unevenIn (c .layout) (c .deck) ≡ Deck.none) × (isRoomy (c .working) ≡ false)
+  pub malformed : isSound mixed (c .deck) ≡ false → c .answer ≡ bare 1
+  pub one : c .answer .number ≡ 1 → isSound mixed (c .deck) ≡ false
+  pub uneven : (k : ℕ) → isSound mixed (c .deck) ≡ true → unevenIn (c .layout) (c .deck) ≡ Deck.line k → c .answer ≡ refusalAt 20 k 0 0
+  pub twenty : c .answer .number ≡ 20 → (isSound mixed (c .deck) ≡ true) × (unevenIn (c .layout) (c .deck) ≡ Deck.line (c .answer .member))
+  pub short : isSound mixed (c .deck) ≡ true → unevenIn (c .layout) (c .deck) ≡ Deck.none → isRoomy (c .working) ≡ false → c .answer ≡ bare 2
+  pub two : c .answer .number ≡ 2 → (isSound mixed (c .deck) ≡ true) × (unevenIn (c .layout) (c .deck) ≡ Deck.none) × (isRoomy (c .working) ≡ false)
   pub most : c .answer .number ≤ 20
   pub place : c .answer .offset < 65536
   pub steps : c .answer .steps ≤ c .steps
@@ -72,7 +73,7 @@ pub record Numbered (c : Call) : Type 0 where
 -- a place is one of the body as given, or just behind it
 abbrev pub Placed : Call → Type 0
 Placed c =
-    isSound (c .deck) ≡ true
+    isSound mixed (c .deck) ≡ true
     → (c .answer .member < Deck.count (c .deck)) × (c .answer .offset ≤ length (bodyOf (c .deck) (c .answer .member)))
 
 -- "A refusal reports text length and lines 0, rooms all zero"
@@ -131,7 +132,7 @@ pub record Honest (c : Call) : Type 0 where
 abbrev pub cardPasses : Call → List Pass
 cardPasses c =
     mainPasses
-    (enter 0 (readMember (bodyOf (joined (c .deck)) 0)) (worldFor Cards (length (c .text)) (length (c .list)) (c .steps)))
+    (enter 0 (readMember mixed (bodyOf (joined (c .deck)) 0)) (worldFor Cards (length (c .text)) (length (c .list)) (c .steps)))
     (joined (c .deck))
 
 pub record HonestCards (c : Call) : Type 0 where
@@ -173,7 +174,7 @@ MoreKeeps c e =
 abbrev pub NeverIn : Layout → ℕ → List ℕ → ℕ → ℕ → ℕ → Type 0
 NeverIn Plain k d textRoom listRoom steps = NeverIncluded k d textRoom listRoom steps
 NeverIn Cards k d textRoom listRoom steps =
-    MainAtBar k (enter 0 (readMember (bodyOf (joined d) 0)) (worldFor Cards textRoom listRoom steps)) (joined d) → ⊥
+    MainAtBar k (enter 0 (readMember mixed (bodyOf (joined d) 0)) (worldFor Cards textRoom listRoom steps)) (joined d) → ⊥
 
 pub record Rewritten (k : ℕ) (b : List ℕ) (c e : Call) : Type 0 where
   pub layout : e .layout ≡ c .layout
@@ -182,7 +183,7 @@ pub record Rewritten (k : ℕ) (b : List ℕ) (c e : Call) : Type 0 where
   pub list : length (e .list) ≡ length (c .list)
   pub working : isRoomy (e .working) ≡ isRoomy (c .working)
   pub steps : e .steps ≡ c .steps
-  pub sound : isSound (c .deck) ≡ true
+  pub sound : isSound mixed (c .deck) ≡ true
   pub notMain : 0 < k
   pub line : k < Deck.count (c .deck)
   pub size : length b ≡ Deck.lineAt (c .deck) k .size
@@ -222,6 +223,6 @@ pub record Beside (c e : Call) : Type 0 where
 -- joined, are the lines of the second. But room (17) the first may want sooner
 abbrev pub Tied : Call → Call → Type 0
 Tied c e =
-    Beside c e → Countable c → Countable e → isSound (c .deck) ≡ true → unevenIn (c .layout) (c .deck) ≡ Deck.none
+    Beside c e → Countable c → Countable e → isSound mixed (c .deck) ≡ true → unevenIn (c .layout) (c .deck) ≡ Deck.none
     → (c .answer .number ≡ 2 → ⊥) → (c .answer .number ≡ 17 → ⊥)
     → (readOff c ≡ told (joined (c .deck)) (readOff e)) × (rejoined (linesOut c) ≡ linesOut e)

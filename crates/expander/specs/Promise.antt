@@ -6,6 +6,7 @@ use mathlib.Core.List.{List, [], _∷_}
 use lib.Dec.{leb}
 use lib.ListN.{length}
 use Rattle.definition.specs.declared.Layout.{Layout}
+use Rattle.definition.specs.Bytes.{mixed}
 use Rattle.definition.specs.Room.{over, zeros}
 use Rattle.definition.specs.Expansion as X
 use Rattle.definition.specs.Expansion.{expansionOf, textRoomAfter, listRoomAfter}
@@ -67,7 +68,7 @@ pub record Cleared (b e : Working) : Type 0 where
 -- ---- THE DEFINITION'S EXPANSION of the deck d in the layout y, with the text room t, the list room l, the working rooms w and so many
 -- steps
 abbrev pub answerOf : Layout → (d t l : List ℕ) → Working → ℕ → X.Expansion
-answerOf y d t l w steps = expansionOf y (isRoomy w) d (length t) (length l) steps
+answerOf y d t l w steps = expansionOf mixed y (isRoomy w) d (length t) (length l) steps
 
 -- THE ENSURES: the numbers r, and the rooms at exit
 pub record Expanded (y : Layout) (d t l : List ℕ) (w : Working) (steps : ℕ) (r : Expansion) (t′ l′ : List ℕ) (w′ : Working) : Type 0 where

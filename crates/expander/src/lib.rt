@@ -1,6 +1,7 @@
 // THE EXPANDER: any bytes, any rooms. Its numbers, its text and its list are the definition's, and every working room ends zero.
 // Parts: the numbers of an answer, the rooms, the expansion, the same for C and Rust.
 ghost use mathlib.Core.Path.{_≡_};
+ghost use Rattle.definition.specs.Bytes.{mixed};
 ghost use Rattle.definition.specs.Refusal.{numberOf};
 ghost use Rattle.definition.specs.Deck.{isSound};
 ghost use Rattle.definition.specs.Room.{over};
@@ -134,7 +135,7 @@ fn answer(layout: Layout, d: &[u8], r: Ran) -> Expansion
 }
 
 fn is_sound(deck: &[u8]) -> bool
-    ensures { λ r. ⌜ r ≡ isSound (now (deck .entry)) ⌝ }
+    ensures { λ r. ⌜ r ≡ isSound mixed (now (deck .entry)) ⌝ }
 {
     let c = Deck::of(deck);
     match c {

@@ -8,6 +8,7 @@ use Prim.Native.String as S
 use native.Mathlib.Omega.{arith}
 use borrow.Author.Tests.{le-leb, lt-leb}
 use lib.ListN.{length}
+use Rattle.definition.specs.Bytes.{mixed}
 use Rattle.definition.specs.Lists.{same}
 use Rattle.definition.specs.Text.{bytesOf}
 use Rattle.definition.specs.Tokens as T
@@ -26,10 +27,10 @@ use Rattle.expressions.specs.Check.{infixAt, isSpelled, expected, isWord
 
 module _ (s : List ℕ) (at : ℕ) (l : Lexeme) (lex : Lexed s at l) where
   -- a test on a sign, as the definition has it
-  pub told : (W : S.String) (w : List ℕ) (r b : Bool) → bytesOf W ≡ w → r ≡ isSignIn s l w → r ≡ b → T.isSign W (T.tokenAt s at .token) ≡ b
+  pub told : (W : S.String) (w : List ℕ) (r b : Bool) → bytesOf W ≡ w → r ≡ isSignIn s l w → r ≡ b → T.isSign W (T.tokenAt mixed s at .token) ≡ b
   told W w r b e f g = sym (L.is-sign s at l lex W w e) ∙ sym f ∙ g
 
-  spelled : (w : List ℕ) → isSignIn s l w ≡ isSpelled w (T.tokenAt s at .token)
+  spelled : (w : List ℕ) → isSignIn s l w ≡ isSpelled w (T.tokenAt mixed s at .token)
   unfolding isSignIn
   spelled w = rw (L.token-is s at l lex) (by-kind (l .kind) (spelling s l) (content s (l .from)))
     where
@@ -50,7 +51,7 @@ module _ (s : List ℕ) (at : ℕ) (l : Lexeme) (lex : Lexed s at l) where
   unfolding expected
   not-there w r f g = rw (← spelled w, ← f, g, lex .from)
 
-  worded : (w : List ℕ) → isWordIn s l w ≡ isWorded w (T.tokenAt s at .token)
+  worded : (w : List ℕ) → isWordIn s l w ≡ isWorded w (T.tokenAt mixed s at .token)
   unfolding isWordIn
   worded w = rw (L.token-is s at l lex) (by-kind (l .kind) (spelling s l) (content s (l .from)))
     where
@@ -82,18 +83,18 @@ module _ (s : List ℕ) (at : ℕ) (l : Lexeme) (lex : Lexed s at l) where
   word-is Wrong x y e = absurd (false≢true e)
 
   module _ (r : Bool) (f : r ≡ isWordKind (l .kind)) where
-    named : r ≡ true → T.tokenAt s at .token ≡ T.word (spelling s l)
+    named : r ≡ true → T.tokenAt mixed s at .token ≡ T.word (spelling s l)
     named g = L.token-is s at l lex ∙ word-is (l .kind) (spelling s l) (content s (l .from)) (sym f ∙ g)
 
     size : length (spelling s l) ≡ l .to - l .from
     unfolding spelling
     size = length-part (l .to - l .from) (l .from) s
 
-    pub short-name : (n : ℕ) → r ≡ true → n ≡ l .to - l .from → n ≤ 31 → N.Is (l .from) (l .to) ≡ namedFor (E.nameAt s at)
+    pub short-name : (n : ℕ) → r ≡ true → n ≡ l .to - l .from → n ≤ 31 → N.Is (l .from) (l .to) ≡ namedFor (E.nameAt mixed s at)
     unfolding E.nameAt
     short-name n g e h = rw (named g, le-leb (length (spelling s l)) 31 (omega (arith, size, e, h)), lex .from, lex .to)
 
-    pub long-name : (n : ℕ) → r ≡ true → n ≡ l .to - l .from → 31 < n → N.Refused OverLimit (l .from) ≡ namedFor (E.nameAt s at)
+    pub long-name : (n : ℕ) → r ≡ true → n ≡ l .to - l .from → 31 < n → N.Refused OverLimit (l .from) ≡ namedFor (E.nameAt mixed s at)
     unfolding E.nameAt
     long-name n g e h = rw (named g, lt-leb (length (spelling s l)) 31 (omega (arith, size, e, h)), lex .from)
 
@@ -106,9 +107,9 @@ module _ (s : List ℕ) (at : ℕ) (l : Lexeme) (lex : Lexed s at l) where
     no-name Nothing x y p q e = refl
     no-name Wrong x y p q e = refl
 
-    pub not-a-name : r ≡ false → N.Refused Syntax (l .from) ≡ namedFor (E.nameAt s at)
+    pub not-a-name : r ≡ false → N.Refused Syntax (l .from) ≡ namedFor (E.nameAt mixed s at)
     unfolding E.nameAt
-    not-a-name g = rw (L.token-is s at l lex, ← lex .from) (sym (no-name (l .kind) (spelling s l) (content s (l .from)) (l .from) (T.tokenAt s at .to) (sym f ∙ g)))
+    not-a-name g = rw (L.token-is s at l lex, ← lex .from) (sym (no-name (l .kind) (spelling s l) (content s (l .from)) (l .from) (T.tokenAt mixed s at .to) (sym f ∙ g)))
 
 -- ---- the levels
 pub of-level : (n k : ℕ) (s : List ℕ) (at : ℕ) (r : InfixAt) → n ≡ k → r ≡ infixAt k s at → r ≡ infixAt n s at

@@ -3,6 +3,7 @@ use Prim.Native.Nat.{ℕ, zero, suc}
 use mathlib.Core.Bool.{Bool, false, cond}
 use mathlib.Core.List.{List}
 use lib.ListN.{length}
+use Rattle.definition.specs.Bytes.{mixed}
 use Rattle.definition.specs.Lists.{same}
 use Rattle.definition.specs.Tokens.{Token, word, integer, string, bits, sign, nothing, wrong, tokenAt}
 use Rattle.definition.specs.Expressions.{Reading, read, refused, then, none, Parsed, Reader, Named, Maybe, is, noOperator, infixOf, prefixOf, nameAt, referenceAt, primitive, operand, chain, levels, expression}
@@ -26,7 +27,7 @@ infixFor noOperator to = Infix.Other
 
 -- of level l, behind the place `at`
 unfoldable pub infixAt : ℕ → List ℕ → ℕ → InfixAt
-infixAt l s at = infixFor (infixOf l (tokenAt s at .token)) (tokenAt s at .to)
+infixAt l s at = infixFor (infixOf l (tokenAt mixed s at .token)) (tokenAt mixed s at .to)
 
 abbrev pub prefixFor : Maybe Prefix → ℕ → PrefixAt
 prefixFor (is o) to = Prefixed.Is o to
@@ -49,7 +50,7 @@ isSpelled w wrong = false
 
 -- the definition's `expectSign`, for bytes
 unfoldable pub expected : List ℕ → List ℕ → ℕ → Expected
-expected w s at = cond (isSpelled w (tokenAt s at .token)) (Must.Past (tokenAt s at .to)) (Must.Refused Syntax (tokenAt s at .from))
+expected w s at = cond (isSpelled w (tokenAt mixed s at .token)) (Must.Past (tokenAt mixed s at .to)) (Must.Refused Syntax (tokenAt mixed s at .from))
 
 abbrev pub namedFor : Reading Named → NamedAt
 namedFor (read n) = Word.Is (n .place) (n .to)
@@ -67,7 +68,7 @@ isWorded w wrong = false
 
 -- the definition's `expectWord`, for bytes
 unfoldable pub expectedWord : List ℕ → List ℕ → ℕ → Expected
-expectedWord w s at = cond (isWorded w (tokenAt s at .token)) (Must.Past (tokenAt s at .to)) (Must.Refused Syntax (tokenAt s at .from))
+expectedWord w s at = cond (isWorded w (tokenAt mixed s at .token)) (Must.Past (tokenAt mixed s at .to)) (Must.Refused Syntax (tokenAt mixed s at .from))
 
 -- ---- the prefix operators at a place, at most f of them
 abbrev pub prefixesOf : ℕ → ℕ → Prefixes
@@ -79,7 +80,7 @@ withPrefix noOperator at r = prefixesOf 0 at
 
 unfoldable pub prefixes : ℕ → List ℕ → ℕ → Prefixes
 prefixes zero s at = prefixesOf 0 at
-prefixes (suc f) s at = withPrefix (prefixOf (tokenAt s at .token)) at (prefixes f s (tokenAt s at .to))
+prefixes (suc f) s at = withPrefix (prefixOf (tokenAt mixed s at .token)) at (prefixes f s (tokenAt mixed s at .to))
 
 -- ---- the check of an expression answers where the tree ends that the definition reads
 unfoldable pub endFor : Reading Parsed → Expected
@@ -89,21 +90,21 @@ endFor (refused w p) = Must.Refused w p
 -- what stands behind the parenthesis at p, where d may still be opened
 unfoldable pub insideOf : ℕ → List ℕ → ℕ → Reader
 insideOf zero s p at = refused OverLimit p
-insideOf (suc d) s p at = expression d s at
+insideOf (suc d) s p at = expression mixed d s at
 
 -- a name, and its arguments if it has any
 unfoldable pub referred : (ℕ → Reader) → List ℕ → Reader
-referred inside s at = then (nameAt s at) λ n. referenceAt inside s n (tokenAt s (n .to))
+referred inside s at = then (nameAt mixed s at) λ n. referenceAt mixed inside s n (tokenAt mixed s (n .to))
 
 abbrev pub primitiveAt : (ℕ → Reader) → List ℕ → Reader
-primitiveAt inside s at = primitive inside s (tokenAt s at .token) (tokenAt s at .from) (tokenAt s at .to)
+primitiveAt inside s at = primitive mixed inside s (tokenAt mixed s at .token) (tokenAt mixed s at .from) (tokenAt mixed s at .to)
 
 abbrev pub operandIn : ℕ → List ℕ → Reader
-operandIn d s = operand (insideOf d s) s (suc (length s))
+operandIn d s = operand mixed (insideOf d s) s (suc (length s))
 
 abbrev pub levelsIn : ℕ → List ℕ → ℕ → Reader
-levelsIn d s n = levels (operandIn d s) s n
+levelsIn d s n = levels mixed (operandIn d s) s n
 
 -- operators of level l behind any tree: the end is the same for all
 abbrev pub chainIn : ℕ → List ℕ → ℕ → Reader
-chainIn d s l = chain l (levelsIn d s l) s (suc (length s)) none
+chainIn d s l = chain mixed l (levelsIn d s l) s (suc (length s)) none

@@ -2,6 +2,7 @@
 // Parts: operators, a sign or a name that must follow, prefix operators, the check of a whole expression.
 ghost use mathlib.Core.Path.{_≡_};
 ghost use lib.ListN.{length};
+ghost use Rattle.definition.specs.Bytes.{mixed};
 ghost use Rattle.definition.specs.Tokens.{tokenAt, sign};
 ghost use Rattle.definition.specs.Expressions as E;
 ghost use Rattle.tokens.specs.Answer.{spelling};
@@ -48,7 +49,7 @@ pub enum NamedAt {
 
 // The prefix operator that stands next.
 pub fn prefix_at(s: &[u8], at: usize) -> PrefixAt
-    ensures { λ r. ⌜ r ≡ prefixFor (E.prefixOf (tokenAt (now (s .entry)) at .token)) (tokenAt (now (s .entry)) at .to) ⌝ }
+    ensures { λ r. ⌜ r ≡ prefixFor (E.prefixOf (tokenAt mixed (now (s .entry)) at .token)) (tokenAt mixed (now (s .entry)) at .to) ⌝ }
 {
     let t = token_at(s, at);
     if is_sign(s, t, b"+") {
@@ -183,7 +184,7 @@ pub fn expect_sign(s: &[u8], at: usize, w: &[u8]) -> Expected
 
 // A name that must follow.
 pub fn name_at(s: &[u8], at: usize) -> NamedAt
-    ensures { λ r. ⌜ r ≡ namedFor (E.nameAt (now (s .entry)) at) ⌝ }
+    ensures { λ r. ⌜ r ≡ namedFor (E.nameAt mixed (now (s .entry)) at) ⌝ }
 {
     let t = token_at(s, at);
     let kind = t.kind;
@@ -247,7 +248,7 @@ pub fn inside(s: &[u8], p: usize, at: usize, left: usize) -> Expected
 
 // Arguments, from behind the parenthesis at p; more turns than there are bytes are never needed.
 fn arguments(s: &[u8], p: usize, from: usize, left: usize) -> Expected
-    ensures { λ r. ⌜ r ≡ endFor (E.arguments (insideOf left (now (s .entry)) p) (now (s .entry)) (length (now (s .entry))) from) ⌝ }
+    ensures { λ r. ⌜ r ≡ endFor (E.arguments mixed (insideOf left (now (s .entry)) p) (now (s .entry)) (length (now (s .entry))) from) ⌝ }
 {
     let mut at = from;
     let mut turns = s.len();
@@ -289,7 +290,7 @@ fn reference(s: &[u8], at: usize, left: usize) -> Expected
 
 fn parenthesized(s: &[u8], t: Lexeme, left: usize) -> Expected
     requires { ⌜ t .kind ≡ Sign ⌝ }
-    ensures { λ r. ⌜ r ≡ endFor (E.primitive (insideOf left (now (s .entry))) (now (s .entry)) (sign (spelling (now (s .entry)) t)) (t .from) (t .to)) ⌝ }
+    ensures { λ r. ⌜ r ≡ endFor (E.primitive mixed (insideOf left (now (s .entry))) (now (s .entry)) (sign (spelling (now (s .entry)) t)) (t .from) (t .to)) ⌝ }
 {
     if is_sign(s, t, b"(") {
         let x = inside(s, t.from, t.to, left);
@@ -369,7 +370,7 @@ fn levels(s: &[u8], at: usize, n: usize, left: usize) -> Expected
 
 // THE EXPRESSION at a place.
 pub fn check(s: &[u8], at: usize) -> Expected
-    ensures { λ r. ⌜ r ≡ endFor (E.wholeExpression (now (s .entry)) at) ⌝ }
+    ensures { λ r. ⌜ r ≡ endFor (E.wholeExpression mixed (now (s .entry)) at) ⌝ }
 {
     levels(s, at, LEVELS, Nesting::PARENTHESES)
 }

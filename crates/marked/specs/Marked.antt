@@ -10,7 +10,7 @@ use lib.ListN.{length}
 use Rattle.definition.specs.Text.{bytesOf}
 use Rattle.definition.specs.Lists.{bytes}
 use Rattle.definition.specs.Limits.{programText, programList, programSteps}
-use Rattle.definition.specs.Bytes.{isLetter as Bytes·isLetter, isDigit as Bytes·isDigit, isAlphameric as Bytes·isAlphameric, isBlank as Bytes·isBlank, isMark as Bytes·isMark, classOf as Bytes·classOf}
+use Rattle.definition.specs.Bytes.{mixed, isLetter as Bytes·isLetter, isDigit as Bytes·isDigit, isAlphameric as Bytes·isAlphameric, isBlank as Bytes·isBlank, isMark as Bytes·isMark, classOf as Bytes·classOf}
 use Rattle.definition.specs.Calls.{isRunning as Calls·isRunning, bodyMachine as Calls·bodyMachine, bodyRun as Calls·bodyRun, calls as Calls·calls}
 use Rattle.definition.specs.Deck.{hasLibraries as Deck·hasLibraries, count as Deck·count, libraryLength as Deck·libraryLength, linePlace as Deck·linePlace, isRepeated as Deck·isRepeated, isPadded as Deck·isPadded, lineAt as Deck·lineAt, linesFrom as Deck·linesFrom, isMemberName as Deck·isMemberName, areNamed as Deck·areNamed, isCalled as Deck·isCalled, find as Deck·find, areDistinct as Deck·areDistinct, follow as Deck·follow, isSound as Deck·isSound, contents as Deck·contents, bodyByte as Deck·bodyByte}
 use Rattle.definition.specs.Evaluate.{isSubstr as Evaluate·isSubstr, meant as Evaluate·meant, parameters as Evaluate·parameters, callee as Evaluate·callee, count as Evaluate·count, put as Evaluate·put, plainName as Evaluate·plainName, listedName as Evaluate·listedName, evaluate as Evaluate·evaluate, arguments as Evaluate·arguments}
@@ -57,7 +57,7 @@ abbrev deckOf : String → List ℕ
 deckOf main = bytes 2 1 ++ bytesOf "MAIN    " ++ bytes 4 18 ++ bytes 4 (length (bytesOf main)) ++ bytesOf main
 
 abbrev answer : Example → Expansion
-answer x = expansion true (deckOf (x .main)) programText programList programSteps
+answer x = expansion mixed true (deckOf (x .main)) programText programList programSteps
 
 abbrev wanted : Example → Expansion
 wanted x = x .wanted
@@ -98,5 +98,5 @@ marked =
 
 -- THE STATEMENT
 pub all-marked : map answer marked ≡ map wanted marked
-unfolding Bytes·isLetter Bytes·isDigit Bytes·isAlphameric Bytes·isBlank Bytes·isMark Bytes·classOf Cards·takes Calls·isRunning Calls·bodyMachine Calls·bodyRun Calls·calls Deck·hasLibraries Deck·count Deck·libraryLength Deck·linePlace Deck·isRepeated Deck·isPadded Deck·lineAt Deck·linesFrom Deck·isMemberName Deck·areNamed Deck·isCalled Deck·find Deck·areDistinct Deck·follow Deck·isSound Deck·contents Deck·bodyByte Evaluate·isSubstr Evaluate·meant Evaluate·parameters Evaluate·callee Evaluate·count Evaluate·put Evaluate·plainName Evaluate·listedName Evaluate·evaluate Evaluate·arguments Events·textOf Events·goesOn Events·linesOf Events·listBytes expansion Expansion·textRoomAfter Expansion·listRoomAfter Expressions·comparison Expressions·infixOf Expressions·prefixOf Expressions·expectSign Expressions·expectWord Expressions·nameAt Expressions·arguments Expressions·referenceAt Expressions·primitive Expressions·operand Expressions·chain Expressions·levels Expressions·expression Fixed·inRange Fixed·ranged Fixed·sum Fixed·difference Fixed·product Fixed·negative Fixed·quotient Flow·isOnce Flow·behindOn Flow·leadOut Flow·into Flow·assigned Flow·truth Flow·number Flow·bounds Flow·stepped Flow·statement Flow·turn Flow·runOn Program·isIterated Flow·groupsFrom Flow·isIn Flow·areIn Flow·mayGo Names·isListed Names·declareAll Names·namesPast Names·sentencesPast Names·faultOf Names·enter Reading·depth Reading·change Reading·addRow Reading·isDecided Reading·elseWord Reading·elseAt Reading·complete Reading·labelsFrom Reading·taken Reading·doAt Reading·common Reading·inList Reading·byWord Reading·endName Reading·isFull Reading·isEnd Reading·clauseFrom Reading·innerAt Reading·deepEnough Reading·turn Reading·readOn Reading·readMember Run·bodyOf Run·putOut Run·copyHere Run·replaceHere Run·textOn Run·textOut Run·activateAll Run·activations Run·jumpAway Run·jumpLabel Run·includeAll Run·memberMachine Run·runSource Run·runMember Scan·activeName Scan·cutOn Scan·listAt Scan·scanArguments Scan·callWith Scan·replaceEntry Scan·scanOn Scan·replacer Statements·ended Statements·assignment Statements·thenWord Statements·ifClause Statements·boundAt Statements·doBounds Statements·doClause Statements·gotoClause Statements·listOf Statements·includeClause Statements·deactivateClause Statements·activateClause Statements·returnClause Statements·namesAt Statements·attribute Statements·declareNames Statements·declareNext Statements·declareFrom Statements·returnsType Statements·procedureHead Statements·procedureClause Steps·isLeft Steps·usedAfter Tokens·commentEnd Tokens·quoteEnd Tokens·isComment Tokens·isSpace Tokens·spaces Tokens·quotedAt Tokens·isBit Tokens·constantAt Tokens·isPair Tokens·signAt Tokens·runAt Tokens·lexemeOf Tokens·isTouching Tokens·lexemeAt Tokens·tokenAt Tokens·pieceOf Tokens·pieceAt Tokens·textEnd Values·decimalOn Values·fixedText Values·written Values·constant Values·numberIn Values·toFixed Values·toCharacters Values·binary Values·toBits Values·convert Values·anyOne Values·holds Values·limited Values·unfinished Values·bitwise Values·inverted Values·orderOf Values·bytesOrder Values·numbersOrder Values·compared Values·comparing Values·arithmetic Values·logical Values·joined Values·infixed Values·prefixed Values·cutOut Values·substr World·charge World·addressIn World·seenFrom World·rowsIn
+unfolding Bytes·isSmall Bytes·capital Bytes·folded Bytes·isLetter Bytes·isDigit Bytes·isAlphameric Bytes·isBlank Bytes·isMark Bytes·classOf Cards·takes Calls·isRunning Calls·bodyMachine Calls·bodyRun Calls·calls Deck·hasLibraries Deck·count Deck·libraryLength Deck·linePlace Deck·isRepeated Deck·isPadded Deck·lineAt Deck·linesFrom Deck·isMemberName Deck·areNamed Deck·isCalled Deck·find Deck·areDistinct Deck·follow Deck·isSound Deck·contents Deck·bodyByte Evaluate·isSubstr Evaluate·meant Evaluate·parameters Evaluate·callee Evaluate·count Evaluate·put Evaluate·plainName Evaluate·listedName Evaluate·evaluate Evaluate·arguments Events·textOf Events·goesOn Events·linesOf Events·listBytes expansion Expansion·textRoomAfter Expansion·listRoomAfter Expressions·comparison Expressions·infixOf Expressions·prefixOf Expressions·expectSign Expressions·expectWord Expressions·nameAt Expressions·arguments Expressions·referenceAt Expressions·primitive Expressions·operand Expressions·chain Expressions·levels Expressions·expression Fixed·inRange Fixed·ranged Fixed·sum Fixed·difference Fixed·product Fixed·negative Fixed·quotient Flow·isOnce Flow·behindOn Flow·leadOut Flow·into Flow·assigned Flow·truth Flow·number Flow·bounds Flow·stepped Flow·statement Flow·turn Flow·runOn Program·isIterated Flow·groupsFrom Flow·isIn Flow·areIn Flow·mayGo Names·isListed Names·declareAll Names·namesPast Names·sentencesPast Names·faultOf Names·enter Reading·depth Reading·change Reading·addRow Reading·isDecided Reading·elseWord Reading·elseAt Reading·complete Reading·labelsFrom Reading·taken Reading·doAt Reading·common Reading·inList Reading·byWord Reading·endName Reading·isFull Reading·isEnd Reading·clauseFrom Reading·innerAt Reading·deepEnough Reading·turn Reading·readOn Reading·readMember Run·bodyOf Run·putOut Run·copyHere Run·replaceHere Run·textOn Run·textOut Run·activateAll Run·activations Run·jumpAway Run·jumpLabel Run·includeAll Run·memberMachine Run·runSource Run·runMember Scan·activeName Scan·cutOn Scan·listAt Scan·scanArguments Scan·callWith Scan·replaceEntry Scan·scanOn Scan·replacer Statements·ended Statements·assignment Statements·thenWord Statements·ifClause Statements·boundAt Statements·doBounds Statements·doClause Statements·gotoClause Statements·listOf Statements·includeClause Statements·deactivateClause Statements·activateClause Statements·returnClause Statements·namesAt Statements·attribute Statements·declareNames Statements·declareNext Statements·declareFrom Statements·returnsType Statements·procedureHead Statements·procedureClause Steps·isLeft Steps·usedAfter Tokens·commentEnd Tokens·quoteEnd Tokens·isComment Tokens·isSpace Tokens·spaces Tokens·quotedAt Tokens·isBit Tokens·constantAt Tokens·isPair Tokens·signAt Tokens·runAt Tokens·lexemeOf Tokens·isTouching Tokens·lexemeAt Tokens·tokenAt Tokens·pieceOf Tokens·pieceAt Tokens·textEnd Values·decimalOn Values·fixedText Values·written Values·constant Values·numberIn Values·toFixed Values·toCharacters Values·binary Values·toBits Values·convert Values·anyOne Values·holds Values·limited Values·unfinished Values·bitwise Values·inverted Values·orderOf Values·bytesOrder Values·numbersOrder Values·compared Values·comparing Values·arithmetic Values·logical Values·joined Values·infixed Values·prefixed Values·cutOut Values·substr World·charge World·addressIn World·seenFrom World·rowsIn
 all-marked = refl

@@ -9,6 +9,7 @@ use native.Mathlib.Numerals.{sub-one}
 use borrow.Author.Tests.{lt-ltb}
 use lib.Dec.{ltb}
 use lib.ListN.{length, length-append}
+use Rattle.definition.specs.Bytes.{mixed}
 use Rattle.definition.specs.Choice.{when}
 use Rattle.definition.specs.Lists.{part, same, isOneOf}
 use Rattle.definition.specs.Tokens as Tk
@@ -48,10 +49,10 @@ first-more (x ∷ ls) p = refl
 
 -- ---- what a label at a place says
 abbrev isLabelled : List ℕ → ℕ → Bool
-isLabelled s at = D.isName (tokenAt s at .token) && Tk.isSign ":" (tokenAt s (tokenAt s at .to) .token)
+isLabelled s at = D.isName (tokenAt mixed s at .token) && Tk.isSign ":" (tokenAt mixed s (tokenAt mixed s at .to) .token)
 
 abbrev behindLabel : List ℕ → ℕ → ℕ
-behindLabel s at = tokenAt s (tokenAt s at .to) .to
+behindLabel s at = tokenAt mixed s (tokenAt mixed s at .to) .to
 
 past-holds : (g : Bool) (q e : ℕ) → Marked e ≡ cond g (Marked q) Unmarked → g ≡ true
 past-holds true q e h = refl
@@ -83,7 +84,7 @@ pub record Labelling (s : List ℕ) (from at count : ℕ) (long : Mark) : Type 0
   pub names : List Named
   pub longs : List ℕ
   pub turns : ℕ
-  pub left : D.labelsFrom s turns names longs at ≡ D.labels s from
+  pub left : D.labelsFrom mixed s turns names longs at ≡ D.labels mixed s from
   pub first : long ≡ firstLong longs
   pub size : count ≡ length names + length longs
   pub sum : count + turns ≡ length s
@@ -92,28 +93,28 @@ pub labelling-start : (s : List ℕ) (from : ℕ) → Labelling s from from 0 Un
 labelling-start s from = record { names = []; longs = []; turns = length s; left = refl; first = refl; size = refl; sum = omega arith }
 
 abbrev readSoFar : List ℕ → List Named → List ℕ → ℕ → D.Labelled
-readSoFar s ns ls at = record { labels = ns; long = ls; behind = tokenAt s at }
+readSoFar s ns ls at = record { labels = ns; long = ls; behind = tokenAt mixed s at }
 
-labels-turn : (s : List ℕ) (f : ℕ) (ns : List Named) (ls : List ℕ) (at : ℕ) → 0 < f → D.labelsFrom s f ns ls at
-    ≡ when (isLabelled s at) (λ _. D.addLabel (nameAt s at) ns ls (λ ms more. D.labelsFrom s (f - 1) ms more (behindLabel s at))) (λ _. readSoFar s ns ls at)
+labels-turn : (s : List ℕ) (f : ℕ) (ns : List Named) (ls : List ℕ) (at : ℕ) → 0 < f → D.labelsFrom mixed s f ns ls at
+    ≡ when (isLabelled s at) (λ _. D.addLabel (nameAt mixed s at) ns ls (λ ms more. D.labelsFrom mixed s (f - 1) ms more (behindLabel s at))) (λ _. readSoFar s ns ls at)
 unfolding D.labelsFrom nameAt
 labels-turn s zero ns ls at h = absurd (omega arith)
 labels-turn s (suc f) ns ls at h = rw sub-one
 
-labels-none : (s : List ℕ) (f : ℕ) (ns : List Named) (ls : List ℕ) (at : ℕ) → isLabelled s at ≡ false → D.labelsFrom s f ns ls at ≡ readSoFar s ns ls at
+labels-none : (s : List ℕ) (f : ℕ) (ns : List Named) (ls : List ℕ) (at : ℕ) → isLabelled s at ≡ false → D.labelsFrom mixed s f ns ls at ≡ readSoFar s ns ls at
 unfolding D.labelsFrom
 labels-none s zero ns ls at h = refl
 labels-none s (suc f) ns ls at h = rw h
 
-labels-over : (s : List ℕ) (f : ℕ) (ns : List Named) (ls : List ℕ) (at : ℕ) → f ≤ 0 → D.labelsFrom s f ns ls at ≡ readSoFar s ns ls at
+labels-over : (s : List ℕ) (f : ℕ) (ns : List Named) (ls : List ℕ) (at : ℕ) → f ≤ 0 → D.labelsFrom mixed s f ns ls at ≡ readSoFar s ns ls at
 unfolding D.labelsFrom
 labels-over s zero ns ls at h = refl
 labels-over s (suc f) ns ls at h = absurd (omega arith)
 
 module _ (s : List ℕ) (from at count : ℕ) (long : Mark) (h : Labelling s from at count long) where
-  ended : D.labelsFrom s (h .turns) (h .names) (h .longs) at ≡ readSoFar s (h .names) (h .longs) at → LabelsAt s from (record { count = count; long = long; to = at })
+  ended : D.labelsFrom mixed s (h .turns) (h .names) (h .longs) at ≡ readSoFar s (h .names) (h .longs) at → LabelsAt s from (record { count = count; long = long; to = at })
   ended e =
-      let z : D.labels s from ≡ readSoFar s (h .names) (h .longs) at = sym (h .left) ∙ e in
+      let z : D.labels mixed s from ≡ readSoFar s (h .names) (h .longs) at = sym (h .left) ∙ e in
       record {
         behind = ap (λ (x : D.Labelled). x .behind) z;
         long = h .first ∙ ap (λ (x : D.Labelled). firstLong (x .long)) (sym z);
@@ -128,7 +129,7 @@ module _ (s : List ℕ) (from at count : ℕ) (long : Mark) (h : Labelling s fro
     labelling-none k = ended (labels-none s (h .turns) (h .names) (h .longs) at (label-none s at m f k))
 
     module _ (k : count < length s) (e : ℕ) (g : m ≡ Marked e) (y : Mark) where
-      more-by : (R : Reading Named) → D.addLabel R (h .names) (h .longs) (λ ms more. D.labelsFrom s (h .turns - 1) ms more e) ≡ D.labels s from → y ≡ longAfter long R → Labelling s from e (count + 1) y
+      more-by : (R : Reading Named) → D.addLabel R (h .names) (h .longs) (λ ms more. D.labelsFrom mixed s (h .turns - 1) ms more e) ≡ D.labels mixed s from → y ≡ longAfter long R → Labelling s from e (count + 1) y
       more-by (read n) l i = record {
         names = h .names ++ n ∷ [];
         longs = h .longs;
@@ -148,25 +149,25 @@ module _ (s : List ℕ) (from at count : ℕ) (long : Mark) (h : Labelling s fro
         sum = omega (arith, h .sum, k);
       }
 
-      turned : D.addLabel (nameAt s at) (h .names) (h .longs) (λ ms more. D.labelsFrom s (h .turns - 1) ms more (behindLabel s at)) ≡ D.labels s from
+      turned : D.addLabel (nameAt mixed s at) (h .names) (h .longs) (λ ms more. D.labelsFrom mixed s (h .turns - 1) ms more (behindLabel s at)) ≡ D.labels mixed s from
       turned =
-          ap (λ (b : Bool). when b (λ _. D.addLabel (nameAt s at) (h .names) (h .longs) (λ ms more. D.labelsFrom s (h .turns - 1) ms more (behindLabel s at))) (λ _. readSoFar s (h .names) (h .longs) at)) (sym (label-holds s at m f e g))
+          ap (λ (b : Bool). when b (λ _. D.addLabel (nameAt mixed s at) (h .names) (h .longs) (λ ms more. D.labelsFrom mixed s (h .turns - 1) ms more (behindLabel s at))) (λ _. readSoFar s (h .names) (h .longs) at)) (sym (label-holds s at m f e g))
           ∙ sym (labels-turn s (h .turns) (h .names) (h .longs) at (omega (arith, h .sum, k))) ∙ h .left
 
-      pub labelling-more : y ≡ longAfter long (nameAt s at) → Labelling s from e (count + 1) y
+      pub labelling-more : y ≡ longAfter long (nameAt mixed s at) → Labelling s from e (count + 1) y
       labelling-more i =
-          more-by (nameAt s at)
-          (ap (λ (q : ℕ). D.addLabel (nameAt s at) (h .names) (h .longs) (λ ms more. D.labelsFrom s (h .turns - 1) ms more q)) (sym (label-place s at m f e g)) ∙ turned) i
+          more-by (nameAt mixed s at)
+          (ap (λ (q : ℕ). D.addLabel (nameAt mixed s at) (h .names) (h .longs) (λ ms more. D.labelsFrom mixed s (h .turns - 1) ms more q)) (sym (label-place s at m f e g)) ∙ turned) i
 
 -- labels of which none is too long: whether there are any
 none-counted : (ns : List Named) → ltb 0 (length ns) ≡ not (D.isNone ns)
 none-counted [] = refl
 none-counted (n ∷ ns) = lt-ltb 0 (suc (length ns)) (omega arith)
 
-pub labels-counted : (s : List ℕ) (from : ℕ) (r : Labels) → LabelsAt s from r → D.labels s from .long ≡ [] → ltb 0 (r .count) ≡ not (D.isNone (D.labels s from .labels))
+pub labels-counted : (s : List ℕ) (from : ℕ) (r : Labels) → LabelsAt s from r → D.labels mixed s from .long ≡ [] → ltb 0 (r .count) ≡ not (D.isNone (D.labels mixed s from .labels))
 labels-counted s from r h e =
-    let z : r .count ≡ length (D.labels s from .labels) = omega (arith, h .count, ap (λ (l : List ℕ). length l) e) in
-    ap (ltb 0) z ∙ none-counted (D.labels s from .labels)
+    let z : r .count ≡ length (D.labels mixed s from .labels) = omega (arith, h .count, ap (λ (l : List ℕ). length l) e) in
+    ap (ltb 0) z ∙ none-counted (D.labels mixed s from .labels)
 
 -- ---- spellings
 module _ (s : List ℕ) (t : Lexeme) (from to n a : ℕ) (hn : n ≡ to - from) (ha : a ≡ t .to - t .from) where
@@ -178,21 +179,21 @@ module _ (s : List ℕ) (t : Lexeme) (from to n a : ℕ) (hn : n ≡ to - from) 
   unfolding spelling
   spelled-not e = same-length (part (t .to - t .from) (t .from) s) (part (to - from) from s) (λ z. e (ha ∙ sym (length-part (t .to - t .from) (t .from) s) ∙ z ∙ length-part (to - from) from s ∙ sym hn))
 
-module _ (s w : List ℕ) (at : ℕ) (x : NamedAt) (h : x ≡ namedFor (nameAt s at)) where
-  pub named-so : (from to : ℕ) (b : Bool) → x ≡ N.Is from to → b ≡ same w (part (to - from) from s) → b ≡ namesAs w (nameAt s at)
+module _ (s w : List ℕ) (at : ℕ) (x : NamedAt) (h : x ≡ namedFor (nameAt mixed s at)) where
+  pub named-so : (from to : ℕ) (b : Bool) → x ≡ N.Is from to → b ≡ same w (part (to - from) from s) → b ≡ namesAs w (nameAt mixed s at)
   named-so from to b e f = f ∙ ap (namesAs w) (sym (named-is s at x from to h e .is))
 
   unnamed : (y : Why) (p : ℕ) (R : Reading Named) → x ≡ namedFor R → x ≡ N.Refused y p → false ≡ namesAs w R
   unnamed y p (read n) f e = let z : _≡_ {A = ℕ} 0 1 = cc in absurd (omega arith)
   unnamed y p (refused v q) f e = refl
 
-  pub named-not : (y : Why) (p : ℕ) → x ≡ N.Refused y p → false ≡ namesAs w (nameAt s at)
-  named-not y p e = unnamed y p (nameAt s at) h e
+  pub named-not : (y : Why) (p : ℕ) → x ≡ N.Refused y p → false ≡ namesAs w (nameAt mixed s at)
+  named-not y p e = unnamed y p (nameAt mixed s at) h e
 
 -- ---- whether one of the labels from a place on is spelled w
 unfoldable pub hasLabel : List ℕ → List ℕ → ℕ → ℕ → Bool
 hasLabel w s zero at = false
-hasLabel w s (suc f) at = when (isLabelled s at) (λ _. namesAs w (nameAt s at) || hasLabel w s f (behindLabel s at)) (λ _. false)
+hasLabel w s (suc f) at = when (isLabelled s at) (λ _. namesAs w (nameAt mixed s at) || hasLabel w s f (behindLabel s at)) (λ _. false)
 
 or-false : (a : Bool) → a ≡ (a || false)
 or-false true = refl
@@ -213,17 +214,17 @@ module _ (w : List ℕ) where
     one-by true (read n) = h (ns ++ n ∷ []) ls ∙ ap (λ (b : Bool). b || c) (one-more ns n) ∙ or-assoc (isOneOf w (D.spelled ns)) (same w (n .spelling)) c
     one-by true (refused y p) = h ns (ls ++ p ∷ [])
 
-  one-of : (s : List ℕ) (f : ℕ) (ns : List Named) (ls : List ℕ) (at : ℕ) → isOneOf w (D.spelled (D.labelsFrom s f ns ls at .labels)) ≡ (isOneOf w (D.spelled ns) || hasLabel w s f at)
+  one-of : (s : List ℕ) (f : ℕ) (ns : List Named) (ls : List ℕ) (at : ℕ) → isOneOf w (D.spelled (D.labelsFrom mixed s f ns ls at .labels)) ≡ (isOneOf w (D.spelled ns) || hasLabel w s f at)
   unfolding D.labelsFrom hasLabel nameAt
   one-of s zero ns ls at = or-false (isOneOf w (D.spelled ns))
   one-of s (suc f) ns ls at =
-      one-by s at (behindLabel s at) (λ ms more. D.labelsFrom s f ms more (behindLabel s at)) (hasLabel w s f (behindLabel s at))
-      (λ ms more. one-of s f ms more (behindLabel s at)) ns ls (isLabelled s at) (nameAt s at)
+      one-by s at (behindLabel s at) (λ ms more. D.labelsFrom mixed s f ms more (behindLabel s at)) (hasLabel w s f (behindLabel s at))
+      (λ ms more. one-of s f ms more (behindLabel s at)) ns ls (isLabelled s at) (nameAt mixed s at)
 
   labelled-is : (s : List ℕ) (from : ℕ) → hasLabel w s (length s) from ≡ isOneOf w (labelled s from)
   labelled-is s from = sym (one-of s (length s) [] [] from)
 
-  has-turn : (s : List ℕ) (f at : ℕ) → 0 < f → hasLabel w s f at ≡ when (isLabelled s at) (λ _. namesAs w (nameAt s at) || hasLabel w s (f - 1) (behindLabel s at)) (λ _. false)
+  has-turn : (s : List ℕ) (f at : ℕ) → 0 < f → hasLabel w s f at ≡ when (isLabelled s at) (λ _. namesAs w (nameAt mixed s at) || hasLabel w s (f - 1) (behindLabel s at)) (λ _. false)
   unfolding hasLabel
   has-turn s zero at h = absurd (omega arith)
   has-turn s (suc f) at h = rw sub-one
@@ -241,15 +242,15 @@ module _ (w s : List ℕ) (from : ℕ) where
     seeking-over k = let z : 0 ≡ turns = omega (arith, k) in ap (λ (n : ℕ). hasLabel w s n at) z ∙ h .same ∙ labelled-is w s from
 
     module _ (k : 0 < turns) (m : Mark) (f : m ≡ labelPast s at) where
-      by-test : (g : Bool) → isLabelled s at ≡ g → when g (λ _. namesAs w (nameAt s at) || hasLabel w s (turns - 1) (behindLabel s at)) (λ _. false) ≡ hasLabel w s (length s) from
-      by-test g e = ap (λ (b : Bool). when b (λ _. namesAs w (nameAt s at) || hasLabel w s (turns - 1) (behindLabel s at)) (λ _. false)) (sym e) ∙ sym (has-turn w s turns at k) ∙ h .same
+      by-test : (g : Bool) → isLabelled s at ≡ g → when g (λ _. namesAs w (nameAt mixed s at) || hasLabel w s (turns - 1) (behindLabel s at)) (λ _. false) ≡ hasLabel w s (length s) from
+      by-test g e = ap (λ (b : Bool). when b (λ _. namesAs w (nameAt mixed s at) || hasLabel w s (turns - 1) (behindLabel s at)) (λ _. false)) (sym e) ∙ sym (has-turn w s turns at k) ∙ h .same
 
       pub seeking-none : m ≡ Unmarked → false ≡ isOneOf w (labelled s from)
       seeking-none e = by-test false (label-none s at m f e) ∙ labelled-is w s from
 
-      module _ (e : ℕ) (g : m ≡ Marked e) (b : Bool) (i : b ≡ namesAs w (nameAt s at)) where
+      module _ (e : ℕ) (g : m ≡ Marked e) (b : Bool) (i : b ≡ namesAs w (nameAt mixed s at)) where
         onward : (b || hasLabel w s (turns - 1) e) ≡ hasLabel w s (length s) from
-        onward = ap (λ (c : Bool). c || hasLabel w s (turns - 1) e) i ∙ ap (λ (q : ℕ). namesAs w (nameAt s at) || hasLabel w s (turns - 1) q) (sym (label-place s at m f e g)) ∙ by-test true (label-holds s at m f e g)
+        onward = ap (λ (c : Bool). c || hasLabel w s (turns - 1) e) i ∙ ap (λ (q : ℕ). namesAs w (nameAt mixed s at) || hasLabel w s (turns - 1) q) (sym (label-place s at m f e g)) ∙ by-test true (label-holds s at m f e g)
 
         pub seeking-found : b ≡ true → true ≡ isOneOf w (labelled s from)
         seeking-found j = ap (λ (c : Bool). c || hasLabel w s (turns - 1) e) (sym j) ∙ onward ∙ labelled-is w s from

@@ -7,6 +7,7 @@ use Prim.Native.Nat.{ℕ, _+_, _-_, _<_, _≤_}
 use native.Mathlib.Omega.{arith}
 use lib.Dec.{leb}
 use lib.ListN.{length}
+use Rattle.definition.specs.Bytes.{mixed}
 use Rattle.definition.specs.Tokens as Tk
 use Rattle.definition.specs.Program as P
 use Rattle.definition.specs.Reading as D
@@ -53,16 +54,16 @@ module _ (s : List ℕ) (o : Opened) (x : Open) (l : 0 < o .count) (e : x ≡ to
 
   -- ---- behind a statement: as `done_in` says of the top
   complete-in : (k : Owner) (end : ℕ) (r : Done) → Completes s x k end r → (os : List D.Open) (n : ℕ) (st : D.State) → st .scope ≡ scopeOf k
-      → D.complete s (openOf s x ∷ os) n end st ≡ doneTurn r os n end (D.withOpened (openOf s x ∷ os) (st .scope) st) (λ i. D.complete s os i end st)
+      → D.complete mixed s (openOf s x ∷ os) n end st ≡ doneTurn r os n end (D.withOpened (openOf s x ∷ os) (st .scope) st) (λ i. D.complete mixed s os i end st)
   unfolding D.complete openOf
-  complete-in k end r h os n st g = h .is os n (D.withOpened (openOf s x ∷ os) (st .scope) st) (λ i. D.complete s os i end st) g
+  complete-in k end r h os n st g = h .is os n (D.withOpened (openOf s x ∷ os) (st .scope) st) (λ i. D.complete mixed s os i end st) g
 
   pub complete-turn : (k : Owner) (end : ℕ) (r : Done) → Completes s x k end r → (n : ℕ) (st : D.State) → st .scope ≡ scopeOf k
-      → D.complete s (openedOf s o) n end st ≡ doneTurn r (restOf (openedOf s o)) n end (D.withOpened (openedOf s o) (st .scope) st) (λ i. D.complete s (restOf (openedOf s o)) i end st)
+      → D.complete mixed s (openedOf s o) n end st ≡ doneTurn r (restOf (openedOf s o)) n end (D.withOpened (openedOf s o) (st .scope) st) (λ i. D.complete mixed s (restOf (openedOf s o)) i end st)
   complete-turn k end r h n st g =
-      ap (λ (os : List D.Open). D.complete s os n end st) (opened-split s o x l e)
+      ap (λ (os : List D.Open). D.complete mixed s os n end st) (opened-split s o x l e)
       ∙ complete-in k end r h (restOf (openedOf s o)) n st g
-      ∙ ap (λ (os : List D.Open). doneTurn r (restOf (openedOf s o)) n end (D.withOpened os (st .scope) st) (λ i. D.complete s (restOf (openedOf s o)) i end st)) (sym (opened-split s o x l e))
+      ∙ ap (λ (os : List D.Open). doneTurn r (restOf (openedOf s o)) n end (D.withOpened os (st .scope) st) (λ i. D.complete mixed s (restOf (openedOf s o)) i end st)) (sym (opened-split s o x l e))
 
 -- ---- the text that the program or a group begins with
 abbrev pub leadBy : Where → ℕ → ℕ → ℕ → D.State → D.State
@@ -85,17 +86,17 @@ lead-is s o x l e at p st = ap (λ (os : List D.Open). D.leadIn os at p st) (ope
 
 -- ---- behind a text; F is the state with the text up to a place, which is where `end_of` says that it ends
 module _ (s : List ℕ) (F : ℕ → D.State) (e : Ending) where
-  pub text-percent : (x : Tk.TextEnd) (p : ℕ) → e ≡ endingFor x → e ≡ E.Percent p → D.texted x s F ≡ D.clauseAt s p (p + 1) (F (endFor s e))
+  pub text-percent : (x : Tk.TextEnd) (p : ℕ) → e ≡ endingFor x → e ≡ E.Percent p → D.texted mixed x s F ≡ D.clauseAt mixed s p (p + 1) (F (endFor s e))
   text-percent (Tk.percentAt q) p h k = let z : q ≡ p = cc in rw (k, z)
   text-percent Tk.atEnd p h k = let z : _≡_ {A = ℕ} 0 1 = cc in absurd (omega arith)
   text-percent (Tk.openAt q) p h k = let z : _≡_ {A = ℕ} 0 1 = cc in absurd (omega arith)
 
-  pub text-end : (x : Tk.TextEnd) → e ≡ endingFor x → e ≡ E.AtEnd → D.texted x s F ≡ cond (leb (length (F 0 .opened)) 1) (D.finish (F (endFor s e))) (D.stop Syntax (length s) [] (F (endFor s e)))
+  pub text-end : (x : Tk.TextEnd) → e ≡ endingFor x → e ≡ E.AtEnd → D.texted mixed x s F ≡ cond (leb (length (F 0 .opened)) 1) (D.finish (F (endFor s e))) (D.stop Syntax (length s) [] (F (endFor s e)))
   text-end (Tk.percentAt q) h k = let z : _≡_ {A = ℕ} 0 1 = cc in absurd (omega arith)
   text-end Tk.atEnd h k = rw k
   text-end (Tk.openAt q) h k = let z : _≡_ {A = ℕ} 0 1 = cc in absurd (omega arith)
 
-  pub text-open : (x : Tk.TextEnd) (p : ℕ) → e ≡ endingFor x → e ≡ E.OpenAt p → D.texted x s F ≡ D.stop Syntax p [] (F (endFor s e))
+  pub text-open : (x : Tk.TextEnd) (p : ℕ) → e ≡ endingFor x → e ≡ E.OpenAt p → D.texted mixed x s F ≡ D.stop Syntax p [] (F (endFor s e))
   text-open (Tk.percentAt q) p h k = let z : _≡_ {A = ℕ} 0 1 = cc in absurd (omega arith)
   text-open Tk.atEnd p h k = let z : _≡_ {A = ℕ} 0 1 = cc in absurd (omega arith)
   text-open (Tk.openAt q) p h k = let z : q ≡ p = cc in rw (k, z)
@@ -106,5 +107,5 @@ percent-of Tk.atEnd e p h k = let z : _≡_ {A = ℕ} 0 1 = cc in absurd (omega 
 percent-of (Tk.openAt q) e p h k = let z : _≡_ {A = ℕ} 0 1 = cc in absurd (omega arith)
 
 -- the `%` stands inside, so that there is a place behind it
-pub percent-lies : (s : List ℕ) (f at p : ℕ) (e : Ending) → e ≡ endingFor (Tk.textEnd f s at) → e ≡ E.Percent p → p < length s
-percent-lies s f at p e h k = percent-inside s p f at (percent-of (Tk.textEnd f s at) e p h k)
+pub percent-lies : (s : List ℕ) (f at p : ℕ) (e : Ending) → e ≡ endingFor (Tk.textEnd mixed f s at) → e ≡ E.Percent p → p < length s
+percent-lies s f at p e h k = percent-inside s p f at (percent-of (Tk.textEnd mixed f s at) e p h k)

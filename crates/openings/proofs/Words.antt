@@ -9,6 +9,7 @@ use Prim.Native.String as Str
 use borrow.Author.Tests.{eqb-true}
 use lib.Dec.{eqb, ltb}
 use lib.ListN.{length}
+use Rattle.definition.specs.Bytes.{mixed}
 use Rattle.definition.specs.Choice.{when}
 use Rattle.definition.specs.Text.{bytesOf}
 use Rattle.definition.specs.Lists.{same}
@@ -179,7 +180,7 @@ module _ (k : Keyword) (n : ℕ) where
 
 -- ---- a word that begins no statement, and `;`
 module _ (s : List ℕ) (c at : ℕ) (u : Lexeme) (lux : Lexed s at u) (v : Bool) (hv : v ≡ isSignIn s u (61 ∷ [])) where
-  pub other-equals : v ≡ true → (r : Read) → r ≡ readFor S.Assign c FixedType (St.assignment s [] (u .to)) → r ≡ otherFor s c at
+  pub other-equals : v ≡ true → (r : Read) → r ≡ readFor S.Assign c FixedType (St.assignment mixed s [] (u .to)) → r ≡ otherFor s c at
   unfolding otherFor otherAt
   other-equals e r f = rw (told s at u lux "=" (61 ∷ []) v true refl hv e, ← lux .to) f
 
@@ -200,9 +201,9 @@ module _ (s : List ℕ) (t : Lexeme) (a : Bool) (ha : a ≡ isWordKind (t .kind)
   unfolding beginsIn
   begins-sign e r f = rw (← ha, e) f
 
-pub begins-is : (s : List ℕ) (at : ℕ) (l : Lexeme) → Lexed s at l → beginsIn s l ≡ D.begins (tokenAt s at .token)
+pub begins-is : (s : List ℕ) (at : ℕ) (l : Lexeme) → Lexed s at l → beginsIn s l ≡ D.begins (tokenAt mixed s at .token)
 unfolding beginsIn
-begins-is s at l lex = rw (is-sign s at l lex ";" (59 ∷ []) refl) (ap (λ (b : Bool). b || Tk.isSign ";" (tokenAt s at .token)) (ap isWordKind (lex .kind) ∙ name-kind (tokenAt s at .token)))
+begins-is s at l lex = rw (is-sign s at l lex ";" (59 ∷ []) refl) (ap (λ (b : Bool). b || Tk.isSign ";" (tokenAt mixed s at .token)) (ap isWordKind (lex .kind) ∙ name-kind (tokenAt mixed s at .token)))
 
 -- ---- THE DEFINITION'S CHOICE is one case of the keyword that stands here
 module _ (s : List ℕ) (p : ℕ) (ns : List Named) (w : List ℕ) (t u : Tk.Lexeme) (st : D.State) where
@@ -219,31 +220,31 @@ module _ (s : List ℕ) (p : ℕ) (ns : List Named) (w : List ℕ) (t u : Tk.Lex
     either : (W X : Str.String) → (Tk.isWord W (t .token) || Tk.isWord X (t .token)) ≡ (is (bytesOf W) || is (bytesOf X))
     either W X = rw (h W, h X)
 
-    outer-is : (k : P.Scope) (j : Keyword) (y : Unit {0} → D.Turn) → y tt ≡ turnBy j → D.outer k s t (D.takeRead s p ns st) y ≡ turnBy (outerBy (D.isInside k) is j)
+    outer-is : (k : P.Scope) (j : Keyword) (y : Unit {0} → D.Turn) → y tt ≡ turnBy j → D.outer mixed k s t (D.takeRead mixed s p ns st) y ≡ turnBy (outerBy (D.isInside k) is j)
     outer-is P.global j y g =
-        step (Tk.isWord "INCLUDE" (t .token)) (is (bytesOf "INCLUDE")) (h "INCLUDE") K.Include _ (λ _. D.takeRead s p ns st (St.includeClause s (t .to))) _ refl
-        (step (Tk.isWord "ACTIVATE" (t .token) || Tk.isWord "ACT" (t .token)) (is (bytesOf "ACTIVATE") || is (bytesOf "ACT")) (either "ACTIVATE" "ACT") K.Activate _ (λ _. D.takeRead s p ns st (St.activateClause s (t .to))) _ refl
-        (step (Tk.isWord "DEACTIVATE" (t .token) || Tk.isWord "DEACT" (t .token)) (is (bytesOf "DEACTIVATE") || is (bytesOf "DEACT")) (either "DEACTIVATE" "DEACT") K.Deactivate j (λ _. D.takeRead s p ns st (St.deactivateClause s (t .to))) y refl g))
-    outer-is (P.inside r) j y g = step (Tk.isWord "RETURN" (t .token)) (is (bytesOf "RETURN")) (h "RETURN") K.Return j (λ _. D.takeRead s p ns st (St.returnClause s (t .to))) y refl g
+        step (Tk.isWord "INCLUDE" (t .token)) (is (bytesOf "INCLUDE")) (h "INCLUDE") K.Include _ (λ _. D.takeRead mixed s p ns st (St.includeClause mixed s (t .to))) _ refl
+        (step (Tk.isWord "ACTIVATE" (t .token) || Tk.isWord "ACT" (t .token)) (is (bytesOf "ACTIVATE") || is (bytesOf "ACT")) (either "ACTIVATE" "ACT") K.Activate _ (λ _. D.takeRead mixed s p ns st (St.activateClause mixed s (t .to))) _ refl
+        (step (Tk.isWord "DEACTIVATE" (t .token) || Tk.isWord "DEACT" (t .token)) (is (bytesOf "DEACTIVATE") || is (bytesOf "DEACT")) (either "DEACTIVATE" "DEACT") K.Deactivate j (λ _. D.takeRead mixed s p ns st (St.deactivateClause mixed s (t .to))) y refl g))
+    outer-is (P.inside r) j y g = step (Tk.isWord "RETURN" (t .token)) (is (bytesOf "RETURN")) (h "RETURN") K.Return j (λ _. D.takeRead mixed s p ns st (St.returnClause mixed s (t .to))) y refl g
 
     module _ (l n : Bool) (hl : D.isList (D.kindOf (st .opened)) ≡ l) (hn : not (D.isNone ns) ≡ n) where
-      list-is : (y : Unit {0} → D.Turn) → y tt ≡ turnBy K.Other → D.inList s p ns t st y ≡ turnBy (listBy l (D.isInside (st .scope)) n is)
+      list-is : (y : Unit {0} → D.Turn) → y tt ≡ turnBy K.Other → D.inList mixed s p ns t st y ≡ turnBy (listBy l (D.isInside (st .scope)) n is)
       unfolding D.inList
       list-is y g =
           step (D.isList (D.kindOf (st .opened)) && D.isDeclare (t .token)) (l && (is (bytesOf "DECLARE") || is (bytesOf "DCL"))) (rw (hl, either "DECLARE" "DCL")) K.Declare _
-          (λ _. D.takeDeclared s p ns st (St.declareFrom (st .scope) s (length s) [] (t .to))) _ refl
+          (λ _. D.takeDeclared mixed s p ns st (St.declareFrom mixed (st .scope) s (length s) [] (t .to))) _ refl
           (step (D.isList (D.kindOf (st .opened)) && not (D.isInside (st .scope)) && not (D.isNone ns) && D.isProcedure (t .token)) (l && not (D.isInside (st .scope)) && n && (is (bytesOf "PROCEDURE") || is (bytesOf "PROC"))) (rw (hl, hn, either "PROCEDURE" "PROC")) K.Procedure K.Other
-          (λ _. D.takeDeclared s p ns st (St.procedureClause (P.inside (length (st .rows))) s (t .to))) y refl g)
+          (λ _. D.takeDeclared mixed s p ns st (St.procedureClause mixed (P.inside (length (st .rows))) s (t .to))) y refl g)
 
-      common-is : (j : Keyword) (y : Unit {0} → D.Turn) → y tt ≡ turnBy j → D.common s t st (D.takeRead s p ns st) y ≡ turnBy (cond (is (bytesOf "IF")) K.If (cond (is (bytesOf "DO")) K.Do (cond (is (bytesOf "GOTO")) K.Goto (cond (is (bytesOf "GO")) K.Go j))))
+      common-is : (j : Keyword) (y : Unit {0} → D.Turn) → y tt ≡ turnBy j → D.common mixed s t st (D.takeRead mixed s p ns st) y ≡ turnBy (cond (is (bytesOf "IF")) K.If (cond (is (bytesOf "DO")) K.Do (cond (is (bytesOf "GOTO")) K.Goto (cond (is (bytesOf "GO")) K.Go j))))
       unfolding D.common goClause
       common-is j y g =
-          step (Tk.isWord "IF" (t .token)) (is (bytesOf "IF")) (h "IF") K.If _ (λ _. D.takeRead s p ns st (St.ifClause (D.isInside (st .scope)) s (t .to))) _ refl
-          (step (Tk.isWord "DO" (t .token)) (is (bytesOf "DO")) (h "DO") K.Do _ (λ _. D.takeRead s p ns st (D.doAt s (t .from) (t .to) st)) _ refl
-          (step (Tk.isWord "GOTO" (t .token)) (is (bytesOf "GOTO")) (h "GOTO") K.Goto _ (λ _. D.takeRead s p ns st (St.gotoClause s (t .to))) _ refl
-          (step (Tk.isWord "GO" (t .token)) (is (bytesOf "GO")) (h "GO") K.Go j (λ _. D.takeRead s p ns st (goClause s (t .to))) y refl g)))
+          step (Tk.isWord "IF" (t .token)) (is (bytesOf "IF")) (h "IF") K.If _ (λ _. D.takeRead mixed s p ns st (St.ifClause mixed (D.isInside (st .scope)) s (t .to))) _ refl
+          (step (Tk.isWord "DO" (t .token)) (is (bytesOf "DO")) (h "DO") K.Do _ (λ _. D.takeRead mixed s p ns st (D.doAt mixed s (t .from) (t .to) st)) _ refl
+          (step (Tk.isWord "GOTO" (t .token)) (is (bytesOf "GOTO")) (h "GOTO") K.Goto _ (λ _. D.takeRead mixed s p ns st (St.gotoClause mixed s (t .to))) _ refl
+          (step (Tk.isWord "GO" (t .token)) (is (bytesOf "GO")) (h "GO") K.Go j (λ _. D.takeRead mixed s p ns st (goClause s (t .to))) y refl g)))
 
-      equals-is : (b : Bool) → Tk.isSign "=" (u .token) ≡ b → (j : Keyword) (y : Unit {0} → D.Turn) → (b ≡ false → y tt ≡ turnBy j) → when b (λ _. D.takeRead s p ns st (St.assignment s w (u .to))) y ≡ turnBy (cond b K.Other j)
+      equals-is : (b : Bool) → Tk.isSign "=" (u .token) ≡ b → (j : Keyword) (y : Unit {0} → D.Turn) → (b ≡ false → y tt ≡ turnBy j) → when b (λ _. D.takeRead mixed s p ns st (St.assignment mixed s w (u .to))) y ≡ turnBy (cond b K.Other j)
       unfolding otherAt
       equals-is true e j y g = rw e
       equals-is false e j y g = g refl
@@ -252,14 +253,14 @@ module _ (s : List ℕ) (p : ℕ) (ns : List Named) (w : List ℕ) (t u : Tk.Lex
       unfolding otherAt
       not-equals e = rw e
 
-      pub word-is : D.byWord s p ns w t u st ≡ turnBy (keywordHere (Tk.isSign "=" (u .token)) l (D.isInside (st .scope)) n is)
+      pub word-is : D.byWord mixed s p ns w t u st ≡ turnBy (keywordHere (Tk.isSign "=" (u .token)) l (D.isInside (st .scope)) n is)
       unfolding D.byWord keywordHere
       word-is = equals-is (Tk.isSign "=" (u .token)) refl _ _ λ e. common-is _ _ (outer-is (st .scope) _ _ (list-is _ (not-equals e)))
 
 -- the law that the reading of a word uses: t is the word at a place, behind n labels
 pub by-keyword : (s : List ℕ) (at : ℕ) (l : Lexeme) → Lexed s at l → (p : ℕ) (ns : List Named) (w : List ℕ) (st : D.State) (n : ℕ) → ltb 0 n ≡ not (D.isNone ns)
-    → D.byWord s p ns w (tokenAt s at) (tokenAt s (tokenAt s at .to)) st ≡ byKeyword (keywordAt s (D.kindOf (st .opened)) (D.isInside (st .scope)) l n) s p ns w (tokenAt s at) (tokenAt s (tokenAt s at .to)) st
+    → D.byWord mixed s p ns w (tokenAt mixed s at) (tokenAt mixed s (tokenAt mixed s at .to)) st ≡ byKeyword (keywordAt s (D.kindOf (st .opened)) (D.isInside (st .scope)) l n) s p ns w (tokenAt mixed s at) (tokenAt mixed s (tokenAt mixed s at .to)) st
 unfolding keywordAt
 by-keyword s at l lex p ns w st n e =
-    word-is s p ns w (tokenAt s at) (tokenAt s (tokenAt s at .to)) st (isWordIn s l) (λ W. sym (is-word s at l lex W (bytesOf W) refl)) (D.isList (D.kindOf (st .opened))) (ltb 0 n) refl (sym e)
-    ∙ ap (λ (q : ℕ). byKeyword (keywordHere (Tk.isSign "=" (tokenAt s q .token)) (D.isList (D.kindOf (st .opened))) (D.isInside (st .scope)) (ltb 0 n) (isWordIn s l)) s p ns w (tokenAt s at) (tokenAt s (tokenAt s at .to)) st) (sym (lex .to))
+    word-is s p ns w (tokenAt mixed s at) (tokenAt mixed s (tokenAt mixed s at .to)) st (isWordIn s l) (λ W. sym (is-word s at l lex W (bytesOf W) refl)) (D.isList (D.kindOf (st .opened))) (ltb 0 n) refl (sym e)
+    ∙ ap (λ (q : ℕ). byKeyword (keywordHere (Tk.isSign "=" (tokenAt mixed s q .token)) (D.isList (D.kindOf (st .opened))) (D.isInside (st .scope)) (ltb 0 n) (isWordIn s l)) s p ns w (tokenAt mixed s at) (tokenAt mixed s (tokenAt mixed s at .to)) st) (sym (lex .to))

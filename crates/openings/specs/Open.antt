@@ -5,6 +5,7 @@ use mathlib.Core.List.{List, [], _∷_}
 use mathlib.Core.Path.{_≡_}
 use lib.Dec.{ltb}
 use lib.ListN.{length, getD}
+use Rattle.definition.specs.Bytes.{mixed}
 use Rattle.definition.specs.Choice.{when}
 use Rattle.definition.specs.Lists.{same, isOneOf}
 use Rattle.definition.specs.Expressions.{Reading, read, refused, Named}
@@ -69,8 +70,8 @@ lastOf Wh.InElse l = P.nowhere
 
 abbrev pub labelsOf : List ℕ → Where → ℕ → List (List ℕ)
 labelsOf s Wh.InProgram at = []
-labelsOf s Wh.InGroup at = D.spelled (D.labels s at .labels)
-labelsOf s Wh.InBody at = D.spelled (D.labels s at .labels)
+labelsOf s Wh.InGroup at = D.spelled (D.labels mixed s at .labels)
+labelsOf s Wh.InBody at = D.spelled (D.labels mixed s at .labels)
 labelsOf s Wh.InThen at = []
 labelsOf s Wh.InElse at = []
 
@@ -191,15 +192,15 @@ endFor s (E.OpenAt p) = p
 
 -- the place past a label
 unfoldable pub labelPast : List ℕ → ℕ → Mark
-labelPast s at = cond (D.isName (tokenAt s at .token) && Tk.isSign ":" (tokenAt s (tokenAt s at .to) .token)) (Marked (tokenAt s (tokenAt s at .to) .to)) Unmarked
+labelPast s at = cond (D.isName (tokenAt mixed s at .token) && Tk.isSign ":" (tokenAt mixed s (tokenAt mixed s at .to) .token)) (Marked (tokenAt mixed s (tokenAt mixed s at .to) .to)) Unmarked
 
 -- ELSE, as the lexeme t says
 unfoldable pub elseWordIn : List ℕ → Lexeme → Mark
-elseWordIn s t = cond (isWordIn s t (bytesOf "ELSE") && D.isDecided (tokenAt s (t .to) .token)) (Marked (t .to)) Unmarked
+elseWordIn s t = cond (isWordIn s t (bytesOf "ELSE") && D.isDecided (tokenAt mixed s (t .to) .token)) (Marked (t .to)) Unmarked
 
 -- ---- labels
 abbrev pub labelled : List ℕ → ℕ → List (List ℕ)
-labelled s at = D.spelled (D.labels s at .labels)
+labelled s at = D.spelled (D.labels mixed s at .labels)
 
 abbrev pub firstLong : List ℕ → Mark
 firstLong [] = Unmarked
@@ -210,9 +211,9 @@ longAfter m (read n) = m
 longAfter m (refused w p) = firstOf m p
 
 pub record LabelsAt (s : List ℕ) (from : ℕ) (r : Labels) : Type 0 where
-  pub behind : D.labels s from .behind ≡ tokenAt s (r .to)
-  pub long : r .long ≡ firstLong (D.labels s from .long)
-  pub count : r .count ≡ length (D.labels s from .labels) + length (D.labels s from .long)
+  pub behind : D.labels mixed s from .behind ≡ tokenAt mixed s (r .to)
+  pub long : r .long ≡ firstLong (D.labels mixed s from .long)
+  pub count : r .count ≡ length (D.labels mixed s from .labels) + length (D.labels mixed s from .long)
 
 -- whether a name is spelled so
 abbrev pub namesAs : List ℕ → Reading Named → Bool
@@ -243,7 +244,7 @@ keywordHere equals list inside labels is =
 
 -- the same of a lexeme behind n labels
 unfoldable pub keywordAt : List ℕ → D.Where → Bool → Lexeme → ℕ → Keyword
-keywordAt s k inside t n = keywordHere (Tk.isSign "=" (tokenAt s (t .to) .token)) (D.isList k) inside (ltb 0 n) (isWordIn s t)
+keywordAt s k inside t n = keywordHere (Tk.isSign "=" (tokenAt mixed s (t .to) .token)) (D.isList k) inside (ltb 0 n) (isWordIn s t)
 
 -- whether a word that is k begins a statement
 abbrev pub mayStand : Keyword → Bool → Bool → Bool → Bool
@@ -274,34 +275,34 @@ opensBy K.Other = St.opensNothing
 
 -- a word that begins no statement, with the token u behind it
 unfoldable pub otherAt : List ℕ → List ℕ → Tk.Lexeme → Reading St.Clause
-otherAt s w u = when (Tk.isSign "=" (u .token)) (λ _. St.assignment s w (u .to)) (λ _. refused Syntax (u .from))
+otherAt s w u = when (Tk.isSign "=" (u .token)) (λ _. St.assignment mixed s w (u .to)) (λ _. refused Syntax (u .from))
 
 unfoldable pub otherFor : List ℕ → ℕ → ℕ → Read
-otherFor s c to = readFor S.Assign c FixedType (otherAt s [] (tokenAt s to))
+otherFor s c to = readFor S.Assign c FixedType (otherAt s [] (tokenAt mixed s to))
 
 unfoldable pub nullFor : ℕ → ℕ → Read
 nullFor from to = readFor S.Null from FixedType (read (St.clause P.null St.opensNothing to))
 
 -- THE TURN of the statement k: t is its word, spelled w, and u the token behind it
 abbrev pub byKeyword : Keyword → List ℕ → ℕ → List Named → List ℕ → Tk.Lexeme → Tk.Lexeme → D.State → D.Turn
-byKeyword K.If s p ns w t u st = D.takeRead s p ns st (St.ifClause (D.isInside (st .scope)) s (t .to))
-byKeyword K.Do s p ns w t u st = D.takeRead s p ns st (D.doAt s (t .from) (t .to) st)
-byKeyword K.Goto s p ns w t u st = D.takeRead s p ns st (St.gotoClause s (t .to))
-byKeyword K.Go s p ns w t u st = D.takeRead s p ns st (goClause s (t .to))
-byKeyword K.Include s p ns w t u st = D.takeRead s p ns st (St.includeClause s (t .to))
-byKeyword K.Activate s p ns w t u st = D.takeRead s p ns st (St.activateClause s (t .to))
-byKeyword K.Deactivate s p ns w t u st = D.takeRead s p ns st (St.deactivateClause s (t .to))
-byKeyword K.Return s p ns w t u st = D.takeRead s p ns st (St.returnClause s (t .to))
-byKeyword K.Declare s p ns w t u st = D.takeDeclared s p ns st (St.declareFrom (st .scope) s (length s) [] (t .to))
-byKeyword K.Procedure s p ns w t u st = D.takeDeclared s p ns st (St.procedureClause (P.inside (length (st .rows))) s (t .to))
-byKeyword K.Other s p ns w t u st = D.takeRead s p ns st (otherAt s w u)
+byKeyword K.If s p ns w t u st = D.takeRead mixed s p ns st (St.ifClause mixed (D.isInside (st .scope)) s (t .to))
+byKeyword K.Do s p ns w t u st = D.takeRead mixed s p ns st (D.doAt mixed s (t .from) (t .to) st)
+byKeyword K.Goto s p ns w t u st = D.takeRead mixed s p ns st (St.gotoClause mixed s (t .to))
+byKeyword K.Go s p ns w t u st = D.takeRead mixed s p ns st (goClause s (t .to))
+byKeyword K.Include s p ns w t u st = D.takeRead mixed s p ns st (St.includeClause mixed s (t .to))
+byKeyword K.Activate s p ns w t u st = D.takeRead mixed s p ns st (St.activateClause mixed s (t .to))
+byKeyword K.Deactivate s p ns w t u st = D.takeRead mixed s p ns st (St.deactivateClause mixed s (t .to))
+byKeyword K.Return s p ns w t u st = D.takeRead mixed s p ns st (St.returnClause mixed s (t .to))
+byKeyword K.Declare s p ns w t u st = D.takeDeclared mixed s p ns st (St.declareFrom mixed (st .scope) s (length s) [] (t .to))
+byKeyword K.Procedure s p ns w t u st = D.takeDeclared mixed s p ns st (St.procedureClause mixed (P.inside (length (st .rows))) s (t .to))
+byKeyword K.Other s p ns w t u st = D.takeRead mixed s p ns st (otherAt s w u)
 
 -- ---- what the definition asks a token, asked of a lexeme
 unfoldable pub beginsIn : List ℕ → Lexeme → Bool
 beginsIn s t = isWordKind (t .kind) || isSignIn s t (bytesOf ";")
 
 unfoldable pub isEndIn : List ℕ → Lexeme → Bool
-isEndIn s t = isWordIn s t (bytesOf "END") && D.isDecided (tokenAt s (t .to) .token)
+isEndIn s t = isWordIn s t (bytesOf "END") && D.isDecided (tokenAt mixed s (t .to) .token)
 
 unfoldable pub mayNameIn : List ℕ → Lexeme → List (List ℕ) → Bool
 mayNameIn s t ls = isWordKind (t .kind) && isOneOf (spelling s t) ls
@@ -314,20 +315,20 @@ doneTurn Dn.On os n e st up = D.go (D.behind (st .scope) n) e st
 
 pub record Completes (s : List ℕ) (o : Open) (k : Owner) (e : ℕ) (r : Done) : Type 0 where
   pub is : (os : List D.Open) (n : ℕ) (st : D.State) (up : ℕ → D.Turn) → st .scope ≡ scopeOf k
-      → D.completeIn (whereOf (o .kind)) s (o .row) os n e st up ≡ doneTurn r os n e st up
+      → D.completeIn mixed (whereOf (o .kind)) s (o .row) os n e st up ≡ doneTurn r os n e st up
 
 -- the statement of an alternative, from a place on
 abbrev pub alternativeTurn : Mark → List ℕ → Tk.Lexeme → D.State → D.Turn
-alternativeTurn (Marked q) s t st = D.deepEnough (t .from) st (λ _. D.clauseAt s (t .from) q st)
+alternativeTurn (Marked q) s t st = D.deepEnough (t .from) st (λ _. D.clauseAt mixed s (t .from) q st)
 alternativeTurn Unmarked s t st = D.stop Syntax (t .from) [] st
 
 -- which begins with the first token, in a procedure, or behind `%`
 pub data Enters (s : List ℕ) (at q : ℕ) : Type 0 where
-  first : q ≡ at → D.begins (tokenAt s at .token) ≡ true → Enters s at q
-  behind : q ≡ tokenAt s at .to → Tk.isSign "%" (tokenAt s at .token) ≡ true → Enters s at q
+  first : q ≡ at → D.begins (tokenAt mixed s at .token) ≡ true → Enters s at q
+  behind : q ≡ tokenAt mixed s at .to → Tk.isSign "%" (tokenAt mixed s at .token) ≡ true → Enters s at q
 
 pub record AlternativeFrom (s : List ℕ) (k : Owner) (t : Lexeme) (at : ℕ) (r : Mark) : Type 0 where
-  pub is : Lexed s at t → (st : D.State) → D.alternativeAt (scopeOf k) s at (tokenAt s at) st ≡ alternativeTurn r s (tokenAt s at) st
+  pub is : Lexed s at t → (st : D.State) → D.alternativeAt mixed (scopeOf k) s at (tokenAt mixed s at) st ≡ alternativeTurn r s (tokenAt mixed s at) st
   pub enters : Lexed s at t → (q : ℕ) → r ≡ Marked q → Enters s at q
 
 pub record PlaceAfter (s : List ℕ) (p r : ℕ) : Type 0 where

@@ -7,6 +7,7 @@ ghost use mathlib.Core.List.{[]};
 ghost use Prim.Native.Nat.{_-_};
 ghost use lib.Dec.{ltb};
 ghost use lib.ListN.{getD};
+ghost use Rattle.definition.specs.Bytes.{mixed};
 ghost use Rattle.definition.specs.Lists.{part, same, isOneOf};
 ghost use Rattle.definition.specs.Tokens.{tokenAt};
 ghost use Rattle.definition.specs.Expressions.{nameAt};
@@ -324,7 +325,7 @@ pub fn label_at(s: &[u8], at: usize) -> Mark
 }
 
 fn long_label(s: &[u8], at: usize, long: Mark) -> Mark
-    ensures { λ r. ⌜ r ≡ T.longAfter long (nameAt (now (s .entry)) at) ⌝ }
+    ensures { λ r. ⌜ r ≡ T.longAfter long (nameAt mixed (now (s .entry)) at) ⌝ }
 {
     match long {
         Mark::Marked(p) => Mark::Marked(p),
@@ -381,7 +382,7 @@ fn is_spelled_alike(s: &[u8], t: Lexeme, from: usize, to: usize) -> bool
 
 // Whether the name at a place is spelled as t; a word that is too long is no name.
 fn is_named_alike(s: &[u8], at: usize, t: Lexeme) -> bool
-    ensures { λ r. ⌜ r ≡ T.namesAs (spelling (now (s .entry)) t) (nameAt (now (s .entry)) at) ⌝ }
+    ensures { λ r. ⌜ r ≡ T.namesAs (spelling (now (s .entry)) t) (nameAt mixed (now (s .entry)) at) ⌝ }
 {
     let n = name_at(s, at);
     match n {
@@ -515,7 +516,7 @@ pub fn begins(s: &[u8], t: Lexeme) -> bool
 
 // ELSE and END are words that may turn out to be a target or a label, by the token behind them.
 fn is_decided(s: &[u8], at: usize) -> bool
-    ensures { λ r. ⌜ r ≡ D.isDecided (tokenAt (now (s .entry)) at .token) ⌝ }
+    ensures { λ r. ⌜ r ≡ D.isDecided (tokenAt mixed (now (s .entry)) at .token) ⌝ }
 {
     let t = token_at(s, at);
     if is_sign(s, t, b"=") {
@@ -537,7 +538,7 @@ fn else_word(s: &[u8], t: Lexeme) -> Mark
 
 // ELSE, if it stands next: the place past it.
 fn else_at(s: &[u8], scope: Owner, e: usize) -> Mark
-    ensures { λ r. ⌜ r ≡ T.elseFor (D.elseAt (C.isInside scope) (now (s .entry)) e) ⌝ }
+    ensures { λ r. ⌜ r ≡ T.elseFor (D.elseAt mixed (C.isInside scope) (now (s .entry)) e) ⌝ }
 {
     let t = token_at(s, e);
     if is_inside(scope) {
@@ -599,7 +600,7 @@ fn may_name(s: &[u8], labels: usize, t: Lexeme) -> bool
 
 // "A name after END must be a label of what it ends": the place past the semicolon.
 pub fn end_name(s: &[u8], labels: usize, at: usize) -> Expected
-    ensures { λ r. ⌜ r ≡ expectFor (D.endName (now (s .entry)) (T.labelled (now (s .entry)) labels) at) ⌝ }
+    ensures { λ r. ⌜ r ≡ expectFor (D.endName mixed (now (s .entry)) (T.labelled (now (s .entry)) labels) at) ⌝ }
 {
     let t = token_at(s, at);
     if is_sign(s, t, b";") {

@@ -10,6 +10,7 @@ use borrow.Author.Tests.{lt-ltb, le-ltb, ltb-true, ltb-false, leb-true, le-leb, 
 use lib.Dec.{ltb, leb}
 use lib.Seq.{getD-set-same, getD-set-other}
 use lib.ListN.{length, getD, set, take, replicate}
+use Rattle.definition.specs.Bytes.{mixed}
 use Rattle.definition.specs.Choice.{when}
 use Rattle.definition.specs.Tokens.{tokenAt, isSign}
 use Rattle.definition.specs.Expressions as E
@@ -171,11 +172,11 @@ behind-is first i h = by (leb 256 (i - first)) refl
     by false e = sym (lt-leb (first + 256) i (omega (arith, h, leb-false 256 (i - first) e)))
 
 -- ---- the operators from a number on
-signs-next : (f : ℕ) (s : List ℕ) (at : ℕ) (o : Prefix) → prefixOf (tokenAt s at .token) ≡ is o → signsAt (suc f) s at ≡ o ∷ signsAt f s (tokenAt s at .to)
+signs-next : (f : ℕ) (s : List ℕ) (at : ℕ) (o : Prefix) → prefixOf (tokenAt mixed s at .token) ≡ is o → signsAt (suc f) s at ≡ o ∷ signsAt f s (tokenAt mixed s at .to)
 unfolding signsAt
 signs-next f s at o e = rw e
 
-signs-stop : (f : ℕ) (s : List ℕ) (at : ℕ) → prefixOf (tokenAt s at .token) ≡ noOperator → signsAt f s at ≡ []
+signs-stop : (f : ℕ) (s : List ℕ) (at : ℕ) → prefixOf (tokenAt mixed s at .token) ≡ noOperator → signsAt f s at ≡ []
 unfolding signsAt
 signs-stop zero s at e = refl
 signs-stop (suc f) s at e = rw e
@@ -213,13 +214,13 @@ module _ (s : List ℕ) (from first : ℕ) where
     pub signing-end : length s ≤ i → SignsFrom s from first all
     signing-end h = none-left (let e : length s - i ≡ 0 = omega (arith, h) in rw e (signs-zero s at))
 
-    module _ (o : i < length s) (x : PrefixAt) (e : x ≡ prefixFor (prefixOf (tokenAt s at .token)) (tokenAt s at .to)) where
+    module _ (o : i < length s) (x : PrefixAt) (e : x ≡ prefixFor (prefixOf (tokenAt mixed s at .token)) (tokenAt mixed s at .to)) where
       pub signing-stop : x ≡ P.Other → SignsFrom s from first all
-      signing-stop f = none-left (signs-stop (length s - i) s at (prefix-other (prefixOf (tokenAt s at .token)) (tokenAt s at .to) (sym f ∙ e)))
+      signing-stop f = none-left (signs-stop (length s - i) s at (prefix-other (prefixOf (tokenAt mixed s at .token)) (tokenAt mixed s at .to) (sym f ∙ e)))
 
       module _ (p : Prefix) (q : ℕ) (f : x ≡ P.Is p q) (b : Signs) (ws : WithSign all first i p b) where
-        found : (prefixOf (tokenAt s at .token) ≡ is p) × (q ≡ tokenAt s at .to)
-        found = prefix-some (prefixOf (tokenAt s at .token)) (tokenAt s at .to) q p (sym f ∙ e)
+        found : (prefixOf (tokenAt mixed s at .token) ≡ is p) × (q ≡ tokenAt mixed s at .to)
+        found = prefix-some (prefixOf (tokenAt mixed s at .token)) (tokenAt mixed s at .to) q p (sym f ∙ e)
 
         after : signsAt (length s - i) s at ≡ p ∷ signsAt (length s - (i + 1)) s q
         after = let g : length s - i ≡ suc (length s - (i + 1)) = omega (arith, o) in rw (g, found .1) (signs-next (length s - (i + 1)) s at p (found .0))
@@ -417,27 +418,27 @@ module _ (s : List ℕ) (from left : ℕ) where
   pub record Counted (p : ℕ) (t : Tree) (n at : ℕ) : Type 0 where
     pub tree : Tree
     pub end : ℕ
-    pub same : E.arguments (insideOf left s p) s (length s - n) at ≡ read (parsed tree end)
+    pub same : E.arguments mixed (insideOf left s p) s (length s - n) at ≡ read (parsed tree end)
     pub total : n + count tree ≡ count t
 
   pub record Counting (n at : ℕ) : Type 0 where
     pub low : n ≤ length s
-    pub is : (p : ℕ) (t : Tree) (e : ℕ) → E.arguments (insideOf left s p) s (length s) from ≡ read (parsed t e) → Counted p t n at
+    pub is : (p : ℕ) (t : Tree) (e : ℕ) → E.arguments mixed (insideOf left s p) s (length s) from ≡ read (parsed t e) → Counted p t n at
 
   pub counting-start : Counting 0 from
   counting-start = record { low = omega arith; is = λ p t e q. record { tree = t; end = e; same = (let z : length s - 0 ≡ length s = omega arith in rw z q); total = rw zero-add } }
 
   abbrev next : ℕ → ℕ → Parsed → Reading Parsed
   next p f a =
-      when (isSign "," (tokenAt s (a .to) .token))
-      (λ _. then (E.arguments (insideOf left s p) s f (tokenAt s (a .to) .to)) λ r. read (parsed (more (a .tree) (r .tree)) (r .to)))
-      (λ _. then (expectSign ")" s (a .to)) λ e. read (parsed (more (a .tree) none) e))
+      when (isSign "," (tokenAt mixed s (a .to) .token))
+      (λ _. then (E.arguments mixed (insideOf left s p) s f (tokenAt mixed s (a .to) .to)) λ r. read (parsed (more (a .tree) (r .tree)) (r .to)))
+      (λ _. then (expectSign mixed ")" s (a .to)) λ e. read (parsed (more (a .tree) none) e))
 
-  turn : (p f at : ℕ) (z : Parsed) → E.arguments (insideOf left s p) s (suc f) at ≡ read z → IsRead (insideOf left s p at) (next p f) z
+  turn : (p f at : ℕ) (z : Parsed) → E.arguments mixed (insideOf left s p) s (suc f) at ≡ read z → IsRead (insideOf left s p at) (next p f) z
   unfolding E.arguments
   turn p f at z e = then-read (insideOf left s p at) (next p f) z e
 
-  no-turn : (p at : ℕ) (z : Parsed) {A : Type 0} → E.arguments (insideOf left s p) s 0 at ≡ read z → A
+  no-turn : (p at : ℕ) (z : Parsed) {A : Type 0} → E.arguments mixed (insideOf left s p) s 0 at ≡ read z → A
   unfolding E.arguments
   no-turn p at z e = never Syntax at z e
 
@@ -471,14 +472,14 @@ module _ (s : List ℕ) (from left : ℕ) where
         end-of : (p : ℕ) (z : Parsed) → insideOf left s p at ≡ read z → z .to ≡ e
         end-of p z h = let j : X.Past (z .to) ≡ X.Past e = sym (inside-end p 0 at z h) ∙ sym f ∙ g in cc
 
-        comma : (b : Bool) → v ≡ b → isSign "," (tokenAt s e .token) ≡ b
+        comma : (b : Bool) → v ≡ b → isSign "," (tokenAt mixed s e .token) ≡ b
         comma b d = told s e l lex "," (44 ∷ []) v b refl c d
 
-        last-by : v ≡ false → (p : ℕ) (t : Tree) (a : Counted p t n at) (z : Parsed) → insideOf left s p at ≡ read z → (b : Bool) → isSign "," (tokenAt s (z .to) .token) ≡ b → b ≡ false
-            → when b (λ _. then (E.arguments (insideOf left s p) s (length s - (n + 1)) (tokenAt s (z .to) .to)) λ r. read (parsed (more (z .tree) (r .tree)) (r .to))) (λ _. then (expectSign ")" s (z .to)) λ e. read (parsed (more (z .tree) none) e)) ≡ read (parsed (a .tree) (a .end)) → n + 1 ≡ count t
+        last-by : v ≡ false → (p : ℕ) (t : Tree) (a : Counted p t n at) (z : Parsed) → insideOf left s p at ≡ read z → (b : Bool) → isSign "," (tokenAt mixed s (z .to) .token) ≡ b → b ≡ false
+            → when b (λ _. then (E.arguments mixed (insideOf left s p) s (length s - (n + 1)) (tokenAt mixed s (z .to) .to)) λ r. read (parsed (more (z .tree) (r .tree)) (r .to))) (λ _. then (expectSign mixed ")" s (z .to)) λ e. read (parsed (more (z .tree) none) e)) ≡ read (parsed (a .tree) (a .end)) → n + 1 ≡ count t
         last-by d p t a z h true i j q = absurd (let y : _≡_ {A = ℕ} 0 1 = cc in omega arith)
         last-by d p t a z h false i j q =
-            let r : IsRead (expectSign ")" s (z .to)) (λ e. read (parsed (more (z .tree) none) e)) (parsed (a .tree) (a .end)) = then-read (expectSign ")" s (z .to)) (λ e. read (parsed (more (z .tree) none) e)) (parsed (a .tree) (a .end)) q in
+            let r : IsRead (expectSign mixed ")" s (z .to)) (λ e. read (parsed (more (z .tree) none) e)) (parsed (a .tree) (a .end)) = then-read (expectSign mixed ")" s (z .to)) (λ e. read (parsed (more (z .tree) none) e)) (parsed (a .tree) (a .end)) q in
             let y : more (z .tree) none ≡ a .tree = ap (λ (i : Parsed). i .tree) (read-same (parsed (more (z .tree) none) (r .first)) (parsed (a .tree) (a .end)) (r .rest)) in
             let b : count (a .tree) ≡ 1 = sym (ap count y) ∙ count-more (z .tree) none ∙ ap suc count-none in
             omega (arith, b, a .total)
@@ -488,17 +489,17 @@ module _ (s : List ℕ) (from left : ℕ) where
           is = λ p t e r.
               let a : Counted p t n at = k .is p t e r in
               let i : IsRead (insideOf left s p at) (next p (length s - (n + 1))) (parsed (a .tree) (a .end)) = first p t a in
-              last-by d p t a (i .first) (i .is) (isSign "," (tokenAt s (i .first .to) .token)) refl (rw (end-of p (i .first) (i .is)) (comma false d)) (i .rest);
+              last-by d p t a (i .first) (i .is) (isSign "," (tokenAt mixed s (i .first .to) .token)) refl (rw (end-of p (i .first) (i .is)) (comma false d)) (i .rest);
         }
 
-        more-by : v ≡ true → (p : ℕ) (t : Tree) (a : Counted p t n at) (z : Parsed) → insideOf left s p at ≡ read z → (b : Bool) → isSign "," (tokenAt s (z .to) .token) ≡ b → b ≡ true
-            → when b (λ _. then (E.arguments (insideOf left s p) s (length s - (n + 1)) (tokenAt s (z .to) .to)) λ r. read (parsed (more (z .tree) (r .tree)) (r .to))) (λ _. then (expectSign ")" s (z .to)) λ e. read (parsed (more (z .tree) none) e)) ≡ read (parsed (a .tree) (a .end)) → Counted p t (n + 1) (l .to)
+        more-by : v ≡ true → (p : ℕ) (t : Tree) (a : Counted p t n at) (z : Parsed) → insideOf left s p at ≡ read z → (b : Bool) → isSign "," (tokenAt mixed s (z .to) .token) ≡ b → b ≡ true
+            → when b (λ _. then (E.arguments mixed (insideOf left s p) s (length s - (n + 1)) (tokenAt mixed s (z .to) .to)) λ r. read (parsed (more (z .tree) (r .tree)) (r .to))) (λ _. then (expectSign mixed ")" s (z .to)) λ e. read (parsed (more (z .tree) none) e)) ≡ read (parsed (a .tree) (a .end)) → Counted p t (n + 1) (l .to)
         more-by d p t a z h false i j q = absurd (let y : _≡_ {A = ℕ} 0 1 = cc in omega arith)
         more-by d p t a z h true i j q =
-            let r : IsRead (E.arguments (insideOf left s p) s (length s - (n + 1)) (tokenAt s (z .to) .to)) (λ r. read (parsed (more (z .tree) (r .tree)) (r .to))) (parsed (a .tree) (a .end)) = then-read (E.arguments (insideOf left s p) s (length s - (n + 1)) (tokenAt s (z .to) .to)) (λ r. read (parsed (more (z .tree) (r .tree)) (r .to))) (parsed (a .tree) (a .end)) q in
+            let r : IsRead (E.arguments mixed (insideOf left s p) s (length s - (n + 1)) (tokenAt mixed s (z .to) .to)) (λ r. read (parsed (more (z .tree) (r .tree)) (r .to))) (parsed (a .tree) (a .end)) = then-read (E.arguments mixed (insideOf left s p) s (length s - (n + 1)) (tokenAt mixed s (z .to) .to)) (λ r. read (parsed (more (z .tree) (r .tree)) (r .to))) (parsed (a .tree) (a .end)) q in
             let y : more (z .tree) (r .first .tree) ≡ a .tree = ap (λ (i : Parsed). i .tree) (read-same (parsed (more (z .tree) (r .first .tree)) (r .first .to)) (parsed (a .tree) (a .end)) (r .rest)) in
             let b : count (a .tree) ≡ suc (count (r .first .tree)) = sym (ap count y) ∙ count-more (z .tree) (r .first .tree) in
-            let f : l .to ≡ tokenAt s (z .to) .to = lex .to ∙ ap (λ (i : ℕ). tokenAt s i .to) (sym (end-of p z h)) in
+            let f : l .to ≡ tokenAt mixed s (z .to) .to = lex .to ∙ ap (λ (i : ℕ). tokenAt mixed s i .to) (sym (end-of p z h)) in
             record { tree = r .first .tree; end = r .first .to; same = rw f (r .is); total = omega (arith, b, a .total) }
 
         pub counting-more : v ≡ true → Counting (n + 1) (l .to)
@@ -507,5 +508,5 @@ module _ (s : List ℕ) (from left : ℕ) where
           is = λ p t e r.
               let a : Counted p t n at = k .is p t e r in
               let i : IsRead (insideOf left s p at) (next p (length s - (n + 1))) (parsed (a .tree) (a .end)) = first p t a in
-              more-by d p t a (i .first) (i .is) (isSign "," (tokenAt s (i .first .to) .token)) refl (rw (end-of p (i .first) (i .is)) (comma true d)) (i .rest);
+              more-by d p t a (i .first) (i .is) (isSign "," (tokenAt mixed s (i .first .to) .token)) refl (rw (end-of p (i .first) (i .is)) (comma true d)) (i .rest);
         }

@@ -9,6 +9,7 @@ use native.Mathlib.Omega.{arith}
 use borrow.Author.Tests.{lt-ltb, le-ltb}
 use lib.Dec.{ltb}
 use lib.ListN.{length, getD, set, take}
+use Rattle.definition.specs.Bytes.{mixed}
 use Rattle.definition.specs.Tokens.{tokenAt}
 use Rattle.definition.specs.Values as Val
 use Rattle.definition.specs.Evaluate as Ev
@@ -109,10 +110,10 @@ module _ (deck names : List ℕ) (n : ℕ) (t : Target) (i at : ℕ) where
       abbrev q₀ : Ev.Parameter
       q₀ = record { at = z .address; type = z .«value_type» }
 
-      z-to : z .to ≡ tokenAt s (tokenAt s at .to) .to
+      z-to : z .to ≡ tokenAt mixed s (tokenAt mixed s at .to) .to
       z-to =
-          let g : P.Is z ≡ P.Is (record { address = z .address; «value_type» = z .«value_type»; to = tokenAt s (tokenAt s at .to) .to }) = rw f at (pi .to) in
-          let j : z ≡ record { address = z .address; «value_type» = z .«value_type»; to = tokenAt s (tokenAt s at .to) .to } = cc in
+          let g : P.Is z ≡ P.Is (record { address = z .address; «value_type» = z .«value_type»; to = tokenAt mixed s (tokenAt mixed s at .to) .to }) = rw f at (pi .to) in
+          let j : z ≡ record { address = z .address; «value_type» = z .«value_type»; to = tokenAt mixed s (tokenAt mixed s at .to) .to } = cc in
           ap (λ (a : Parameter). a .to) j
 
       and-gives : (a : Val.Answer (List Ev.Parameter)) (q : Ev.Parameter) (qs : List Ev.Parameter) → Val.andThen a (λ ps. Val.gives (q₀ ∷ ps)) ≡ Val.gives (q ∷ qs) → (a ≡ Val.gives qs) × (q₀ ≡ q)

@@ -6,6 +6,7 @@ use mathlib.Core.List.{List, [], _∷_}
 use Prim.Native.Nat.{ℕ, zero, suc, _+_, _-_, _<_, _≤_}
 use native.Mathlib.Omega.{arith}
 use lib.ListN.{length}
+use Rattle.definition.specs.Bytes.{mixed}
 use Rattle.definition.specs.Tokens.{tokenAt, isSign}
 use Rattle.definition.specs.Expressions.{Reading, read, refused, then, Parsed, parsed, Reader, Tree, unary, binary, Maybe, is, noOperator, infixOf, prefixOf, expectSign, operand, chain, levels, expression}
 use Rattle.definition.specs.Values as Val
@@ -40,30 +41,30 @@ then-read (read a) f b e = record { first = a; is = refl; rest = e }
 then-read (refused w p) f b e = never w p b e
 
 -- ---- levels and chains
-levels-step : (inner : Reader) (s : List ℕ) (l at : ℕ) (t : Tree) (e : ℕ) → levels inner s (suc l) at ≡ read (parsed t e)
-    → IsRead (levels inner s l at) (λ r. chain l (levels inner s l) s (suc (length s)) (r .tree) (r .to)) (parsed t e)
+levels-step : (inner : Reader) (s : List ℕ) (l at : ℕ) (t : Tree) (e : ℕ) → levels mixed inner s (suc l) at ≡ read (parsed t e)
+    → IsRead (levels mixed inner s l at) (λ r. chain mixed l (levels mixed inner s l) s (suc (length s)) (r .tree) (r .to)) (parsed t e)
 unfolding levels
-levels-step inner s l at t e q = then-read (levels inner s l at) (λ r. chain l (levels inner s l) s (suc (length s)) (r .tree) (r .to)) (parsed t e) q
+levels-step inner s l at t e q = then-read (levels mixed inner s l at) (λ r. chain mixed l (levels mixed inner s l) s (suc (length s)) (r .tree) (r .to)) (parsed t e) q
 
-pub levels-first : (inner : Reader) (s : List ℕ) (n at : ℕ) (t : Tree) (e : ℕ) → 1 ≤ n → levels inner s n at ≡ read (parsed t e)
-    → IsRead (levels inner s (n - 1) at) (λ r. chain (n - 1) (levels inner s (n - 1)) s (suc (length s)) (r .tree) (r .to)) (parsed t e)
+pub levels-first : (inner : Reader) (s : List ℕ) (n at : ℕ) (t : Tree) (e : ℕ) → 1 ≤ n → levels mixed inner s n at ≡ read (parsed t e)
+    → IsRead (levels mixed inner s (n - 1) at) (λ r. chain mixed (n - 1) (levels mixed inner s (n - 1)) s (suc (length s)) (r .tree) (r .to)) (parsed t e)
 levels-first inner s n at t e h r = let f : n ≡ suc (n - 1) = omega (arith, h) in levels-step inner s (n - 1) at t e (rw f at r)
 
-pub levels-zero : (inner : Reader) (s : List ℕ) (n at : ℕ) → n ≡ 0 → levels inner s n at ≡ inner at
+pub levels-zero : (inner : Reader) (s : List ℕ) (n at : ℕ) → n ≡ 0 → levels mixed inner s n at ≡ inner at
 unfolding levels
 levels-zero inner s n at e = rw e
 
 -- the operator that stands next, and its right side
-pub chain-more : (l : ℕ) (next : Reader) (s : List ℕ) (f : ℕ) (t₀ : Tree) (at : ℕ) (x : Parsed) (o : Operator) → infixOf l (tokenAt s at .token) ≡ is o → chain l next s (suc f) t₀ at ≡ read x
-    → IsRead (next (tokenAt s at .to)) (λ r. chain l next s f (binary o t₀ (r .tree)) (r .to)) x
+pub chain-more : (l : ℕ) (next : Reader) (s : List ℕ) (f : ℕ) (t₀ : Tree) (at : ℕ) (x : Parsed) (o : Operator) → infixOf l (tokenAt mixed s at .token) ≡ is o → chain mixed l next s (suc f) t₀ at ≡ read x
+    → IsRead (next (tokenAt mixed s at .to)) (λ r. chain mixed l next s f (binary o t₀ (r .tree)) (r .to)) x
 unfolding chain
-chain-more l next s f t₀ at x o e q = then-read (next (tokenAt s at .to)) (λ r. chain l next s f (binary o t₀ (r .tree)) (r .to)) x (rw e at q)
+chain-more l next s f t₀ at x o e q = then-read (next (tokenAt mixed s at .to)) (λ r. chain mixed l next s f (binary o t₀ (r .tree)) (r .to)) x (rw e at q)
 
-pub chain-done : (l : ℕ) (next : Reader) (s : List ℕ) (f : ℕ) (t₀ : Tree) (at : ℕ) (x : Parsed) → infixOf l (tokenAt s at .token) ≡ noOperator → chain l next s (suc f) t₀ at ≡ read x → parsed t₀ at ≡ x
+pub chain-done : (l : ℕ) (next : Reader) (s : List ℕ) (f : ℕ) (t₀ : Tree) (at : ℕ) (x : Parsed) → infixOf l (tokenAt mixed s at .token) ≡ noOperator → chain mixed l next s (suc f) t₀ at ≡ read x → parsed t₀ at ≡ x
 unfolding chain
 chain-done l next s f t₀ at x e q = read-same (parsed t₀ at) x (rw e at q)
 
-pub chain-none : (l : ℕ) (next : Reader) (s : List ℕ) (t₀ : Tree) (at : ℕ) (x : Parsed) {B : Type 0} → chain l next s zero t₀ at ≡ read x → B
+pub chain-none : (l : ℕ) (next : Reader) (s : List ℕ) (t₀ : Tree) (at : ℕ) (x : Parsed) {B : Type 0} → chain mixed l next s zero t₀ at ≡ read x → B
 unfolding chain
 chain-none l next s t₀ at x q = never Syntax at x q
 
@@ -77,14 +78,14 @@ module _ (x : Scene) (u : ℕ) (w : World) where
   value-refused o a b c n e = rw e
 
   -- a refusal of the tree so far is the whole tree's
-  strict-by : (l : ℕ) (next : Reader) (s : List ℕ) (f : ℕ) (t₀ : Tree) (at : ℕ) (z : Parsed) (c : Why) (n : ℕ) → valueOf x t₀ u w ≡ bad c n → (o : Maybe Operator) → infixOf l (tokenAt s at .token) ≡ o
-      → ((b : Tree) (e : ℕ) (o : Operator) → chain l next s f (binary o t₀ b) e ≡ read z → valueOf x (z .tree) u w ≡ bad c n) → chain l next s (suc f) t₀ at ≡ read z → valueOf x (z .tree) u w ≡ bad c n
-  strict-by l next s f t₀ at z c n e (is o) q again r = let k : IsRead (next (tokenAt s at .to)) (λ y. chain l next s f (binary o t₀ (y .tree)) (y .to)) z = chain-more l next s f t₀ at z o q r in again (k .first .tree) (k .first .to) o (k .rest)
+  strict-by : (l : ℕ) (next : Reader) (s : List ℕ) (f : ℕ) (t₀ : Tree) (at : ℕ) (z : Parsed) (c : Why) (n : ℕ) → valueOf x t₀ u w ≡ bad c n → (o : Maybe Operator) → infixOf l (tokenAt mixed s at .token) ≡ o
+      → ((b : Tree) (e : ℕ) (o : Operator) → chain mixed l next s f (binary o t₀ b) e ≡ read z → valueOf x (z .tree) u w ≡ bad c n) → chain mixed l next s (suc f) t₀ at ≡ read z → valueOf x (z .tree) u w ≡ bad c n
+  strict-by l next s f t₀ at z c n e (is o) q again r = let k : IsRead (next (tokenAt mixed s at .to)) (λ y. chain mixed l next s f (binary o t₀ (y .tree)) (y .to)) z = chain-more l next s f t₀ at z o q r in again (k .first .tree) (k .first .to) o (k .rest)
   strict-by l next s f t₀ at z c n e noOperator q again r = rw (← chain-done l next s f t₀ at z q r) e
 
-  pub strict : (l : ℕ) (next : Reader) (s : List ℕ) (f : ℕ) (t₀ : Tree) (at : ℕ) (z : Parsed) (c : Why) (n : ℕ) → valueOf x t₀ u w ≡ bad c n → chain l next s f t₀ at ≡ read z → valueOf x (z .tree) u w ≡ bad c n
+  pub strict : (l : ℕ) (next : Reader) (s : List ℕ) (f : ℕ) (t₀ : Tree) (at : ℕ) (z : Parsed) (c : Why) (n : ℕ) → valueOf x t₀ u w ≡ bad c n → chain mixed l next s f t₀ at ≡ read z → valueOf x (z .tree) u w ≡ bad c n
   strict l next s zero t₀ at z c n e r = chain-none l next s t₀ at z r
-  strict l next s (suc f) t₀ at z c n e r = strict-by l next s f t₀ at z c n e (infixOf l (tokenAt s at .token)) refl (λ b q o k. strict l next s f (binary o t₀ b) q z c n (value-refused o t₀ b c n e) k) r
+  strict l next s (suc f) t₀ at z c n e r = strict-by l next s f t₀ at z c n e (infixOf l (tokenAt mixed s at .token)) refl (λ b q o k. strict l next s f (binary o t₀ b) q z c n (value-refused o t₀ b c n e) k) r
 
   -- ---- prefix operators
   abbrev unaries : List Prefix → Tree → Tree
@@ -107,25 +108,25 @@ value-unary : (x : Scene) (o : Prefix) (t : Tree) (u : ℕ) (w : World) → valu
 unfolding valueOf evaluate
 value-unary x o t u w = refl
 
-operand-stop : (inside : ℕ → Reader) (s : List ℕ) (f at : ℕ) (x : Scene) (t : Tree) (e : ℕ) → prefixOf (tokenAt s at .token) ≡ noOperator → operand inside s (suc f) at ≡ read (parsed t e) → primitiveAt inside s at ≡ read (parsed t e)
+operand-stop : (inside : ℕ → Reader) (s : List ℕ) (f at : ℕ) (x : Scene) (t : Tree) (e : ℕ) → prefixOf (tokenAt mixed s at .token) ≡ noOperator → operand mixed inside s (suc f) at ≡ read (parsed t e) → primitiveAt inside s at ≡ read (parsed t e)
 unfolding operand
 operand-stop inside s f at x t e q r = rw q at r
 
-operand-next : (inside : ℕ → Reader) (s : List ℕ) (f at : ℕ) (z : Parsed) (o : Prefix) → prefixOf (tokenAt s at .token) ≡ is o → operand inside s (suc f) at ≡ read z
-    → IsRead (operand inside s f (tokenAt s at .to)) (λ r. read (parsed (unary o (r .tree)) (r .to))) z
+operand-next : (inside : ℕ → Reader) (s : List ℕ) (f at : ℕ) (z : Parsed) (o : Prefix) → prefixOf (tokenAt mixed s at .token) ≡ is o → operand mixed inside s (suc f) at ≡ read z
+    → IsRead (operand mixed inside s f (tokenAt mixed s at .to)) (λ r. read (parsed (unary o (r .tree)) (r .to))) z
 unfolding operand
-operand-next inside s f at z o q r = then-read (operand inside s f (tokenAt s at .to)) (λ r. read (parsed (unary o (r .tree)) (r .to))) z (rw q at r)
+operand-next inside s f at z o q r = then-read (operand mixed inside s f (tokenAt mixed s at .to)) (λ r. read (parsed (unary o (r .tree)) (r .to))) z (rw q at r)
 
-operand-end : (inside : ℕ → Reader) (s : List ℕ) (at : ℕ) (z : Parsed) {B : Type 0} → operand inside s zero at ≡ read z → B
+operand-end : (inside : ℕ → Reader) (s : List ℕ) (at : ℕ) (z : Parsed) {B : Type 0} → operand mixed inside s zero at ≡ read z → B
 unfolding operand
 operand-end inside s at z r = never Syntax at z r
 
-stop-is : (inside : ℕ → Reader) (s : List ℕ) (f at : ℕ) (x : Scene) (t : Tree) (e : ℕ) → prefixOf (tokenAt s at .token) ≡ noOperator → primitiveAt inside s at ≡ read (parsed t e) → Operand inside s f at x t e
+stop-is : (inside : ℕ → Reader) (s : List ℕ) (f at : ℕ) (x : Scene) (t : Tree) (e : ℕ) → prefixOf (tokenAt mixed s at .token) ≡ noOperator → primitiveAt inside s at ≡ read (parsed t e) → Operand inside s f at x t e
 unfolding prefixes signsAt prefixedBy
 stop-is inside s zero at x t e q r = record { first = t; is = r; count = refl; value = λ u w. refl }
 stop-is inside s (suc f) at x t e q r = record { first = t; is = rw q r; count = rw q; value = λ u w. rw q }
 
-next-is : (inside : ℕ → Reader) (s : List ℕ) (f at : ℕ) (x : Scene) (t : Tree) (e : ℕ) (o : Prefix) → prefixOf (tokenAt s at .token) ≡ is o → Operand inside s f (tokenAt s at .to) x t e → Operand inside s (suc f) at x (unary o t) e
+next-is : (inside : ℕ → Reader) (s : List ℕ) (f at : ℕ) (x : Scene) (t : Tree) (e : ℕ) (o : Prefix) → prefixOf (tokenAt mixed s at .token) ≡ is o → Operand inside s f (tokenAt mixed s at .to) x t e → Operand inside s (suc f) at x (unary o t) e
 unfolding prefixes signsAt prefixedBy
 next-is inside s f at x t e o q k = record {
   first = k .first;
@@ -135,19 +136,19 @@ next-is inside s f at x t e o q k = record {
 }
 
 -- of the operator o and what was read behind it
-operand-with : (inside : ℕ → Reader) (s : List ℕ) (f at : ℕ) (x : Scene) (z : Parsed) (o : Prefix) → prefixOf (tokenAt s at .token) ≡ is o → (y : Parsed) → Operand inside s f (tokenAt s at .to) x (y .tree) (y .to) → _≡_ {A = Reading Parsed} (read (parsed (unary o (y .tree)) (y .to))) (read z) → Operand inside s (suc f) at x (z .tree) (z .to)
+operand-with : (inside : ℕ → Reader) (s : List ℕ) (f at : ℕ) (x : Scene) (z : Parsed) (o : Prefix) → prefixOf (tokenAt mixed s at .token) ≡ is o → (y : Parsed) → Operand inside s f (tokenAt mixed s at .to) x (y .tree) (y .to) → _≡_ {A = Reading Parsed} (read (parsed (unary o (y .tree)) (y .to))) (read z) → Operand inside s (suc f) at x (z .tree) (z .to)
 operand-with inside s f at x z o q y k r = rw (← read-same (parsed (unary o (y .tree)) (y .to)) z r) (next-is inside s f at x (y .tree) (y .to) o q k)
 
-pub operand-is : (inside : ℕ → Reader) (s : List ℕ) (f at : ℕ) (x : Scene) (z : Parsed) → operand inside s (suc f) at ≡ read z → Operand inside s f at x (z .tree) (z .to)
-operand-is inside s zero at x z r = by (prefixOf (tokenAt s at .token)) refl
+pub operand-is : (inside : ℕ → Reader) (s : List ℕ) (f at : ℕ) (x : Scene) (z : Parsed) → operand mixed inside s (suc f) at ≡ read z → Operand inside s f at x (z .tree) (z .to)
+operand-is inside s zero at x z r = by (prefixOf (tokenAt mixed s at .token)) refl
   where
-    by : (o : Maybe Prefix) → prefixOf (tokenAt s at .token) ≡ o → Operand inside s zero at x (z .tree) (z .to)
-    by (is o) q = let k : IsRead (operand inside s zero (tokenAt s at .to)) (λ r. read (parsed (unary o (r .tree)) (r .to))) z = operand-next inside s zero at z o q r in operand-end inside s (tokenAt s at .to) (k .first) (k .is)
+    by : (o : Maybe Prefix) → prefixOf (tokenAt mixed s at .token) ≡ o → Operand inside s zero at x (z .tree) (z .to)
+    by (is o) q = let k : IsRead (operand mixed inside s zero (tokenAt mixed s at .to)) (λ r. read (parsed (unary o (r .tree)) (r .to))) z = operand-next inside s zero at z o q r in operand-end inside s (tokenAt mixed s at .to) (k .first) (k .is)
     by noOperator q = stop-is inside s zero at x (z .tree) (z .to) q (operand-stop inside s zero at x (z .tree) (z .to) q r)
-operand-is inside s (suc f) at x z r = by (prefixOf (tokenAt s at .token)) refl (λ y q. operand-is inside s f (tokenAt s at .to) x y q)
+operand-is inside s (suc f) at x z r = by (prefixOf (tokenAt mixed s at .token)) refl (λ y q. operand-is inside s f (tokenAt mixed s at .to) x y q)
   where
-    by : (o : Maybe Prefix) → prefixOf (tokenAt s at .token) ≡ o → ((y : Parsed) → operand inside s (suc f) (tokenAt s at .to) ≡ read y → Operand inside s f (tokenAt s at .to) x (y .tree) (y .to)) → Operand inside s (suc f) at x (z .tree) (z .to)
-    by (is o) q again = let k : IsRead (operand inside s (suc f) (tokenAt s at .to)) (λ r. read (parsed (unary o (r .tree)) (r .to))) z = operand-next inside s (suc f) at z o q r in operand-with inside s f at x z o q (k .first) (again (k .first) (k .is)) (k .rest)
+    by : (o : Maybe Prefix) → prefixOf (tokenAt mixed s at .token) ≡ o → ((y : Parsed) → operand mixed inside s (suc f) (tokenAt mixed s at .to) ≡ read y → Operand inside s f (tokenAt mixed s at .to) x (y .tree) (y .to)) → Operand inside s (suc f) at x (z .tree) (z .to)
+    by (is o) q again = let k : IsRead (operand mixed inside s (suc f) (tokenAt mixed s at .to)) (λ r. read (parsed (unary o (r .tree)) (r .to))) z = operand-next inside s (suc f) at z o q r in operand-with inside s f at x z o q (k .first) (again (k .first) (k .is)) (k .rest)
     by noOperator q again = stop-is inside s (suc f) at x (z .tree) (z .to) q (operand-stop inside s (suc f) at x (z .tree) (z .to) q r)
 
 -- ---- what is inside a parenthesis
@@ -161,12 +162,12 @@ unfolding insideOf
 inside-none zero s p at z h e = never OverLimit p z e
 inside-none (suc d) s p at z h e = absurd (omega (arith, h))
 
-pub expression-is : (d : ℕ) (s : List ℕ) (at : ℕ) → expression d s at ≡ levelsIn d s 6 at
+pub expression-is : (d : ℕ) (s : List ℕ) (at : ℕ) → expression mixed d s at ≡ levelsIn d s 6 at
 unfolding expression insideOf
 expression-is zero s at = refl
 expression-is (suc d) s at = refl
 
-inside-step : (d : ℕ) (s : List ℕ) (p at : ℕ) → insideOf (suc d) s p at ≡ expression d s at
+inside-step : (d : ℕ) (s : List ℕ) (p at : ℕ) → insideOf (suc d) s p at ≡ expression mixed d s at
 unfolding insideOf
 inside-step d s p at = refl
 
@@ -175,10 +176,10 @@ inside-is zero s p at h = absurd (omega (arith, h))
 inside-is (suc d) s p at h = inside-step d s p at ∙ expression-is d s at ∙ ap (λ (k : ℕ). levelsIn k s 6 at) (let f : d ≡ suc d - 1 = omega arith in f)
 
 -- a sign that had to follow
-pub expect-is : (W : Prim.Native.String.String) (s : List ℕ) (at e : ℕ) → expectSign W s at ≡ read e → e ≡ tokenAt s at .to
+pub expect-is : (W : Prim.Native.String.String) (s : List ℕ) (at e : ℕ) → expectSign mixed W s at ≡ read e → e ≡ tokenAt mixed s at .to
 unfolding expectSign
-expect-is W s at e q = by (isSign W (tokenAt s at .token)) q
+expect-is W s at e q = by (isSign W (tokenAt mixed s at .token)) q
   where
-    by : (b : Bool) → _≡_ {A = Reading ℕ} (cond b (read (tokenAt s at .to)) (refused Syntax (tokenAt s at .from))) (read e) → e ≡ tokenAt s at .to
-    by true r = sym (read-same (tokenAt s at .to) e r)
-    by false r = never Syntax (tokenAt s at .from) e r
+    by : (b : Bool) → _≡_ {A = Reading ℕ} (cond b (read (tokenAt mixed s at .to)) (refused Syntax (tokenAt mixed s at .from))) (read e) → e ≡ tokenAt mixed s at .to
+    by true r = sym (read-same (tokenAt mixed s at .to) e r)
+    by false r = never Syntax (tokenAt mixed s at .from) e r

@@ -4,6 +4,7 @@ use mathlib.Core.Bool.{Bool, true, false}
 use mathlib.Core.Path.{_≡_}
 use mathlib.Core.List.{List, [], _∷_}
 use lib.ListN.{length, take}
+use Rattle.definition.specs.Bytes.{mixed}
 use Rattle.definition.specs.Expressions as E
 use Rattle.definition.specs.Expressions.{Tree, Maybe, is, noOperator, prefixOf}
 use Rattle.definition.specs.Tokens.{tokenAt}
@@ -94,7 +95,7 @@ withSign noOperator rest = []
 
 unfoldable pub signsAt : ℕ → List ℕ → ℕ → List Prefix
 signsAt zero s at = []
-signsAt (suc f) s at = withSign (prefixOf (tokenAt s at .token)) (λ o. o ∷ signsAt f s (tokenAt s at .to))
+signsAt (suc f) s at = withSign (prefixOf (tokenAt mixed s at .token)) (λ o. o ∷ signsAt f s (tokenAt mixed s at .to))
 
 unfoldable pub prefixedBy : ℕ → List Prefix → Res Why Val.Value → Res Why Val.Value
 prefixedBy u [] R = R
@@ -120,7 +121,7 @@ stringTree false l = E.stringOf l
 
 -- the place past the parenthesis that closes
 pub record ClosedIs (s : List ℕ) (y r : Evaluated) : Type 0 where
-  pub is : (e : ℕ) → y ≡ withEnd y e → r ≡ withEnd y (tokenAt s e .to)
+  pub is : (e : ℕ) → y ≡ withEnd y e → r ≡ withEnd y (tokenAt mixed s e .to)
 
 -- ---- names
 -- a name that means x in the world B

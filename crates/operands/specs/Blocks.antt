@@ -7,6 +7,7 @@ use lib.Dec.{ltb}
 use lib.ListN.{length, getD, take, replicate}
 use Rattle.definition.specs.declared.Prefix.{Prefix}
 use Rattle.definition.specs.declared.Prefix.the-variants.{Positive, Negative, Complement}
+use Rattle.definition.specs.Bytes.{mixed}
 use Rattle.definition.specs.Expressions as E
 use Rattle.definition.specs.Expressions.{read, parsed, Tree}
 use Rattle.definition.specs.Evaluate.{count}
@@ -73,4 +74,4 @@ pub record AllDone (s : List ℕ) (from n : ℕ) (w : List ℕ) (u : ℕ) (v : V
 
 -- ---- a list of arguments that the definition reads has n
 pub record CountIs (s : List ℕ) (from left n : ℕ) : Type 0 where
-  pub is : (p : ℕ) (t : Tree) (e : ℕ) → E.arguments (insideOf left s p) s (length s) from ≡ read (parsed t e) → n ≡ count t
+  pub is : (p : ℕ) (t : Tree) (e : ℕ) → E.arguments mixed (insideOf left s p) s (length s) from ≡ read (parsed t e) → n ≡ count t

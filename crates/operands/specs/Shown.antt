@@ -5,6 +5,7 @@ use mathlib.Core.Bool.{Bool, true, false}
 use mathlib.Core.Path.{_≡_}
 use mathlib.Core.List.{List, [], _∷_}
 use lib.ListN.{length, getD}
+use Rattle.definition.specs.Bytes.{mixed}
 use Rattle.definition.specs.Expressions.{read, Named, parsed, nameAt, expectSign, wholeExpression}
 use Rattle.definition.specs.Program as D
 use Rattle.definition.specs.declared.ValueType.{ValueType}
@@ -30,24 +31,24 @@ IsRow m r B = r < length (rowsOf m B)
 
 -- BY and TO with their expressions from a place on
 abbrev pub Bounded : List ℕ → List D.Bound → ℕ → Type 0
-Bounded s [] at = (isWord "BY" (tokenAt s at .token) ≡ false) × (isWord "TO" (tokenAt s at .token) ≡ false)
-Bounded s (D.by x ∷ bs) at = (e : ℕ) × (isWord "BY" (tokenAt s at .token) ≡ true) × (wholeExpression s (tokenAt s at .to) ≡ read (parsed x e)) × Bounded s bs e
-Bounded s (D.upto x ∷ bs) at = (e : ℕ) × (isWord "BY" (tokenAt s at .token) ≡ false) × (isWord "TO" (tokenAt s at .token) ≡ true) × (wholeExpression s (tokenAt s at .to) ≡ read (parsed x e)) × Bounded s bs e
+Bounded s [] at = (isWord "BY" (tokenAt mixed s at .token) ≡ false) × (isWord "TO" (tokenAt mixed s at .token) ≡ false)
+Bounded s (D.by x ∷ bs) at = (e : ℕ) × (isWord "BY" (tokenAt mixed s at .token) ≡ true) × (wholeExpression mixed s (tokenAt mixed s at .to) ≡ read (parsed x e)) × Bounded s bs e
+Bounded s (D.upto x ∷ bs) at = (e : ℕ) × (isWord "BY" (tokenAt mixed s at .token) ≡ false) × (isWord "TO" (tokenAt mixed s at .token) ≡ true) × (wholeExpression mixed s (tokenAt mixed s at .to) ≡ read (parsed x e)) × Bounded s bs e
 
 -- the statement that is read in s behind the place `at`, as far as it is read again; a type for each statement
 abbrev pub Stated : List ℕ → ℕ → D.Statement → Type 0
 Stated s at D.null = Unit {0}
 Stated s at (D.declare ns) = Unit {0}
 Stated s at (D.procedure ns v) = (at ≤ length s) × ((list : ℕ) × Headed s at list ns)
-Stated s at (D.assign n x) = (m : Named) × (nameAt s at ≡ read m) × (m .spelling ≡ n) × ((q : ℕ) × (e : ℕ) × (expectSign "=" s (m .to) ≡ read q) × (wholeExpression s q ≡ read (parsed x e)))
-Stated s at (D.conditional x) = (e : ℕ) × (wholeExpression s at ≡ read (parsed x e))
+Stated s at (D.assign n x) = (m : Named) × (nameAt mixed s at ≡ read m) × (m .spelling ≡ n) × ((q : ℕ) × (e : ℕ) × (expectSign mixed "=" s (m .to) ≡ read q) × (wholeExpression mixed s q ≡ read (parsed x e)))
+Stated s at (D.conditional x) = (e : ℕ) × (wholeExpression mixed s at ≡ read (parsed x e))
 Stated s at D.group = Unit {0}
-Stated s at (D.iterated n x bs) = (m : Named) × (nameAt s at ≡ read m) × (m .spelling ≡ n) × ((q : ℕ) × (e : ℕ) × (expectSign "=" s (m .to) ≡ read q) × (wholeExpression s q ≡ read (parsed x e)) × (length bs ≤ 2) × Bounded s bs e)
-Stated s at (D.goto n) = (m : Named) × (nameAt s at ≡ read m) × (m .spelling ≡ n)
+Stated s at (D.iterated n x bs) = (m : Named) × (nameAt mixed s at ≡ read m) × (m .spelling ≡ n) × ((q : ℕ) × (e : ℕ) × (expectSign mixed "=" s (m .to) ≡ read q) × (wholeExpression mixed s q ≡ read (parsed x e)) × (length bs ≤ 2) × Bounded s bs e)
+Stated s at (D.goto n) = (m : Named) × (nameAt mixed s at ≡ read m) × (m .spelling ≡ n)
 Stated s at (D.include ns) = Unit {0}
 Stated s at (D.activate ns) = Unit {0}
 Stated s at (D.deactivate ns) = Unit {0}
-Stated s at (D.return x) = (q : ℕ) × (e : ℕ) × (expectSign "(" s at ≡ read q) × (wholeExpression s q ≡ read (parsed x e))
+Stated s at (D.return x) = (q : ℕ) × (e : ℕ) × (expectSign mixed "(" s at ≡ read q) × (wholeExpression mixed s q ≡ read (parsed x e))
 
 -- the rows of each member are its part of the table, in the body of the member; every body that a name of B has is among them, and
 -- every row that a label of a procedure leads to; parameters that all have a name are at most as many as names

@@ -12,7 +12,7 @@ use lib.Dec.{leb, eqb}
 use lib.ListN.{length, getD, take, drop}
 use Rattle.definition.specs.Choice.{when}
 use Rattle.definition.specs.Lists.{leading}
-use Rattle.definition.specs.Bytes.{isBlank}
+use Rattle.definition.specs.Bytes.{mixed, isBlank}
 use Rattle.definition.specs.Tokens.{pieceAt}
 use Rattle.definition.specs.Scan as D
 use Rattle.definition.specs.Scan.{Argument, listUpTo, noList, cutOn, listAt}
@@ -62,7 +62,7 @@ append-length [] x = refl
 append-length (y ∷ xs) x = let e : length (xs ++ x ∷ []) ≡ length xs + 1 = append-length xs x in omega arith
 
 -- ---- turns enough
-cut-past : (f : ℕ) (t : List ℕ) (d from : ℕ) (xs : List Argument) (p : ℕ) → length t ≤ p → cutOn f t d from xs p ≡ noList
+cut-past : (f : ℕ) (t : List ℕ) (d from : ℕ) (xs : List Argument) (p : ℕ) → length t ≤ p → cutOn mixed f t d from xs p ≡ noList
 unfolding cutOn
 cut-past zero t d from xs p h = refl
 cut-past (suc f) t d from xs p h = rw (le-leb (length t) p h)
@@ -75,9 +75,9 @@ turn t d from xs p on =
     (λ _. when (eqb (getD t p 0) 41 && eqb d 0) (λ _. listUpTo (xs ++ argument from p ∷ []) (p + 1))
     (λ _. when (eqb (getD t p 0) 41) (λ _. on (d - 1) from xs (p + 1))
     (λ _. when (eqb (getD t p 0) 44 && eqb d 0) (λ _. on d (p + 1) (xs ++ argument from p ∷ []) (p + 1))
-    (λ _. on d from xs (pieceAt t p .to))))))
+    (λ _. on d from xs (pieceAt mixed t p .to))))))
 
-cut-turn : (f : ℕ) (t : List ℕ) (d from : ℕ) (xs : List Argument) (p : ℕ) → cutOn (suc f) t d from xs p ≡ turn t d from xs p (cutOn f t)
+cut-turn : (f : ℕ) (t : List ℕ) (d from : ℕ) (xs : List Argument) (p : ℕ) → cutOn mixed (suc f) t d from xs p ≡ turn t d from xs p (cutOn mixed f t)
 unfolding cutOn
 cut-turn f t d from xs p = refl
 
@@ -95,13 +95,13 @@ turn-same t d from xs p f g h = by (leb (length t) p) refl
         (when-same (eqb (getD t p 0) 41 && eqb d 0) _ _ _ _ refl
         (when-same (eqb (getD t p 0) 41) _ _ _ _ (s (d - 1) from xs (p + 1) (omega arith))
         (when-same (eqb (getD t p 0) 44 && eqb d 0) _ _ _ _ (s d (p + 1) (xs ++ argument from p ∷ []) (p + 1) (omega arith))
-        (s d from xs (pieceAt t p .to) (pieceAt-past t p l .above))))))
+        (s d from xs (pieceAt mixed t p .to) (pieceAt-past t p l .above))))))
 
-cut-enough : (f g : ℕ) (t : List ℕ) (d from : ℕ) (xs : List Argument) (p : ℕ) → length t < p + f → length t < p + g → cutOn f t d from xs p ≡ cutOn g t d from xs p
+cut-enough : (f g : ℕ) (t : List ℕ) (d from : ℕ) (xs : List Argument) (p : ℕ) → length t < p + f → length t < p + g → cutOn mixed f t d from xs p ≡ cutOn mixed g t d from xs p
 cut-enough zero g t d from xs p h k = cut-past 0 t d from xs p (omega arith) ∙ sym (cut-past g t d from xs p (omega arith))
 cut-enough (suc f) zero t d from xs p h k = cut-past (suc f) t d from xs p (omega arith) ∙ sym (cut-past 0 t d from xs p (omega arith))
 cut-enough (suc f) (suc g) t d from xs p h k =
-    cut-turn f t d from xs p ∙ turn-same t d from xs p (cutOn f t) (cutOn g t) (λ e b ys q l m. cut-enough f g t e b ys q (omega arith) (omega arith)) ∙ sym (cut-turn g t d from xs p)
+    cut-turn f t d from xs p ∙ turn-same t d from xs p (cutOn mixed f t) (cutOn mixed g t) (λ e b ys q l m. cut-enough f g t e b ys q (omega arith) (omega arith)) ∙ sym (cut-turn g t d from xs p)
 
 -- what was cut before stays before
 turn-before : (t : List ℕ) (d from : ℕ) (xs ys : List Argument) (p : ℕ) (f : ℕ → ℕ → List Argument → ℕ → D.Arguments)
@@ -113,46 +113,46 @@ turn-before t d from xs ys p f h =
     (when-before xs (eqb (getD t p 0) 41 && eqb d 0) _ _ _ _ (ap (λ (l : List Argument). listUpTo l (p + 1)) e)
     (when-before xs (eqb (getD t p 0) 41) _ _ _ _ (h (d - 1) from ys (p + 1))
     (when-before xs (eqb (getD t p 0) 44 && eqb d 0) _ _ _ _ (ap (λ (l : List Argument). f d (p + 1) l (p + 1)) e ∙ h d (p + 1) (ys ++ argument from p ∷ []) (p + 1))
-    (h d from ys (pieceAt t p .to))))))
+    (h d from ys (pieceAt mixed t p .to))))))
 
-cut-before : (f : ℕ) (t : List ℕ) (d from : ℕ) (xs ys : List Argument) (p : ℕ) → cutOn f t d from (xs ++ ys) p ≡ before xs (cutOn f t d from ys p)
+cut-before : (f : ℕ) (t : List ℕ) (d from : ℕ) (xs ys : List Argument) (p : ℕ) → cutOn mixed f t d from (xs ++ ys) p ≡ before xs (cutOn mixed f t d from ys p)
 unfolding cutOn
 cut-before zero t d from xs ys p = refl
-cut-before (suc f) t d from xs ys p = turn-before t d from xs ys p (cutOn f t) (λ e b zs q. cut-before f t e b xs zs q)
+cut-before (suc f) t d from xs ys p = turn-before t d from xs ys p (cutOn mixed f t) (λ e b zs q. cut-before f t e b xs zs q)
 
 -- ---- one turn at a place of the text, with d parentheses open
 module _ (t : List ℕ) (d from p : ℕ) (h : p < length t) where
   abbrev most : ℕ
   most = suc (length t)
 
-  more : (e b : ℕ) (xs : List Argument) (q : ℕ) → p < q → cutOn (length t) t e b xs q ≡ cutOn most t e b xs q
+  more : (e b : ℕ) (xs : List Argument) (q : ℕ) → p < q → cutOn mixed (length t) t e b xs q ≡ cutOn mixed most t e b xs q
   more e b xs q l = cut-enough (length t) most t e b xs q (omega arith) (omega arith)
 
-  unfold-turn : cutOn most t d from [] p ≡ turn t d from [] p (cutOn most t)
-  unfold-turn = cut-turn (length t) t d from [] p ∙ turn-same t d from [] p (cutOn (length t) t) (cutOn most t) (λ e b xs q l m. more e b xs q m)
+  unfold-turn : cutOn mixed most t d from [] p ≡ turn t d from [] p (cutOn mixed most t)
+  unfold-turn = cut-turn (length t) t d from [] p ∙ turn-same t d from [] p (cutOn mixed (length t) t) (cutOn mixed most t) (λ e b xs q l m. more e b xs q m)
 
   in-text : leb (length t) p ≡ false
   in-text = lt-leb (length t) p h
 
-  turn-open : getD t p 0 ≡ 40 → cutOn most t d from [] p ≡ cutOn most t (suc d) from [] (p + 1)
+  turn-open : getD t p 0 ≡ 40 → cutOn mixed most t d from [] p ≡ cutOn mixed most t (suc d) from [] (p + 1)
   turn-open e = unfold-turn ∙ rw (in-text, eq-eqb (getD t p 0) 40 e)
 
-  turn-close : getD t p 0 ≡ 41 → d ≡ 0 → cutOn most t d from [] p ≡ listUpTo (argument from p ∷ []) (p + 1)
+  turn-close : getD t p 0 ≡ 41 → d ≡ 0 → cutOn mixed most t d from [] p ≡ listUpTo (argument from p ∷ []) (p + 1)
   turn-close e z = unfold-turn ∙ rw (in-text, e, z)
 
-  turn-less : getD t p 0 ≡ 41 → 0 < d → cutOn most t d from [] p ≡ cutOn most t (d - 1) from [] (p + 1)
+  turn-less : getD t p 0 ≡ 41 → 0 < d → cutOn mixed most t d from [] p ≡ cutOn mixed most t (d - 1) from [] (p + 1)
   turn-less e z = let n : eqb d 0 ≡ false = ne-eqb d 0 (λ y. omega arith) in unfold-turn ∙ rw (in-text, e, n)
 
-  turn-comma : getD t p 0 ≡ 44 → d ≡ 0 → cutOn most t d from [] p ≡ before (argument from p ∷ []) (cutFrom t (p + 1))
+  turn-comma : getD t p 0 ≡ 44 → d ≡ 0 → cutOn mixed most t d from [] p ≡ before (argument from p ∷ []) (cutFrom t (p + 1))
   unfolding cutFrom
   turn-comma e z = unfold-turn ∙ rw (in-text, e, z) (cut-before most t 0 (p + 1) (argument from p ∷ []) [] (p + 1))
 
-  turn-piece : (getD t p 0 ≡ 40 → ⊥) → (getD t p 0 ≡ 41 → ⊥) → (eqb (getD t p 0) 44 && eqb d 0) ≡ false → cutOn most t d from [] p ≡ cutOn most t d from [] (pieceAt t p .to)
+  turn-piece : (getD t p 0 ≡ 40 → ⊥) → (getD t p 0 ≡ 41 → ⊥) → (eqb (getD t p 0) 44 && eqb d 0) ≡ false → cutOn mixed most t d from [] p ≡ cutOn mixed most t d from [] (pieceAt mixed t p .to)
   turn-piece e f g = unfold-turn ∙ rw (in-text, ne-eqb (getD t p 0) 40 e, ne-eqb (getD t p 0) 41 f, g)
 
 -- ---- where an argument ends
 pub record Cut (t : List ℕ) (from p d turns : ℕ) : Type 0 where
-  pub is : cutOn (suc (length t)) t d from [] p ≡ cutFrom t from
+  pub is : cutOn mixed (suc (length t)) t d from [] p ≡ cutFrom t from
   pub enough : length t ≤ p + turns
   pub low : from ≤ p
   pub few : d ≤ p
@@ -204,8 +204,8 @@ module _ (t : List ℕ) (from p d turns : ℕ) (k : Ending′ t from p d turns) 
     ending-piece b x e f g i j r = record {
       so = λ l.
           let c = k .so l in
-          let u : x .to ≡ pieceAt t p .to = ap (λ (y : Piece). y .to) (j .is h) in
-          let v : p < pieceAt t p .to = pieceAt-past t p h .above in
+          let u : x .to ≡ pieceAt mixed t p .to = ap (λ (y : Piece). y .to) (j .is h) in
+          let v : p < pieceAt mixed t p .to = pieceAt-past t p h .above in
           record { is = rw u (sym (turn-piece t d from p h e f (sym g ∙ i)) ∙ c .is); enough = omega (arith, c .enough); low = omega (arith, c .low); few = omega (arith, c .few) };
     }
 
@@ -265,21 +265,21 @@ module _ (t : List ℕ) (first n from : ℕ) (k : Counting t first n from) where
 
 -- ---- the list behind a name
 pub list-some : (t : List ℕ) (p q b z : ℕ) (r : Listing) → q ≡ pastBlanks t p → b ≡ getD t (q + 0) 0 → b ≡ 40 → z ≡ sumTo greatest q 1 → ListingIs t z (cutFrom t z) r
-    → ListingIs t (pastBlanks t p + 1) (listAt t p) r
+    → ListingIs t (pastBlanks t p + 1) (listAt mixed t p) r
 unfolding pastBlanks listAt cutFrom
 list-some t p q b z r e f g i h = record {
   is = λ l.
       let v : getD t q 0 ≡ 40 = rw add-zero at (sym f ∙ g) in
       let n : q < length t = inside t q (λ y. let a : _≡_ {A = ℕ} 40 0 = sym v ∙ y in omega arith) in
       let u : z ≡ q + 1 = i ∙ sum-fits q 1 (omega arith) in
-      let x : listAt t p ≡ cutOn (length t) t 0 (q + 1) [] (q + 1) = rw (← e, v) in
-      let y : cutOn (suc (length t)) t 0 (q + 1) [] (q + 1) ≡ cutOn (length t) t 0 (q + 1) [] (q + 1) = cut-enough (suc (length t)) (length t) t 0 (q + 1) [] (q + 1) (omega arith) (omega arith) in
+      let x : listAt mixed t p ≡ cutOn mixed (length t) t 0 (q + 1) [] (q + 1) = rw (← e, v) in
+      let y : cutOn mixed (suc (length t)) t 0 (q + 1) [] (q + 1) ≡ cutOn mixed (length t) t 0 (q + 1) [] (q + 1) = cut-enough (suc (length t)) (length t) t 0 (q + 1) [] (q + 1) (omega arith) (omega arith) in
       let v₂ : listingFor z (cutFrom t z) ≡ listingFor (q + 1) (cutFrom t (q + 1)) = ap (λ (n : ℕ). listingFor n (cutFrom t n)) u in
-      let w : cutFrom t (q + 1) ≡ listAt t p = y ∙ sym x in
-      h .is l ∙ v₂ ∙ ap (listingFor (q + 1)) w ∙ ap (λ (n : ℕ). listingFor (n + 1) (listAt t p)) e;
+      let w : cutFrom t (q + 1) ≡ listAt mixed t p = y ∙ sym x in
+      h .is l ∙ v₂ ∙ ap (listingFor (q + 1)) w ∙ ap (λ (n : ℕ). listingFor (n + 1) (listAt mixed t p)) e;
 }
 
-pub list-none : (t : List ℕ) (p q b : ℕ) → q ≡ pastBlanks t p → b ≡ getD t (q + 0) 0 → (b ≡ 40 → ⊥) → ListingIs t (pastBlanks t p + 1) (listAt t p) L.NoList
+pub list-none : (t : List ℕ) (p q b : ℕ) → q ≡ pastBlanks t p → b ≡ getD t (q + 0) 0 → (b ≡ 40 → ⊥) → ListingIs t (pastBlanks t p + 1) (listAt mixed t p) L.NoList
 unfolding pastBlanks listAt
 list-none t p q b e f g = record {
   is = λ l.
@@ -295,7 +295,7 @@ module _ (t : List ℕ) (from to p : ℕ) where
   pub list-past : (r : Listing) → length t < to → ListIn t from to p r
   list-past r h = record { is = λ w. absurd (omega (arith, w .within)) }
 
-  pub list-in : (k : List ℕ) (r : Listing) → k ≡ take (to - from) (drop from t) → from ≤ to → to ≤ length t → ListingIs k (pastBlanks k p + 1) (listAt k p) r → ListIn t from to p r
+  pub list-in : (k : List ℕ) (r : Listing) → k ≡ take (to - from) (drop from t) → from ≤ to → to ≤ length t → ListingIs k (pastBlanks k p + 1) (listAt mixed k p) r → ListIn t from to p r
   list-in k r e h l g =
       let f : k ≡ stretchOf t from to = slice-is t k from to e h l in
       record { is = λ w. (rw f at g) .is (omega (arith, stretch-length t from to, w .short)) }
@@ -364,10 +364,10 @@ module _ (t : List ℕ) (p i : ℕ) (k : Passing t p isBlank i) where
   blanks-end h = passing-end t p isBlank i k h
 
 -- the arguments of a list are cut from behind its parenthesis on
-pub list-cut : (t : List ℕ) (p : ℕ) (xs : List Argument) (q : ℕ) → listAt t p ≡ listUpTo xs q → cutFrom t (pastBlanks t p + 1) ≡ listUpTo xs q
+pub list-cut : (t : List ℕ) (p : ℕ) (xs : List Argument) (q : ℕ) → listAt mixed t p ≡ listUpTo xs q → cutFrom t (pastBlanks t p + 1) ≡ listUpTo xs q
 unfolding pastBlanks listAt cutFrom
 list-cut t p xs q e = by (p + length (leading isBlank (drop p t))) (eqb (getD t (p + length (leading isBlank (drop p t))) 0) 40) e
   where
-    by : (r : ℕ) (b : Bool) → when b (λ _. cutOn (length t) t 0 (r + 1) [] (r + 1)) (λ _. noList) ≡ listUpTo xs q → cutOn (suc (length t)) t 0 (r + 1) [] (r + 1) ≡ listUpTo xs q
+    by : (r : ℕ) (b : Bool) → when b (λ _. cutOn mixed (length t) t 0 (r + 1) [] (r + 1)) (λ _. noList) ≡ listUpTo xs q → cutOn mixed (suc (length t)) t 0 (r + 1) [] (r + 1) ≡ listUpTo xs q
     by r true f = cut-enough (suc (length t)) (length t) t 0 (r + 1) [] (r + 1) (omega arith) (omega arith) ∙ f
     by r false f = never _ (cc)

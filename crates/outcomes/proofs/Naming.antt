@@ -7,6 +7,7 @@ use Prim.Native.Nat.{ℕ, zero, suc, _+_, _-_, _<_, _≤_}
 use native.Mathlib.Nat.{zero-add, add-zero}
 use native.Mathlib.Omega.{arith}
 use lib.ListN.{length, getD}
+use Rattle.definition.specs.Bytes.{mixed}
 use Rattle.definition.specs.Choice.{when}
 use Rattle.definition.specs.Lists.{part}
 use Rattle.definition.specs.Tokens as T
@@ -109,16 +110,16 @@ module _ (d names : List ℕ) (n : ℕ) (t : List ℕ) (x : Src) (p : ℕ) (y : 
   here = stretchOf t (x .from) (x .to)
 
   pub token-plain : (b : Bool) → b ≡ isName (y .kind) → b ≡ false → ActiveHere d names n t x p y NotActive
-  token-plain b e f = record { is = λ B k w h g. sym (not-active (T.pieceAt here p .piece) B (rw (g) at (sym e ∙ f))) }
+  token-plain b e f = record { is = λ B k w h g. sym (not-active (T.pieceAt mixed here p .piece) B (rw (g) at (sym e ∙ f))) }
 
   token-named : (b : Bool) (from m : ℕ) (r : Active) → b ≡ isName (y .kind) → b ≡ true → from ≡ sumTo greatest (x .from) p → m ≡ y .to - p → ActiveIs d names n (part m from t) r
       → ActiveHere d names n t x p y r
   unfolding stretchOf
   token-named b from m r e f i j a = record {
     is = λ B k w h g.
-        let q : T.pieceAt here p ≡ T.cut (pieceOf (y .kind) (part (y .to - p) p here)) (y .to) = piece-is here p y (record { is = λ _. g }) (rw (stretch-length t (x .from) (x .to)) h) in
+        let q : T.pieceAt mixed here p ≡ T.cut (pieceOf (y .kind) (part (y .to - p) p here)) (y .to) = piece-is here p y (record { is = λ _. g }) (rw (stretch-length t (x .from) (x .to)) h) in
         let past = pieceAt-past here p (rw (stretch-length t (x .from) (x .to)) h) in
-        let top : y .to ≡ T.pieceAt here p .to = ap (λ (z : Piece). z .to) g in
+        let top : y .to ≡ T.pieceAt mixed here p .to = ap (λ (z : Piece). z .to) g in
         let up : y .to ≤ x .to - x .from = omega (arith, past .within, stretch-length t (x .from) (x .to)) in
         let lower : p < y .to = omega (arith, past .above) in
         let u : from ≡ x .from + p = i ∙ sum-fits (x .from) p (omega (arith, w .short)) in

@@ -7,6 +7,7 @@ use Prim.Native.Nat.{ℕ, zero, suc, _+_, _-_, _<_, _≤_}
 use native.Mathlib.Omega.{arith}
 use lib.ListN.{length, getD, take, drop}
 use lib.Seq.{drop-cons}
+use Rattle.definition.specs.Bytes.{mixed}
 use Rattle.definition.specs.Lists.{part}
 use Rattle.definition.proofs.Parts.{length-part}
 use Rattle.definition.specs.Tokens as T
@@ -35,7 +36,7 @@ slice-is t k from to e h l = e ∙ part-is (to - from) from t (omega arith)
 pub piece-in : (t k : List ℕ) (from to p : ℕ) (r : Piece) → k ≡ take (to - from) (drop from t) → from ≤ to → to ≤ length t → Cuts k p r → PieceIn t from to p r
 piece-in t k from to p r e h l c =
     let f : k ≡ stretchOf t from to = slice-is t k from to e h l in
-    record { is = λ w q. c .is (rw f (omega (arith, stretch-length t from to))) ∙ ap (λ (x : List ℕ). pieceFor (T.pieceAt x p)) f }
+    record { is = λ w q. c .is (rw f (omega (arith, stretch-length t from to))) ∙ ap (λ (x : List ℕ). pieceFor (T.pieceAt mixed x p)) f }
 
 pub piece-past : (t : List ℕ) (from to p : ℕ) (r : Piece) → length t < to → PieceIn t from to p r
 piece-past t from to p r h = record { is = λ w q. absurd (omega (arith, w .within)) }

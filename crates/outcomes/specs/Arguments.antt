@@ -5,7 +5,7 @@ use mathlib.Core.List.{List, [], _∷_, _++_}
 use lib.ListN.{length, drop}
 use Rattle.definition.specs.Limits.{textBytes}
 use Rattle.definition.specs.Lists.{leading}
-use Rattle.definition.specs.Bytes.{isBlank}
+use Rattle.definition.specs.Bytes.{mixed, isBlank}
 use Rattle.definition.specs.Scan as D
 use Rattle.definition.specs.Scan.{Argument, listUpTo, noList, cutOn, listAt}
 use Rattle.outcomes.specs.declared.Ending.{Ending}
@@ -16,7 +16,7 @@ use Rattle.outcomes.specs.Texts.{stretchOf, Within}
 
 -- the arguments from a place on, with turns enough
 unfoldable pub cutFrom : List ℕ → ℕ → D.Arguments
-cutFrom t from = cutOn (suc (length t)) t 0 from [] from
+cutFrom t from = cutOn mixed (suc (length t)) t 0 from [] from
 
 abbrev pub argument : ℕ → ℕ → Argument
 argument from to = record { from = from; to = to }
@@ -59,7 +59,7 @@ pastBlanks t p = p + length (leading isBlank (drop p t))
 
 -- the list behind p of the stretch of t
 pub record ListIn (t : List ℕ) (from to p : ℕ) (r : Listing) : Type 0 where
-  pub is : Within t from to → r ≡ listingFor (pastBlanks (stretchOf t from to) p + 1) (listAt (stretchOf t from to) p)
+  pub is : Within t from to → r ≡ listingFor (pastBlanks (stretchOf t from to) p + 1) (listAt mixed (stretchOf t from to) p)
 
 -- the first of the arguments xs is the one from p to r, and the others follow behind a comma
 abbrev pub Ends : List ℕ → ℕ → ℕ → List Argument → ℕ → Type 0

@@ -3,6 +3,7 @@ use Prim.Native.Nat.{ℕ, zero, suc, _-_, _<_, _≤_}
 use mathlib.Core.Bool.{Bool, true, false, cond}
 use mathlib.Core.Path.{_≡_}
 use mathlib.Core.List.{List, [], _∷_}
+use Rattle.definition.specs.Bytes.{mixed}
 use Rattle.definition.specs.Limits.{textBytes}
 use lib.ListN.{length}
 use Rattle.definition.specs.Lists.{part}
@@ -39,7 +40,7 @@ pub record Within (t : List ℕ) (from to : ℕ) : Type 0 where
   pub short : to ≤ textBytes
 
 pub record PieceIn (t : List ℕ) (from to p : ℕ) (r : Piece) : Type 0 where
-  pub is : Within t from to → p < to - from → r ≡ pieceFor (T.pieceAt (stretchOf t from to) p)
+  pub is : Within t from to → p < to - from → r ≡ pieceFor (T.pieceAt mixed (stretchOf t from to) p)
 
 abbrev pub partOf : Src → ℕ → ℕ → Src
 partOf x from to = record { «in_work» = x .«in_work»; from = sumTo greatest (x .from) from; to = sumTo greatest (x .from) to }
@@ -70,5 +71,5 @@ isName K.Unclosed = false
 -- the same of the token y that stands at p of a source in the room t
 pub record ActiveHere (d names : List ℕ) (n : ℕ) (t : List ℕ) (x : Src) (p : ℕ) (y : Piece) (r : Active) : Type 0 where
   pub is : (B : World) → Awake d names n B → Within t (x .from) (x .to) → p < x .to - x .from
-      → y ≡ pieceFor (T.pieceAt (stretchOf t (x .from) (x .to)) p)
-      → activeFor r ≡ D.activeIn (T.pieceAt (stretchOf t (x .from) (x .to)) p .piece) B
+      → y ≡ pieceFor (T.pieceAt mixed (stretchOf t (x .from) (x .to)) p)
+      → activeFor r ≡ D.activeIn (T.pieceAt mixed (stretchOf t (x .from) (x .to)) p .piece) B

@@ -5,6 +5,7 @@ ghost use mathlib.Core.Path.{_≡_};
 ghost use mathlib.Core.Bool.{_&&_};
 ghost use Prim.Native.Nat.{_+_};
 ghost use lib.Dec.{eqb};
+ghost use Rattle.definition.specs.Bytes.{mixed};
 ghost use Rattle.definition.specs.Lists.{part};
 ghost use Rattle.definition.specs.Scan as D;
 ghost use Rattle.definition.specs.Values.{fixedText};
@@ -383,7 +384,7 @@ fn past_blanks(t: &[u8], p: usize) -> usize
 
 // "needs `(`, after blanks only"
 fn list_at(t: &[u8], p: usize) -> Listing
-    ensures { λ r. ⌜ ListingIs (now (t .entry)) (pastBlanks (now (t .entry)) p + 1) (D.listAt (now (t .entry)) p) r ⌝ }
+    ensures { λ r. ⌜ ListingIs (now (t .entry)) (pastBlanks (now (t .entry)) p + 1) (D.listAt mixed (now (t .entry)) p) r ⌝ }
 {
     let q = past_blanks(t, p);
     if byte(t, q, 0) == b'(' {

@@ -8,6 +8,7 @@ use mathlib.Core.Path.{_≡_, refl, sym, ap, _∙_}
 use lib.Dec.{eqb}
 use lib.ListN.{length}
 use Rattle.definition.specs.declared.Layout.the-variants.{Cards as cards}
+use Rattle.definition.specs.Bytes.{mixed}
 use Rattle.definition.specs.Deck as Deck
 use Rattle.definition.specs.Deck.{count, lineAt, isSound}
 use Rattle.definition.specs.Reading.{readMember}
@@ -42,8 +43,8 @@ told-same d e x agree h c =
     λ i. record { number = x .number; member = x .member; offset = cond (eqb (x .number) 0) 0 (given (p i) (x .offset)); steps = x .steps; text = x .text; lines = q i }
 
 -- ---- the joined decks differ in the body of k at most
-module _ (d : List ℕ) (k : ℕ) (b : List ℕ) (sound : isSound d ≡ true) (member : k < count d) (fits : length b ≡ lineAt d k .size) where
-  sound-there : isSound (withBody k b d) ≡ true
+module _ (d : List ℕ) (k : ℕ) (b : List ℕ) (sound : isSound mixed d ≡ true) (member : k < count d) (fits : length b ≡ lineAt d k .size) where
+  sound-there : isSound mixed (withBody k b d) ≡ true
   sound-there = sound-same d k b sound member fits ∙ sound
 
   contents : Deck.lines (joined (withBody k b d)) ≡ Deck.lines (joined d)
@@ -63,21 +64,21 @@ module _ (d : List ℕ) (k : ℕ) (b : List ℕ) (sound : isSound d ≡ true) (m
       let j : m < count (withBody k b d) = omega (arith, count-same d k b sound member fits) in
       size-joined (withBody k b d) sound-there m j ∙ ap (λ (l : Deck.Line). joinedSize l) (line-same d k b sound member fits m i) ∙ sym (size-joined d sound m i)
 
-  run-same : (w : World) → 0 < k → (MainAtBar k (enter 0 (readMember (bodyOf (joined d) 0)) w) (joined d) → ⊥) → runMain (enter 0 (readMember (bodyOf (joined (withBody k b d)) 0)) w) (joined (withBody k b d)) ≡ runMain (enter 0 (readMember (bodyOf (joined d) 0)) w) (joined d)
+  run-same : (w : World) → 0 < k → (MainAtBar k (enter 0 (readMember mixed (bodyOf (joined d) 0)) w) (joined d) → ⊥) → runMain mixed (enter 0 (readMember mixed (bodyOf (joined (withBody k b d)) 0)) w) (joined (withBody k b d)) ≡ runMain mixed (enter 0 (readMember mixed (bodyOf (joined d) 0)) w) (joined d)
   run-same w i never = runs-same k (joined d) (joined (withBody k b d)) contents bodies i (sound-parts (joined d) (sound-joined d sound) .some) w never
 
 -- UNREAD, of a card deck
 pub unread-cards : (d : List ℕ) → UnreadCards d
 unfolding expansionOf
 unread-cards d roomy k b t l s sound i j fits never =
-    rw (sound-there d k b sound j fits, sound) (ap (λ (ls : List Deck.Line). cardsIn (uneven 0 ls) roomy (withBody k b d) t l s) (lines-same d k b sound j fits) ∙ go (uneven 0 (Deck.lines d)) roomy)
+    rw (sound-there d k b sound j fits, sound) (ap (λ (ls : List Deck.Line). cardsIn mixed (uneven 0 ls) roomy (withBody k b d) t l s) (lines-same d k b sound j fits) ∙ go (uneven 0 (Deck.lines d)) roomy)
   where
-    go : (f : Deck.Found) (y : Bool) → cardsIn f y (withBody k b d) t l s ≡ cardsIn f y d t l s
+    go : (f : Deck.Found) (y : Bool) → cardsIn mixed f y (withBody k b d) t l s ≡ cardsIn mixed f y d t l s
     go (Deck.line n) y = refl
     go Deck.none false = refl
     go Deck.none true =
         let w : World = worldFor cards t l s in
-        let x : Expansion = runMain (enter 0 (readMember (bodyOf (joined d) 0)) w) (joined d) in
+        let x : Expansion = runMain mixed (enter 0 (readMember mixed (bodyOf (joined d) 0)) w) (joined d) in
         let some : 0 < count (joined d) = sound-parts (joined d) (sound-joined d sound) .some in
         ap (told (joined (withBody k b d))) (run-same d k b sound j fits w i never)
         ∙ told-same (joined d) (joined (withBody k b d)) x (sizes d k b sound j fits) (answer-listed k (joined d) i some w never) (run-cut (joined d) cards t l s some)

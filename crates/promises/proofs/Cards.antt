@@ -7,6 +7,7 @@ use mathlib.Core.List.{List}
 use mathlib.Core.Path.{_≡_, refl, sym, ap, _∙_}
 use lib.ListN.{length}
 use borrow.Author.Tests.{eq-eqb, ne-eqb}
+use Rattle.definition.specs.Bytes.{mixed}
 use Rattle.definition.specs.Deck.{count, lineAt, lines, none, isSound}
 use Rattle.definition.specs.Cards.{uneven, joined, column, given}
 use Rattle.definition.specs.Run.{bodyOf}
@@ -19,7 +20,7 @@ use Rattle.promises.proofs.Rejoined.{back-given, whole-joined}
 use Rattle.promises.specs.Cards.{Joins, Places, KeepsLayout, AllInRooms}
 
 -- THE JOINED DECK
-pub joins : (d : List ℕ) → isSound d ≡ true → Joins d
+pub joins : (d : List ℕ) → isSound mixed d ≡ true → Joins d
 joins d s = record {
   sound = sound-joined d s;
   shorter = joined-shorter d s;
@@ -37,7 +38,7 @@ pub in-rooms : (d : List ℕ) → AllInRooms d
 in-rooms d y roomy t l s = record { text = fitting y roomy d t l s .text; list = fitting y roomy d t l s .list }
 
 -- PLACES
-module _ (d : List ℕ) (sound : isSound d ≡ true) (even : uneven 0 (lines d) ≡ none) where
+module _ (d : List ℕ) (sound : isSound mixed d ≡ true) (even : uneven 0 (lines d) ≡ none) where
   inside-is : (size p : ℕ) → p < size → given size p ≡ column p
   unfolding given
   inside-is size p h = rw (ne-eqb p size λ e. absurd (omega arith))

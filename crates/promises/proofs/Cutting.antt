@@ -10,6 +10,7 @@ use lib.Dec.{eqb}
 use lib.ListN.{length, getD, drop, length-append, length-take, drop-of-length-le}
 use lib.Seq.{take-all, take-append-le, drop-append-le}
 use borrow.Author.Tests.{eqb-true, eq-eqb}
+use Rattle.definition.specs.Bytes.{mixed}
 use Rattle.definition.specs.Lists.{part}
 use Rattle.definition.specs.Events.{Event, blank, copied, replaced, textOf, Line, line, goesOn, joins, longer, linesOf}
 use Rattle.definition.specs.Run.{bodyOf}
@@ -186,7 +187,7 @@ module _ (d : List ℕ) where
   happens : (e : Event) (g : Pass) (n : ℕ) (w : World) → In (memberOf e) → Takes d e n w → Fair w → Fair (withEvent e g n w)
   happens e g n w i t h = record { full = full-more e (w .events) (t .full) (h .full); copies = (t .true, h .copies); listed = (i, h .listed) }
 
-  founds : (x : Deck.Sought) (k : ℕ) → Deck.find x 0 (Deck.lines d) ≡ Deck.line k → In k
+  founds : (x : Deck.Sought) (k : ℕ) → Deck.find mixed x 0 (Deck.lines d) ≡ Deck.line k → In k
   founds x k e = omega (arith, find-range x 0 (Deck.lines d) k e, length-lines d 0 (count d))
 
   result-cut : {r : Res Stop End} → Leaves fair (OfEnd Any) r → Cut d (result r .lines) (result r .text)
@@ -195,21 +196,21 @@ module _ (d : List ℕ) where
   result-cut (leaves {a = went t} {w} e h) = events-cut (w .events) (h .full) (h .copies) (h .listed) .1
   result-cut (stops h) = refl
 
-  main-cut : 0 < count d → {e : Entering} → SoundEntering fair e → Cut d (runMain e d .lines) (runMain e d .text)
+  main-cut : 0 < count d → {e : Entering} → SoundEntering fair e → Cut d (runMain mixed e d .lines) (runMain mixed e d .text)
   main-cut i unreadable-any = refl
   main-cut i (entered-sound {w} h) = result-cut (member-leaves-in fair d In founds (text-out-in fair d In happens) includeLevels 0 i [] w h)
 
   -- in each layout
-  pub run-cut : (y : Layout) (textRoom listRoom steps : ℕ) → 0 < count d → Cut d (runMain (enter 0 (readMember (bodyOf d 0)) (worldFor y textRoom listRoom steps)) d .lines) (runMain (enter 0 (readMember (bodyOf d 0)) (worldFor y textRoom listRoom steps)) d .text)
-  run-cut y textRoom listRoom steps i = main-cut i (enter-leaves fair 0 (readMember (bodyOf d 0)) (record { full = tt; copies = tt; listed = tt }))
+  pub run-cut : (y : Layout) (textRoom listRoom steps : ℕ) → 0 < count d → Cut d (runMain mixed (enter 0 (readMember mixed (bodyOf d 0)) (worldFor y textRoom listRoom steps)) d .lines) (runMain mixed (enter 0 (readMember mixed (bodyOf d 0)) (worldFor y textRoom listRoom steps)) d .text)
+  run-cut y textRoom listRoom steps i = main-cut i (enter-leaves fair 0 (readMember mixed (bodyOf d 0)) (record { full = tt; copies = tt; listed = tt }))
 
   -- THE PARTITION, for every deck, every size of the rooms and every limit
-  pub expansion-cut : (roomy : Bool) (textRoom listRoom steps : ℕ) → Cut d (expansion roomy d textRoom listRoom steps .lines) (expansion roomy d textRoom listRoom steps .text)
+  pub expansion-cut : (roomy : Bool) (textRoom listRoom steps : ℕ) → Cut d (expansion mixed roomy d textRoom listRoom steps .lines) (expansion mixed roomy d textRoom listRoom steps .text)
   unfolding expansion
   expansion-cut roomy textRoom listRoom steps =
-      when-has (λ (x : Expansion). Cut d (x .lines) (x .text)) (isSound d) _ _
+      when-has (λ (x : Expansion). Cut d (x .lines) (x .text)) (isSound mixed d) _ _
       (λ s. when-has (λ (x : Expansion). Cut d (x .lines) (x .text)) roomy _ _ (λ _. run-cut plain textRoom listRoom steps (sound-parts d s .some)) λ _. refl)
       λ _. refl
 
-  pub partition : (roomy : Bool) (textRoom listRoom steps : ℕ) → Partition d (expansion roomy d textRoom listRoom steps)
-  partition roomy textRoom listRoom steps = of-cut (expansion roomy d textRoom listRoom steps) (expansion-cut roomy textRoom listRoom steps)
+  pub partition : (roomy : Bool) (textRoom listRoom steps : ℕ) → Partition d (expansion mixed roomy d textRoom listRoom steps)
+  partition roomy textRoom listRoom steps = of-cut (expansion mixed roomy d textRoom listRoom steps) (expansion-cut roomy textRoom listRoom steps)

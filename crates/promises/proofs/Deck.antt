@@ -9,6 +9,7 @@ use mathlib.Core.Path.{_≡_, refl, sym, ap}
 use lib.Dec.{leb, ltb, eqb}
 use lib.ListN.{length}
 use borrow.Author.Tests.{eqb-true, ltb-true, ltb-false}
+use Rattle.definition.specs.Bytes.{mixed}
 use Rattle.definition.specs.Lists.{part, number}
 use Rattle.definition.specs.Limits.{deckBytes, deckLines}
 use Rattle.definition.specs.Room.{over}
@@ -49,12 +50,12 @@ follows-apart d i (suc n) at end (suc j) (suc k) e h g =
     rw (add-suc, add-suc, ← suc-add, ← suc-add) (follows-apart d (suc i) n (at + lineAt d i .size) end j k (and-right (eqb (lineAt d i .offset) at) _ e) (omega arith) (omega arith))
 
 -- ---- how a member is found
-pub find-range : (x : Sought) (i : ℕ) (ls : List Line) (j : ℕ) → find x i ls ≡ line j → j < i + length ls
+pub find-range : (x : Sought) (i : ℕ) (ls : List Line) (j : ℕ) → find mixed x i ls ≡ line j → j < i + length ls
 unfolding find
 find-range x i [] j e = let z : _≡_ {A = ℕ} 0 1 = cc in absurd (omega arith)
-find-range x i (l ∷ ls) j e = go (isCalled x l) e (find-range x (suc i) ls j)
+find-range x i (l ∷ ls) j e = go (isCalled mixed x l) e (find-range x (suc i) ls j)
   where
-    go : (t : Bool) → cond t (line i) (find x (suc i) ls) ≡ line j → (find x (suc i) ls ≡ line j → j < suc i + length ls) → j < i + suc (length ls)
+    go : (t : Bool) → cond t (line i) (find mixed x (suc i) ls) ≡ line j → (find mixed x (suc i) ls ≡ line j → j < suc i + length ls) → j < i + suc (length ls)
     go true f h = let z : i ≡ j = cc in omega arith
     go false f h = omega (arith, h f)
 
@@ -95,10 +96,10 @@ module _ (d b : List ℕ) (at : ℕ) (behind : 2 ≤ at) where
       let f : linePlace d (suc i + n) ≡ linePlace d (i + suc n) = ap (linePlace d) e in
       rw (line-low i (omega (arith, f, place-up d (suc i) n)), lines-low (suc i) n (omega (arith, f)))
 
-module _ (d : List ℕ) (k : ℕ) (b : List ℕ) (sound : isSound d ≡ true) (member : k < count d) (fits : length b ≡ lineAt d k .size) where
+module _ (d : List ℕ) (k : ℕ) (b : List ℕ) (sound : isSound mixed d ≡ true) (member : k < count d) (fits : length b ≡ lineAt d k .size) where
   followed : follow (linePlace d (count d)) (lines d) (length d) ≡ true
   unfolding isSound
-  followed = and-right (leb (length d) deckBytes && leb 1 (count d) && leb (count d) deckLines && leb (linePlace d (count d)) (length d) && areNamed (hasLibraries d) (lines d) && areDistinct (lines d)) (follow (linePlace d (count d)) (lines d) (length d)) sound
+  followed = and-right (leb (length d) deckBytes && leb 1 (count d) && leb (count d) deckLines && leb (linePlace d (count d)) (length d) && areNamed mixed (hasLibraries d) (lines d) && areDistinct mixed (lines d)) (follow (linePlace d (count d)) (lines d) (length d)) sound
 
   at-zero : (j : ℕ) → 0 + j ≡ j
   at-zero j = omega arith
@@ -127,7 +128,7 @@ module _ (d : List ℕ) (k : ℕ) (b : List ℕ) (sound : isSound d ≡ true) (m
   pub lines-same : lines (withBody k b d) ≡ lines d
   lines-same = rw count-same (lines-low d b (lineAt d k .offset) behind 0 (count d) (omega (arith, table, ap (linePlace d) (at-zero (count d)))))
 
-  pub sound-same : isSound (withBody k b d) ≡ isSound d
+  pub sound-same : isSound mixed (withBody k b d) ≡ isSound mixed d
   unfolding isSound
   sound-same = rw (lines-same, count-same, layout-same, place-low d b (lineAt d k .offset) behind (count d), length-over d (lineAt d k .offset) b)
 

@@ -10,6 +10,7 @@ use lib.Dec.{eqb}
 use lib.ListN.{length, getD, length-append}
 use borrow.Author.Tests.{eqb-true, eqb-false}
 use Rattle.definition.specs.declared.Layout.the-variants.{Cards as cards}
+use Rattle.definition.specs.Bytes.{mixed}
 use Rattle.definition.specs.Lists.{part}
 use Rattle.definition.specs.Deck as Deck
 use Rattle.definition.specs.Deck.{count, lineAt, isSound}
@@ -60,7 +61,7 @@ piece-next : (m q k p n : ℕ) (ls : List Line) → Piece m q ls → Next ls (li
 piece-next m q k p n [] h g = absurd h
 piece-next m q k p n (a ∷ ls) h g = (sym (h .1) ∙ g .member, let e : suc (column q) ≡ column p = sym (h .2) ∙ g .place in omega arith)
 
-module _ (d : List ℕ) (sound : isSound d ≡ true) where
+module _ (d : List ℕ) (sound : isSound mixed d ≡ true) where
   inside : (m p : ℕ) → m < count d → p < length (bodyOf (joined d) m) → column p + 1 ≤ length (bodyOf d m)
   unfolding bodyOf
   inside m p h i = omega (arith, length-body d sound m h, length-part (lineAt d m .size) (lineAt d m .offset) d)
@@ -157,14 +158,14 @@ none-given d n m p u = record { partition = record { cut = refl; longest = tt };
 
 pub as-given : (d : List ℕ) → AsGiven d
 unfolding expansionOf
-as-given d roomy t l s = when-has (CutAsGiven d) (isSound d) _ _ (λ e. go e (uneven 0 (Deck.lines d))) λ _. none-given d _ _ _ _
+as-given d roomy t l s = when-has (CutAsGiven d) (isSound mixed d) _ _ (λ e. go e (uneven 0 (Deck.lines d))) λ _. none-given d _ _ _ _
   where
-    go : isSound d ≡ true → (f : Deck.Found) → CutAsGiven d (cardsIn f roomy d t l s)
+    go : isSound mixed d ≡ true → (f : Deck.Found) → CutAsGiven d (cardsIn mixed f roomy d t l s)
     go e (Deck.line k) = none-given d _ _ _ _
     go e Deck.none =
         when-has (CutAsGiven d) roomy _ _
         (λ _.
-        let x : Expansion = runMain (enter 0 (readMember (bodyOf (joined d) 0)) (worldFor cards t l s)) (joined d) in
+        let x : Expansion = runMain mixed (enter 0 (readMember mixed (bodyOf (joined d) 0)) (worldFor cards t l s)) (joined d) in
         let c : Cut d (asGiven (sizeIn (joined d)) (x .lines)) (x .text) × InRecords (asGiven (sizeIn (joined d)) (x .lines)) = given-cut d e (sizeIn (joined d)) (x .lines) (x .text) (run-cut (joined d) cards t l s (sound-parts (joined d) (sound-joined d e) .some)) in
         record { partition = of-cut d (told (joined d) x) (c .0); records = c .1 })
         λ _. none-given d _ _ _ _

@@ -5,6 +5,7 @@ use native.Mathlib.Nat.{add-zero}
 use mathlib.Core.List.{List, []}
 use mathlib.Core.Path.{_≡_, refl, sym, ap, _∙_}
 use Rattle.definition.specs.declared.Why.{Why}
+use Rattle.definition.specs.Bytes.{mixed}
 use Rattle.definition.specs.World.{Pass, World, Res}
 use Rattle.definition.specs.Calls.{Place}
 use Rattle.definition.specs.Flow.{End, ran, returned, went}
@@ -35,8 +36,8 @@ module _ (gs : List Pass) where
       let r : w .linesLeft ≡ w .linesLeft + 0 = sym (add-zero (w .linesLeft)) in
       λ i. record { identifiers = w .identifiers; denotations = w .denotations; values = w .values; activities = w .activities; members = w .members; sentences = w .sentences; limit = p i; used = w .used; layout = w .layout; events = w .events; textLeft = q i; linesLeft = r i; passes = gs }
 
-  laid : (d : List ℕ) (n m : ℕ) (on : List Place) (w : World) → result (runMember n d m on (haunted gs w)) ≡ result (runMember n d m on (haunted [] w))
-  laid d n m on w = ap (λ (v : World). result (runMember n d m on v)) (grown w) ∙ result-same (member-follows 0 0 none-extra gs Never even d n m on (haunted [] w))
+  laid : (d : List ℕ) (n m : ℕ) (on : List Place) (w : World) → result (runMember mixed n d m on (haunted gs w)) ≡ result (runMember mixed n d m on (haunted [] w))
+  laid d n m on w = ap (λ (v : World). result (runMember mixed n d m on v)) (grown w) ∙ result-same (member-follows 0 0 none-extra gs Never even d n m on (haunted [] w))
 
 pub ghost-unread : (d : List ℕ) → GhostUnread d
 ghost-unread d n m on w gs hs = laid gs d n m on w ∙ sym (laid hs d n m on w)

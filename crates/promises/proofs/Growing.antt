@@ -9,6 +9,7 @@ use lib.Dec.{leb}
 use borrow.Author.Tests.{leb-true, leb-false}
 use Rattle.definition.specs.declared.Why.{Why}
 use Rattle.definition.specs.declared.Why.the-variants.{MalformedDeck as malformedDeck, ShortRoom as shortRoom, NoStep, RoomFull}
+use Rattle.definition.specs.Bytes.{mixed}
 use Rattle.definition.specs.Refusal.{numberOf}
 use Rattle.definition.specs.Choice.{when}
 use Rattle.definition.specs.Limits.{includeLevels, textBytes, originLineBytes}
@@ -47,7 +48,7 @@ module _ (a b : ℕ) (c : Extra) where
   result-kept (halts same) i j k = refl
   result-kept (lacks {e} h) i j k = absurd (undone (e .why) h j k)
 
-  main-kept : (d : List ℕ) {e f : Entering} → Enters a b c [] Wants spare e f → Kept (runMain e d) (runMain f d)
+  main-kept : (d : List ℕ) {e f : Entering} → Enters a b c [] Wants spare e f → Kept (runMain mixed e d) (runMain mixed f d)
   main-kept d refuses i j k = refl
   main-kept d (enters {w}) i j k = result-kept (member-follows a b c [] Wants spare d includeLevels 0 [] w) i j k
 
@@ -73,22 +74,22 @@ module _ (y : Layout) (t u l k s r : ℕ) (h : t ≤ u) (i : l ≤ k) (j : s ≤
       λ z. record { identifiers = []; denotations = []; values = []; activities = []; members = []; sentences = 0; limit = p z; used = 0; layout = y; events = []; textLeft = q z; linesLeft = o z; passes = [] }
 
   -- a run in each layout
-  run-kept : (d : List ℕ) → Kept (runMain (enter 0 (readMember (bodyOf d 0)) (worldFor y t l s)) d) (runMain (enter 0 (readMember (bodyOf d 0)) (worldFor y u k r)) d)
-  run-kept d = rw world-grown (main-kept (r - s) (capped u - capped t) lines d (enter-follows _ _ _ [] Wants (more-left steps room) 0 (readMember (bodyOf d 0)) (worldFor y t l s)))
+  run-kept : (d : List ℕ) → Kept (runMain mixed (enter 0 (readMember mixed (bodyOf d 0)) (worldFor y t l s)) d) (runMain mixed (enter 0 (readMember mixed (bodyOf d 0)) (worldFor y u k r)) d)
+  run-kept d = rw world-grown (main-kept (r - s) (capped u - capped t) lines d (enter-follows _ _ _ [] Wants (more-left steps room) 0 (readMember mixed (bodyOf d 0)) (worldFor y t l s)))
 
 -- MORE KEEPS, plain or cards
 pub more-keeps-in : (y : Layout) (d : List ℕ) → MoreKeepsIn y d
 unfolding expansionOf expansion
-more-keeps-in plain d roomy roomier t u l k s r e h i j = go (isSound d) roomy roomier e
+more-keeps-in plain d roomy roomier t u l k s r e h i j = go (isSound mixed d) roomy roomier e
   where
-    go : (x y z : Bool) → (y ≡ true → z ≡ true) → Kept (when x (λ _. when y (λ _. runMain (enter 0 (readMember (bodyOf d 0)) (worldFor plain t l s)) d) (λ _. refusal shortRoom 0 0 0)) (λ _. refusal malformedDeck 0 0 0)) (when x (λ _. when z (λ _. runMain (enter 0 (readMember (bodyOf d 0)) (worldFor plain u k r)) d) (λ _. refusal shortRoom 0 0 0)) (λ _. refusal malformedDeck 0 0 0))
+    go : (x y z : Bool) → (y ≡ true → z ≡ true) → Kept (when x (λ _. when y (λ _. runMain mixed (enter 0 (readMember mixed (bodyOf d 0)) (worldFor plain t l s)) d) (λ _. refusal shortRoom 0 0 0)) (λ _. refusal malformedDeck 0 0 0)) (when x (λ _. when z (λ _. runMain mixed (enter 0 (readMember mixed (bodyOf d 0)) (worldFor plain u k r)) d) (λ _. refusal shortRoom 0 0 0)) (λ _. refusal malformedDeck 0 0 0))
     go false y z f = λ _ _ _. refl
     go true false z f = λ n _ _. absurd (n refl)
     go true true false f = absurd (false≢true (f refl))
     go true true true f = run-kept plain t u l k s r h i j d
-more-keeps-in cards d roomy roomier t u l k s r e h i j = go (isSound d) (uneven 0 (Deck.lines d)) roomy roomier e
+more-keeps-in cards d roomy roomier t u l k s r e h i j = go (isSound mixed d) (uneven 0 (Deck.lines d)) roomy roomier e
   where
-    go : (x : Bool) (v : Deck.Found) (y z : Bool) → (y ≡ true → z ≡ true) → Kept (when x (λ _. cardsIn v y d t l s) (λ _. refusal malformedDeck 0 0 0)) (when x (λ _. cardsIn v z d u k r) (λ _. refusal malformedDeck 0 0 0))
+    go : (x : Bool) (v : Deck.Found) (y z : Bool) → (y ≡ true → z ≡ true) → Kept (when x (λ _. cardsIn mixed v y d t l s) (λ _. refusal malformedDeck 0 0 0)) (when x (λ _. cardsIn mixed v z d u k r) (λ _. refusal malformedDeck 0 0 0))
     go false v y z f = λ _ _ _. refl
     go true (Deck.line n) y z f = λ _ _ _. refl
     go true Deck.none false z f = λ n _ _. absurd (n refl)

@@ -13,7 +13,7 @@ use Rattle.definition.specs.declared.Why.the-variants.{MalformedDeck as malform
 use Rattle.definition.specs.Choice.{when}
 use Rattle.definition.specs.Limits.{includeLevels, runningProcedures, replacementLevels}
 use Rattle.definition.specs.Lists.{part, leading}
-use Rattle.definition.specs.Bytes.{isBlank}
+use Rattle.definition.specs.Bytes.{mixed, isBlank}
 use Rattle.definition.specs.Deck.{isSound}
 use Rattle.definition.specs.Tokens.{Piece, name, plain, unclosed, pieceAt}
 use Rattle.definition.specs.Program.{Stretch, Source}
@@ -103,7 +103,7 @@ every-bind (bad e u) f h = stopped
 
 data Behind (t : List ℕ) (q n : ℕ) : ℕ → Type 0 where
   name-only : n ≡ 0 → Behind t q n q
-  with-list : {r : ℕ} {xs : List Argument} → 0 < n → length xs ≡ n → listAt t q ≡ listUpTo xs r → Behind t q n r
+  with-list : {r : ℕ} {xs : List Argument} → 0 < n → length xs ≡ n → listAt mixed t q ≡ listUpTo xs r → Behind t q n r
 
 up-to : (t : List ℕ) (q n p : ℕ) (r : W.Res _ (List ℕ)) → Behind t q n p → Every (λ (x : Replaced). Behind t q n (x .to)) (upTo p r)
 up-to t q n p (good l w) h = each h
@@ -128,31 +128,31 @@ module _ (t : List ℕ) (q : ℕ) (run : Call) (scan : Scanner) (x : Activity) (
   abbrev Ends : ℕ → Replaced → Type 0
   Ends n r = Behind t q n (r .to)
 
-  list-behind : (n : ℕ) (c : Callee) → length (c .parameters) ≡ n → 0 < n → (l : Arguments) (w : World) → listAt t q ≡ l → Every (Ends n) (withList run scan t x i u c l w)
+  list-behind : (n : ℕ) (c : Callee) → length (c .parameters) ≡ n → 0 < n → (l : Arguments) (w : World) → listAt mixed t q ≡ l → Every (Ends n) (withList run scan t x i u c l w)
   list-behind n c h k noList w e = stopped
   list-behind n c h k (listUpTo xs p) w e = when-has (Every (Ends n)) (eqb (length xs) (length (c .parameters))) _ _
       (λ z. every-bind (scanArguments scan t (c .parameters) xs u w) _ λ vs v. up-to t q n p (callWith run scan x i u c vs v) (with-list k (eqb-true (length xs) (length (c .parameters)) z ∙ h) e)) λ _. stopped
 
-  entry-behind : (n : ℕ) (c : Callee) → length (c .parameters) ≡ n → (w : World) → Every (Ends n) (replaceEntry run scan t q x i u c w)
+  entry-behind : (n : ℕ) (c : Callee) → length (c .parameters) ≡ n → (w : World) → Every (Ends n) (replaceEntry mixed run scan t q x i u c w)
   unfolding replaceEntry
   entry-behind n c h w = when-has (Every (Ends n)) (eqb (length (c .parameters)) 0) _ _
       (λ z. up-to t q n q (callWith run scan x i u c [] w) (name-only (sym h ∙ eqb-true (length (c .parameters)) 0 z)))
-      λ z. list-behind n c h (positive n λ y. eqb-false (length (c .parameters)) 0 z (h ∙ y)) (listAt t q) w refl
+      λ z. list-behind n c h (positive n λ y. eqb-false (length (c .parameters)) 0 z (h ∙ y)) (listAt mixed t q) w refl
 
   cell-behind : (c : Cell) (w : World) → Every (Ends 0) (replaceCell c scan q x i u w)
   cell-behind W.noValue w = stopped
   cell-behind (W.holds v) w = up-to t q 0 q (outcome x scan i u (toCharacters v) w) (name-only refl)
 
-  as-behind : (d : Denotation) (a : ℕ) (w : World) → Every (Ends (asksFor d (w .members))) (replaceAs d run scan t q a x i u w)
+  as-behind : (d : Denotation) (a : ℕ) (w : World) → Every (Ends (asksFor d (w .members))) (replaceAs mixed d run scan t q a x i u w)
   as-behind (variableOf k) a w = cell-behind (W.valueAt a w) w
   as-behind (entryOf e b) a w = every-ask w _ (callee-asked e b w) λ c v h. entry-behind (asksFor (entryOf e b) (w .members)) c h v
   as-behind (labelAt m r z) a w = stopped
   as-behind builtinName a w = stopped
 
-replacer-behind : (run : Call) (n : ℕ) (t : List ℕ) (q a : ℕ) (x : Activity) (i : Into) (u : ℕ) (w : World) → Every (λ (r : Replaced). Behind t q (asksFor (W.denotation a w) (w .members)) (r .to)) (replacer run n t q a x i u w)
+replacer-behind : (run : Call) (n : ℕ) (t : List ℕ) (q a : ℕ) (x : Activity) (i : Into) (u : ℕ) (w : World) → Every (λ (r : Replaced). Behind t q (asksFor (W.denotation a w) (w .members)) (r .to)) (replacer mixed run n t q a x i u w)
 unfolding replacer
 replacer-behind run zero t q a x i u w = stopped
-replacer-behind run (suc n) t q a x i u w = as-behind t q run (scanWith (replacer run n)) x i u (W.denotation a w) a w
+replacer-behind run (suc n) t q a x i u w = as-behind t q run (scanWith mixed (replacer mixed run n)) x i u (W.denotation a w) a w
 
 -- a list ends behind its start
 data Past (p : ℕ) : Arguments → Type 0 where
@@ -163,7 +163,7 @@ past-more : (p q : ℕ) (l : Arguments) → p ≤ q → Past q l → Past p l
 past-more p q _ h (past {r} k) = past {r = r} (omega arith)
 past-more p q _ h open-list = open-list
 
-cut-past : (f : ℕ) (t : List ℕ) (d from : ℕ) (xs : List Argument) (p : ℕ) → Past p (cutOn f t d from xs p)
+cut-past : (f : ℕ) (t : List ℕ) (d from : ℕ) (xs : List Argument) (p : ℕ) → Past p (cutOn mixed f t d from xs p)
 unfolding cutOn
 cut-past zero t d from xs p = open-list
 cut-past (suc f) t d from xs p =
@@ -172,9 +172,9 @@ cut-past (suc f) t d from xs p =
     when-has (Past p) (eqb (getD t p 0) (code ")") && eqb d 0) _ _ (λ _. past {r = p + 1} (omega arith)) λ _.
     when-has (Past p) (eqb (getD t p 0) (code ")")) _ _ (λ _. past-more p (p + 1) _ (omega arith) (cut-past f t (d - 1) from xs (p + 1))) λ _.
     when-has (Past p) (eqb (getD t p 0) (code ",") && eqb d 0) _ _ (λ _. past-more p (p + 1) _ (omega arith) (cut-past f t d (p + 1) _ (p + 1))) λ _.
-    past-more p (pieceAt t p .to) _ (omega (arith, pieceAt-past t p (leb-false (length t) p e) .above)) (cut-past f t d from xs (pieceAt t p .to))
+    past-more p (pieceAt mixed t p .to) _ (omega (arith, pieceAt-past t p (leb-false (length t) p e) .above)) (cut-past f t d from xs (pieceAt mixed t p .to))
 
-list-past : (t : List ℕ) (p : ℕ) → Past p (listAt t p)
+list-past : (t : List ℕ) (p : ℕ) → Past p (listAt mixed t p)
 unfolding listAt
 list-past t p =
     let q : ℕ = p + length (leading isBlank (drop p t)) in
@@ -297,34 +297,34 @@ module _ (d : List ℕ) where
 
     module _ (p : ℕ) (h : p < length t) (v : World) (k : Stands (inside m x p) v) where
       abbrev q : ℕ
-      q = pieceAt t p .to
+      q = pieceAt mixed t p .to
 
       abbrev sight : List ℕ → ℕ → Pass
-      sight l r = passOf m (x .from + p) (pieceAt t p .piece) v l (x .from + r)
+      sight l r = passOf m (x .from + p) (pieceAt mixed t p .piece) v l (x .from + r)
 
       after : p < q
       after = pieceAt-past t p h .above
 
       abbrev seen : List ℕ → ℕ → Sight
-      seen l r = record { member = m; place = x .from + p; piece = pieceAt t p .piece; identifiers = v .identifiers; denotations = v .denotations; activities = v .activities; members = v .members; outcome = l; to = x .from + r }
+      seen l r = record { member = m; place = x .from + p; piece = pieceAt mixed t p .piece; identifiers = v .identifiers; denotations = v .denotations; activities = v .activities; members = v .members; outcome = l; to = x .from + r }
 
       goes-on : (l : List ℕ) (n r : ℕ) → Behind t q n r → Asks (seen l r) ≡ n → WasActive (seen l r) → GoesOnAt t q (seen l r) r
       goes-on l n _ (name-only z) e a = atOnce (λ _. e ∙ z)
       goes-on l n r (with-list k z i) e a = behindList a (omega arith) (z ∙ sym e) i
 
-      copied-on : activeIn (pieceAt t p .piece) v ≡ notActive → (n : ℕ) → Stands (inside m x q) (withEvent (copied m (x .from + p) (part (q - p) p t)) (sight (part (q - p) p t) q) n v)
+      copied-on : activeIn (pieceAt mixed t p .piece) v ≡ notActive → (n : ℕ) → Stands (inside m x q) (withEvent (copied m (x .from + p) (part (q - p) p t)) (sight (part (q - p) p t) q) n v)
       copied-on e n = record {
-        pairs = ((refl, refl, refl, omega (arith, after, length-part (q - p) p t), not-active (pieceAt t p .piece) v e), k .pairs);
-        scans = goesOn (k .scans) h refl refl refl refl (atOnce λ a. absurd (not-active (pieceAt t p .piece) v e a));
+        pairs = ((refl, refl, refl, omega (arith, after, length-part (q - p) p t), not-active (pieceAt mixed t p .piece) v e), k .pairs);
+        scans = goesOn (k .scans) h refl refl refl refl (atOnce λ a. absurd (not-active (pieceAt mixed t p .piece) v e a));
       }
 
-      replaced-on : (b : ℕ) (y : Activity) → activeIn (pieceAt t p .piece) v ≡ active b y → (r : Replaced) (w : World) → Behind t q (asksFor (W.denotation b v) (v .members)) (r .to) → Stands (inside m x p) w → Stands (inside m x (r .to)) (withEvent (replaced m (x .from + p) (r .bytes)) (sight (r .bytes) (r .to)) 1 w)
+      replaced-on : (b : ℕ) (y : Activity) → activeIn (pieceAt mixed t p .piece) v ≡ active b y → (r : Replaced) (w : World) → Behind t q (asksFor (W.denotation b v) (v .members)) (r .to) → Stands (inside m x p) w → Stands (inside m x (r .to)) (withEvent (replaced m (x .from + p) (r .bytes)) (sight (r .bytes) (r .to)) 1 w)
       replaced-on b y e r w i j = record {
-        pairs = ((refl, refl, refl, is-active (pieceAt t p .piece) v b y e), j .pairs);
-        scans = goesOn (j .scans) h refl refl refl refl (goes-on (r .bytes) (asksFor (W.denotation b v) (v .members)) (r .to) i (name-asks (pieceAt t p .piece) v b y e) (is-active (pieceAt t p .piece) v b y e));
+        pairs = ((refl, refl, refl, is-active (pieceAt mixed t p .piece) v b y e), j .pairs);
+        scans = goesOn (j .scans) h refl refl refl refl (goes-on (r .bytes) (asksFor (W.denotation b v) (v .members)) (r .to) i (name-asks (pieceAt mixed t p .piece) v b y e) (is-active (pieceAt mixed t p .piece) v b y e));
       }
 
-      token-passed : (y : Active) → activeIn (pieceAt t p .piece) v ≡ y → AllAwake y → Passed p (tokenHere y m (x .from + p) t p q sight v)
+      token-passed : (y : Active) → activeIn (pieceAt mixed t p .piece) v ≡ y → AllAwake y → Passed p (tokenHere mixed y m (x .from + p) t p q sight v)
       unfolding copyHere putOut replaceHere
       token-passed notActive e awake =
           go (leb (takes (v .layout) (joins (v .events) m (x .from + p)) (x .from + p) (part (q - p) p t)) (v .linesLeft) && leb (length (part (q - p) p t)) (v .textLeft))
@@ -339,20 +339,20 @@ module _ (d : List ℕ) where
           λ r w i j. further (omega (arith, after, behind-more t q (asksFor (W.denotation b v) (v .members)) (r .to) i)) (replaced-on b y e r w i j))
           λ _. halted
 
-    text-stands : (f p : ℕ) (w : World) → length t < p + f → Stands (inside m x p) w → Leaves (standing outside) Any (textOn m (x .from) t f p w)
+    text-stands : (f p : ℕ) (w : World) → length t < p + f → Stands (inside m x p) w → Leaves (standing outside) Any (textOn mixed m (x .from) t f p w)
     unfolding textOn
     text-stands zero p w l h = passes (standing outside) (record { pairs = h .pairs; scans = ends (h .scans) (omega arith) })
     text-stands (suc f) p w l h =
         when-has (Leaves (standing outside) Any) (leb (length t) p) _ _
         (λ e. passes (standing outside) (record { pairs = h .pairs; scans = ends (h .scans) (leb-true (length t) p e) })) λ e.
-        passed-on _ (passed-placed _ (passed-bind _ (charge-leaves (standing (inside m x p)) h) λ _ v k. token-passed p (leb-false (length t) p e) v k (activeIn (pieceAt t p .piece) v) refl (awake-in (pieceAt t p .piece) v)))
+        passed-on _ (passed-placed _ (passed-bind _ (charge-leaves (standing (inside m x p)) h) λ _ v k. token-passed p (leb-false (length t) p e) v k (activeIn (pieceAt mixed t p .piece) v) refl (awake-in (pieceAt mixed t p .piece) v)))
         λ q v i k. text-stands f q v (omega arith) k
 
-    text-passed : (w : World) → Texts.TextOf (readMember (bodyOf d m)) x → Stands outside w → Leaves (standing outside) Any (textOut m (bodyOf d m) x w)
+    text-passed : (w : World) → Texts.TextOf (readMember mixed (bodyOf d m)) x → Stands outside w → Leaves (standing outside) Any (textOut mixed m (bodyOf d m) x w)
     unfolding textOut putOut
     text-passed w o h = go (leb 1 (w .linesLeft) && leb 1 (w .textLeft))
       where
-        go : (b : Bool) → Leaves (standing outside) Any (bind (placed (stop m (x .from)) (when b (λ _. good (tt {0}) (withEvent (blank m (x .from)) (began m x) 1 w)) (λ _. bad roomFull (w .used)))) λ _ v. textOn m (x .from) t (suc (x .to - x .from)) 0 v)
+        go : (b : Bool) → Leaves (standing outside) Any (bind (placed (stop m (x .from)) (when b (λ _. good (tt {0}) (withEvent (blank m (x .from)) (began m x) 1 w)) (λ _. bad roomFull (w .used)))) λ _ v. textOn mixed m (x .from) t (suc (x .to - x .from)) 0 v)
         go true = text-stands (suc (x .to - x .from)) 0 _ (omega (arith, length-part (x .to - x .from) (x .from) (bodyOf d m))) (record { pairs = ((refl, refl), h .pairs); scans = begins (text-of o) (h .scans) })
         go false = stops tt
 
@@ -362,20 +362,20 @@ module _ (d : List ℕ) where
   result-honest (leaves {a = went t} {w} e h) = record { told = pairs-told (w .events) (w .passes) (h .pairs); scans = h .scans; listed = told-listed (pairs-told (w .events) (w .passes) (h .pairs)) }
   result-honest (stops h) = record { told = nothing; scans = none; listed = refl }
 
-  main-honest : {e : Entering} → SoundEntering (standing outside) e → Honest d (mainPasses e d) (runMain e d)
+  main-honest : {e : Entering} → SoundEntering (standing outside) e → Honest d (mainPasses e d) (runMain mixed e d)
   main-honest unreadable-any = record { told = nothing; scans = none; listed = refl }
   main-honest (entered-sound {w} h) = result-honest (member-leaves (standing outside) d text-passed includeLevels 0 [] w h)
 
   -- in each layout
-  pub run-honest : (y : Layout) (textRoom listRoom steps : ℕ) → Honest d (mainPasses (enter 0 (readMember (bodyOf d 0)) (worldFor y textRoom listRoom steps)) d) (runMain (enter 0 (readMember (bodyOf d 0)) (worldFor y textRoom listRoom steps)) d)
-  run-honest y textRoom listRoom steps = main-honest (enter-leaves (standing outside) 0 (readMember (bodyOf d 0)) (record { pairs = tt; scans = none }))
+  pub run-honest : (y : Layout) (textRoom listRoom steps : ℕ) → Honest d (mainPasses (enter 0 (readMember mixed (bodyOf d 0)) (worldFor y textRoom listRoom steps)) d) (runMain mixed (enter 0 (readMember mixed (bodyOf d 0)) (worldFor y textRoom listRoom steps)) d)
+  run-honest y textRoom listRoom steps = main-honest (enter-leaves (standing outside) 0 (readMember mixed (bodyOf d 0)) (record { pairs = tt; scans = none }))
 
   -- THE SCAN IS HONEST, for every deck, every size of the rooms and every limit
-  pub honest : (roomy : Bool) (textRoom listRoom steps : ℕ) → Honest d (passing roomy d textRoom listRoom steps) (expansion roomy d textRoom listRoom steps)
+  pub honest : (roomy : Bool) (textRoom listRoom steps : ℕ) → Honest d (passing roomy d textRoom listRoom steps) (expansion mixed roomy d textRoom listRoom steps)
   unfolding expansion passing
-  honest roomy textRoom listRoom steps = go (isSound d) roomy
+  honest roomy textRoom listRoom steps = go (isSound mixed d) roomy
     where
-      go : (y z : Bool) → Honest d (when y (λ _. when z (λ _. mainPasses (enter 0 (readMember (bodyOf d 0)) (mainWorld textRoom listRoom steps)) d) (λ _. [])) (λ _. [])) (when y (λ _. when z (λ _. runMain (enter 0 (readMember (bodyOf d 0)) (mainWorld textRoom listRoom steps)) d) (λ _. refusal shortRoom 0 0 0)) (λ _. refusal malformedDeck 0 0 0))
+      go : (y z : Bool) → Honest d (when y (λ _. when z (λ _. mainPasses (enter 0 (readMember mixed (bodyOf d 0)) (mainWorld textRoom listRoom steps)) d) (λ _. [])) (λ _. [])) (when y (λ _. when z (λ _. runMain mixed (enter 0 (readMember mixed (bodyOf d 0)) (mainWorld textRoom listRoom steps)) d) (λ _. refusal shortRoom 0 0 0)) (λ _. refusal malformedDeck 0 0 0))
       go true true = run-honest plainly textRoom listRoom steps
       go true false = record { told = nothing; scans = none; listed = refl }
       go false z = record { told = nothing; scans = none; listed = refl }

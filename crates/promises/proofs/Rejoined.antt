@@ -9,6 +9,7 @@ use mathlib.Core.Path.{_≡_, refl, sym, ap, subst, _∙_}
 use lib.Dec.{eqb}
 use borrow.Author.Tests.{eqb-true, eq-eqb}
 use Rattle.definition.specs.declared.Layout.the-variants.{Plain as plain, Cards as cards}
+use Rattle.definition.specs.Bytes.{mixed}
 use Rattle.definition.specs.Deck.{count, isSound}
 use Rattle.definition.specs.Events.{Line, line, longer}
 use Rattle.definition.specs.Cards.{joined, column, given, isFirst, goesOver, cut, asGiven}
@@ -119,7 +120,7 @@ module _ (d : List ℕ) (s : ℕ → ℕ) (whole : (m : ℕ) → m < count d →
           ∙ (λ i. line (l .kind) (l .member) (p i) (l .size) ∷ h i)
 
 -- of the joined deck
-pub whole-joined : (d : List ℕ) → isSound d ≡ true → (m : ℕ) → m < count (joined d) → sizeIn (joined d) m % 71 ≡ 0
+pub whole-joined : (d : List ℕ) → isSound mixed d ≡ true → (m : ℕ) → m < count (joined d) → sizeIn (joined d) m % 71 ≡ 0
 whole-joined d s m h = omega (arith, size-joined d s m (rw (count-joined d s) at h))
 
 -- REJOINED
@@ -127,7 +128,7 @@ pub rejoins : (d : List ℕ) → Rejoins d
 unfolding expansionOf expansion
 rejoins d roomy t l s sound even = rw (sound, even, sound-joined d sound) (go roomy)
   where
-    go : (y : Bool) → (when y (λ _. told (joined d) (runMain (enter 0 (readMember (bodyOf (joined d) 0)) (worldFor cards t l s)) (joined d))) (λ _. refusal shortRoom 0 0 0) .number ≡ 17 → ⊥) → rejoined (when y (λ _. told (joined d) (runMain (enter 0 (readMember (bodyOf (joined d) 0)) (worldFor cards t l s)) (joined d))) (λ _. refusal shortRoom 0 0 0) .lines) ≡ when y (λ _. runMain (enter 0 (readMember (bodyOf (joined d) 0)) (worldFor plain t l s)) (joined d)) (λ _. refusal shortRoom 0 0 0) .lines
+    go : (y : Bool) → (when y (λ _. told (joined d) (runMain mixed (enter 0 (readMember mixed (bodyOf (joined d) 0)) (worldFor cards t l s)) (joined d))) (λ _. refusal shortRoom 0 0 0) .number ≡ 17 → ⊥) → rejoined (when y (λ _. told (joined d) (runMain mixed (enter 0 (readMember mixed (bodyOf (joined d) 0)) (worldFor cards t l s)) (joined d))) (λ _. refusal shortRoom 0 0 0) .lines) ≡ when y (λ _. runMain mixed (enter 0 (readMember mixed (bodyOf (joined d) 0)) (worldFor plain t l s)) (joined d)) (λ _. refusal shortRoom 0 0 0) .lines
     go true j =
         joined-lines (joined d) (sizeIn (joined d)) (whole-joined d sound) _ _ (run-cut (joined d) cards t l s (sound-parts (joined d) (sound-joined d sound) .some))
         ∙ ap (λ (x : Expansion). x .lines) (runs-alike (joined d) t l s j)
@@ -137,8 +138,8 @@ rejoins d roomy t l s sound even = rw (sound, even, sound-joined d sound) (go ro
 pub honest-cards : (d : List ℕ) → HonestCards d
 unfolding expansionOf
 honest-cards d t l s sound even =
-    let x : Expansion = runMain (enter 0 (readMember (bodyOf (joined d) 0)) (worldFor cards t l s)) (joined d) in
-    let ps : List Pass = mainPasses (enter 0 (readMember (bodyOf (joined d) 0)) (worldFor cards t l s)) (joined d) in
+    let x : Expansion = runMain mixed (enter 0 (readMember mixed (bodyOf (joined d) 0)) (worldFor cards t l s)) (joined d) in
+    let ps : List Pass = mainPasses (enter 0 (readMember mixed (bodyOf (joined d) 0)) (worldFor cards t l s)) (joined d) in
     let h : Honest (joined d) ps x = run-honest (joined d) cards t l s in
     let e : x .lines ≡ rejoined (asGiven (sizeIn (joined d)) (x .lines)) = sym (joined-lines (joined d) (sizeIn (joined d)) (whole-joined d sound) (x .lines) (x .text) (run-cut (joined d) cards t l s (sound-parts (joined d) (sound-joined d sound) .some))) in
     rw (sound, even)

@@ -61,7 +61,7 @@ pub seen : map shown (reverse (passing true deck programText programList program
     (2 ∷ 80 ∷ 81 ∷ 0 ∷ []) ∷
     (1 ∷ 81 ∷ 84 ∷ 0 ∷ 39 ∷ 65 ∷ 39 ∷ []) ∷
     (2 ∷ 84 ∷ 89 ∷ 1 ∷ 90 ∷ []) ∷ [])
-unfolding Bytes·isLetter Bytes·isDigit Bytes·isAlphameric Bytes·isBlank Bytes·isMark Bytes·classOf Cards·takes Calls·isRunning Calls·bodyMachine Calls·bodyRun Calls·calls Deck·hasLibraries Deck·count Deck·libraryLength Deck·linePlace Deck·isRepeated Deck·isPadded Deck·lineAt Deck·linesFrom Deck·isMemberName Deck·areNamed Deck·isCalled Deck·find Deck·areDistinct Deck·follow Deck·isSound Deck·contents Deck·bodyByte Evaluate·isSubstr Evaluate·meant Evaluate·parameters Evaluate·callee Evaluate·count Evaluate·put Evaluate·plainName Evaluate·listedName Evaluate·evaluate Evaluate·arguments Events·textOf Events·goesOn Events·linesOf Events·listBytes expansion Expansion·textRoomAfter Expansion·listRoomAfter Expressions·comparison Expressions·infixOf Expressions·prefixOf Expressions·expectSign Expressions·expectWord Expressions·nameAt Expressions·arguments Expressions·referenceAt Expressions·primitive Expressions·operand Expressions·chain Expressions·levels Expressions·expression Fixed·inRange Fixed·ranged Fixed·sum Fixed·difference Fixed·product Fixed·negative Fixed·quotient Flow·isOnce Flow·behindOn Flow·leadOut Flow·into Flow·assigned Flow·truth Flow·number Flow·bounds Flow·stepped Flow·statement Flow·turn Flow·runOn Program·isIterated Flow·groupsFrom Flow·isIn Flow·areIn Flow·mayGo Names·isListed Names·declareAll Names·namesPast Names·sentencesPast Names·faultOf Names·enter Reading·depth Reading·change Reading·addRow Reading·isDecided Reading·elseWord Reading·elseAt Reading·complete Reading·labelsFrom Reading·taken Reading·doAt Reading·common Reading·inList Reading·byWord Reading·endName Reading·isFull Reading·isEnd Reading·clauseFrom Reading·innerAt Reading·deepEnough Reading·turn Reading·readOn Reading·readMember Run·bodyOf Run·putOut Run·copyHere Run·replaceHere Run·textOn Run·textOut Run·activateAll Run·activations Run·jumpAway Run·jumpLabel Run·includeAll Run·memberMachine Run·runSource Run·runMember Scan·activeName Scan·cutOn Scan·listAt Scan·scanArguments Scan·callWith Scan·replaceEntry Scan·scanOn Scan·replacer Statements·ended Statements·assignment Statements·thenWord Statements·ifClause Statements·boundAt Statements·doBounds Statements·doClause Statements·gotoClause Statements·listOf Statements·includeClause Statements·deactivateClause Statements·activateClause Statements·returnClause Statements·namesAt Statements·attribute Statements·declareNames Statements·declareNext Statements·declareFrom Statements·returnsType Statements·procedureHead Statements·procedureClause Steps·isLeft Steps·usedAfter Tokens·commentEnd Tokens·quoteEnd Tokens·isComment Tokens·isSpace Tokens·spaces Tokens·quotedAt Tokens·isBit Tokens·constantAt Tokens·isPair Tokens·signAt Tokens·runAt Tokens·lexemeOf Tokens·isTouching Tokens·lexemeAt Tokens·tokenAt Tokens·pieceOf Tokens·pieceAt Tokens·textEnd Values·decimalOn Values·fixedText Values·written Values·constant Values·numberIn Values·toFixed Values·toCharacters Values·binary Values·toBits Values·convert Values·anyOne Values·holds Values·limited Values·unfinished Values·bitwise Values·inverted Values·orderOf Values·bytesOrder Values·numbersOrder Values·compared Values·comparing Values·arithmetic Values·logical Values·joined Values·infixed Values·prefixed Values·cutOut Values·substr World·charge World·addressIn World·seenFrom World·rowsIn passing
+unfolding Bytes·isSmall Bytes·capital Bytes·folded Bytes·isLetter Bytes·isDigit Bytes·isAlphameric Bytes·isBlank Bytes·isMark Bytes·classOf Cards·takes Calls·isRunning Calls·bodyMachine Calls·bodyRun Calls·calls Deck·hasLibraries Deck·count Deck·libraryLength Deck·linePlace Deck·isRepeated Deck·isPadded Deck·lineAt Deck·linesFrom Deck·isMemberName Deck·areNamed Deck·isCalled Deck·find Deck·areDistinct Deck·follow Deck·isSound Deck·contents Deck·bodyByte Evaluate·isSubstr Evaluate·meant Evaluate·parameters Evaluate·callee Evaluate·count Evaluate·put Evaluate·plainName Evaluate·listedName Evaluate·evaluate Evaluate·arguments Events·textOf Events·goesOn Events·linesOf Events·listBytes expansion Expansion·textRoomAfter Expansion·listRoomAfter Expressions·comparison Expressions·infixOf Expressions·prefixOf Expressions·expectSign Expressions·expectWord Expressions·nameAt Expressions·arguments Expressions·referenceAt Expressions·primitive Expressions·operand Expressions·chain Expressions·levels Expressions·expression Fixed·inRange Fixed·ranged Fixed·sum Fixed·difference Fixed·product Fixed·negative Fixed·quotient Flow·isOnce Flow·behindOn Flow·leadOut Flow·into Flow·assigned Flow·truth Flow·number Flow·bounds Flow·stepped Flow·statement Flow·turn Flow·runOn Program·isIterated Flow·groupsFrom Flow·isIn Flow·areIn Flow·mayGo Names·isListed Names·declareAll Names·namesPast Names·sentencesPast Names·faultOf Names·enter Reading·depth Reading·change Reading·addRow Reading·isDecided Reading·elseWord Reading·elseAt Reading·complete Reading·labelsFrom Reading·taken Reading·doAt Reading·common Reading·inList Reading·byWord Reading·endName Reading·isFull Reading·isEnd Reading·clauseFrom Reading·innerAt Reading·deepEnough Reading·turn Reading·readOn Reading·readMember Run·bodyOf Run·putOut Run·copyHere Run·replaceHere Run·textOn Run·textOut Run·activateAll Run·activations Run·jumpAway Run·jumpLabel Run·includeAll Run·memberMachine Run·runSource Run·runMember Scan·activeName Scan·cutOn Scan·listAt Scan·scanArguments Scan·callWith Scan·replaceEntry Scan·scanOn Scan·replacer Statements·ended Statements·assignment Statements·thenWord Statements·ifClause Statements·boundAt Statements·doBounds Statements·doClause Statements·gotoClause Statements·listOf Statements·includeClause Statements·deactivateClause Statements·activateClause Statements·returnClause Statements·namesAt Statements·attribute Statements·declareNames Statements·declareNext Statements·declareFrom Statements·returnsType Statements·procedureHead Statements·procedureClause Steps·isLeft Steps·usedAfter Tokens·commentEnd Tokens·quoteEnd Tokens·isComment Tokens·isSpace Tokens·spaces Tokens·quotedAt Tokens·isBit Tokens·constantAt Tokens·isPair Tokens·signAt Tokens·runAt Tokens·lexemeOf Tokens·isTouching Tokens·lexemeAt Tokens·tokenAt Tokens·pieceOf Tokens·pieceAt Tokens·textEnd Values·decimalOn Values·fixedText Values·written Values·constant Values·numberIn Values·toFixed Values·toCharacters Values·binary Values·toBits Values·convert Values·anyOne Values·holds Values·limited Values·unfinished Values·bitwise Values·inverted Values·orderOf Values·bytesOrder Values·numbersOrder Values·compared Values·comparing Values·arithmetic Values·logical Values·joined Values·infixed Values·prefixed Values·cutOut Values·substr World·charge World·addressIn World·seenFrom World·rowsIn passing
 seen = refl
 
 -- a deck of two members, MAIN and M: one run includes line 1, M, and ends at the bar; the other never does
@@ -71,9 +71,9 @@ deckOf x y =
     ++ bytesOf "M       " ++ bytes 4 (34 + length (bytesOf x)) ++ bytes 4 (length (bytesOf y)) ++ bytesOf x ++ bytesOf y
 
 pub included : NeverIncluded 1 (deckOf "%INCLUDE M;" "X") programText programList programSteps → ⊥
-unfolding Bytes·isLetter Bytes·isDigit Bytes·isAlphameric Bytes·isBlank Bytes·isMark Bytes·classOf Cards·takes Calls·isRunning Calls·bodyMachine Calls·bodyRun Calls·calls Deck·hasLibraries Deck·count Deck·libraryLength Deck·linePlace Deck·isRepeated Deck·isPadded Deck·lineAt Deck·linesFrom Deck·isMemberName Deck·areNamed Deck·isCalled Deck·find Deck·areDistinct Deck·follow Deck·isSound Deck·contents Deck·bodyByte Evaluate·isSubstr Evaluate·meant Evaluate·parameters Evaluate·callee Evaluate·count Evaluate·put Evaluate·plainName Evaluate·listedName Evaluate·evaluate Evaluate·arguments Events·textOf Events·goesOn Events·linesOf Events·listBytes expansion Expansion·textRoomAfter Expansion·listRoomAfter Expressions·comparison Expressions·infixOf Expressions·prefixOf Expressions·expectSign Expressions·expectWord Expressions·nameAt Expressions·arguments Expressions·referenceAt Expressions·primitive Expressions·operand Expressions·chain Expressions·levels Expressions·expression Fixed·inRange Fixed·ranged Fixed·sum Fixed·difference Fixed·product Fixed·negative Fixed·quotient Flow·isOnce Flow·behindOn Flow·leadOut Flow·into Flow·assigned Flow·truth Flow·number Flow·bounds Flow·stepped Flow·statement Flow·turn Flow·runOn Program·isIterated Flow·groupsFrom Flow·isIn Flow·areIn Flow·mayGo Names·isListed Names·declareAll Names·namesPast Names·sentencesPast Names·faultOf Names·enter Reading·depth Reading·change Reading·addRow Reading·isDecided Reading·elseWord Reading·elseAt Reading·complete Reading·labelsFrom Reading·taken Reading·doAt Reading·common Reading·inList Reading·byWord Reading·endName Reading·isFull Reading·isEnd Reading·clauseFrom Reading·innerAt Reading·deepEnough Reading·turn Reading·readOn Reading·readMember Run·bodyOf Run·putOut Run·copyHere Run·replaceHere Run·textOn Run·textOut Run·activateAll Run·activations Run·jumpAway Run·jumpLabel Run·includeAll Run·memberMachine Run·runSource Run·runMember Scan·activeName Scan·cutOn Scan·listAt Scan·scanArguments Scan·callWith Scan·replaceEntry Scan·scanOn Scan·replacer Statements·ended Statements·assignment Statements·thenWord Statements·ifClause Statements·boundAt Statements·doBounds Statements·doClause Statements·gotoClause Statements·listOf Statements·includeClause Statements·deactivateClause Statements·activateClause Statements·returnClause Statements·namesAt Statements·attribute Statements·declareNames Statements·declareNext Statements·declareFrom Statements·returnsType Statements·procedureHead Statements·procedureClause Steps·isLeft Steps·usedAfter Tokens·commentEnd Tokens·quoteEnd Tokens·isComment Tokens·isSpace Tokens·spaces Tokens·quotedAt Tokens·isBit Tokens·constantAt Tokens·isPair Tokens·signAt Tokens·runAt Tokens·lexemeOf Tokens·isTouching Tokens·lexemeAt Tokens·tokenAt Tokens·pieceOf Tokens·pieceAt Tokens·textEnd Values·decimalOn Values·fixedText Values·written Values·constant Values·numberIn Values·toFixed Values·toCharacters Values·binary Values·toBits Values·convert Values·anyOne Values·holds Values·limited Values·unfinished Values·bitwise Values·inverted Values·orderOf Values·bytesOrder Values·numbersOrder Values·compared Values·comparing Values·arithmetic Values·logical Values·joined Values·infixed Values·prefixed Values·cutOut Values·substr World·charge World·addressIn World·seenFrom World·rowsIn includeAllBut machineBut runSourceBut runBut
+unfolding Bytes·isSmall Bytes·capital Bytes·folded Bytes·isLetter Bytes·isDigit Bytes·isAlphameric Bytes·isBlank Bytes·isMark Bytes·classOf Cards·takes Calls·isRunning Calls·bodyMachine Calls·bodyRun Calls·calls Deck·hasLibraries Deck·count Deck·libraryLength Deck·linePlace Deck·isRepeated Deck·isPadded Deck·lineAt Deck·linesFrom Deck·isMemberName Deck·areNamed Deck·isCalled Deck·find Deck·areDistinct Deck·follow Deck·isSound Deck·contents Deck·bodyByte Evaluate·isSubstr Evaluate·meant Evaluate·parameters Evaluate·callee Evaluate·count Evaluate·put Evaluate·plainName Evaluate·listedName Evaluate·evaluate Evaluate·arguments Events·textOf Events·goesOn Events·linesOf Events·listBytes expansion Expansion·textRoomAfter Expansion·listRoomAfter Expressions·comparison Expressions·infixOf Expressions·prefixOf Expressions·expectSign Expressions·expectWord Expressions·nameAt Expressions·arguments Expressions·referenceAt Expressions·primitive Expressions·operand Expressions·chain Expressions·levels Expressions·expression Fixed·inRange Fixed·ranged Fixed·sum Fixed·difference Fixed·product Fixed·negative Fixed·quotient Flow·isOnce Flow·behindOn Flow·leadOut Flow·into Flow·assigned Flow·truth Flow·number Flow·bounds Flow·stepped Flow·statement Flow·turn Flow·runOn Program·isIterated Flow·groupsFrom Flow·isIn Flow·areIn Flow·mayGo Names·isListed Names·declareAll Names·namesPast Names·sentencesPast Names·faultOf Names·enter Reading·depth Reading·change Reading·addRow Reading·isDecided Reading·elseWord Reading·elseAt Reading·complete Reading·labelsFrom Reading·taken Reading·doAt Reading·common Reading·inList Reading·byWord Reading·endName Reading·isFull Reading·isEnd Reading·clauseFrom Reading·innerAt Reading·deepEnough Reading·turn Reading·readOn Reading·readMember Run·bodyOf Run·putOut Run·copyHere Run·replaceHere Run·textOn Run·textOut Run·activateAll Run·activations Run·jumpAway Run·jumpLabel Run·includeAll Run·memberMachine Run·runSource Run·runMember Scan·activeName Scan·cutOn Scan·listAt Scan·scanArguments Scan·callWith Scan·replaceEntry Scan·scanOn Scan·replacer Statements·ended Statements·assignment Statements·thenWord Statements·ifClause Statements·boundAt Statements·doBounds Statements·doClause Statements·gotoClause Statements·listOf Statements·includeClause Statements·deactivateClause Statements·activateClause Statements·returnClause Statements·namesAt Statements·attribute Statements·declareNames Statements·declareNext Statements·declareFrom Statements·returnsType Statements·procedureHead Statements·procedureClause Steps·isLeft Steps·usedAfter Tokens·commentEnd Tokens·quoteEnd Tokens·isComment Tokens·isSpace Tokens·spaces Tokens·quotedAt Tokens·isBit Tokens·constantAt Tokens·isPair Tokens·signAt Tokens·runAt Tokens·lexemeOf Tokens·isTouching Tokens·lexemeAt Tokens·tokenAt Tokens·pieceOf Tokens·pieceAt Tokens·textEnd Values·decimalOn Values·fixedText Values·written Values·constant Values·numberIn Values·toFixed Values·toCharacters Values·binary Values·toBits Values·convert Values·anyOne Values·holds Values·limited Values·unfinished Values·bitwise Values·inverted Values·orderOf Values·bytesOrder Values·numbersOrder Values·compared Values·comparing Values·arithmetic Values·logical Values·joined Values·infixed Values·prefixed Values·cutOut Values·substr World·charge World·addressIn World·seenFrom World·rowsIn includeAllBut machineBut runSourceBut runBut
 included h = h tt
 
 pub not-included : NeverIncluded 1 (deckOf "%IF 0 %THEN %INCLUDE M;M" "X") programText programList programSteps
-unfolding Bytes·isLetter Bytes·isDigit Bytes·isAlphameric Bytes·isBlank Bytes·isMark Bytes·classOf Cards·takes Calls·isRunning Calls·bodyMachine Calls·bodyRun Calls·calls Deck·hasLibraries Deck·count Deck·libraryLength Deck·linePlace Deck·isRepeated Deck·isPadded Deck·lineAt Deck·linesFrom Deck·isMemberName Deck·areNamed Deck·isCalled Deck·find Deck·areDistinct Deck·follow Deck·isSound Deck·contents Deck·bodyByte Evaluate·isSubstr Evaluate·meant Evaluate·parameters Evaluate·callee Evaluate·count Evaluate·put Evaluate·plainName Evaluate·listedName Evaluate·evaluate Evaluate·arguments Events·textOf Events·goesOn Events·linesOf Events·listBytes expansion Expansion·textRoomAfter Expansion·listRoomAfter Expressions·comparison Expressions·infixOf Expressions·prefixOf Expressions·expectSign Expressions·expectWord Expressions·nameAt Expressions·arguments Expressions·referenceAt Expressions·primitive Expressions·operand Expressions·chain Expressions·levels Expressions·expression Fixed·inRange Fixed·ranged Fixed·sum Fixed·difference Fixed·product Fixed·negative Fixed·quotient Flow·isOnce Flow·behindOn Flow·leadOut Flow·into Flow·assigned Flow·truth Flow·number Flow·bounds Flow·stepped Flow·statement Flow·turn Flow·runOn Program·isIterated Flow·groupsFrom Flow·isIn Flow·areIn Flow·mayGo Names·isListed Names·declareAll Names·namesPast Names·sentencesPast Names·faultOf Names·enter Reading·depth Reading·change Reading·addRow Reading·isDecided Reading·elseWord Reading·elseAt Reading·complete Reading·labelsFrom Reading·taken Reading·doAt Reading·common Reading·inList Reading·byWord Reading·endName Reading·isFull Reading·isEnd Reading·clauseFrom Reading·innerAt Reading·deepEnough Reading·turn Reading·readOn Reading·readMember Run·bodyOf Run·putOut Run·copyHere Run·replaceHere Run·textOn Run·textOut Run·activateAll Run·activations Run·jumpAway Run·jumpLabel Run·includeAll Run·memberMachine Run·runSource Run·runMember Scan·activeName Scan·cutOn Scan·listAt Scan·scanArguments Scan·callWith Scan·replaceEntry Scan·scanOn Scan·replacer Statements·ended Statements·assignment Statements·thenWord Statements·ifClause Statements·boundAt Statements·doBounds Statements·doClause Statements·gotoClause Statements·listOf Statements·includeClause Statements·deactivateClause Statements·activateClause Statements·returnClause Statements·namesAt Statements·attribute Statements·declareNames Statements·declareNext Statements·declareFrom Statements·returnsType Statements·procedureHead Statements·procedureClause Steps·isLeft Steps·usedAfter Tokens·commentEnd Tokens·quoteEnd Tokens·isComment Tokens·isSpace Tokens·spaces Tokens·quotedAt Tokens·isBit Tokens·constantAt Tokens·isPair Tokens·signAt Tokens·runAt Tokens·lexemeOf Tokens·isTouching Tokens·lexemeAt Tokens·tokenAt Tokens·pieceOf Tokens·pieceAt Tokens·textEnd Values·decimalOn Values·fixedText Values·written Values·constant Values·numberIn Values·toFixed Values·toCharacters Values·binary Values·toBits Values·convert Values·anyOne Values·holds Values·limited Values·unfinished Values·bitwise Values·inverted Values·orderOf Values·bytesOrder Values·numbersOrder Values·compared Values·comparing Values·arithmetic Values·logical Values·joined Values·infixed Values·prefixed Values·cutOut Values·substr World·charge World·addressIn World·seenFrom World·rowsIn includeAllBut machineBut runSourceBut runBut
+unfolding Bytes·isSmall Bytes·capital Bytes·folded Bytes·isLetter Bytes·isDigit Bytes·isAlphameric Bytes·isBlank Bytes·isMark Bytes·classOf Cards·takes Calls·isRunning Calls·bodyMachine Calls·bodyRun Calls·calls Deck·hasLibraries Deck·count Deck·libraryLength Deck·linePlace Deck·isRepeated Deck·isPadded Deck·lineAt Deck·linesFrom Deck·isMemberName Deck·areNamed Deck·isCalled Deck·find Deck·areDistinct Deck·follow Deck·isSound Deck·contents Deck·bodyByte Evaluate·isSubstr Evaluate·meant Evaluate·parameters Evaluate·callee Evaluate·count Evaluate·put Evaluate·plainName Evaluate·listedName Evaluate·evaluate Evaluate·arguments Events·textOf Events·goesOn Events·linesOf Events·listBytes expansion Expansion·textRoomAfter Expansion·listRoomAfter Expressions·comparison Expressions·infixOf Expressions·prefixOf Expressions·expectSign Expressions·expectWord Expressions·nameAt Expressions·arguments Expressions·referenceAt Expressions·primitive Expressions·operand Expressions·chain Expressions·levels Expressions·expression Fixed·inRange Fixed·ranged Fixed·sum Fixed·difference Fixed·product Fixed·negative Fixed·quotient Flow·isOnce Flow·behindOn Flow·leadOut Flow·into Flow·assigned Flow·truth Flow·number Flow·bounds Flow·stepped Flow·statement Flow·turn Flow·runOn Program·isIterated Flow·groupsFrom Flow·isIn Flow·areIn Flow·mayGo Names·isListed Names·declareAll Names·namesPast Names·sentencesPast Names·faultOf Names·enter Reading·depth Reading·change Reading·addRow Reading·isDecided Reading·elseWord Reading·elseAt Reading·complete Reading·labelsFrom Reading·taken Reading·doAt Reading·common Reading·inList Reading·byWord Reading·endName Reading·isFull Reading·isEnd Reading·clauseFrom Reading·innerAt Reading·deepEnough Reading·turn Reading·readOn Reading·readMember Run·bodyOf Run·putOut Run·copyHere Run·replaceHere Run·textOn Run·textOut Run·activateAll Run·activations Run·jumpAway Run·jumpLabel Run·includeAll Run·memberMachine Run·runSource Run·runMember Scan·activeName Scan·cutOn Scan·listAt Scan·scanArguments Scan·callWith Scan·replaceEntry Scan·scanOn Scan·replacer Statements·ended Statements·assignment Statements·thenWord Statements·ifClause Statements·boundAt Statements·doBounds Statements·doClause Statements·gotoClause Statements·listOf Statements·includeClause Statements·deactivateClause Statements·activateClause Statements·returnClause Statements·namesAt Statements·attribute Statements·declareNames Statements·declareNext Statements·declareFrom Statements·returnsType Statements·procedureHead Statements·procedureClause Steps·isLeft Steps·usedAfter Tokens·commentEnd Tokens·quoteEnd Tokens·isComment Tokens·isSpace Tokens·spaces Tokens·quotedAt Tokens·isBit Tokens·constantAt Tokens·isPair Tokens·signAt Tokens·runAt Tokens·lexemeOf Tokens·isTouching Tokens·lexemeAt Tokens·tokenAt Tokens·pieceOf Tokens·pieceAt Tokens·textEnd Values·decimalOn Values·fixedText Values·written Values·constant Values·numberIn Values·toFixed Values·toCharacters Values·binary Values·toBits Values·convert Values·anyOne Values·holds Values·limited Values·unfinished Values·bitwise Values·inverted Values·orderOf Values·bytesOrder Values·numbersOrder Values·compared Values·comparing Values·arithmetic Values·logical Values·joined Values·infixed Values·prefixed Values·cutOut Values·substr World·charge World·addressIn World·seenFrom World·rowsIn includeAllBut machineBut runSourceBut runBut
 not-included h = h

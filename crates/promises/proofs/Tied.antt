@@ -10,6 +10,7 @@ use Rattle.definition.specs.declared.Why.{Why}
 use Rattle.definition.specs.declared.Why.the-variants.{RoomFull as roomFull}
 use Rattle.definition.specs.declared.Layout.{Layout}
 use Rattle.definition.specs.declared.Layout.the-variants.{Plain as plain, Cards as cards}
+use Rattle.definition.specs.Bytes.{mixed}
 use Rattle.definition.specs.Refusal.{numberOf}
 use Rattle.definition.specs.Limits.{includeLevels, originLineBytes}
 use Rattle.definition.specs.Deck as Deck
@@ -68,7 +69,7 @@ result-alike (goes {x = went t} {w}) h = refl
 result-alike (halts same) h = refl
 result-alike (lacks {e} k) h = absurd (full (e .why) k h)
 
-main-alike : (d : List ℕ) {e f : Entering} → Enters 0 0 asPlain [] Room spare e f → Alike (runMain e d) (runMain f d)
+main-alike : (d : List ℕ) {e f : Entering} → Enters 0 0 asPlain [] Room spare e f → Alike (runMain mixed e d) (runMain mixed f d)
 main-alike d refuses h = refl
 main-alike d (enters {w}) h = result-alike (member-follows 0 0 asPlain [] Room spare d includeLevels 0 [] w) h
 
@@ -79,8 +80,8 @@ begun t l s =
     let o : l / originLineBytes ≡ l / originLineBytes + 0 = sym (add-zero (l / originLineBytes)) in
     λ z. record { identifiers = []; denotations = []; values = []; activities = []; members = []; sentences = 0; limit = p z; used = 0; layout = plain; events = []; textLeft = q z; linesLeft = o z; passes = [] }
 
-pub runs-alike : (d : List ℕ) (t l s : ℕ) → Alike (runMain (enter 0 (readMember (bodyOf d 0)) (worldFor cards t l s)) d) (runMain (enter 0 (readMember (bodyOf d 0)) (worldFor plain t l s)) d)
-runs-alike d t l s = rw (begun t l s) (main-alike d (enter-follows 0 0 asPlain [] Room spare 0 (readMember (bodyOf d 0)) (worldFor cards t l s)))
+pub runs-alike : (d : List ℕ) (t l s : ℕ) → Alike (runMain mixed (enter 0 (readMember mixed (bodyOf d 0)) (worldFor cards t l s)) d) (runMain mixed (enter 0 (readMember mixed (bodyOf d 0)) (worldFor plain t l s)) d)
+runs-alike d t l s = rw (begun t l s) (main-alike d (enter-follows 0 0 asPlain [] Room spare 0 (readMember mixed (bodyOf d 0)) (worldFor cards t l s)))
 
 -- TIED
 pub tied : (d : List ℕ) → Tied d
@@ -88,7 +89,7 @@ unfolding expansionOf expansion
 tied d t l s sound even = rw (sound, even, sound-joined d sound) (λ h. ap (told (joined d)) (runs-alike (joined d) t l s h))
 
 -- the same where the working rooms may be too short: 2 is not told
-pub tied-unless-short : (d : List ℕ) (roomy : Bool) (t l s : ℕ) → isSound d ≡ true → uneven 0 (Deck.lines d) ≡ Deck.none → (expansionOf cards roomy d t l s .number ≡ 2 → ⊥) → TiedTo d (expansionOf cards roomy d t l s) (expansion roomy (joined d) t l s)
+pub tied-unless-short : (d : List ℕ) (roomy : Bool) (t l s : ℕ) → isSound mixed d ≡ true → uneven 0 (Deck.lines d) ≡ Deck.none → (expansionOf mixed cards roomy d t l s .number ≡ 2 → ⊥) → TiedTo d (expansionOf mixed cards roomy d t l s) (expansion mixed roomy (joined d) t l s)
 unfolding expansionOf
 tied-unless-short d true t l s sound even n = tied d t l s sound even
 tied-unless-short d false t l s sound even n = absurd (n (rw (sound, even)))

@@ -11,6 +11,7 @@ use lib.ListN.{length}
 use borrow.Author.Tests.{eqb-false}
 use Rattle.definition.specs.declared.Why.{Why}
 use Rattle.definition.specs.declared.Why.the-variants.{MalformedDeck as malformedDeck, ShortRoom as shortRoom}
+use Rattle.definition.specs.Bytes.{mixed}
 use Rattle.definition.specs.Choice.{when}
 use Rattle.definition.specs.Limits.{includeLevels, runningProcedures}
 use Rattle.definition.specs.Deck as Deck
@@ -65,12 +66,12 @@ bind-in : {A B : Type 0} (m : ℕ) {r : Res Stop A} (f : A → World → Res Sto
 bind-in m f (well {a} {w}) k = k a w
 bind-in m f (there h) k = there h
 
-text-in : (m from : ℕ) (t : List ℕ) (f p : ℕ) (w : World) → HaltsIn m (textOn m from t f p w)
+text-in : (m from : ℕ) (t : List ℕ) (f p : ℕ) (w : World) → HaltsIn m (textOn mixed m from t f p w)
 unfolding textOn
 text-in m from t zero p w = well
-text-in m from t (suc f) p w = when-has (HaltsIn m) (leb (length t) p) _ _ (λ _. well) λ _. bind-in m (λ q x. textOn m from t f q x) (placed-in m (from + p) (bind (charge w) λ _ v. tokenHere (activeIn (pieceAt t p .piece) v) m (from + p) t p (pieceAt t p .to) (λ l q. passOf m (from + p) (pieceAt t p .piece) v l (from + q)) v)) (text-in m from t f)
+text-in m from t (suc f) p w = when-has (HaltsIn m) (leb (length t) p) _ _ (λ _. well) λ _. bind-in m (λ q x. textOn mixed m from t f q x) (placed-in m (from + p) (bind (charge w) λ _ v. tokenHere mixed (activeIn (pieceAt mixed t p .piece) v) m (from + p) t p (pieceAt mixed t p .to) (λ l q. passOf m (from + p) (pieceAt mixed t p .piece) v l (from + q)) v)) (text-in m from t f)
 
-out-in : (m : ℕ) (s : List ℕ) (x : Stretch) (w : World) → HaltsIn m (textOut m s x w)
+out-in : (m : ℕ) (s : List ℕ) (x : Stretch) (w : World) → HaltsIn m (textOut mixed m s x w)
 unfolding textOut
 out-in m s x w = bind-in m _ (placed-in m (x .from) (putOut (blank m (x .from)) (began m x) 1 w)) λ _ v. text-in m (x .from) _ _ 0 v
 
@@ -106,29 +107,29 @@ module _ (k : ℕ) (d e : List ℕ) (contents : Deck.lines e ≡ Deck.lines d) (
     entered-but refuses i j q b is m n ps w = halts (alike b)
     entered-but (enters {w = v}) i j q b is m n ps w = bind-follows 0 0 none-extra [] Never even _ _ (is (record { member = m; row = n } ∷ ps) v) λ x y. came-out m x y
 
-    include-line : (j : ℕ) → j < Deck.count d → (j ≡ k → ⊥) → (l : LevelBut) (r : Level) → Levels l r → (p m n : ℕ) → m < Deck.count d → (ps : List Place) (w : World) → T₀ (includeLineBut l j d p m n ps w f) (includeAt (Deck.line j) r e p m n ps (G₀ w) g)
+    include-line : (j : ℕ) → j < Deck.count d → (j ≡ k → ⊥) → (l : LevelBut) (r : Level) → Levels l r → (p m n : ℕ) → m < Deck.count d → (ps : List Place) (w : World) → T₀ (includeLineBut l j d p m n ps w f) (includeAt mixed (Deck.line j) r e p m n ps (G₀ w) g)
     include-line j i n noLevelBut noLevel z p m q b ps w = halts (alike b)
     include-line j i n noLevelBut (level y) z p m q b ps w = absurd z
     include-line j i n (levelBut x) noLevel z p m q b ps w = absurd z
-    include-line j i n (levelBut x) (level y) z p m q b ps w = rw (bodies j i n) (entered-but (enter-follows 0 0 none-extra [] Never even j (readMember (bodyOf e j)) w) x y j i (z j i n) m q ps w)
+    include-line j i n (levelBut x) (level y) z p m q b ps w = rw (bodies j i n) (entered-but (enter-follows 0 0 none-extra [] Never even j (readMember mixed (bodyOf e j)) w) x y j i (z j i n) m q ps w)
 
-    include-at : (x : Deck.Found) → ((j : ℕ) → x ≡ Deck.line j → j < Deck.count d) → (l : LevelBut) (r : Level) → Levels l r → (p m n : ℕ) → m < Deck.count d → (ps : List Place) (w : World) → T₀ (includeAtBut k x l d p m n ps w f) (includeAt x r e p m n ps (G₀ w) g)
+    include-at : (x : Deck.Found) → ((j : ℕ) → x ≡ Deck.line j → j < Deck.count d) → (l : LevelBut) (r : Level) → Levels l r → (p m n : ℕ) → m < Deck.count d → (ps : List Place) (w : World) → T₀ (includeAtBut k x l d p m n ps w f) (includeAt mixed x r e p m n ps (G₀ w) g)
     include-at Deck.none i l r z p m n b ps w = halts (alike b)
     include-at (Deck.line j) i l r z p m n b ps w = go (eqb j k) refl
       where
-        go : (t : Bool) → eqb j k ≡ t → T₀ (when t (λ _. bad barred (w .used)) (λ _. includeLineBut l j d p m n ps w f)) (includeAt (Deck.line j) r e p m n ps (G₀ w) g)
+        go : (t : Bool) → eqb j k ≡ t → T₀ (when t (λ _. bad barred (w .used)) (λ _. includeLineBut l j d p m n ps w f)) (includeAt mixed (Deck.line j) r e p m n ps (G₀ w) g)
         go true y = lacks bar
         go false y = include-line j (i j refl) (eqb-false j k y) l r z p m n b ps w
 
-  found : (x : Deck.Sought) (j : ℕ) → Deck.find x 0 (Deck.lines d) ≡ Deck.line j → j < Deck.count d
+  found : (x : Deck.Sought) (j : ℕ) → Deck.find mixed x 0 (Deck.lines d) ≡ Deck.line j → j < Deck.count d
   found x j z = omega (arith, find-range x 0 (Deck.lines d) j z, length-lines d 0 (Deck.count d))
 
-  include-all : (l : LevelBut) (r : Level) → Levels l r → (p m n : ℕ) → m < Deck.count d → (ps : List Place) (xs : List Deck.Sought) (w : World) → T₀ (includeAllBut k l d p m n ps xs w) (includeAll r e p m n ps xs (G₀ w))
+  include-all : (l : LevelBut) (r : Level) → Levels l r → (p m n : ℕ) → m < Deck.count d → (ps : List Place) (xs : List Deck.Sought) (w : World) → T₀ (includeAllBut k l d p m n ps xs w) (includeAll mixed r e p m n ps xs (G₀ w))
   unfolding includeAllBut includeAll
   include-all l r h p m n b ps [] w = goes
-  include-all l r h p m n b ps (x ∷ xs) w = rw contents (include-at _ _ (include-all l r h p m n b ps xs) (Deck.find x 0 (Deck.lines d)) (found x) l r h p m n b ps w)
+  include-all l r h p m n b ps (x ∷ xs) w = rw contents (include-at _ _ (include-all l r h p m n b ps xs) (Deck.find mixed x 0 (Deck.lines d)) (found x) l r h p m n b ps w)
 
-  act-but : (s : Statement) (l : LevelBut) (r : Level) → Levels l r → (p m n : ℕ) → m < Deck.count d → (ps : List Place) (w : World) → T₀ (actBut k s l d p m n ps w) (actAs s r e p m n ps (G₀ w))
+  act-but : (s : Statement) (l : LevelBut) (r : Level) → Levels l r → (p m n : ℕ) → m < Deck.count d → (ps : List Place) (w : World) → T₀ (actBut k s l d p m n ps w) (actAs mixed s r e p m n ps (G₀ w))
   act-but null l r h p m n b ps w = goes
   act-but (declare ns) l r h p m n b ps w = here m p b (bind-follows 0 0 none-extra [] Never even _ _ (activate-all 0 0 none-extra [] Never even rescanned ns w) λ _ v. goes)
   act-but (procedure ns t) l r h p m n b ps w = goes
@@ -142,24 +143,24 @@ module _ (k : ℕ) (d e : List ℕ) (contents : Deck.lines e ≡ Deck.lines d) (
   act-but (deactivate ns) l r h p m n b ps w = here m p b (bind-follows 0 0 none-extra [] Never even _ _ (activate-all 0 0 none-extra [] Never even inactive ns w) λ _ v. goes)
   act-but (return x) l r h p m n b ps w = goes
 
-  source-but : (l : LevelBut) (r : Level) → Levels l r → (m : ℕ) → m < Deck.count d → (m ≡ k → ⊥) → (ps : List Place) (s : Source) (w : World) → T₀ (runSourceBut k l d m ps s w) (runSource r e m ps s (G₀ w))
+  source-but : (l : LevelBut) (r : Level) → Levels l r → (m : ℕ) → m < Deck.count d → (m ≡ k → ⊥) → (ps : List Place) (s : Source) (w : World) → T₀ (runSourceBut k l d m ps s w) (runSource mixed r e m ps s (G₀ w))
   unfolding runSourceBut machineBut memberMachine runSource
   source-but l r h m i n ps s w =
       let M : Machine Halt = machineBut k l d m ps s in
-      let N : Machine Stop = memberMachine r e m ps s in
+      let N : Machine Stop = memberMachine mixed r e m ps s in
       let calls : FollowingCall 0 0 none-extra [] Never even callOut = calls-follows 0 0 none-extra [] Never even runningProcedures [] in
       let values : (x : Tree) (v : World) → Fol 0 0 none-extra [] Never even (M .value x v) (N .value x (G₀ v)) = λ x v. evaluate-follows 0 0 none-extra [] Never even callOut calls everyone x 0 v in
-      let outs : (x : Stretch) (v : World) → T₀ (M .out x v) (N .out x (G₀ v)) = λ x v. subst (λ (t : List ℕ). T₀ (placed halted (textOut m t x v)) (textOut m (bodyOf e m) x (G₀ v))) (sym (bodies m i n)) (lifted (Deck.count d) m i (out-in m (bodyOf e m) x v) (text-out 0 0 none-extra [] Never even m (bodyOf e m) x v)) in
+      let outs : (x : Stretch) (v : World) → T₀ (M .out x v) (N .out x (G₀ v)) = λ x v. subst (λ (t : List ℕ). T₀ (placed halted (textOut mixed m t x v)) (textOut mixed m (bodyOf e m) x (G₀ v))) (sym (bodies m i n)) (lifted (Deck.count d) m i (out-in m (bodyOf e m) x v) (text-out 0 0 none-extra [] Never even m (bodyOf e m) x v)) in
       let acts : (q : ℕ) (v : World) → T₀ (M .act q v) (N .act q (G₀ v)) = λ q v. act-but (rowOf (s .rows) q .statement) l r h (rowOf (s .rows) q .place) m q i ps v in
       let gotos : (q : ℕ) (t : List ℕ) (v : World) → T₀ (M .jump q t v) (N .jump q t (G₀ v)) = λ q t v. here m (rowOf (s .rows) q .place) i (jump-from 0 0 none-extra [] Never even (addressOf t everyone v) m (s .rows) ps q v) in
       bind-follows 0 0 none-extra [] Never even _ _
       (lead-follows 0 0 none-extra [] Never even M (N .fault) (N .value) (N .out) (N .act) (N .jump) (λ x z. alike i) (λ x z y. absurd y) values outs acts gotos (s .lead) w)
       λ _ v. runOn-follows 0 0 none-extra [] Never even M (N .fault) (N .value) (N .out) (N .act) (N .jump) (λ x z. alike i) (λ x z y. absurd y) values outs acts gotos (firstOf (s .first)) [] v
 
-  run-but : (n : ℕ) → Inners (runBut k n d) (runMember n e)
+  run-but : (n : ℕ) → Inners (runBut k n d) (runMember mixed n e)
   unfolding runBut runMember
-  run-but zero m i n ps w = rw (bodies m i n) (source-but noLevelBut noLevel tt m i n ps (readMember (bodyOf e m)) w)
-  run-but (suc j) m i n ps w = rw (bodies m i n) (source-but (levelBut (runBut k j d)) (level (runMember j e)) (run-but j) m i n ps (readMember (bodyOf e m)) w)
+  run-but zero m i n ps w = rw (bodies m i n) (source-but noLevelBut noLevel tt m i n ps (readMember mixed (bodyOf e m)) w)
+  run-but (suc j) m i n ps w = rw (bodies m i n) (source-but (levelBut (runBut k j d)) (level (runMember mixed j e)) (run-but j) m i n ps (readMember mixed (bodyOf e m)) w)
 
   -- what the run with the bar gives where it does not meet it
   abbrev resultBut : Res Halt End → Expansion
@@ -178,7 +179,7 @@ module _ (k : ℕ) (d e : List ℕ) (contents : Deck.lines e ≡ Deck.lines d) (
   result-but (halts (alike b)) h = refl
   result-but (lacks bar) h = absurd (h tt)
 
-  main-but : 0 < k → 0 < Deck.count d → {x y : Entering} → Enters 0 0 none-extra [] Never even x y → (MainAtBar k x d → ⊥) → runMain y e ≡ mainBut x
+  main-but : 0 < k → 0 < Deck.count d → {x y : Entering} → Enters 0 0 none-extra [] Never even x y → (MainAtBar k x d → ⊥) → runMain mixed y e ≡ mainBut x
   main-but i j refuses h = refl
   main-but i j (enters {w}) h = result-but (run-but includeLevels 0 j (λ z. absurd (omega arith)) [] w) h
 
@@ -190,7 +191,7 @@ module _ (k : ℕ) (d e : List ℕ) (contents : Deck.lines e ≡ Deck.lines d) (
   result-listed i (halts (alike b)) h = b
   result-listed i (lacks bar) h = absurd (h tt)
 
-  main-listed : 0 < k → 0 < Deck.count d → {x y : Entering} → Enters 0 0 none-extra [] Never even x y → (MainAtBar k x d → ⊥) → runMain y e .member < Deck.count d
+  main-listed : 0 < k → 0 < Deck.count d → {x y : Entering} → Enters 0 0 none-extra [] Never even x y → (MainAtBar k x d → ⊥) → runMain mixed y e .member < Deck.count d
   main-listed i j refuses h = j
   main-listed i j (enters {w}) h = result-listed j (run-but includeLevels 0 j (λ z. absurd (omega arith)) [] w) h
 
@@ -203,18 +204,18 @@ same-world w =
     let o : w .passes ≡ w .passes ++ [] = sym (append-nil (w .passes)) in
     λ i. record { identifiers = w .identifiers; denotations = w .denotations; values = w .values; activities = w .activities; members = w .members; sentences = w .sentences; limit = p i; used = w .used; layout = w .layout; events = w .events; textLeft = q i; linesLeft = r i; passes = o i }
 
-main-same : (k : ℕ) (d e : List ℕ) (contents : Deck.lines e ≡ Deck.lines d) (bodies : (m : ℕ) → m < Deck.count d → (m ≡ k → ⊥) → bodyOf d m ≡ bodyOf e m) → 0 < k → 0 < Deck.count d → (w : World) → (MainAtBar k (enter 0 (readMember (bodyOf d 0)) w) d → ⊥) → runMain (enter 0 (readMember (bodyOf e 0)) w) e ≡ mainBut k d e contents bodies (enter 0 (readMember (bodyOf d 0)) w)
+main-same : (k : ℕ) (d e : List ℕ) (contents : Deck.lines e ≡ Deck.lines d) (bodies : (m : ℕ) → m < Deck.count d → (m ≡ k → ⊥) → bodyOf d m ≡ bodyOf e m) → 0 < k → 0 < Deck.count d → (w : World) → (MainAtBar k (enter 0 (readMember mixed (bodyOf d 0)) w) d → ⊥) → runMain mixed (enter 0 (readMember mixed (bodyOf e 0)) w) e ≡ mainBut k d e contents bodies (enter 0 (readMember mixed (bodyOf d 0)) w)
 main-same k d e contents bodies i j w h =
-    ap (λ (t : List ℕ). runMain (enter 0 (readMember t) w) e) (sym (bodies 0 j (λ y. absurd (omega arith))))
-    ∙ ap (λ (v : World). runMain (enter 0 (readMember (bodyOf d 0)) v) e) (same-world w)
-    ∙ main-but k d e contents bodies i j (enter-follows 0 0 none-extra [] Never even 0 (readMember (bodyOf d 0)) w) h
+    ap (λ (t : List ℕ). runMain mixed (enter 0 (readMember mixed t) w) e) (sym (bodies 0 j (λ y. absurd (omega arith))))
+    ∙ ap (λ (v : World). runMain mixed (enter 0 (readMember mixed (bodyOf d 0)) v) e) (same-world w)
+    ∙ main-but k d e contents bodies i j (enter-follows 0 0 none-extra [] Never even 0 (readMember mixed (bodyOf d 0)) w) h
 
 -- the runs of both decks, and the member that the answer names
-pub runs-same : (k : ℕ) (d e : List ℕ) → Deck.lines e ≡ Deck.lines d → ((m : ℕ) → m < Deck.count d → (m ≡ k → ⊥) → bodyOf d m ≡ bodyOf e m) → 0 < k → 0 < Deck.count d → (w : World) → (MainAtBar k (enter 0 (readMember (bodyOf d 0)) w) d → ⊥) → runMain (enter 0 (readMember (bodyOf e 0)) w) e ≡ runMain (enter 0 (readMember (bodyOf d 0)) w) d
+pub runs-same : (k : ℕ) (d e : List ℕ) → Deck.lines e ≡ Deck.lines d → ((m : ℕ) → m < Deck.count d → (m ≡ k → ⊥) → bodyOf d m ≡ bodyOf e m) → 0 < k → 0 < Deck.count d → (w : World) → (MainAtBar k (enter 0 (readMember mixed (bodyOf d 0)) w) d → ⊥) → runMain mixed (enter 0 (readMember mixed (bodyOf e 0)) w) e ≡ runMain mixed (enter 0 (readMember mixed (bodyOf d 0)) w) d
 runs-same k d e contents bodies i j w h = main-same k d e contents bodies i j w h ∙ sym (main-same k d d refl (λ m _ _. refl) i j w h)
 
-pub answer-listed : (k : ℕ) (d : List ℕ) → 0 < k → 0 < Deck.count d → (w : World) → (MainAtBar k (enter 0 (readMember (bodyOf d 0)) w) d → ⊥) → runMain (enter 0 (readMember (bodyOf d 0)) w) d .member < Deck.count d
-answer-listed k d i j w h = subst (λ (v : World). runMain (enter 0 (readMember (bodyOf d 0)) v) d .member < Deck.count d) (sym (same-world w)) (main-listed k d d refl (λ m _ _. refl) i j (enter-follows 0 0 none-extra [] Never even 0 (readMember (bodyOf d 0)) w) h)
+pub answer-listed : (k : ℕ) (d : List ℕ) → 0 < k → 0 < Deck.count d → (w : World) → (MainAtBar k (enter 0 (readMember mixed (bodyOf d 0)) w) d → ⊥) → runMain mixed (enter 0 (readMember mixed (bodyOf d 0)) w) d .member < Deck.count d
+answer-listed k d i j w h = subst (λ (v : World). runMain mixed (enter 0 (readMember mixed (bodyOf d 0)) v) d .member < Deck.count d) (sym (same-world w)) (main-listed k d d refl (λ m _ _. refl) i j (enter-follows 0 0 none-extra [] Never even 0 (readMember mixed (bodyOf d 0)) w) h)
 
 -- UNREAD
 pub unread : (d : List ℕ) → Unread d
@@ -224,6 +225,6 @@ unread d roomy k b t l s sound i j fits never =
     let e : List ℕ = withBody k b d in
     rw (sound-same d k b sound j fits, sound) (go roomy (runs-same k d e (lines-same d k b sound j fits) (body-same d k b sound j fits) i (omega arith) w never))
   where
-    go : (y : Bool) → runMain (enter 0 (readMember (bodyOf (withBody k b d) 0)) (mainWorld t l s)) (withBody k b d) ≡ runMain (enter 0 (readMember (bodyOf d 0)) (mainWorld t l s)) d → when y (λ _. runMain (enter 0 (readMember (bodyOf (withBody k b d) 0)) (mainWorld t l s)) (withBody k b d)) (λ _. refusal shortRoom 0 0 0) ≡ when y (λ _. runMain (enter 0 (readMember (bodyOf d 0)) (mainWorld t l s)) d) (λ _. refusal shortRoom 0 0 0)
+    go : (y : Bool) → runMain mixed (enter 0 (readMember mixed (bodyOf (withBody k b d) 0)) (mainWorld t l s)) (withBody k b d) ≡ runMain mixed (enter 0 (readMember mixed (bodyOf d 0)) (mainWorld t l s)) d → when y (λ _. runMain mixed (enter 0 (readMember mixed (bodyOf (withBody k b d) 0)) (mainWorld t l s)) (withBody k b d)) (λ _. refusal shortRoom 0 0 0) ≡ when y (λ _. runMain mixed (enter 0 (readMember mixed (bodyOf d 0)) (mainWorld t l s)) d) (λ _. refusal shortRoom 0 0 0)
     go true z = z
     go false z = refl

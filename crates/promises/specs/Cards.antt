@@ -8,6 +8,7 @@ use lib.Dec.{eqb}
 use lib.ListN.{length, getD}
 use Rattle.definition.specs.declared.Layout.{Layout}
 use Rattle.definition.specs.declared.Layout.the-variants.{Cards as cards}
+use Rattle.definition.specs.Bytes.{mixed}
 use Rattle.definition.specs.Limits.{includeLevels, recordColumns, sourceColumns}
 use Rattle.definition.specs.Deck.{count, lineAt, lines, none, isSound}
 use Rattle.definition.specs.Cards.{uneven, joinedSize, joined, column, given}
@@ -25,7 +26,7 @@ use Rattle.definition.specs.Expansion.{Expansion, worldFor, expansion, sizeIn, 
 -- THE JOINED DECK of a sound one is sound and no longer; it has the same members by name, and byte p of a body is the
 -- byte of the body as given that `column` names
 pub record Joins (d : List ℕ) : Type 0 where
-  pub sound : isSound (joined d) ≡ true
+  pub sound : isSound mixed (joined d) ≡ true
   pub shorter : length (joined d) ≤ length d
   pub counts : count (joined d) ≡ count d
   pub libraries : (m : ℕ) → m < count d → lineAt (joined d) m .library ≡ lineAt d m .library
@@ -50,8 +51,8 @@ pub record Places (d : List ℕ) : Type 0 where
 abbrev pub KeepsLayout : List ℕ → Type 0
 KeepsLayout d =
     (y : Layout) (textRoom listRoom steps : ℕ) (w v : World) (x : End)
-    → enter 0 (readMember (bodyOf d 0)) (worldFor y textRoom listRoom steps) ≡ entered w
-    → runMember includeLevels d 0 [] w ≡ good x v → v .layout ≡ y
+    → enter 0 (readMember mixed (bodyOf d 0)) (worldFor y textRoom listRoom steps) ≡ entered w
+    → runMember mixed includeLevels d 0 [] w ≡ good x v → v .layout ≡ y
 
 -- IN ITS ROOMS lie the text of every expansion and its list, "cut into a line of its own at each record edge"
 pub record InRooms (textRoom listRoom : ℕ) (x : Expansion) : Type 0 where
@@ -61,7 +62,7 @@ pub record InRooms (textRoom listRoom : ℕ) (x : Expansion) : Type 0 where
 abbrev pub AllInRooms : List ℕ → Type 0
 AllInRooms d =
     (y : Layout) (roomy : Bool) (textRoom listRoom steps : ℕ)
-    → InRooms textRoom listRoom (expansionOf y roomy d textRoom listRoom steps)
+    → InRooms textRoom listRoom (expansionOf mixed y roomy d textRoom listRoom steps)
 
 -- TIED: of a sound deck of whole records, and in working rooms that are long enough, the expansion over cards is that of
 -- the joined deck, told by the places of the deck as given: the same number, member, steps and text. But room (17) it may
@@ -71,8 +72,8 @@ TiedTo d x y = (x .number ≡ 17 → ⊥) → x ≡ told (joined d) y
 
 abbrev pub Tied : List ℕ → Type 0
 Tied d =
-    (textRoom listRoom steps : ℕ) → isSound d ≡ true → uneven 0 (lines d) ≡ none
-    → TiedTo d (expansionOf cards true d textRoom listRoom steps) (expansion true (joined d) textRoom listRoom steps)
+    (textRoom listRoom steps : ℕ) → isSound mixed d ≡ true → uneven 0 (lines d) ≡ none
+    → TiedTo d (expansionOf mixed cards true d textRoom listRoom steps) (expansion mixed true (joined d) textRoom listRoom steps)
 
 -- ---- JOINING THE PIECES: from the list as given the list of the joined deck, both newest first
 -- a stretch that goes on with the line before it makes that longer
@@ -90,10 +91,10 @@ rejoined (l ∷ ls) = onto (line (l .kind) (l .member) (joinedPlace (l .offset))
 -- REJOINED, the lines as given are those of the joined deck
 abbrev pub Rejoins : List ℕ → Type 0
 Rejoins d =
-    (roomy : Bool) (textRoom listRoom steps : ℕ) → isSound d ≡ true → uneven 0 (lines d) ≡ none
-    → (expansionOf cards roomy d textRoom listRoom steps .number ≡ 17 → ⊥)
-    → rejoined (expansionOf cards roomy d textRoom listRoom steps .lines)
-    ≡ expansion roomy (joined d) textRoom listRoom steps .lines
+    (roomy : Bool) (textRoom listRoom steps : ℕ) → isSound mixed d ≡ true → uneven 0 (lines d) ≡ none
+    → (expansionOf mixed cards roomy d textRoom listRoom steps .number ≡ 17 → ⊥)
+    → rejoined (expansionOf mixed cards roomy d textRoom listRoom steps .lines)
+    ≡ expansion mixed roomy (joined d) textRoom listRoom steps .lines
 
 -- "Demands 2 and 3 then read over the joined columns": of a deck of whole records the list, its pieces joined, tells the
 -- passes of the run over the joined deck
@@ -109,10 +110,10 @@ rejoinedOf x = record {
 
 abbrev pub HonestCards : List ℕ → Type 0
 HonestCards d =
-    (textRoom listRoom steps : ℕ) → isSound d ≡ true → uneven 0 (lines d) ≡ none
+    (textRoom listRoom steps : ℕ) → isSound mixed d ≡ true → uneven 0 (lines d) ≡ none
     → Honest (joined d)
-    (mainPasses (enter 0 (readMember (bodyOf (joined d) 0)) (worldFor cards textRoom listRoom steps)) (joined d))
-    (rejoinedOf (expansionOf cards true d textRoom listRoom steps))
+    (mainPasses (enter 0 (readMember mixed (bodyOf (joined d) 0)) (worldFor cards textRoom listRoom steps)) (joined d))
+    (rejoinedOf (expansionOf mixed cards true d textRoom listRoom steps))
 
 -- ---- DEMAND 3 AS GIVEN: the lines of a card expansion cut its text as those of a plain one do (`Partition`), where "A
 -- copied stretch equals its source", the body as given, and no stretch goes on with the one before it
@@ -129,14 +130,14 @@ pub record CutAsGiven (d : List ℕ) (x : Expansion) : Type 0 where
 
 abbrev pub AsGiven : List ℕ → Type 0
 AsGiven d =
-    (roomy : Bool) (textRoom listRoom steps : ℕ) → CutAsGiven d (expansionOf cards roomy d textRoom listRoom steps)
+    (roomy : Bool) (textRoom listRoom steps : ℕ) → CutAsGiven d (expansionOf mixed cards roomy d textRoom listRoom steps)
 
 -- ---- UNREAD: "A body never included, replaced by any other of that length, changes nothing in the answer, text or
 -- list", here of a card deck, whose run is that of the joined one
 abbrev pub UnreadCards : List ℕ → Type 0
 UnreadCards d =
     (roomy : Bool) (k : ℕ) (b : List ℕ) (textRoom listRoom steps : ℕ)
-    → isSound d ≡ true → 0 < k → k < count d → length b ≡ lineAt d k .size
-    → (MainAtBar k (enter 0 (readMember (bodyOf (joined d) 0)) (worldFor cards textRoom listRoom steps)) (joined d) → ⊥)
-    → expansionOf cards roomy (withBody k b d) textRoom listRoom steps
-    ≡ expansionOf cards roomy d textRoom listRoom steps
+    → isSound mixed d ≡ true → 0 < k → k < count d → length b ≡ lineAt d k .size
+    → (MainAtBar k (enter 0 (readMember mixed (bodyOf (joined d) 0)) (worldFor cards textRoom listRoom steps)) (joined d) → ⊥)
+    → expansionOf mixed cards roomy (withBody k b d) textRoom listRoom steps
+    ≡ expansionOf mixed cards roomy d textRoom listRoom steps

@@ -5,6 +5,7 @@ use mathlib.Core.Bool.{Bool, true}
 use mathlib.Core.List.{List}
 use mathlib.Core.Path.{_≡_}
 use Rattle.definition.specs.declared.Layout.{Layout}
+use Rattle.definition.specs.Bytes.{mixed}
 use Rattle.definition.specs.Expansion.{Expansion, expansion, expansionOf}
 
 -- an expansion, and the one with more: the same in all, unless the first wants a working room (2), room (17) or steps
@@ -17,11 +18,11 @@ abbrev pub MoreKeeps : List ℕ → Type 0
 MoreKeeps d =
     (roomy roomier : Bool) (text textMore list listMore steps stepsMore : ℕ)
     → (roomy ≡ true → roomier ≡ true) → text ≤ textMore → list ≤ listMore → steps ≤ stepsMore
-    → Kept (expansion roomy d text list steps) (expansion roomier d textMore listMore stepsMore)
+    → Kept (expansion mixed roomy d text list steps) (expansion mixed roomier d textMore listMore stepsMore)
 
 -- the same of a deck that is plain or cards (C-11)
 abbrev pub MoreKeepsIn : Layout → List ℕ → Type 0
 MoreKeepsIn y d =
     (roomy roomier : Bool) (text textMore list listMore steps stepsMore : ℕ)
     → (roomy ≡ true → roomier ≡ true) → text ≤ textMore → list ≤ listMore → steps ≤ stepsMore
-    → Kept (expansionOf y roomy d text list steps) (expansionOf y roomier d textMore listMore stepsMore)
+    → Kept (expansionOf mixed y roomy d text list steps) (expansionOf mixed y roomier d textMore listMore stepsMore)

@@ -10,6 +10,7 @@ use mathlib.Core.List.{List, [], _∷_, _++_}
 use mathlib.Core.Path.{_≡_}
 use lib.Dec.{eqb}
 use lib.ListN.{length, getD}
+use Rattle.definition.specs.Bytes.{mixed}
 use Rattle.definition.specs.Choice.{when}
 use Rattle.definition.specs.Limits.{includeLevels}
 use Rattle.definition.specs.Lists.{part}
@@ -33,13 +34,13 @@ passesOf (bad s u) = []
 
 abbrev pub mainPasses : Entering → List ℕ → List Pass
 mainPasses (unreadable e p) d = []
-mainPasses (entered w) d = passesOf (runMember includeLevels d 0 [] w)
+mainPasses (entered w) d = passesOf (runMember mixed includeLevels d 0 [] w)
 
 unfoldable pub passing : Bool → List ℕ → ℕ → ℕ → ℕ → List Pass
 passing roomy d textRoom listRoom steps =
-    when (isSound d)
+    when (isSound mixed d)
     (λ _. when roomy
-    (λ _. mainPasses (enter 0 (readMember (bodyOf d 0)) (mainWorld textRoom listRoom steps)) d)
+    (λ _. mainPasses (enter 0 (readMember mixed (bodyOf d 0)) (mainWorld textRoom listRoom steps)) d)
     (λ _. []))
     (λ _. [])
 
@@ -109,7 +110,7 @@ textIn d m x = part (x .to - x .from) (x .from) (bodyOf d m)
 -- arguments; then behind its list of so many
 pub data GoesOnAt (t : List ℕ) (q : ℕ) (s : Sight) : ℕ → Type 0 where
   atOnce : (WasActive s → Asks s ≡ 0) → GoesOnAt t q s q
-  behindList : {r : ℕ} {xs : List Argument} → WasActive s → 0 < Asks s → length xs ≡ Asks s → listAt t q ≡ listUpTo xs r
+  behindList : {r : ℕ} {xs : List Argument} → WasActive s → 0 < Asks s → length xs ≡ Asks s → listAt mixed t q ≡ listUpTo xs r
       → GoesOnAt t q s r
 
 -- where the scan stands: in no text, or p bytes behind the start of the text x of member m
@@ -126,11 +127,11 @@ pub data TextOf (x : Source) : Stretch → Type 0 where
 
 pub data Scans (d : List ℕ) : List Pass → At → Type 0 where
   none : Scans d [] outside
-  begins : {m : ℕ} {x : Stretch} {ps : List Pass} → TextOf (readMember (bodyOf d m)) x → Scans d ps outside
+  begins : {m : ℕ} {x : Stretch} {ps : List Pass} → TextOf (readMember mixed (bodyOf d m)) x → Scans d ps outside
       → Scans d (began m x ∷ ps) (inside m x 0)
   goesOn : {s : Sight} {m p q : ℕ} {x : Stretch} {ps : List Pass} → Scans d ps (inside m x p)
-      → p < length (textIn d m x) → s .member ≡ m → s .place ≡ x .from + p → s .piece ≡ pieceAt (textIn d m x) p .piece
-      → s .to ≡ x .from + q → GoesOnAt (textIn d m x) (pieceAt (textIn d m x) p .to) s q
+      → p < length (textIn d m x) → s .member ≡ m → s .place ≡ x .from + p → s .piece ≡ pieceAt mixed (textIn d m x) p .piece
+      → s .to ≡ x .from + q → GoesOnAt (textIn d m x) (pieceAt mixed (textIn d m x) p .to) s q
       → Scans d (passed s ∷ ps) (inside m x q)
   ends : {m p : ℕ} {x : Stretch} {ps : List Pass} → Scans d ps (inside m x p) → length (textIn d m x) ≤ p
       → Scans d ps outside

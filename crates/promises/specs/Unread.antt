@@ -8,6 +8,7 @@ use mathlib.Core.Path.{_≡_}
 use lib.Dec.{eqb}
 use lib.ListN.{length}
 use Rattle.definition.specs.declared.Why.the-variants.{UnknownMember as unknownMember, TooDeep as tooDeep}
+use Rattle.definition.specs.Bytes.{mixed}
 use Rattle.definition.specs.Choice.{when}
 use Rattle.definition.specs.Limits.{includeLevels}
 use Rattle.definition.specs.Room.{over}
@@ -49,7 +50,7 @@ abbrev pub includeLineBut : LevelBut → ℕ → List ℕ → ℕ → ℕ → �
     → Res Halt Deed
 includeLineBut noLevelBut j d p m n on w next = bad (halted (stop m p tooDeep)) (w .used)
 includeLineBut (levelBut inner) j d p m n on w next =
-    includeEnteredBut (enter j (readMember (bodyOf d j)) w) inner j m n on w next
+    includeEnteredBut (enter j (readMember mixed (bodyOf d j)) w) inner j m n on w next
 
 abbrev pub includeAtBut : ℕ → Deck.Found → LevelBut → List ℕ → ℕ → ℕ → ℕ → List Place → World → (World → Res Halt Deed)
     → Res Halt Deed
@@ -60,33 +61,33 @@ includeAtBut k (Deck.line j) inner d p m n on w next =
 unfoldable pub includeAllBut : ℕ → LevelBut → List ℕ → ℕ → ℕ → ℕ → List Place → List Deck.Sought → World → Res Halt Deed
 includeAllBut k inner d p m n on [] w = good passed w
 includeAllBut k inner d p m n on (x ∷ xs) w =
-    includeAtBut k (Deck.find x 0 (Deck.lines d)) inner d p m n on w (λ v. includeAllBut k inner d p m n on xs v)
+    includeAtBut k (Deck.find mixed x 0 (Deck.lines d)) inner d p m n on w (λ v. includeAllBut k inner d p m n on xs v)
 
 abbrev pub actBut : ℕ → Statement → LevelBut → List ℕ → ℕ → ℕ → ℕ → List Place → World → Res Halt Deed
-actBut k null inner d p m n on w = placed halted (actAs null noLevel d p m n on w)
-actBut k (declare ns) inner d p m n on w = placed halted (actAs (declare ns) noLevel d p m n on w)
-actBut k (procedure ns t) inner d p m n on w = placed halted (actAs (procedure ns t) noLevel d p m n on w)
-actBut k (assign t x) inner d p m n on w = placed halted (actAs (assign t x) noLevel d p m n on w)
-actBut k (conditional x) inner d p m n on w = placed halted (actAs (conditional x) noLevel d p m n on w)
-actBut k group inner d p m n on w = placed halted (actAs group noLevel d p m n on w)
-actBut k (iterated t x bs) inner d p m n on w = placed halted (actAs (iterated t x bs) noLevel d p m n on w)
-actBut k (goto t) inner d p m n on w = placed halted (actAs (goto t) noLevel d p m n on w)
+actBut k null inner d p m n on w = placed halted (actAs mixed null noLevel d p m n on w)
+actBut k (declare ns) inner d p m n on w = placed halted (actAs mixed (declare ns) noLevel d p m n on w)
+actBut k (procedure ns t) inner d p m n on w = placed halted (actAs mixed (procedure ns t) noLevel d p m n on w)
+actBut k (assign t x) inner d p m n on w = placed halted (actAs mixed (assign t x) noLevel d p m n on w)
+actBut k (conditional x) inner d p m n on w = placed halted (actAs mixed (conditional x) noLevel d p m n on w)
+actBut k group inner d p m n on w = placed halted (actAs mixed group noLevel d p m n on w)
+actBut k (iterated t x bs) inner d p m n on w = placed halted (actAs mixed (iterated t x bs) noLevel d p m n on w)
+actBut k (goto t) inner d p m n on w = placed halted (actAs mixed (goto t) noLevel d p m n on w)
 actBut k (include ns) inner d p m n on w = includeAllBut k inner d p m n on ns w
-actBut k (activate xs) inner d p m n on w = placed halted (actAs (activate xs) noLevel d p m n on w)
-actBut k (deactivate ns) inner d p m n on w = placed halted (actAs (deactivate ns) noLevel d p m n on w)
-actBut k (return x) inner d p m n on w = placed halted (actAs (return x) noLevel d p m n on w)
+actBut k (activate xs) inner d p m n on w = placed halted (actAs mixed (activate xs) noLevel d p m n on w)
+actBut k (deactivate ns) inner d p m n on w = placed halted (actAs mixed (deactivate ns) noLevel d p m n on w)
+actBut k (return x) inner d p m n on w = placed halted (actAs mixed (return x) noLevel d p m n on w)
 
 -- a member's machine, all but INCLUDE as it is
 unfoldable pub machineBut : ℕ → LevelBut → List ℕ → ℕ → List Place → Source → Machine Halt
 machineBut k inner d m on s = record {
-  rows = memberMachine noLevel d m on s .rows;
-  owner = memberMachine noLevel d m on s .owner;
-  fault = λ r e. halted (memberMachine noLevel d m on s .fault r e);
-  value = memberMachine noLevel d m on s .value;
-  waiting = memberMachine noLevel d m on s .waiting;
-  out = λ x w. placed halted (memberMachine noLevel d m on s .out x w);
+  rows = memberMachine mixed noLevel d m on s .rows;
+  owner = memberMachine mixed noLevel d m on s .owner;
+  fault = λ r e. halted (memberMachine mixed noLevel d m on s .fault r e);
+  value = memberMachine mixed noLevel d m on s .value;
+  waiting = memberMachine mixed noLevel d m on s .waiting;
+  out = λ x w. placed halted (memberMachine mixed noLevel d m on s .out x w);
   act = λ n w. actBut k (rowOf (s .rows) n .statement) inner d (rowOf (s .rows) n .place) m n on w;
-  jump = λ n t w. placed halted (memberMachine noLevel d m on s .jump n t w);
+  jump = λ n t w. placed halted (memberMachine mixed noLevel d m on s .jump n t w);
 }
 
 unfoldable pub runSourceBut : ℕ → LevelBut → List ℕ → ℕ → List Place → Source → World → Res Halt End
@@ -95,8 +96,8 @@ runSourceBut k inner d m on s w =
     runOn (machineBut k inner d m on s) (v .limit - v .used) (firstOf (s .first)) [] v
 
 unfoldable pub runBut : ℕ → ℕ → List ℕ → InnerBut
-runBut k zero d m on w = runSourceBut k noLevelBut d m on (readMember (bodyOf d m)) w
-runBut k (suc n) d m on w = runSourceBut k (levelBut (runBut k n d)) d m on (readMember (bodyOf d m)) w
+runBut k zero d m on w = runSourceBut k noLevelBut d m on (readMember mixed (bodyOf d m)) w
+runBut k (suc n) d m on w = runSourceBut k (levelBut (runBut k n d)) d m on (readMember mixed (bodyOf d m)) w
 
 -- ---- the run of the deck d never includes the member k
 abbrev pub AtBar : Res Halt End → Type 0
@@ -110,7 +111,7 @@ MainAtBar k (entered w) d = AtBar (runBut k includeLevels d 0 [] w)
 
 abbrev pub NeverIncluded : ℕ → List ℕ → ℕ → ℕ → ℕ → Type 0
 NeverIncluded k d textRoom listRoom steps =
-    MainAtBar k (enter 0 (readMember (bodyOf d 0)) (mainWorld textRoom listRoom steps)) d → ⊥
+    MainAtBar k (enter 0 (readMember mixed (bodyOf d 0)) (mainWorld textRoom listRoom steps)) d → ⊥
 
 -- the deck d with the bytes b in place of the body of member k
 abbrev pub withBody : ℕ → List ℕ → List ℕ → List ℕ
@@ -121,6 +122,6 @@ withBody k b d = over d (Deck.lineAt d k .offset) b
 abbrev pub Unread : List ℕ → Type 0
 Unread d =
     (roomy : Bool) (k : ℕ) (b : List ℕ) (textRoom listRoom steps : ℕ)
-    → Deck.isSound d ≡ true → 0 < k → k < Deck.count d → length b ≡ Deck.lineAt d k .size
+    → Deck.isSound mixed d ≡ true → 0 < k → k < Deck.count d → length b ≡ Deck.lineAt d k .size
     → NeverIncluded k d textRoom listRoom steps
-    → expansion roomy (withBody k b d) textRoom listRoom steps ≡ expansion roomy d textRoom listRoom steps
+    → expansion mixed roomy (withBody k b d) textRoom listRoom steps ≡ expansion mixed roomy d textRoom listRoom steps

@@ -8,6 +8,7 @@ use native.Mathlib.Omega.{arith}
 use borrow.Author.Tests.{le-leb, lt-leb, leb-true, leb-false}
 use lib.Dec.{leb}
 use lib.ListN.{length, getD, length-append}
+use Rattle.definition.specs.Bytes.{mixed}
 use Rattle.definition.specs.Limits.{declaredNames}
 use Rattle.definition.specs.Expressions.{Named}
 use Rattle.definition.specs.Tokens as Tk
@@ -193,20 +194,20 @@ module _ (d s t n : List ℕ) (x : State) (p at : ℕ) (l : Labels) (hl : Labels
     some : Sits d s t n x → 0 < length (openedOf s (x .opened))
     some i = omega (arith, opened-size s (x .opened), i .placed .some)
 
-    no-end : (D.isInGroup (D.kindOf (openedOf s (x .opened))) && D.isEnd s (D.labels s at .behind)) ≡ false
+    no-end : (D.isInGroup (D.kindOf (openedOf s (x .opened))) && D.isEnd mixed s (D.labels mixed s at .behind)) ≡ false
     no-end =
-        ap (λ (z : Tk.Lexeme). D.isInGroup (D.kindOf (openedOf s (x .opened))) && D.isEnd s z) (hl .behind)
+        ap (λ (z : Tk.Lexeme). D.isInGroup (D.kindOf (openedOf s (x .opened))) && D.isEnd mixed s z) (hl .behind)
         ∙ ap (λ (z : Bool). D.isInGroup (D.kindOf (openedOf s (x .opened))) && z) (sym (end-is s (l .to) u lex))
         ∙ test false f
 
     -- a sentence that is not the 2,049th of all
-    fits : Sits d s t n x → leb 2048 (x .entered + x .rows) ≡ false → Fits (x .entered) (D.clauseAt s p at (fromState s t x))
+    fits : Sits d s t n x → leb 2048 (x .entered + x .rows) ≡ false → Fits (x .entered) (D.clauseAt mixed s p at (fromState s t x))
     unfolding stateOf
-    fits i g = fits-begun (x .entered) p (fromState s t x) (D.clauseAt s p at (fromState s t x)) (clause-begins s p (fromState s t x) (some i) at no-end)
+    fits i g = fits-begun (x .entered) p (fromState s t x) (D.clauseAt mixed s p at (fromState s t x)) (clause-begins s p (fromState s t x) (some i) at no-end)
         (omega (arith, leb-false 2048 (x .entered + x .rows) g, rows-length s t 0 (x .rows)))
 
     -- the 2,049th sentence of all, or the 1,025th of the member
-    over-way : Sits d s t n x → p < length s → Starts s p at → leb 2048 (x .entered + x .rows) ≡ true → r .next ≡ Nx.Stop OverLimit p → Over s (x .entered) (D.clauseAt s p at (fromState s t x)) r
+    over-way : Sits d s t n x → p < length s → Starts s p at → leb 2048 (x .entered + x .rows) ≡ true → r .next ≡ Nx.Stop OverLimit p → Over s (x .entered) (D.clauseAt mixed s p at (fromState s t x)) r
     unfolding stateOf
     over-way i lp st g h = record {
       place = p;
@@ -222,13 +223,13 @@ module _ (d s t n : List ℕ) (x : State) (p at : ℕ) (l : Labels) (hl : Labels
       is = refl;
     }
 
-    full-way : Sits d s t n x → leb 1024 (x .rows) ≡ true → r ≡ turned x (Nx.Stop OverLimit p) → Does d s n (x .tally) (D.clauseAt s p at (fromState s t x)) t n r
+    full-way : Sits d s t n x → leb 1024 (x .rows) ≡ true → r ≡ turned x (Nx.Stop OverLimit p) → Does d s n (x .tally) (D.clauseAt mixed s p at (fromState s t x)) t n r
     unfolding stateOf bookAll
     full-way i g h = subst (λ (X : D.Turn). Does d s n (x .tally) X t n r) (sym (clause-full s p (fromState s t x) at l hl u lex (test false f) (full-is s t x true g)))
         (rw h (record { next = refl; rows = refl; names = refl; past = refl }))
 
     way-full : Sits d s t n x → p < length s → Starts s p at → (b : Bool) → leb 2048 (x .entered + x .rows) ≡ b → (b || leb 1024 (x .rows)) ≡ true → r ≡ turned x (Nx.Stop OverLimit p)
-        → Way d s n (x .entered) (x .tally) (D.clauseAt s p at (fromState s t x)) t n r
+        → Way d s n (x .entered) (x .tally) (D.clauseAt mixed s p at (fromState s t x)) t n r
     way-full i lp st true g c h = stops (over-way i lp st g (ap (λ (z : Turned). z .next) h)) (ap (λ (z : Turned). bookOf d n (z .state .tally)) h)
     way-full i lp st false g c h = does (fits i g) (full-way i c h)
 
@@ -248,8 +249,8 @@ module _ (d s t n : List ℕ) (x : State) (p at : ℕ) (l : Labels) (hl : Labels
       low : (leb 2048 (x .entered + x .rows) ≡ false) × (leb 1024 (x .rows) ≡ false)
       low = or-none (leb 2048 (x .entered + x .rows)) (leb 1024 (x .rows)) (sym hb ∙ g)
 
-      labels-in : Sits d s t n x → Entered d n (x .tally) (bookAll (x .tally .member) (St.means (scopeOf (x .scope)) (D.labelMeaning (opensBy k) (x .rows)) (D.labels s at .labels))) n₁ (y .tally)
-      labels-in i = subst (λ (m : P.Meaning). Entered d n (x .tally) (bookAll (x .tally .member) (St.means (scopeOf (x .scope)) m (D.labels s at .labels))) n₁ (y .tally)) ha (hy .names .is (i .ready))
+      labels-in : Sits d s t n x → Entered d n (x .tally) (bookAll (x .tally .member) (St.means (scopeOf (x .scope)) (D.labelMeaning (opensBy k) (x .rows)) (D.labels mixed s at .labels))) n₁ (y .tally)
+      labels-in i = subst (λ (m : P.Meaning). Entered d n (x .tally) (bookAll (x .tally .member) (St.means (scopeOf (x .scope)) m (D.labels mixed s at .labels))) n₁ (y .tally)) ha (hy .names .is (i .ready))
 
       pub clause-too-long : (q : ℕ) → l .long ≡ Marked q → r ≡ turned y (Nx.Stop OverLimit q) → Clauses d s t n x p at t n₁ r
       unfolding stateOf bookAll
@@ -257,7 +258,7 @@ module _ (d s t n : List ℕ) (x : State) (p at : ℕ) (l : Labels) (hl : Labels
         so = λ i lp la st.
             subst (λ (z : D.Turn). Takes d s t n x z t n₁ r) (sym (clause-long s p (fromState s t x) at l hl u lex (test false f) (full-is s t x false (low .1)) q c))
             (rw h (record {
-              way = does (subst (λ (v : D.Turn). Fits (x .entered) v) (clause-long s p (fromState s t x) at l hl u lex (test false f) (full-is s t x false (low .1)) q c) (fits i (low .0))) (does-comes d s n x y (scopeOf (x .scope)) (opensBy k) (x .rows) (D.labels s at .labels) [] n₁ t n₁ (turned y (Nx.Stop OverLimit q)) (labels-in i) (D.untaken p (D.labels s at .labels) (fromState s t x) OverLimit q [])
+              way = does (subst (λ (v : D.Turn). Fits (x .entered) v) (clause-long s p (fromState s t x) at l hl u lex (test false f) (full-is s t x false (low .1)) q c) (fits i (low .0))) (does-comes d s n x y (scopeOf (x .scope)) (opensBy k) (x .rows) (D.labels mixed s at .labels) [] n₁ t n₁ (turned y (Nx.Stop OverLimit q)) (labels-in i) (D.untaken p (D.labels mixed s at .labels) (fromState s t x) OverLimit q [])
                   (record { next = refl; rows = ap (λ (z : State). rowsFrom s t 0 (z .rows)) (hy .rest); declared = refl; names = refl; past = refl }));
               before = ap (λ (z : State). z .entered) (hy .rest);
               few = subst (λ (z : State). z .entered + z .rows ≤ 2048) (sym (hy .rest)) (i .few);
@@ -272,20 +273,20 @@ module _ (d s t n : List ℕ) (x : State) (p at : ℕ) (l : Labels) (hl : Labels
       clause-statement t′ n′ c hk h = record {
         so = λ i lp la st.
             let m : ByToken d s t n₁ (withTally x (y .tally)) k u (l .to) p at t′ n′ r = subst (λ (v : State). ByToken d s t n₁ v k u (l .to) p at t′ n′ r) (hy .rest) h in
-            let en : Entered d n (x .tally) (bookAll (x .tally .member) (St.means (scopeOf (x .scope)) (D.labelMeaning (opensBy k) (x .rows)) (D.labels s at .labels))) n₁ (y .tally) = labels-in i in
+            let en : Entered d n (x .tally) (bookAll (x .tally .member) (St.means (scopeOf (x .scope)) (D.labelMeaning (opensBy k) (x .rows)) (D.labels mixed s at .labels))) n₁ (y .tally) = labels-in i in
             let si : Sits d s t n₁ (withTally x (y .tally)) = record {
               ready = record { roomy = en .roomy; lies = subst (λ (v : ℕ). Lies d s v) (sym (en .base)) (i .ready .lies); own = subst (λ (v : ℕ). Own v (x .scope)) (sym (en .member)) (i .ready .own) };
               few = i .few;
               short = i .short;
               placed = record { room = i .placed .room; own = i .placed .own; stand = i .placed .stand; some = i .placed .some; deep = i .placed .deep };
             } in
-            let q : Clausal d s t n₁ (withTally x (y .tally)) (D.labelMeaning (opensBy k) (x .rows)) (D.labels s at .labels) (D.byToken (tokenAt s (l .to) .token) s p (D.labels s at .labels) (tokenAt s (l .to)) (fromState s t x)) t′ n′ r =
-            m .so (D.labels s at .labels) (l .count) (record { sits = si; room = (leb-false 1024 (x .rows) (low .1), leb-false 2048 (x .entered + x .rows) (low .0)); place = omega (arith, lp, i .short); lexed = lex; labelled = refl })
+            let q : Clausal d s t n₁ (withTally x (y .tally)) (D.labelMeaning (opensBy k) (x .rows)) (D.labels mixed s at .labels) (D.byToken mixed (tokenAt mixed s (l .to) .token) s p (D.labels mixed s at .labels) (tokenAt mixed s (l .to)) (fromState s t x)) t′ n′ r =
+            m .so (D.labels mixed s at .labels) (l .count) (record { sits = si; room = (leb-false 1024 (x .rows) (low .1), leb-false 2048 (x .entered + x .rows) (low .0)); place = omega (arith, lp, i .short); lexed = lex; labelled = refl })
             (hk ∙ ap (λ (v : D.Where). keywordAt s v (isInside (x .scope)) u (l .count)) (hw .is s) ∙ ap (λ (v : Bool). keywordAt s (D.kindOf (openedOf s (x .opened))) v u (l .count)) (sym (inside-is (x .scope))))
-            (labels-counted s at l hl (no-longs (D.labels s at .long) (sym (hl .long) ∙ c))) in
+            (labels-counted s at l hl (no-longs (D.labels mixed s at .long) (sym (hl .long) ∙ c))) in
             subst (λ (v : D.Turn). Takes d s t n x v t′ n′ r) (sym (clause-token s p (fromState s t x) at l hl u lex (test false f) (full-is s t x false (low .1)) c))
             (record {
-              way = does (subst (λ (v : D.Turn). Fits (x .entered) v) (clause-token s p (fromState s t x) at l hl u lex (test false f) (full-is s t x false (low .1)) c) (fits i (low .0))) (does-comes d s n x (withTally x (y .tally)) (scopeOf (x .scope)) (opensBy k) (x .rows) (D.labels s at .labels) (q .names) n₁ t′ n′ r en (D.byToken (tokenAt s (l .to) .token) s p (D.labels s at .labels) (tokenAt s (l .to)) (fromState s t x)) (q .comes));
+              way = does (subst (λ (v : D.Turn). Fits (x .entered) v) (clause-token s p (fromState s t x) at l hl u lex (test false f) (full-is s t x false (low .1)) c) (fits i (low .0))) (does-comes d s n x (withTally x (y .tally)) (scopeOf (x .scope)) (opensBy k) (x .rows) (D.labels mixed s at .labels) (q .names) n₁ t′ n′ r en (D.byToken mixed (tokenAt mixed s (l .to) .token) s p (D.labels mixed s at .labels) (tokenAt mixed s (l .to)) (fromState s t x)) (q .comes));
               before = q .before;
               few = omega (arith, q .before, q .few, leb-false 2048 (x .entered + x .rows) (low .0));
               own = subst (λ (v : ℕ). Own v (r .state .scope)) (en .member) (q .own);

@@ -8,6 +8,7 @@ use mathlib.Core.Path.{_≡_, refl, sym, ap, _∙_}
 use lib.Dec.{leb, ltb}
 use lib.ListN.{length, length-append}
 use borrow.Author.Tests.{ltb-false, lt-ltb, le-ltb}
+use Rattle.definition.specs.Bytes.{mixed}
 use Rattle.definition.specs.Choice.{when}
 use Rattle.definition.specs.Limits.{enteredSentences, declaredNames}
 use Rattle.definition.specs.declared.Why.{Why}
@@ -68,20 +69,20 @@ module _ (s : List ℕ) (p : ℕ) (m : ℕ) where
 
 -- THE SENTENCE that is one too many in those entered: a name past its limit before it, or else it, is the fault
 pub sentence-past : (m : ℕ) (js : List W.Identifier) (n : ℕ) (s : List ℕ) (p e : ℕ) (st : State) → Sentence s p e st → n ≡ length (st .rows) → (f : ℕ)
-    → N.sooner (N.namesPast m js (readOn s f (clauseAt s p e st) .declared)) (N.sooner (N.sentencesPast n (readOn s f (clauseAt s p e st) .begun)) (readOn s f (clauseAt s p e st) .fault))
+    → N.sooner (N.namesPast m js (readOn mixed s f (clauseAt mixed s p e st) .declared)) (N.sooner (N.sentencesPast n (readOn mixed s f (clauseAt mixed s p e st) .begun)) (readOn mixed s f (clauseAt mixed s p e st) .fault))
     ≡ N.sooner (N.namesPast m js (st .declared)) (faulty OverLimit p)
 sentence-past m js n s p e st h k f =
     let ps : List ℕ = places (st .rows) ++ p ∷ [] in
     let ds : List Declared = st .declared in
-    let x : Source = readOn s f (clauseAt s p e (withDeclared [] st)) in
+    let x : Source = readOn mixed s f (clauseAt mixed s p e (withDeclared [] st)) in
     let g : Grown s p ps x = sentence-grows s p e (withDeclared [] st) (record { low = h .low; starts = h .starts; some = h .some; sentence = h .sentence }) tt f in
-    let a : readOn s f (clauseAt s p e st) ≡ prependSource ds x = ap (readOn s f) (clauseAt-frame s ds p e st) ∙ read-frame s ds f (clauseAt s p e (withDeclared [] st)) in
+    let a : readOn mixed s f (clauseAt mixed s p e st) ≡ prependSource ds x = ap (readOn mixed s f) (clauseAt-frame s ds p e st) ∙ read-frame s ds f (clauseAt mixed s p e (withDeclared [] st)) in
     let b : N.sentencesPast n (x .begun) ≡ N.pastAt p = ap (λ (z : ℕ). N.sentencesPast z (x .begun)) k ∙ begins-past (st .rows) p (x .begun) (g .begun) in
     let c : N.sooner (N.sentencesPast n (x .begun)) (x .fault) ≡ faulty OverLimit p = ap (λ (z : N.Past). N.sooner z (x .fault)) b ∙ sooner-past s p ps (x .fault) (g .fault) in
     ap (λ (z : Source). N.sooner (N.namesPast m js (z .declared)) (N.sooner (N.sentencesPast n (z .begun)) (z .fault))) a ∙ ap (N.sooner (N.namesPast m js (ds ++ x .declared))) c ∙ names-behind s p m js ds (x .declared) (g .names)
 
 pub one-too-many : (m : ℕ) (w : W.World) (s : List ℕ) (p e : ℕ) (st : State) → Sentence s p e st → enteredSentences - w .sentences ≡ length (st .rows) → (f : ℕ)
-    → N.faultOf m (readOn s f (clauseAt s p e st)) w ≡ N.sooner (N.namesPast m (w .identifiers) (st .declared)) (faulty OverLimit p)
+    → N.faultOf m (readOn mixed s f (clauseAt mixed s p e st)) w ≡ N.sooner (N.namesPast m (w .identifiers) (st .declared)) (faulty OverLimit p)
 unfolding N.faultOf
 one-too-many m w s p e st h k f = sentence-past m (w .identifiers) (enteredSentences - w .sentences) s p e st h k f
 
@@ -103,10 +104,10 @@ past-out m x w c p second (N.pastAt q) = past-by m x w c p q (ltb q p) second
 
 pub decides-past : (m : ℕ) (w : W.World) (s : List ℕ) (p e : ℕ) (st : State) → Sentence s p e st → enteredSentences - w .sentences ≡ length (st .rows) → (f : ℕ) (c : Book) (past second : Mark)
     → past ≡ markOf (N.namesPast m (w .identifiers) (st .declared))
-    → Entry m (readOn s f (clauseAt s p e st)) c (N.enter m (readOn s f (clauseAt s p e st)) w) (faultIn past second (Faulty OverLimit p))
+    → Entry m (readOn mixed s f (clauseAt mixed s p e st)) c (N.enter m (readOn mixed s f (clauseAt mixed s p e st)) w) (faultIn past second (Faulty OverLimit p))
 unfolding N.enter
 decides-past m w s p e st h k f c past second l =
-    let x : Source = readOn s f (clauseAt s p e st) in
+    let x : Source = readOn mixed s f (clauseAt mixed s p e st) in
     rw (l, one-too-many m w s p e st h k f) (past-out m x w c p second (N.namesPast m (w .identifiers) (st .declared)))
 
 -- ---- where no sentence is one too many

@@ -5,6 +5,7 @@ use mathlib.Core.Bool.{Bool, true, false, cond}
 use mathlib.Core.List.{List, [], _∷_, _++_}
 use Prim.Native.Nat.{ℕ, zero, suc, _-_, _<_, _≤_}
 use native.Mathlib.Omega.{arith}
+use Rattle.definition.specs.Bytes.{mixed}
 use Rattle.definition.specs.Expressions.{Reading, read, refused, Named}
 use Rattle.definition.specs.Program as P
 use Rattle.definition.specs.Statements as St
@@ -50,31 +51,31 @@ elsed-same : (E : D.Else) (i : ℕ) (os : List D.Open) (st : D.State) (f g : ℕ
 elsed-same (D.elseTo q) i os st f g e = refl
 elsed-same D.noElse i os st f g e = e
 
-up-same : (w : D.Where) (s : List ℕ) (i : ℕ) (os : List D.Open) (n e : ℕ) (st : D.State) (A : Type 0) (f g : ℕ → D.Turn) → Around w A → (A → f i ≡ g i) → D.completeIn w s i os n e st f ≡ D.completeIn w s i os n e st g
+up-same : (w : D.Where) (s : List ℕ) (i : ℕ) (os : List D.Open) (n e : ℕ) (st : D.State) (A : Type 0) (f g : ℕ → D.Turn) → Around w A → (A → f i ≡ g i) → D.completeIn mixed w s i os n e st f ≡ D.completeIn mixed w s i os n e st g
 up-same D.inProgram s i os n e st A f g a h = refl
 up-same D.inGroup s i os n e st A f g a h = refl
 up-same D.inBody s i os n e st A f g a h = refl
-up-same D.inThen s i os n e st A f g a h = elsed-same (D.elseAt (D.isInside (st .scope)) s e) i os st f g (h a)
+up-same D.inThen s i os n e st A f g a h = elsed-same (D.elseAt mixed (D.isInside (st .scope)) s e) i os st f g (h a)
 up-same D.inElse s i os n e st A f g a h = h a
 
-complete-same : (s : List ℕ) (L ps : List D.Open) (n e m : ℕ) (st : D.State) → Stand m L → D.complete s L n e (D.withOpened ps (st .scope) st) ≡ D.complete s L n e st
+complete-same : (s : List ℕ) (L ps : List D.Open) (n e m : ℕ) (st : D.State) → Stand m L → D.complete mixed s L n e (D.withOpened ps (st .scope) st) ≡ D.complete mixed s L n e st
 unfolding D.complete
 complete-same s [] ps n e m st h = absurd h
 complete-same s (o ∷ os) ps n e m st h =
-    up-same (o .kind) s (o .row) os n e (D.withOpened (o ∷ os) (st .scope) st) (Stand m os) (λ i. D.complete s os i e (D.withOpened ps (st .scope) st)) (λ i. D.complete s os i e st) (h .1)
+    up-same (o .kind) s (o .row) os n e (D.withOpened (o ∷ os) (st .scope) st) (Stand m os) (λ i. D.complete mixed s os i e (D.withOpened ps (st .scope) st)) (λ i. D.complete mixed s os i e st) (h .1)
     (λ k. complete-same s os ps (o .row) e m st k)
 
 -- one step of it, by what was found
 complete-step : (s : List ℕ) (L : List D.Open) (o : Open) (k : Owner) (d : Done) (n e : ℕ) (st : D.State) → L ≡ openOf s o ∷ restOf L → st .opened ≡ L → st .scope ≡ scopeOf k → Completes s o k e d
-    → D.complete s L n e st ≡ doneTurn d (restOf L) n e st (λ i. D.complete s (restOf L) i e st)
+    → D.complete mixed s L n e st ≡ doneTurn d (restOf L) n e st (λ i. D.complete mixed s (restOf L) i e st)
 unfolding D.complete openOf
 complete-step s L o k d n e st top ho hk c =
-    ap (λ (z : List D.Open). D.complete s z n e st) top
-    ∙ ap (λ (z : List D.Open). D.completeIn (whereOf (o .kind)) s (o .row) (restOf L) n e (D.withOpened z (st .scope) st) (λ i. D.complete s (restOf L) i e st)) (sym top ∙ sym ho)
-    ∙ c .is (restOf L) n st (λ i. D.complete s (restOf L) i e st) hk
+    ap (λ (z : List D.Open). D.complete mixed s z n e st) top
+    ∙ ap (λ (z : List D.Open). D.completeIn mixed (whereOf (o .kind)) s (o .row) (restOf L) n e (D.withOpened z (st .scope) st) (λ i. D.complete mixed s (restOf L) i e st)) (sym top ∙ sym ho)
+    ∙ c .is (restOf L) n st (λ i. D.complete mixed s (restOf L) i e st) hk
 
 -- an alternative that is done stands in something
-up-around : (w : D.Where) (s : List ℕ) (i r : ℕ) (os : List D.Open) (n e : ℕ) (st : D.State) (A : Type 0) → ((up : ℕ → D.Turn) → D.completeIn w s i os n e st up ≡ up r) → Around w A → A
+up-around : (w : D.Where) (s : List ℕ) (i r : ℕ) (os : List D.Open) (n e : ℕ) (st : D.State) (A : Type 0) → ((up : ℕ → D.Turn) → D.completeIn mixed w s i os n e st up ≡ up r) → Around w A → A
 up-around D.inProgram s i r os n e st A h a = let c : D.go (D.behind (st .scope) n) e st ≡ D.finish st = h (λ _. D.finish st) in let z : _≡_ {A = ℕ} 0 1 = cc in absurd (omega arith)
 up-around D.inGroup s i r os n e st A h a = a
 up-around D.inBody s i r os n e st A h a = a
@@ -86,7 +87,7 @@ pub record Left (s : List ℕ) (x : State) (n e : ℕ) (y : State) (i turns : �
   pub stand : Stand m (openedOf s (y .opened))
   pub few : y .opened .count ≤ turns
   pub fits : turns ≤ 20
-  pub turn : D.complete s (openedOf s (y .opened)) i e (stateOf s t ds y) ≡ D.complete s (openedOf s (x .opened)) n e (stateOf s t ds x)
+  pub turn : D.complete mixed s (openedOf s (y .opened)) i e (stateOf s t ds y) ≡ D.complete mixed s (openedOf s (x .opened)) n e (stateOf s t ds x)
 
 pub record Completing (s : List ℕ) (x : State) (n e : ℕ) (y : State) (i turns : ℕ) : Type 0 where
   pub left : (t : List ℕ) (ds : List P.Declared) (m : ℕ) → Stand m (openedOf s (x .opened)) → x .opened .count ≤ 20 → Left s x n e y i turns t ds m
@@ -110,7 +111,7 @@ module _ (s : List ℕ) (x : State) (n e : ℕ) (y : State) (i turns : ℕ) (v :
 
   module _ (o : Open) (ho : o ≡ topIn (y .opened .items) (y .opened .count)) (d : Done) (hd : Completes s o (y .scope) e d) where
     stepped : (t : List ℕ) (ds : List P.Declared) (m : ℕ) → Stand m (openedOf s (x .opened)) → x .opened .count ≤ 20
-        → doneTurn d (restOf (openedOf s (y .opened))) i e (stateOf s t ds y) (λ j. D.complete s (restOf (openedOf s (y .opened))) j e (stateOf s t ds y)) ≡ D.complete s (openedOf s (x .opened)) n e (stateOf s t ds x)
+        → doneTurn d (restOf (openedOf s (y .opened))) i e (stateOf s t ds y) (λ j. D.complete mixed s (restOf (openedOf s (y .opened))) j e (stateOf s t ds y)) ≡ D.complete mixed s (openedOf s (x .opened)) n e (stateOf s t ds x)
     unfolding stateOf
     stepped t ds m h k =
         let f : Left s x n e y i turns t ds m = v .left t ds m h k in
@@ -121,7 +122,7 @@ module _ (s : List ℕ) (x : State) (n e : ℕ) (y : State) (i turns : ℕ) (v :
     complete-on b r hn hb hr = rw hr (record {
       is = λ t ds m h k.
           ap (λ (z : D.Mode). D.go z e (stateOf s t ds y)) hb
-          ∙ ap (λ (z : Done). doneTurn z (restOf (openedOf s (y .opened))) i e (stateOf s t ds y) (λ j. D.complete s (restOf (openedOf s (y .opened))) j e (stateOf s t ds y))) (sym hn)
+          ∙ ap (λ (z : Done). doneTurn z (restOf (openedOf s (y .opened))) i e (stateOf s t ds y) (λ j. D.complete mixed s (restOf (openedOf s (y .opened))) j e (stateOf s t ds y))) (sym hn)
           ∙ stepped t ds m h k;
       rows = v .rows;
       keeps = v .keeps;
@@ -135,7 +136,7 @@ module _ (s : List ℕ) (x : State) (n e : ℕ) (y : State) (i turns : ℕ) (v :
           let l : p .count < 20 = omega (arith, hp .count, f .few, f .fits, stand-some s (y .opened) m (f .stand)) in
           let b : openedOf s c ≡ D.opening D.inElse j [] ∷ restOf (openedOf s (y .opened)) = hc .is l s ∙ rw (hg .is s, hp .is s) in
           ap (λ (w : List D.Open). D.go D.alternative q (D.withOpened w (scopeOf (y .scope)) (stateOf s t ds y))) b
-          ∙ ap (λ (w : Done). doneTurn w (restOf (openedOf s (y .opened))) i e (stateOf s t ds y) (λ a. D.complete s (restOf (openedOf s (y .opened))) a e (stateOf s t ds y))) (sym hn)
+          ∙ ap (λ (w : Done). doneTurn w (restOf (openedOf s (y .opened))) i e (stateOf s t ds y) (λ a. D.complete mixed s (restOf (openedOf s (y .opened))) a e (stateOf s t ds y))) (sym hn)
           ∙ stepped t ds m h k;
       rows = v .rows;
       keeps = record { entered = v .keeps .entered; tally = v .keeps .tally; own = v .keeps .own };
@@ -160,9 +161,9 @@ module _ (s : List ℕ) (x : State) (n e : ℕ) (y : State) (i turns : ℕ) (v :
             few = omega (arith, hp .count, f .few, hk);
             fits = omega (arith, f .fits, hk);
             turn =
-                ap (λ (w : List D.Open). D.complete s w j e (stateOf s t ds (withOpened y p))) (hp .is s)
+                ap (λ (w : List D.Open). D.complete mixed s w j e (stateOf s t ds (withOpened y p))) (hp .is s)
                 ∙ complete-same s (restOf (openedOf s (y .opened))) (openedOf s p) j e m (stateOf s t ds y) g
-                ∙ ap (λ (w : Done). doneTurn w (restOf (openedOf s (y .opened))) i e (stateOf s t ds y) (λ a. D.complete s (restOf (openedOf s (y .opened))) a e (stateOf s t ds y))) (sym hn)
+                ∙ ap (λ (w : Done). doneTurn w (restOf (openedOf s (y .opened))) i e (stateOf s t ds y) (λ a. D.complete mixed s (restOf (openedOf s (y .opened))) a e (stateOf s t ds y))) (sym hn)
                 ∙ stepped t ds m h c;
           };
       rows = v .rows;
@@ -282,9 +283,9 @@ module _ (s t : List ℕ) (x : State) (p labels : ℕ) (t′ : List ℕ) (r : Tu
       ∙ ap (λ (y : P.Statement). D.addRow y p (stateOf s t (ds ++ ms) x)) (g .statement)
       ∙ add-names (z .statement) p ms (stateOf s t ds x) in
       o .is t′ (ds ++ ms) ns (suc (x .rows)) (h .stand s q small) (omega (arith, h .deep (q .some) (omega (arith, q .deep)), few)) sp
-      ∙ ap (λ (st : D.State). D.opened (z .opens) s (x .rows) ns (c .to) st) new
-      ∙ ap (λ (e : ℕ). D.opened (z .opens) s (x .rows) ns e (D.withNames ms (D.addRow (z .statement) p (stateOf s t ds x)))) (g .to)
-      ∙ ap (λ (k : ℕ). D.opened (z .opens) s k ns (z .to) (D.withNames (St.means (scopeOf (x .scope)) (D.labelMeaning (z .opens) k) ns ++ es) (D.addRow (z .statement) p (stateOf s t ds x)))) (sym (rows-length s t 0 (x .rows)))
+      ∙ ap (λ (st : D.State). D.opened mixed (z .opens) s (x .rows) ns (c .to) st) new
+      ∙ ap (λ (e : ℕ). D.opened mixed (z .opens) s (x .rows) ns e (D.withNames ms (D.addRow (z .statement) p (stateOf s t ds x)))) (g .to)
+      ∙ ap (λ (k : ℕ). D.opened mixed (z .opens) s k ns (z .to) (D.withNames (St.means (scopeOf (x .scope)) (D.labelMeaning (z .opens) k) ns ++ es) (D.addRow (z .statement) p (stateOf s t ds x)))) (sym (rows-length s t 0 (x .rows)))
 
   pub takes-read : (y : Read) (c : Clause) (a : State) → y ≡ Rd.Is c → Adds t x c p t′ a → OpensAs s a (c .opens) (x .rows) labels (c .to) r → TakesAs s t x y p labels t′ r
   takes-read y c a hy h o = rw hy (record {

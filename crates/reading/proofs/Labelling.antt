@@ -8,6 +8,7 @@ use mathlib.Core.List.{List, [], _∷_, _++_, append-nil}
 use mathlib.Core.Path.{_≡_, refl, sym, ap, _∙_}
 use lib.ListN.{length}
 use Rattle.definition.specs.declared.Why.{Why}
+use Rattle.definition.specs.Bytes.{mixed}
 use Rattle.definition.specs.Tokens.{isSign, tokenAt}
 use Rattle.definition.specs.Expressions.{Reading, read, refused, Named, nameOf, nameAt}
 use Rattle.definition.specs.Program as P
@@ -50,9 +51,9 @@ no-name : (n : NamedAt) (w : Why) (p : ℕ) (R : Reading Named) → n ≡ namedF
 no-name n w p (read v) e f = let z : _≡_ {A = ℕ} 0 1 = cc in absurd (omega arith)
 no-name n w p (refused v q) e f = refl
 
-module _ (d s t : List ℕ) (x : Tally) (at : ℕ) (o : Owner) (g : Meaning) (n : NamedAt) (hn : n ≡ namedFor (nameAt s at)) where
+module _ (d s t : List ℕ) (x : Tally) (at : ℕ) (o : Owner) (g : Meaning) (n : NamedAt) (hn : n ≡ namedFor (nameAt mixed s at)) where
   pub label-none : (w : Why) (p : ℕ) → n ≡ N.Refused w p → LabelIf d s t x at o g t x
-  label-none w p e = record { is = λ r. rw (no-name n w p (nameAt s at) hn e) (entered-none d t x (r .roomy)) }
+  label-none w p e = record { is = λ r. rw (no-name n w p (nameAt mixed s at) hn e) (entered-none d t x (r .roomy)) }
 
   module _ (from to : ℕ) (e : n ≡ N.Is from to) (u : List ℕ) (y : Tally)
       (b : EnteredIf d s t x (record { from = from; to = to }) (bookOne (identifierAt s (record { from = from; to = to }) o) (denotationOf (newDenotation (x .member) g)) from) u y) where
@@ -79,7 +80,7 @@ pub record Labelling (d s t₀ : List ℕ) (o : Owner) (g : Meaning) (x₀ : Tal
   pub done : List Named
   pub long : List ℕ
   pub entered : Entered d t₀ x₀ (bookAll (x₀ .member) (means (scopeOf o) (meaningOf g) done)) t x
-  pub left : D.labelsFrom s turns done long at ≡ D.labels s at₀
+  pub left : D.labelsFrom mixed s turns done long at ≡ D.labels mixed s at₀
 
 pub record LabellingIf (d s t₀ : List ℕ) (o : Owner) (g : Meaning) (x₀ : Tally) (at₀ : ℕ) (t : List ℕ) (x : Tally) (at turns : ℕ) : Type 0 where
   pub is : Ready d s t₀ x₀ o → Labelling d s t₀ o g x₀ at₀ t x at turns
@@ -87,7 +88,7 @@ pub record LabellingIf (d s t₀ : List ℕ) (o : Owner) (g : Meaning) (x₀ : T
 
 -- a turn of the definition, where a label stands and where none does
 abbrev isLabel : List ℕ → ℕ → Bool
-isLabel s at = D.isName (tokenAt s at .token) && isSign ":" (tokenAt s (tokenAt s at .to) .token)
+isLabel s at = D.isName (tokenAt mixed s at .token) && isSign ":" (tokenAt mixed s (tokenAt mixed s at .to) .token)
 
 mark-label : (b : Bool) (q e : ℕ) → Marked e ≡ cond b (Marked q) Unmarked → (b ≡ true) × (e ≡ q)
 mark-label true q e h = (refl, cc)
@@ -106,20 +107,20 @@ add-label (read n) ns qs f = refl
 add-label (refused w p) ns qs f = ap (λ (z : List Named). f z (qs ++ p ∷ [])) (sym (append-nil ns))
 
 module _ (s : List ℕ) (at : ℕ) (ns : List Named) (qs : List ℕ) where
-  label-turn : (n e : ℕ) → 0 < n → Marked e ≡ labelPast s at → D.labelsFrom s n ns qs at ≡ D.labelsFrom s (n - 1) (ns ++ labelName (nameAt s at)) (longer (nameAt s at) qs) e
+  label-turn : (n e : ℕ) → 0 < n → Marked e ≡ labelPast s at → D.labelsFrom mixed s n ns qs at ≡ D.labelsFrom mixed s (n - 1) (ns ++ labelName (nameAt mixed s at)) (longer (nameAt mixed s at) qs) e
   unfolding D.labelsFrom labelPast nameAt
   label-turn zero e k h = absurd (omega arith)
   label-turn (suc n) e k h =
-      let q : ℕ = tokenAt s (tokenAt s at .to) .to in
+      let q : ℕ = tokenAt mixed s (tokenAt mixed s at .to) .to in
       let b : (isLabel s at ≡ true) × (e ≡ q) = mark-label (isLabel s at) q e h in
-      rw (sub-one, b .1, b .0) (add-label (nameOf (tokenAt s at .token) (tokenAt s at .from) (tokenAt s at .to)) ns qs (λ ms more. D.labelsFrom s n ms more q))
+      rw (sub-one, b .1, b .0) (add-label (nameOf (tokenAt mixed s at .token) (tokenAt mixed s at .from) (tokenAt mixed s at .to)) ns qs (λ ms more. D.labelsFrom mixed s n ms more q))
 
-  label-end : (n : ℕ) → Unmarked ≡ labelPast s at → D.labelsFrom s n ns qs at .labels ≡ ns
+  label-end : (n : ℕ) → Unmarked ≡ labelPast s at → D.labelsFrom mixed s n ns qs at .labels ≡ ns
   unfolding D.labelsFrom labelPast
   label-end zero h = refl
-  label-end (suc n) h = rw (no-mark (isLabel s at) (tokenAt s (tokenAt s at .to) .to) h)
+  label-end (suc n) h = rw (no-mark (isLabel s at) (tokenAt mixed s (tokenAt mixed s at .to) .to) h)
 
-  label-last : (n : ℕ) → n ≤ 0 → D.labelsFrom s n ns qs at .labels ≡ ns
+  label-last : (n : ℕ) → n ≤ 0 → D.labelsFrom mixed s n ns qs at .labels ≡ ns
   unfolding D.labelsFrom
   label-last zero h = refl
   label-last (suc n) h = absurd (omega arith)
@@ -135,20 +136,20 @@ module _ (d s t₀ : List ℕ) (o : Owner) (g : Meaning) (x₀ : Tally) where
         more : Ready d s t₀ x₀ o → Labelling d s t₀ o g x₀ at₀ u y e (turns - 1)
         more r =
             let l : Labelling d s t₀ o g x₀ at₀ t x at turns = h .is r in
-            let ns : List Named = labelName (nameAt s at) in
+            let ns : List Named = labelName (nameAt mixed s at) in
             let own : Ready d s t x o = record { roomy = l .entered .roomy; lies = rw (l .entered .base) (r .lies); own = rw (l .entered .member) (r .own) } in
             record {
               done = l .done ++ ns;
-              long = longer (nameAt s at) (l .long);
+              long = longer (nameAt mixed s at) (l .long);
               entered = rw (means-append (scopeOf o) (meaningOf g) (l .done) ns) (entered-more d t₀ t u x₀ x y (means (scopeOf o) (meaningOf g) (l .done)) (means (scopeOf o) (meaningOf g) ns) (l .entered) (b .is own));
               left = sym (label-turn s at (l .done) (l .long) turns e k (sym f ∙ hf)) ∙ l .left;
             }
 
-    labels-by : ((r : Ready d s t₀ x₀ o) → D.labelsFrom s turns (h .is r .done) (h .is r .long) at .labels ≡ h .is r .done) → NamesIf d s t₀ x₀ o g (D.labels s at₀ .labels) t x
+    labels-by : ((r : Ready d s t₀ x₀ o) → D.labelsFrom mixed s turns (h .is r .done) (h .is r .long) at .labels ≡ h .is r .done) → NamesIf d s t₀ x₀ o g (D.labels mixed s at₀ .labels) t x
     labels-by k = record { is = λ r. rw (← (sym (k r) ∙ ap (λ (z : D.Labelled). z .labels) (h .is r .left))) (h .is r .entered) }
 
 module _ (d s t₀ : List ℕ) (g : Meaning) (x : State) (at₀ : ℕ) (t : List ℕ) (z : Tally) (at turns : ℕ) (h : LabellingIf d s t₀ (x .scope) g (x .tally) at₀ t z at turns) (y : State) (hy : y ≡ withTally x z) where
-  stated : NamesIf d s t₀ (x .tally) (x .scope) g (D.labels s at₀ .labels) t z → LabelsIf d s t₀ x at₀ g t y
+  stated : NamesIf d s t₀ (x .tally) (x .scope) g (D.labels mixed s at₀ .labels) t z → LabelsIf d s t₀ x at₀ g t y
   stated k = record { names = rw hy k; rest = rw hy }
 
   pub labels-end : (found : Mark) → found ≡ labelPast s at → found ≡ Unmarked → LabelsIf d s t₀ x at₀ g t y

@@ -7,6 +7,7 @@ use mathlib.Core.List.{List, [], _∷_, _++_}
 use mathlib.Core.Path.{_≡_, refl, sym, ap, subst, _∙_}
 use lib.Dec.{ltb}
 use lib.ListN.{length}
+use Rattle.definition.specs.Bytes.{mixed}
 use Rattle.definition.specs.Deck.{lineAt}
 use Rattle.definition.specs.Limits.{enteredSentences}
 use Rattle.definition.specs.Program as P
@@ -61,7 +62,7 @@ pub record Going (d s : List ℕ) (m entered : ℕ) (b : Book) (t n : List ℕ) 
   pub member : x .tally .member ≡ m
   pub before : x .entered ≡ entered
   pub done : List P.Declared
-  pub left : D.readOn s f (D.go (modeOf mode) at (withDeclared done (fromState s t x))) ≡ D.readMember s
+  pub left : D.readOn mixed s f (D.go (modeOf mode) at (withDeclared done (fromState s t x))) ≡ D.readMember mixed s
   pub owned : Owned 0 (x .rows) done
   pub names : bookOf d n (x .tally) ≡ bookWhole m [] done b
 
@@ -102,7 +103,7 @@ loop-start d t n m entered names s hs p base hp hb x h f e = record {
         member = ap (λ (z : Tally). z .member) y;
         before = h .entered;
         done = [];
-        left = ap (λ (z : D.State). D.readOn s f (D.go D.leadingText 0 (withDeclared [] z))) (h .is s t) ∙ ap (λ (i : ℕ). D.readOn s i (D.go D.leadingText 0 D.start)) turns;
+        left = ap (λ (z : D.State). D.readOn mixed s f (D.go D.leadingText 0 (withDeclared [] z))) (h .is s t) ∙ ap (λ (i : ℕ). D.readOn mixed s i (D.go D.leadingText 0 D.start)) turns;
         owned = tt;
         names = ap (bookOf d n) y;
       };
@@ -111,9 +112,9 @@ loop-start d t n m entered names s hs p base hp hb x h f e = record {
 -- ---- one turn: X is the definition's, from no declarations
 module _ (d s : List ℕ) (m entered : ℕ) (b : Book) (t n : List ℕ) (x : State) (mode : Mode) (at f : ℕ) (h : Going d s m entered b t n x mode at (suc f)) where
   abbrev X : D.Turn
-  X = D.turn s (modeOf mode) at (fromState s t x)
+  X = D.turn mixed s (modeOf mode) at (fromState s t x)
 
-  left-on : D.readOn s f (prepend (h .done) X) ≡ D.readMember s
+  left-on : D.readOn mixed s f (prepend (h .done) X) ≡ D.readMember mixed s
   unfolding stateOf
   left-on = sym (read-turn s (h .done) f (modeOf mode) at (fromState s t x)) ∙ h .left
 
@@ -170,7 +171,7 @@ module _ (d s : List ℕ) (m entered : ℕ) (b : Book) (t n : List ℕ) (x : Sta
             member = g .entered .member ∙ h .member;
             before = k .before ∙ h .before;
             done = h .done ++ u .declared;
-            left = ap (λ (z : D.State). D.readOn s f (D.go (modeOf m′) e (withDeclared (h .done ++ u .declared) z))) (sym hu) ∙ ap (λ (z : D.Turn). D.readOn s f (prepend (h .done) z)) (sym hx) ∙ left-on;
+            left = ap (λ (z : D.State). D.readOn mixed s f (D.go (modeOf m′) e (withDeclared (h .done ++ u .declared) z))) (sym hu) ∙ ap (λ (z : D.Turn). D.readOn mixed s f (prepend (h .done) z)) (sym hx) ∙ left-on;
             owned = subst (λ (i : ℕ). Owned 0 i (h .done ++ u .declared)) rows (owned-turn (x .rows) (h .done) u (h .owned) (going-on (subst (OwnTurn (x .rows)) hx owns)));
             names = g .entered .book ∙ ap (λ (i : ℕ). bookWhole i [] (stateIn X .declared) (bookOf d n (x .tally))) (h .member) ∙ sym (entered-so X refl) ∙ ap (λ (z : D.Turn). bookWhole m [] (h .done ++ stateIn z .declared) b) hx;
           }
@@ -247,35 +248,35 @@ stays-so m x c d y e i g (goes-in v f j o) = absurd (faulty-in (c .past) (c .sec
 stays-so m x c d y e i g (stays-out v j f o) = stays-out v j f (fault-either (d .past) (d .second) (c .second) e i ∙ ap (λ (z : Mark). faultIn z (c .second) (Faulty e i)) (sym g) ∙ o)
 
 abbrev Decided : ℕ → List ℕ → W.World → Book → Fault → Type 0
-Decided m s w c g = Entry m (D.readMember s) c (N.enter m (D.readMember s) w) (faultIn (c .past) (c .second) g)
+Decided m s w c g = Entry m (D.readMember mixed s) c (N.enter m (D.readMember mixed s) w) (faultIn (c .past) (c .second) g)
 
 module _ (m : ℕ) (s : List ℕ) (w : W.World) (b : Book) (h : Shows w b) (u : b .past ≡ Unmarked) (v : b .second ≡ Unmarked) where
   -- the reading ended with the state st
-  ended : (st : D.State) (begun : List ℕ) (g : Fault) → D.readMember s ≡ D.source st begun (faultFor g)
+  ended : (st : D.State) (begun : List ℕ) (g : Fault) → D.readMember mixed s ≡ D.source st begun (faultFor g)
       → N.sooner (N.sentencesPast (enteredSentences - w .sentences) (D.source st begun (faultFor g) .begun)) (faultFor g) ≡ faultFor g → Decided m s w (bookWhole m [] (st .declared) b) g
   ended st begun g e k =
       let x : P.Source = D.source st begun (faultFor g) in
       let c : Book = bookWhole m [] (st .declared) b in
       subst (λ (z : P.Source). Entry m z c (N.enter m z w) (faultIn (c .past) (c .second) g)) (sym e) (decides m x w b g h u v (sym k))
 
-  pub ended-early : (st : D.State) (begun : List ℕ) (g : Fault) → D.readMember s ≡ D.source st begun (faultFor g) → w .sentences + length (st .rows) + length begun ≤ 2048 → Decided m s w (bookWhole m [] (st .declared) b) g
+  pub ended-early : (st : D.State) (begun : List ℕ) (g : Fault) → D.readMember mixed s ≡ D.source st begun (faultFor g) → w .sentences + length (st .rows) + length begun ≤ 2048 → Decided m s w (bookWhole m [] (st .declared) b) g
   ended-early st begun g e k = ended st begun g e (all-entered (enteredSentences - w .sentences) st begun (faultFor g) (omega (arith, k)))
 
-  pub ended-last : (st : D.State) (p : ℕ) → D.readMember s ≡ D.source st (p ∷ []) (P.faulty OverLimit p) → w .sentences + length (st .rows) ≤ 2048 → Decided m s w (bookWhole m [] (st .declared) b) (Faulty OverLimit p)
+  pub ended-last : (st : D.State) (p : ℕ) → D.readMember mixed s ≡ D.source st (p ∷ []) (P.faulty OverLimit p) → w .sentences + length (st .rows) ≤ 2048 → Decided m s w (bookWhole m [] (st .declared) b) (Faulty OverLimit p)
   ended-last st p e k = ended st (p ∷ []) (Faulty OverLimit p) e (last-entered (enteredSentences - w .sentences) st p (omega (arith, k)))
 
-  pub ended-past : (p e : ℕ) (st : D.State) (f : ℕ) (c : Book) → D.readMember s ≡ D.readOn s f (D.clauseAt s p e st) → Sentence s p e st → w .sentences + length (st .rows) ≡ 2048 → c ≡ bookWhole m [] (st .declared) b → Decided m s w c (Faulty OverLimit p)
+  pub ended-past : (p e : ℕ) (st : D.State) (f : ℕ) (c : Book) → D.readMember mixed s ≡ D.readOn mixed s f (D.clauseAt mixed s p e st) → Sentence s p e st → w .sentences + length (st .rows) ≡ 2048 → c ≡ bookWhole m [] (st .declared) b → Decided m s w c (Faulty OverLimit p)
   ended-past p e st f c k i j l =
       subst (λ (z : P.Source). Entry m z c (N.enter m z w) (faultIn (c .past) (c .second) (Faulty OverLimit p))) (sym k)
       (decides-past m w s p e st i (omega (arith, j)) f c (c .past) (c .second)
       (ap (λ (z : Book). z .past) l ∙ past-is m [] (st .declared) b (w .identifiers) (record { past = u; size = rw (h .identifiers); listed = λ i. rw (h .identifiers) })))
 
-stop-on : (s : List ℕ) (f : ℕ) (w : Why) (p : ℕ) (begun : List ℕ) (st : D.State) → D.readOn s f (D.stop w p begun st) ≡ D.source st begun (P.faulty w p)
+stop-on : (s : List ℕ) (f : ℕ) (w : Why) (p : ℕ) (begun : List ℕ) (st : D.State) → D.readOn mixed s f (D.stop w p begun st) ≡ D.source st begun (P.faulty w p)
 unfolding D.readOn
 stop-on s zero w p begun st = refl
 stop-on s (suc f) w p begun st = refl
 
-finish-on : (s : List ℕ) (f : ℕ) (st : D.State) → D.readOn s f (D.finish st) ≡ D.source st [] P.sound
+finish-on : (s : List ℕ) (f : ℕ) (st : D.State) → D.readOn mixed s f (D.finish st) ≡ D.source st [] P.sound
 unfolding D.readOn
 finish-on s zero st = refl
 finish-on s (suc f) st = refl
@@ -286,7 +287,7 @@ out : (d s n₀ : List ℕ) (m entered names : ℕ) (t′ n′ : List ℕ) (x : 
 unfolding bookOf
 out d s n₀ m entered names t′ n′ x e p r hr h = rw hr (record {
   whole = λ z. absurd (faulty-in (x .tally .past) (x .tally .second) e p z);
-  enters = λ w k l. enters-so m (D.readMember s) d n′ (x .tally) (N.enter m (D.readMember s) w) (faultIn (x .tally .past) (x .tally .second) (Faulty e p)) (h w k l);
+  enters = λ w k l. enters-so m (D.readMember mixed s) d n′ (x .tally) (N.enter m (D.readMember mixed s) w) (faultIn (x .tally .past) (x .tally .second) (Faulty e p)) (h w k l);
 })
 
 -- ---- NO TURN IS LEFT
@@ -301,15 +302,15 @@ module _ (d s n₀ : List ℕ) (m entered names : ℕ) (t n : List ℕ) (x : Sta
 
 -- ---- A TURN REFUSES, OR ENDS THE MEMBER
 module _ (d s n₀ : List ℕ) (m entered names : ℕ) (t n : List ℕ) (x : State) (mode : Mode) (at f : ℕ) (h : Going d s m entered (namesOf d n₀ names) t n x mode at (suc f)) (t′ n′ : List ℕ) (r : Turned)
-    (k : Takes d s t n x (D.turn s (modeOf mode) at (fromState s t x)) t′ n′ r) where
+    (k : Takes d s t n x (D.turn mixed s (modeOf mode) at (fromState s t x)) t′ n′ r) where
   abbrev b : Book
   b = namesOf d n₀ names
 
   abbrev Y : D.Turn
-  Y = D.turn s (modeOf mode) at (fromState s t x)
+  Y = D.turn mixed s (modeOf mode) at (fromState s t x)
 
-  ends : (Z : D.Turn) → Y ≡ Z → D.readMember s ≡ D.readOn s f (prepend (h .done) Z)
-  ends Z e = sym (left-on d s m entered b t n x mode at f h) ∙ ap (λ (z : D.Turn). D.readOn s f (prepend (h .done) z)) e
+  ends : (Z : D.Turn) → Y ≡ Z → D.readMember mixed s ≡ D.readOn mixed s f (prepend (h .done) Z)
+  ends Z e = sym (left-on d s m entered b t n x mode at f h) ∙ ap (λ (z : D.Turn). D.readOn mixed s f (prepend (h .done) z)) e
 
   module _ (e : Why) (p : ℕ) (hn : r .next ≡ Nx.Stop e p) (w : W.World) (hw : Shows w b) (l : w .sentences ≡ entered) where
     -- the names before the refusal
@@ -341,7 +342,7 @@ module _ (d s n₀ : List ℕ) (m entered names : ℕ) (t n : List ℕ) (x : Sta
         let hy : Y ≡ D.stop e p begun u = hx ∙ ap (λ (v : Why). D.stop v p′ begun u) (sym a) ∙ ap (λ (v : ℕ). D.stop e v begun u) (sym i) in
         let c′ : Counts (x .entered) e p begun u = subst (λ (v : Why). Counts (x .entered) v p begun u) (sym a) (subst (λ (v : ℕ). Counts (x .entered) e′ v begun u) (sym i) c) in
         let g′ : Stops d s n (x .tally) e p u t′ n′ r = record { next = hn; rows = g .rows; names = g .names; past = g .past } in
-        stays-so m (D.readMember s) (bookWhole m [] (h .done ++ u .declared) b) (bookOf d n′ (r .state .tally)) (N.enter m (D.readMember s) w) e p (pasts u begun hy g′) (refusal u begun hy c′)
+        stays-so m (D.readMember mixed s) (bookWhole m [] (h .done ++ u .declared) b) (bookOf d n′ (r .state .tally)) (N.enter m (D.readMember mixed s) w) e p (pasts u begun hy g′) (refusal u begun hy c′)
     does-stop (D.finish u) hx c g =
         let z : D.stop e p [] (stateOf s t′ (u .declared) (r .state)) ≡ D.finish u = ap (λ (i : Next). nextOf i (stateOf s t′ (u .declared) (r .state))) (sym hn) ∙ g .turn in
         let o : _≡_ {A = ℕ} 0 1 = cc in absurd (omega arith)
@@ -355,9 +356,9 @@ module _ (d s n₀ : List ℕ) (m entered names : ℕ) (t n : List ℕ) (x : Sta
         let i : o .place ≡ p = cc in
         let st : D.State = withDeclared (h .done) (o .state) in
         let none : withDeclared [] (o .state) ≡ o .state = ap (λ (ds : List P.Declared). withDeclared ds (o .state)) (sym (o .none)) in
-        let src : D.readMember s ≡ D.readOn s f (D.clauseAt s (o .place) (o .at) st) =
-        ends (D.clauseAt s (o .place) (o .at) (o .state)) (o .is) ∙ ap (λ (v : D.State). D.readOn s f (prepend (h .done) (D.clauseAt s (o .place) (o .at) v))) (sym none)
-        ∙ ap (D.readOn s f) (sym (clauseAt-frame s (h .done) (o .place) (o .at) (o .state))) in
+        let src : D.readMember mixed s ≡ D.readOn mixed s f (D.clauseAt mixed s (o .place) (o .at) st) =
+        ends (D.clauseAt mixed s (o .place) (o .at) (o .state)) (o .is) ∙ ap (λ (v : D.State). D.readOn mixed s f (prepend (h .done) (D.clauseAt mixed s (o .place) (o .at) v))) (sym none)
+        ∙ ap (D.readOn mixed s f) (sym (clauseAt-frame s (h .done) (o .place) (o .at) (o .state))) in
         subst (λ (v : Why). Decided m s w (bookOf d n′ (r .state .tally)) (Faulty v p)) a
         (subst (λ (v : ℕ). Decided m s w (bookOf d n′ (r .state .tally)) (Faulty OverLimit v)) i
         (ended-past m s w b hw refl refl (o .place) (o .at) st f (bookOf d n′ (r .state .tally)) src
@@ -383,9 +384,9 @@ module _ (d s n₀ : List ℕ) (m entered names : ℕ) (t n : List ℕ) (x : Sta
     finished : (u : D.State) → Y ≡ D.finish u → u ≡ stateOf s t′ (u .declared) (r .state) → Goes d s n (x .tally) (D.finish u) t′ n′ r → (y : Source) → y ≡ sourceOf (r .state) Sound → Membered d s n₀ m entered names t′ n′ y
     unfolding stateOf bookOf
     finished u hx hu g y hy =
-        let src : D.readMember s ≡ D.source (behind (h .done) u) [] P.sound = ends (D.finish u) hx ∙ finish-on s f (behind (h .done) u) in
+        let src : D.readMember mixed s ≡ D.source (behind (h .done) u) [] P.sound = ends (D.finish u) hx ∙ finish-on s f (behind (h .done) u) in
         let q : Tally = r .state .tally in
-        let same : rowsFrom s t′ 0 (r .state .rows) ≡ D.readMember s .rows = ap (λ (v : D.State). v .rows) (sym hu) ∙ ap (λ (v : P.Source). v .rows) (sym src) in
+        let same : rowsFrom s t′ 0 (r .state .rows) ≡ D.readMember mixed s .rows = ap (λ (v : D.State). v .rows) (sym hu) ∙ ap (λ (v : P.Source). v .rows) (sym src) in
         let depths : ℕ → ℕ = depthFrom t (x .rows) (D.depth (openedOf s (x .opened))) in
         let rows : length (u .rows) ≡ r .state .rows = ap (λ (z : D.State). length (z .rows)) hu ∙ rows-length s t′ 0 (r .state .rows) in
         rw hy (record {
@@ -404,7 +405,7 @@ module _ (d s n₀ : List ℕ) (m entered names : ℕ) (t n : List ℕ) (x : Sta
             sentences = omega (arith, k .before, h .before, k .few);
           };
           enters = λ w hw l.
-              enters-so m (D.readMember s) d n′ q (N.enter m (D.readMember s) w) (faultIn (q .past) (q .second) Sound)
+              enters-so m (D.readMember mixed s) d n′ q (N.enter m (D.readMember mixed s) w) (faultIn (q .past) (q .second) Sound)
               (subst (λ (c : Book). Decided m s w c Sound) (sym (whole-names u hx g))
               (ended-early m s w b hw refl refl (behind (h .done) u) [] Sound src (omega (arith, l, rows, k .before, h .before, k .few))));
         })
@@ -447,5 +448,5 @@ module _ (d t₀ n₀ : List ℕ) (m entered names : ℕ) (s t n : List ℕ) (x 
     pub loop-finish : r .next ≡ Nx.Finish → (y : Source) → y ≡ sourceOf (r .state) Sound → Members d t₀ n₀ m entered names t′ n′ y
     loop-finish hn y hy = members t′ n′ y λ z.
         let g : Going d s m entered (namesOf d n₀ names) t n x mode at (suc (f - 1)) = more z in
-        let T : Takes d s t n x (D.turn s (modeOf mode) at (fromState s t x)) t′ n′ r = k .so (g .sits) (g .within) (g .follows) in
+        let T : Takes d s t n x (D.turn mixed s (modeOf mode) at (fromState s t x)) t′ n′ r = k .so (g .sits) (g .within) (g .follows) in
         by-finish d s n₀ m entered names t n x mode at (f - 1) g t′ n′ r T hn (T .way) y hy

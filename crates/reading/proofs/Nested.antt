@@ -10,6 +10,7 @@ use native.Mathlib.Nat.{add-zero}
 use borrow.Author.Tests.{ltb-true, ltb-false, lt-ltb, le-ltb}
 use lib.Dec.{ltb}
 use lib.ListN.{length, length-append, List·getD-append}
+use Rattle.definition.specs.Bytes.{mixed}
 use Rattle.definition.specs.Expressions.{Named}
 use Rattle.definition.specs.Program as P
 use Rattle.definition.specs.Statements as St
@@ -210,19 +211,19 @@ module _ (f : ℕ → ℕ) where
     elsed-deep D.noElse i os st up h a b r = r
 
     complete-in : (w : D.Where) (i : ℕ) (l : P.Link) (bs : List (List ℕ)) (os : List D.Open) (n e : ℕ) (st : D.State) (up : ℕ → D.Turn) → Nested f (st .rows) → Around f (st .rows) (record { kind = w; row = i; last = l; labels = bs } ∷ os)
-        → DeepTurn f (up i) → DeepTurn f (D.completeIn w s i os n e (D.withOpened (record { kind = w; row = i; last = l; labels = bs } ∷ os) (st .scope) st) up)
+        → DeepTurn f (up i) → DeepTurn f (D.completeIn mixed w s i os n e (D.withOpened (record { kind = w; row = i; last = l; labels = bs } ∷ os) (st .scope) st) up)
     unfolding D.depth
     complete-in D.inProgram i l bs os n e st up h a r = record { rows = h; around = a }
     complete-in D.inGroup i l bs os n e st up h a r = record { rows = h; around = a }
     complete-in D.inBody i l bs os n e st up h a r = record { rows = h; around = a }
     complete-in D.inThen i l bs os n e st up h a r =
-        elsed-deep (D.elseAt (D.isInside (st .scope)) s e) i os (D.withOpened (record { kind = D.inThen; row = i; last = l; labels = bs } ∷ os) (st .scope) st) (λ _. up i) h (a .0) (a .1) r
+        elsed-deep (D.elseAt mixed (D.isInside (st .scope)) s e) i os (D.withOpened (record { kind = D.inThen; row = i; last = l; labels = bs } ∷ os) (st .scope) st) (λ _. up i) h (a .0) (a .1) r
     complete-in D.inElse i l bs os n e st up h a r = r
 
-    complete-deep : (L : List D.Open) (n e : ℕ) (st : D.State) → Nested f (st .rows) → Around f (st .rows) L → DeepTurn f (D.complete s L n e st)
+    complete-deep : (L : List D.Open) (n e : ℕ) (st : D.State) → Nested f (st .rows) → Around f (st .rows) L → DeepTurn f (D.complete mixed s L n e st)
     unfolding D.complete
     complete-deep [] n e st h a = h
-    complete-deep (o ∷ os) n e st h a = complete-in (o .kind) (o .row) (o .last) (o .labels) os n e st (λ i. D.complete s os i e st) h a (complete-deep os (o .row) e st h (a .1))
+    complete-deep (o ∷ os) n e st h a = complete-in (o .kind) (o .row) (o .last) (o .labels) os n e st (λ i. D.complete mixed s os i e st) h a (complete-deep os (o .row) e st h (a .1))
 
     -- ---- what a statement opens
     parent-is : (w : D.Where) (n g : ℕ) → parentIn w n ≡ P.row g → n ≡ g
@@ -239,7 +240,7 @@ module _ (f : ℕ → ℕ) where
       a,
     )
 
-    opened-deep : (o : St.Opens) (n : ℕ) (ns : List Named) (e : ℕ) (st : D.State) → Deep f st → n < length (st .rows) → f n ≡ D.depth (st .opened) → (P.isIterated (rowOf (st .rows) n .statement) ≡ true → o ≡ St.opensGroup) → DeepTurn f (D.opened o s n ns e st)
+    opened-deep : (o : St.Opens) (n : ℕ) (ns : List Named) (e : ℕ) (st : D.State) → Deep f st → n < length (st .rows) → f n ≡ D.depth (st .opened) → (P.isIterated (rowOf (st .rows) n .statement) ≡ true → o ≡ St.opensGroup) → DeepTurn f (D.opened mixed o s n ns e st)
     opened-deep St.opensNothing n ns e st h l q it = complete-deep (st .opened) n e st (h .rows) (h .around)
     opened-deep St.opensGroup n ns e st h l q it = record { rows = h .rows; around = around-new D.inGroup n (D.spelled ns) (st .rows) (st .opened) l q (λ z. refl) (h .around) }
     opened-deep St.opensBody n ns e st h l q it = record { rows = h .rows; around = around-new D.inBody n (D.spelled ns) (st .rows) (st .opened) l q (λ z. let y : St.opensBody ≡ St.opensGroup = it z in let c : _≡_ {A = ℕ} 0 1 = cc in absurd (omega arith)) (h .around) }
@@ -251,7 +252,7 @@ module _ (f : ℕ → ℕ) where
       next : f (length (st .rows)) ≡ D.depth (st .opened)
       some : 0 < length (st .opened)
 
-    taken-deep : (k : Statement) (p : ℕ) (ns : List Named) (st : D.State) (c : St.Clause) (es : List P.Declared) → Ready st → OpensBoth k (c .opens) c → Room (c .opens) st → DeepTurn f (D.taken s p ns st c es)
+    taken-deep : (k : Statement) (p : ℕ) (ns : List Named) (st : D.State) (c : St.Clause) (es : List P.Declared) → Ready st → OpensBoth k (c .opens) c → Room (c .opens) st → DeepTurn f (D.taken mixed s p ns st c es)
     unfolding D.taken D.addRow
     taken-deep k p ns st c es h o r =
         let n : ℕ = length (st .rows) in
@@ -280,7 +281,7 @@ module _ (f : ℕ → ℕ) where
       leads = λ x st h. record { deep = record { rows = h .deep .rows; around = h .deep .around }; next = h .next; some = h .some };
     }
 
-    pub turn-deep : (m : D.Mode) (at : ℕ) (st : D.State) → Deep f st → f (length (st .rows)) ≡ D.depth (st .opened) → 0 < length (st .opened) → Shallow m st → DeepTurn f (D.turn s m at st)
+    pub turn-deep : (m : D.Mode) (at : ℕ) (st : D.State) → Deep f st → f (length (st .rows)) ≡ D.depth (st .opened) → 0 < length (st .opened) → Shallow m st → DeepTurn f (D.turn mixed s m at st)
     turn-deep m at st h e some d = turn-walk s Ready (DeepTurn f) steps m at st (record { deep = h; next = e; some = some }) d
 
 -- ---- only the depths of the rows that there are matter

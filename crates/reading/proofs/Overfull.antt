@@ -6,6 +6,7 @@ use mathlib.Core.List.{List, [], _∷_, _++_, append-nil}
 use Prim.Native.Nat.{ℕ, zero, suc, _<_}
 use native.Mathlib.Omega.{arith}
 use lib.ListN.{length}
+use Rattle.definition.specs.Bytes.{mixed}
 use Rattle.definition.specs.Expressions.{Named}
 use Rattle.definition.specs.Program as P
 use Rattle.definition.specs.Statements as St
@@ -53,19 +54,19 @@ module _ (s : List ℕ) (e : ℕ) where
   elsed-kept (D.elseTo q) i os st up h = (refl, refl)
   elsed-kept D.noElse i os st up h = h
 
-  in-kept : (w : D.Where) (i : ℕ) (os : List D.Open) (n : ℕ) (st : D.State) (up : ℕ → D.Turn) → Kept (st .rows) (up i) → Kept (st .rows) (D.completeIn w s i os n e st up)
+  in-kept : (w : D.Where) (i : ℕ) (os : List D.Open) (n : ℕ) (st : D.State) (up : ℕ → D.Turn) → Kept (st .rows) (up i) → Kept (st .rows) (D.completeIn mixed w s i os n e st up)
   in-kept D.inProgram i os n st up h = (refl, refl)
   in-kept D.inGroup i os n st up h = (refl, refl)
   in-kept D.inBody i os n st up h = (refl, refl)
-  in-kept D.inThen i os n st up h = elsed-kept (D.elseAt (D.isInside (st .scope)) s e) i os st (λ _. up i) h
+  in-kept D.inThen i os n st up h = elsed-kept (D.elseAt mixed (D.isInside (st .scope)) s e) i os st (λ _. up i) h
   in-kept D.inElse i os n st up h = h
 
-  complete-kept : (os : List D.Open) (n : ℕ) (st : D.State) → Kept (st .rows) (D.complete s os n e st)
+  complete-kept : (os : List D.Open) (n : ℕ) (st : D.State) → Kept (st .rows) (D.complete mixed s os n e st)
   unfolding D.complete
   complete-kept [] n st = (refl, refl)
-  complete-kept (o ∷ os) n st = in-kept (o .kind) (o .row) os n (D.withOpened (o ∷ os) (st .scope) st) (λ i. D.complete s os i e st) (complete-kept os (o .row) st)
+  complete-kept (o ∷ os) n st = in-kept (o .kind) (o .row) os n (D.withOpened (o ∷ os) (st .scope) st) (λ i. D.complete mixed s os i e st) (complete-kept os (o .row) st)
 
-opened-kept : (o : St.Opens) (s : List ℕ) (n : ℕ) (ns : List Named) (e : ℕ) (st : D.State) → Kept (st .rows) (D.opened o s n ns e st)
+opened-kept : (o : St.Opens) (s : List ℕ) (n : ℕ) (ns : List Named) (e : ℕ) (st : D.State) → Kept (st .rows) (D.opened mixed o s n ns e st)
 opened-kept St.opensNothing s n ns e st = complete-kept s e (st .opened) n st
 opened-kept St.opensGroup s n ns e st = (refl, refl)
 opened-kept St.opensBody s n ns e st = (refl, refl)
@@ -80,19 +81,19 @@ module _ (s : List ℕ) (p : ℕ) (st : D.State) (some : 0 < length (st .opened)
   by-kept X rs h e = ap (λ (z : List P.Row). D.places z ++ begunIn X) (h .0) ∙ ap (λ (z : List ℕ). D.places rs ++ z) (h .1) ∙ append-nil (D.places rs) ∙ e
 
   module _ (ns : List Named) where
-    taken-begins : (c : St.Clause) (es : List P.Declared) → Begins (D.taken s p ns st c es)
+    taken-begins : (c : St.Clause) (es : List P.Declared) → Begins (D.taken mixed s p ns st c es)
     unfolding D.taken D.addRow
     taken-begins c es =
         let ms : List P.Declared = St.means (st .scope) (D.labelMeaning (c .opens) (length (st .rows))) ns ++ es in
         let y : D.State = D.withNames ms (D.addTo (st .opened) (c .statement) p st) in
-        by-kept (D.opened (c .opens) s (length (st .rows)) ns (c .to) y) (D.addTo (st .opened) (c .statement) p st .rows) (opened-kept (c .opens) s (length (st .rows)) ns (c .to) y) (add-to (st .opened) (c .statement) p st some)
+        by-kept (D.opened mixed (c .opens) s (length (st .rows)) ns (c .to) y) (D.addTo (st .opened) (c .statement) p st .rows) (opened-kept (c .opens) s (length (st .rows)) ns (c .to) y) (add-to (st .opened) (c .statement) p st some)
 
     begin : Statements s p ns st Begins
     begin = record { takes = λ k c es o r l. taken-begins c es; refuses = λ w q es l. refl }
 
-  pub clause-begins : (at : ℕ) → (D.isInGroup (D.kindOf (st .opened)) && D.isEnd s (D.labels s at .behind)) ≡ false → Begins (D.clauseAt s p at st)
+  pub clause-begins : (at : ℕ) → (D.isInGroup (D.kindOf (st .opened)) && D.isEnd mixed s (D.labels mixed s at .behind)) ≡ false → Begins (D.clauseAt mixed s p at st)
   unfolding D.clauseFrom
   clause-begins at h =
-      when-has Begins (D.isInGroup (D.kindOf (st .opened)) && D.isEnd s (D.labels s at .behind)) _ _ (λ z. absurd (false≢true (sym h ∙ z))) λ _.
+      when-has Begins (D.isInGroup (D.kindOf (st .opened)) && D.isEnd mixed s (D.labels mixed s at .behind)) _ _ (λ z. absurd (false≢true (sym h ∙ z))) λ _.
       when-has Begins (D.isFull st) _ _ (λ _. refl) λ _.
-      too-long Begins (D.labels s at .long) (λ q. D.untaken p (D.labels s at .labels) st OverLimit q []) (λ _. D.byToken (D.labels s at .behind .token) s p (D.labels s at .labels) (D.labels s at .behind) st) (λ q. refl) (by-token s p (D.labels s at .labels) st Begins (begin (D.labels s at .labels)) (D.labels s at .behind .token) (D.labels s at .behind))
+      too-long Begins (D.labels mixed s at .long) (λ q. D.untaken p (D.labels mixed s at .labels) st OverLimit q []) (λ _. D.byToken mixed (D.labels mixed s at .behind .token) s p (D.labels mixed s at .labels) (D.labels mixed s at .behind) st) (λ q. refl) (by-token s p (D.labels mixed s at .labels) st Begins (begin (D.labels mixed s at .labels)) (D.labels mixed s at .behind .token) (D.labels mixed s at .behind))

@@ -7,6 +7,7 @@ use mathlib.Core.Bool.{false, false≢true}
 use mathlib.Core.List.{List, [], _∷_, _++_}
 use mathlib.Core.Path.{_≡_, refl, sym, ap, _∙_}
 use lib.ListN.{length, length-append}
+use Rattle.definition.specs.Bytes.{mixed}
 use Rattle.definition.specs.Choice.{when}
 use Rattle.definition.specs.declared.Why.{Why}
 use Rattle.definition.specs.Tokens.{Token, isWord, isSign, tokenAt}
@@ -60,13 +61,13 @@ PlainNames x = AllPlain (namesIn x)
 
 module _ (s : List ℕ) where
   names-plain : (k : Scope) (m : Meaning) → N.isParameter m ≡ false → (ds : List Declared) → AllPlain ds → (f : ℕ) (ns : List Named) (e : ℕ) (g : List Named → ℕ → Declaring)
-      → ((ms : List Named) (q : ℕ) → PlainNames (g ms q)) → PlainNames (namesAt k m s ds f ns e g)
+      → ((ms : List Named) (q : ℕ) → PlainNames (g ms q)) → PlainNames (namesAt mixed k m s ds f ns e g)
   unfolding namesAt
   names-plain k m z ds h zero ns e g j = h
   names-plain k m z ds h (suc f) ns e g j =
-      plain-then (ds ++ means k m ns) (nameAt s e) _ (plain-append ds _ h (plain-means k m ns z)) λ x.
-      when-has PlainNames (isSign "," (tokenAt s (x .to) .token)) _ _ (λ _. names-plain k m z ds h f (ns ++ x ∷ []) (tokenAt s (x .to) .to) g j) λ _.
-      plain-then (ds ++ means k m (ns ++ x ∷ [])) (expectSign ")" s (x .to)) _ (plain-append ds _ h (plain-means k m (ns ++ x ∷ []) z)) λ q. j (ns ++ x ∷ []) q
+      plain-then (ds ++ means k m ns) (nameAt mixed s e) _ (plain-append ds _ h (plain-means k m ns z)) λ x.
+      when-has PlainNames (isSign "," (tokenAt mixed s (x .to) .token)) _ _ (λ _. names-plain k m z ds h f (ns ++ x ∷ []) (tokenAt mixed s (x .to) .to) g j) λ _.
+      plain-then (ds ++ means k m (ns ++ x ∷ [])) (expectSign mixed ")" s (x .to)) _ (plain-append ds _ h (plain-means k m (ns ++ x ∷ []) z)) λ q. j (ns ++ x ∷ []) q
 
   attribute-plain : (k : Scope) (t : Token) (a b : ℕ) (f : Meaning → ℕ → Declaring) (g : Unit {0} → Declaring) → ((m : Meaning) → N.isParameter m ≡ false → PlainNames (f m b)) → PlainNames (g tt) → PlainNames (attribute k t a b f g)
   unfolding attribute
@@ -75,22 +76,22 @@ module _ (s : List ℕ) where
   attribute-plain (inside r) t a b f g h i =
       when-has PlainNames (S.isCharacter t) _ _ (λ _. h _ refl) λ _. when-has PlainNames (isWord "FIXED" t) _ _ (λ _. h _ refl) λ _. when-has PlainNames (isWord "BUILTIN" t) _ _ (λ _. h _ refl) λ _. i
 
-  declared-plain : (k : Scope) (ds : List Declared) (ns : List Named) (e : ℕ) (g : List Declared → ℕ → Declaring) → AllPlain ds → ((es : List Declared) (q : ℕ) → AllPlain es → PlainNames (g es q)) → PlainNames (declareNames k s ds ns e g)
+  declared-plain : (k : Scope) (ds : List Declared) (ns : List Named) (e : ℕ) (g : List Declared → ℕ → Declaring) → AllPlain ds → ((es : List Declared) (q : ℕ) → AllPlain es → PlainNames (g es q)) → PlainNames (declareNames mixed k s ds ns e g)
   unfolding declareNames
   declared-plain k ds ns e g h j =
-      attribute-plain k (tokenAt s e .token) (tokenAt s e .from) (tokenAt s e .to) _ _ (λ m z. j _ _ (plain-append ds _ h (plain-means k m ns z))) (plain-append ds _ h (plain-means k _ ns refl))
+      attribute-plain k (tokenAt mixed s e .token) (tokenAt mixed s e .from) (tokenAt mixed s e .to) _ _ (λ m z. j _ _ (plain-append ds _ h (plain-means k m ns z))) (plain-append ds _ h (plain-means k _ ns refl))
 
-  next-plain : (g : List Declared → ℕ → Declaring) → ((es : List Declared) (q : ℕ) → AllPlain es → PlainNames (g es q)) → (ds : List Declared) (e : ℕ) → AllPlain ds → PlainNames (declareNext s g ds e)
+  next-plain : (g : List Declared → ℕ → Declaring) → ((es : List Declared) (q : ℕ) → AllPlain es → PlainNames (g es q)) → (ds : List Declared) (e : ℕ) → AllPlain ds → PlainNames (declareNext mixed s g ds e)
   unfolding declareNext
-  next-plain g j ds e h = when-has PlainNames (isSign "," (tokenAt s e .token)) _ _ (λ _. j ds _ h) λ _. plain-then ds (expectSign ";" s e) _ h λ q. h
+  next-plain g j ds e h = when-has PlainNames (isSign "," (tokenAt mixed s e .token)) _ _ (λ _. j ds _ h) λ _. plain-then ds (expectSign mixed ";" s e) _ h λ q. h
 
-  pub declare-plain : (k : Scope) (f : ℕ) (ds : List Declared) (e : ℕ) → AllPlain ds → PlainNames (declareFrom k s f ds e)
+  pub declare-plain : (k : Scope) (f : ℕ) (ds : List Declared) (e : ℕ) → AllPlain ds → PlainNames (declareFrom mixed k s f ds e)
   unfolding declareFrom
   declare-plain k zero ds e h = h
   declare-plain k (suc f) ds e h =
-      when-has PlainNames (isSign "(" (tokenAt s e .token)) _ _
-      (λ _. names-plain k _ refl ds h (length s) [] (tokenAt s e .to) _ λ ns q. declared-plain k ds ns q _ h (next-plain _ (λ es z. declare-plain k f es z))) λ _.
-      plain-then ds (nameAt s e) _ h λ n. declared-plain k ds (n ∷ []) (n .to) _ h (next-plain _ (λ es z. declare-plain k f es z))
+      when-has PlainNames (isSign "(" (tokenAt mixed s e .token)) _ _
+      (λ _. names-plain k _ refl ds h (length s) [] (tokenAt mixed s e .to) _ λ ns q. declared-plain k ds ns q _ h (next-plain _ (λ es z. declare-plain k f es z))) λ _.
+      plain-then ds (nameAt mixed s e) _ h λ n. declared-plain k ds (n ∷ []) (n .to) _ h (next-plain _ (λ es z. declare-plain k f es z))
 
 -- ---- rows
 pub change-length : (n : ℕ) (f : Row → Row) (rs : List Row) → length (change n f rs) ≡ length rs
@@ -165,19 +166,19 @@ module _ (s : List ℕ) (low : ℕ) where
   elsed-own (elseTo q) i os st f h g = opens-on (R.opening inElse i []) os (st .scope) st h
   elsed-own noElse i os st f h g = g
 
-  complete-in : (k : Where) (i : ℕ) (os : List Open) (n e : ℕ) (st : State) (f : ℕ → Turn) → 0 < length (st .opened) → Kept low st → OwnTurn low (f i) → OwnTurn low (completeIn k s i os n e st f)
+  complete-in : (k : Where) (i : ℕ) (os : List Open) (n e : ℕ) (st : State) (f : ℕ → Turn) → 0 < length (st .opened) → Kept low st → OwnTurn low (f i) → OwnTurn low (completeIn mixed k s i os n e st f)
   complete-in inProgram i os n e st f l h g = going l h
   complete-in inGroup i os n e st f l h g = going l h
   complete-in inBody i os n e st f l h g = going l h
-  complete-in inThen i os n e st f l h g = elsed-own (elseAt (isInside (st .scope)) s e) i os st _ h g
+  complete-in inThen i os n e st f l h g = elsed-own (elseAt mixed (isInside (st .scope)) s e) i os st _ h g
   complete-in inElse i os n e st f l h g = g
 
-  complete-own : (os : List Open) (n e : ℕ) (st : State) → Kept low st → OwnTurn low (complete s os n e st)
+  complete-own : (os : List Open) (n e : ℕ) (st : State) → Kept low st → OwnTurn low (complete mixed s os n e st)
   unfolding complete
   complete-own [] n e st h = finishing h
   complete-own (o ∷ os) n e st h = complete-in (o .kind) (o .row) os n e (R.withOpened (o ∷ os) (st .scope) st) _ (omega arith) (like _ refl refl h) (complete-own os (o .row) e st h)
 
-  opened-own : (o : Opens) (n : ℕ) (ns : List Named) (e : ℕ) (st : State) → Kept low st → OwnTurn low (opened o s n ns e st)
+  opened-own : (o : Opens) (n : ℕ) (ns : List Named) (e : ℕ) (st : State) → Kept low st → OwnTurn low (opened mixed o s n ns e st)
   opened-own opensNothing n ns e st h = complete-own (st .opened) n e st h
   opened-own opensGroup n ns e st h = opens-on (R.opening inGroup n (R.spelled ns)) (st .opened) (st .scope) st h
   opened-own opensBody n ns e st h = opens-on (R.opening inBody n (R.spelled ns)) (st .opened) (inside n) st h
@@ -203,7 +204,7 @@ module _ (s : List ℕ) (low : ℕ) where
         owned-append low n (st .declared) _ (owned-wider low (length (st .rows)) low n (st .declared) (omega arith) (omega arith) (h .names))
         (owned-append low n (means (st .scope) m ns) es (plain-owned low n (means (st .scope) m ns) (plain-means (st .scope) m ns z)) k)
 
-    taken-own : (x : Clause) (es : List Declared) → After es → OwnTurn low (taken s c ns st x es)
+    taken-own : (x : Clause) (es : List Declared) → After es → OwnTurn low (taken mixed s c ns st x es)
     unfolding taken addRow
     taken-own x es k =
         let n : length (addTo (st .opened) (x .statement) c st .rows) ≡ suc (length (st .rows)) = row-length (st .opened) (x .statement) c st l in
@@ -213,12 +214,12 @@ module _ (s : List ℕ) (low : ℕ) where
     untaken-own : (w : Why) (q : ℕ) (es : List Declared) → After es → OwnTurn low (untaken c ns st w q es)
     untaken-own w q es k = stopping (named-own (label 0) refl es k)
 
-    procedure-own : (e : ℕ) → After (namesIn (procedureClause (inside (length (st .rows))) s e))
-    procedure-own e = rw (clause-names s (inside (length (st .rows))) e) (own-means low (length (st .rows)) (when (isSign "(" (tokenAt s e .token)) (λ _. namesRead s (length s) (tokenAt s e .to)) (λ _. [])) (h .rows))
+    procedure-own : (e : ℕ) → After (namesIn (procedureClause mixed (inside (length (st .rows))) s e))
+    procedure-own e = rw (clause-names s (inside (length (st .rows))) e) (own-means low (length (st .rows)) (when (isSign "(" (tokenAt mixed s e .token)) (λ _. namesRead s (length s) (tokenAt mixed s e .to)) (λ _. [])) (h .rows))
 
     lists-own : (es : List Declared) → Lists s st es → After es
     lists-own es none = tt
-    lists-own es (declares e) = plain-owned low (suc (length (st .rows))) (namesIn (declareFrom (st .scope) s (length s) [] e)) (declare-plain s (st .scope) (length s) [] e tt)
+    lists-own es (declares e) = plain-owned low (suc (length (st .rows))) (namesIn (declareFrom mixed (st .scope) s (length s) [] e)) (declare-plain s (st .scope) (length s) [] e tt)
     lists-own es (parameters e) = procedure-own e
 
   record Owning (st : State) : Type 0 where
@@ -240,7 +241,7 @@ module _ (s : List ℕ) (low : ℕ) where
   }
 
 -- ---- THE NAMES OF A TURN, begun with none, behind those of the turns before it
-pub names-turn : (s : List ℕ) (m : Mode) (e : ℕ) (st : State) → 0 < length (st .opened) → Shallow m (withDeclared [] st) → OwnTurn (length (st .rows)) (turn s m e (withDeclared [] st))
+pub names-turn : (s : List ℕ) (m : Mode) (e : ℕ) (st : State) → 0 < length (st .opened) → Shallow m (withDeclared [] st) → OwnTurn (length (st .rows)) (turn mixed s m e (withDeclared [] st))
 names-turn s m e st l d =
     let low : ℕ = length (st .rows) in
     turn-walk s (Owning s low) (OwnTurn low) (steps s low) m e (withDeclared [] st) (record { some = l; kept = record { rows = omega arith; names = tt } }) d

@@ -9,6 +9,7 @@ use mathlib.Core.Path.{_≡_, refl, sym, ap, subst, _∙_}
 use lib.Dec.{leb, eqb}
 use lib.ListN.{length, getD, set}
 use borrow.Author.Tests.{le-leb, lt-leb, eqb-true, eqb-false, eq-eqb, ne-eqb}
+use Rattle.definition.specs.Bytes.{mixed}
 use Rattle.definition.specs.Choice.{when}
 use Rattle.definition.specs.Limits.{declaredNames}
 use Rattle.definition.specs.Lists.{part, same}
@@ -262,20 +263,20 @@ place-of nothing a b = (refl, refl)
 place-of wrong a b = (refl, refl)
 
 record Name (s : List ℕ) (e : ℕ) (n : Named) : Type 0 where
-  from : tokenAt s e .from ≡ n .place
-  to : tokenAt s e .to ≡ n .to
+  from : tokenAt mixed s e .from ≡ n .place
+  to : tokenAt mixed s e .to ≡ n .to
   spelled : n .spelling ≡ part (n .to - n .place) (n .place) s
   low : e ≤ n .place
   some : n .place < n .to
   high : n .to ≤ length s
 
-name-is : (s : List ℕ) (e : ℕ) (n : Named) → nameAt s e ≡ read n → Name s e n
+name-is : (s : List ℕ) (e : ℕ) (n : Named) → nameAt mixed s e ≡ read n → Name s e n
 unfolding nameAt
 name-is s e n h =
-    let f : Names s e (n .place) (n .to) = named-is s e (namedFor (nameAt s e)) (n .place) (n .to) refl (ap namedFor h) in
+    let f : Names s e (n .place) (n .to) = named-is s e (namedFor (nameAt mixed s e)) (n .place) (n .to) refl (ap namedFor h) in
     record {
-      from = sym (place-of (tokenAt s e .token) (tokenAt s e .from) (tokenAt s e .to) .0) ∙ ap (placeOr (tokenAt s e .from)) h;
-      to = sym (place-of (tokenAt s e .token) (tokenAt s e .from) (tokenAt s e .to) .1) ∙ ap (endOr (tokenAt s e .to)) h;
+      from = sym (place-of (tokenAt mixed s e .token) (tokenAt mixed s e .from) (tokenAt mixed s e .to) .0) ∙ ap (placeOr (tokenAt mixed s e .from)) h;
+      to = sym (place-of (tokenAt mixed s e .token) (tokenAt mixed s e .from) (tokenAt mixed s e .to) .1) ∙ ap (endOr (tokenAt mixed s e .to)) h;
       spelled = ap spellingIn (sym h ∙ f .is);
       low = f .past;
       some = f .low;
@@ -284,26 +285,26 @@ name-is s e n h =
 
 -- names one after the other, with commas between them, lead from a to z
 abbrev isComma : List ℕ → ℕ → Bool
-isComma s e = isSpelled (44 ∷ []) (tokenAt s e .token)
+isComma s e = isSpelled (44 ∷ []) (tokenAt mixed s e .token)
 
-comma-past : (s : List ℕ) (e : ℕ) → isComma s e ≡ true → (e < tokenAt s e .to) × (tokenAt s e .to ≤ length s)
+comma-past : (s : List ℕ) (e : ℕ) → isComma s e ≡ true → (e < tokenAt mixed s e .to) × (tokenAt mixed s e .to ≤ length s)
 comma-past s e h =
-    let t : (tokenAt s e .from < tokenAt s e .to) × (tokenAt s e .to ≤ length s) = token-on s e .some (sign-real "," (tokenAt s e .token) (sym (sign-spelled "," (44 ∷ []) refl (tokenAt s e .token)) ∙ h)) in
+    let t : (tokenAt mixed s e .from < tokenAt mixed s e .to) × (tokenAt mixed s e .to ≤ length s) = token-on s e .some (sign-real "," (tokenAt mixed s e .token) (sym (sign-spelled "," (44 ∷ []) refl (tokenAt mixed s e .token)) ∙ h)) in
     (omega (arith, token-on s e .low, t .0), t .1)
 
 abbrev Walk : List ℕ → ℕ → List Named → ℕ → Type 0
 Walk s a [] z = a ≡ z
-Walk s a (n ∷ ns) z = (nameAt s a ≡ read n) × ((isComma s (n .to) ≡ true) × Walk s (tokenAt s (n .to) .to) ns z)
+Walk s a (n ∷ ns) z = (nameAt mixed s a ≡ read n) × ((isComma s (n .to) ≡ true) × Walk s (tokenAt mixed s (n .to) .to) ns z)
 
 walk-low : (s : List ℕ) (a : ℕ) (ns : List Named) (z : ℕ) → Walk s a ns z → a + length ns ≤ z
 walk-low s a [] z h = omega arith
 walk-low s a (n ∷ ns) z h =
     let x : Name s a n = name-is s a n (h .0) in
-    omega (arith, x .low, x .some, comma-past s (n .to) (h .1 .0) .0, walk-low s (tokenAt s (n .to) .to) ns z (h .1 .1))
+    omega (arith, x .low, x .some, comma-past s (n .to) (h .1 .0) .0, walk-low s (tokenAt mixed s (n .to) .to) ns z (h .1 .1))
 
-walk-more : (s : List ℕ) (a : ℕ) (ns : List Named) (z : ℕ) (n : Named) → Walk s a ns z → nameAt s z ≡ read n → isComma s (n .to) ≡ true → Walk s a (ns ++ n ∷ []) (tokenAt s (n .to) .to)
-walk-more s a [] z n h e c = (ap (nameAt s) h ∙ e, (c, refl))
-walk-more s a (m ∷ ns) z n h e c = (h .0, (h .1 .0, walk-more s (tokenAt s (m .to) .to) ns z n (h .1 .1) e c))
+walk-more : (s : List ℕ) (a : ℕ) (ns : List Named) (z : ℕ) (n : Named) → Walk s a ns z → nameAt mixed s z ≡ read n → isComma s (n .to) ≡ true → Walk s a (ns ++ n ∷ []) (tokenAt mixed s (n .to) .to)
+walk-more s a [] z n h e c = (ap (nameAt mixed s) h ∙ e, (c, refl))
+walk-more s a (m ∷ ns) z n h e c = (h .0, (h .1 .0, walk-more s (tokenAt mixed s (m .to) .to) ns z n (h .1 .1) e c))
 
 abbrev isSpelledIn : List ℕ → List Named → Bool
 isSpelledIn w [] = false
@@ -321,16 +322,16 @@ or-when : (g r : Bool) → when g (λ _. true) (λ _. r) ≡ (g || r)
 or-when true r = refl
 or-when false r = refl
 
-before-is : (s : List ℕ) (x : Named) (z : ℕ) → nameAt s z ≡ read x → (f a : ℕ) (ns : List Named) → Walk s a ns z → length ns < f → listedBefore s (x .place) (x .to) f a ≡ isSpelledIn (x .spelling) ns
+before-is : (s : List ℕ) (x : Named) (z : ℕ) → nameAt mixed s z ≡ read x → (f a : ℕ) (ns : List Named) → Walk s a ns z → length ns < f → listedBefore s (x .place) (x .to) f a ≡ isSpelledIn (x .spelling) ns
 unfolding listedBefore
 before-is s x z e zero a ns h k = absurd (omega arith)
 before-is s x z e (suc f) a [] h k = let n : Name s z x = name-is s z x e in rw (h, n .from, le-leb (x .place) (x .place) (omega arith))
 before-is s x z e (suc f) a (m ∷ ns) h k =
     let n : Name s z x = name-is s z x e in
     let o : Name s a m = name-is s a m (h .0) in
-    let l : m .place < x .place = omega (arith, o .some, comma-past s (m .to) (h .1 .0) .0, walk-low s (tokenAt s (m .to) .to) ns z (h .1 .1), n .low) in
+    let l : m .place < x .place = omega (arith, o .some, comma-past s (m .to) (h .1 .0) .0, walk-low s (tokenAt mixed s (m .to) .to) ns z (h .1 .1), n .low) in
     let i : spelledAs s (x .place) (x .to) (m .place) (m .to) ≡ same (m .spelling) (x .spelling) = rw (n .spelled, o .spelled) (spelled-is s (x .place) (x .to) (m .place) (m .to)) in
-    let j : listedBefore s (x .place) (x .to) f (tokenAt s (m .to) .to) ≡ isSpelledIn (x .spelling) ns = before-is s x z e f (tokenAt s (m .to) .to) ns (h .1 .1) (omega arith) in
+    let j : listedBefore s (x .place) (x .to) f (tokenAt mixed s (m .to) .to) ≡ isSpelledIn (x .spelling) ns = before-is s x z e f (tokenAt mixed s (m .to) .to) ns (h .1 .1) (omega arith) in
     rw (o .from, o .to, lt-leb (x .place) (m .place) l, i, j) (or-when (same (m .spelling) (x .spelling)) (isSpelledIn (x .spelling) ns))
 
 -- ---- those that were listed are the names so far
@@ -375,17 +376,17 @@ second-more m r ps ns b p (Marked q) h = marked-stays m r ps ns (bookSecond p b)
 -- ---- THE FIRST PARAMETER that is listed twice, by tokens and by names
 module _ (s : List ℕ) (list m r : ℕ) where
   twice-turn : (f : ℕ) (x : Named) (ps : List W.Identifier) (b : Book) (g c : Bool)
-      → (c ≡ true → bookTwice (parameterTwice s list f (tokenAt s (x .to) .to)) b ≡ bookWhole m (own (x .spelling) m r ∷ ps) (means (inside r) parameter (namesRead s f (tokenAt s (x .to) .to))) b)
-      → bookTwice (when g (λ _. Marked (x .place)) (λ _. when c (λ _. parameterTwice s list f (tokenAt s (x .to) .to)) (λ _. Unmarked))) b
-      ≡ bookWhole m (own (x .spelling) m r ∷ ps) (means (inside r) parameter (when c (λ _. namesRead s f (tokenAt s (x .to) .to)) (λ _. []))) (cond g (bookSecond (x .place) b) b)
+      → (c ≡ true → bookTwice (parameterTwice s list f (tokenAt mixed s (x .to) .to)) b ≡ bookWhole m (own (x .spelling) m r ∷ ps) (means (inside r) parameter (namesRead s f (tokenAt mixed s (x .to) .to))) b)
+      → bookTwice (when g (λ _. Marked (x .place)) (λ _. when c (λ _. parameterTwice s list f (tokenAt mixed s (x .to) .to)) (λ _. Unmarked))) b
+      ≡ bookWhole m (own (x .spelling) m r ∷ ps) (means (inside r) parameter (when c (λ _. namesRead s f (tokenAt mixed s (x .to) .to)) (λ _. []))) (cond g (bookSecond (x .place) b) b)
   unfolding bookWhole
-  twice-turn f x ps b true c h = sym (second-more m r (own (x .spelling) m r ∷ ps) (when c (λ _. namesRead s f (tokenAt s (x .to) .to)) (λ _. [])) b (x .place) (b .second) refl)
+  twice-turn f x ps b true c h = sym (second-more m r (own (x .spelling) m r ∷ ps) (when c (λ _. namesRead s f (tokenAt mixed s (x .to) .to)) (λ _. [])) b (x .place) (b .second) refl)
   twice-turn f x ps b false true h = h refl
   twice-turn f x ps b false false h = refl
 
-  twice-name : (f z : ℕ) (ns : List Named) (ps : List W.Identifier) (b : Book) (R : Reading Named) → nameAt s z ≡ R → Walk s list ns z → Holds m r ps ns → isPast (listNext (41 ∷ []) s (nameEnd R) (namesEnd (41 ∷ []) s f)) ≡ true
+  twice-name : (f z : ℕ) (ns : List Named) (ps : List W.Identifier) (b : Book) (R : Reading Named) → nameAt mixed s z ≡ R → Walk s list ns z → Holds m r ps ns → isPast (listNext (41 ∷ []) s (nameEnd R) (namesEnd (41 ∷ []) s f)) ≡ true
       → ((e : ℕ) (ms : List Named) (qs : List W.Identifier) → Walk s list ms e → Holds m r qs ms → isPast (namesEnd (41 ∷ []) s f e) ≡ true → bookTwice (parameterTwice s list f e) b ≡ bookWhole m qs (means (inside r) parameter (namesRead s f e)) b)
-      → bookTwice (when (listedBefore s (tokenAt s z .from) (tokenAt s z .to) (length s) list) (λ _. Marked (tokenAt s z .from)) (λ _. when (isComma s (tokenAt s z .to)) (λ _. parameterTwice s list f (tokenAt s (tokenAt s z .to) .to)) (λ _. Unmarked))) b
+      → bookTwice (when (listedBefore s (tokenAt mixed s z .from) (tokenAt mixed s z .to) (length s) list) (λ _. Marked (tokenAt mixed s z .from)) (λ _. when (isComma s (tokenAt mixed s z .to)) (λ _. parameterTwice s list f (tokenAt mixed s (tokenAt mixed s z .to) .to)) (λ _. Unmarked))) b
       ≡ bookWhole m ps (means (inside r) parameter (namesNext s R (namesRead s f))) b
   unfolding nameEnd bookWhole
   twice-name f z ns ps b (refused w p) e h k l again = absurd (false≢true l)
@@ -394,13 +395,13 @@ module _ (s : List ℕ) (list m r : ℕ) where
       let g : listedBefore s (x .place) (x .to) (length s) list ≡ N.isListed (own (x .spelling) m r) ps = before-is s x z e (length s) list ns h (omega (arith, walk-low s list ns z h, n .low, n .some, n .high)) ∙ sym (k .same (x .spelling)) in
       rw (n .from, n .to, g)
       (twice-turn f x ps b (N.isListed (own (x .spelling) m r) ps) (isComma s (x .to))
-      (λ c. again (tokenAt s (x .to) .to) (ns ++ x ∷ []) (own (x .spelling) m r ∷ ps) (walk-more s list ns z x h e c) (holds-more m r ps ns x k) (rw c at l)))
+      (λ c. again (tokenAt mixed s (x .to) .to) (ns ++ x ∷ []) (own (x .spelling) m r ∷ ps) (walk-more s list ns z x h e c) (holds-more m r ps ns x k) (rw c at l)))
 
   twice-is : (f z : ℕ) (ns : List Named) (ps : List W.Identifier) (b : Book) → Walk s list ns z → Holds m r ps ns → isPast (namesEnd (41 ∷ []) s f z) ≡ true
       → bookTwice (parameterTwice s list f z) b ≡ bookWhole m ps (means (inside r) parameter (namesRead s f z)) b
   unfolding parameterTwice listEnd namesRead itemPast
   twice-is zero z ns ps b h k l = absurd (false≢true l)
-  twice-is (suc f) z ns ps b h k l = twice-name f z ns ps b (nameAt s z) refl h k l (λ e ms qs. twice-is f e ms qs b)
+  twice-is (suc f) z ns ps b h k l = twice-name f z ns ps b (nameAt mixed s z) refl h k l (λ e ms qs. twice-is f e ms qs b)
 
   pub twice-names : (b : Book) → isPast (namesEnd (41 ∷ []) s (length s) list) ≡ true → bookTwice (parameterTwice s list (length s) list) b ≡ bookWhole m [] (means (inside r) parameter (namesRead s (length s) list)) b
   unfolding N.isListed
@@ -412,36 +413,36 @@ then-names ds (read a) f h = h a
 then-names ds (refused w p) f h = refl
 
 module _ (s : List ℕ) (k : Scope) where
-  head-names : (ns : List Named) (e : ℕ) → namesIn (D.procedureHead k s ns e) ≡ means k parameter ns
+  head-names : (ns : List Named) (e : ℕ) → namesIn (D.procedureHead mixed k s ns e) ≡ means k parameter ns
   unfolding D.procedureHead D.returnsType
   head-names ns e =
       let ds : List Declared = means k parameter ns in
-      then-names ds (expectWord "RETURNS" s e) _ λ q. then-names ds (expectSign "(" s q) _ λ z.
-      when-has (λ (x : D.Declaring). namesIn x ≡ ds) (D.isCharacter (tokenAt s z .token)) _ _
-      (λ _. then-names ds (expectSign ")" s (tokenAt s z .to)) _ λ y. then-names ds (expectSign ";" s y) _ λ v. refl) λ _.
-      then-names ds (expectWord "FIXED" s z) _ λ u. then-names ds (expectSign ")" s u) _ λ y. then-names ds (expectSign ";" s y) _ λ v. refl
+      then-names ds (expectWord mixed "RETURNS" s e) _ λ q. then-names ds (expectSign mixed "(" s q) _ λ z.
+      when-has (λ (x : D.Declaring). namesIn x ≡ ds) (D.isCharacter (tokenAt mixed s z .token)) _ _
+      (λ _. then-names ds (expectSign mixed ")" s (tokenAt mixed s z .to)) _ λ y. then-names ds (expectSign mixed ";" s y) _ λ v. refl) λ _.
+      then-names ds (expectWord mixed "FIXED" s z) _ λ u. then-names ds (expectSign mixed ")" s u) _ λ y. then-names ds (expectSign mixed ";" s y) _ λ v. refl
 
-  after-names : (x : Expected) (all : List Named) → namesIn (afterNames k parameter s [] (D.procedureHead k s) x all) ≡ means k parameter all
+  after-names : (x : Expected) (all : List Named) → namesIn (afterNames k parameter s [] (D.procedureHead mixed k s) x all) ≡ means k parameter all
   after-names (Past e) all = head-names all e
   after-names (Refused w p) all = refl
 
-  after-read : (c : ℕ) (x : Expected) (all : List Named) → isRead (readProcedure c (afterNames k parameter s [] (D.procedureHead k s) x all)) ≡ true → isPast x ≡ true
+  after-read : (c : ℕ) (x : Expected) (all : List Named) → isRead (readProcedure c (afterNames k parameter s [] (D.procedureHead mixed k s) x all)) ≡ true → isPast x ≡ true
   unfolding readProcedure
   after-read c (Past e) all h = refl
   after-read c (Refused w p) all h = h
 
-  listed-names : (e : ℕ) → D.namesAt k parameter s [] (length s) [] e (D.procedureHead k s) ≡ afterNames k parameter s [] (D.procedureHead k s) (namesEnd (41 ∷ []) s (length s) e) (namesRead s (length s) e)
-  listed-names e = names-at k parameter s [] (D.procedureHead k s) (length s) [] e (omega arith) (λ z. absurd (omega arith))
+  listed-names : (e : ℕ) → D.namesAt mixed k parameter s [] (length s) [] e (D.procedureHead mixed k s) ≡ afterNames k parameter s [] (D.procedureHead mixed k s) (namesEnd (41 ∷ []) s (length s) e) (namesRead s (length s) e)
+  listed-names e = names-at k parameter s [] (D.procedureHead mixed k s) (length s) [] e (omega arith) (λ z. absurd (omega arith))
 
-  names-by : (e : ℕ) (g : Bool) → isSign "(" (tokenAt s e .token) ≡ g → namesIn (D.procedureClause k s e) ≡ means k parameter (when g (λ _. namesRead s (length s) (tokenAt s e .to)) (λ _. []))
+  names-by : (e : ℕ) (g : Bool) → isSign "(" (tokenAt mixed s e .token) ≡ g → namesIn (D.procedureClause mixed k s e) ≡ means k parameter (when g (λ _. namesRead s (length s) (tokenAt mixed s e .to)) (λ _. []))
   unfolding D.procedureClause
   names-by e true h =
-      let list : ℕ = tokenAt s e .to in
+      let list : ℕ = tokenAt mixed s e .to in
       rw (h, listed-names list) (after-names (namesEnd (41 ∷ []) s (length s) list) (namesRead s (length s) list))
   names-by e false h = rw h (head-names [] e)
 
-  pub clause-names : (e : ℕ) → namesIn (D.procedureClause k s e) ≡ means k parameter (when (isSign "(" (tokenAt s e .token)) (λ _. namesRead s (length s) (tokenAt s e .to)) (λ _. []))
-  clause-names e = names-by e (isSign "(" (tokenAt s e .token)) refl
+  pub clause-names : (e : ℕ) → namesIn (D.procedureClause mixed k s e) ≡ means k parameter (when (isSign "(" (tokenAt mixed s e .token)) (λ _. namesRead s (length s) (tokenAt mixed s e .to)) (λ _. []))
+  clause-names e = names-by e (isSign "(" (tokenAt mixed s e .token)) refl
 
 book-twice : (d t : List ℕ) (k : Mark) (x : Tally) → bookOf d t (tallyTwice k x) ≡ bookTwice k (bookOf d t x)
 unfolding bookOf
@@ -450,21 +451,21 @@ book-twice d t (Marked p) x = refl
 
 -- what the code has of a PROCEDURE statement that is read is what the definition does to the names
 module _ (d t : List ℕ) (x : Tally) (m n : ℕ) (s : List ℕ) (from : ℕ) where
-  procedure-by : (g : Bool) → isSign "(" (tokenAt s from .token) ≡ g
-      → isRead (readProcedure from (D.procedureClause (inside n) s from)) ≡ true
-      → bookOf d t (cond g (tallyTwice (parameterTwice s (tokenAt s from .to) (length s) (tokenAt s from .to)) x) x) ≡ bookWhole m [] (namesIn (D.procedureClause (inside n) s from)) (bookOf d t x)
+  procedure-by : (g : Bool) → isSign "(" (tokenAt mixed s from .token) ≡ g
+      → isRead (readProcedure from (D.procedureClause mixed (inside n) s from)) ≡ true
+      → bookOf d t (cond g (tallyTwice (parameterTwice s (tokenAt mixed s from .to) (length s) (tokenAt mixed s from .to)) x) x) ≡ bookWhole m [] (namesIn (D.procedureClause mixed (inside n) s from)) (bookOf d t x)
   unfolding D.procedureClause bookWhole
   procedure-by true e h =
-      let list : ℕ = tokenAt s from .to in
-      let l : isRead (readProcedure from (D.namesAt (inside n) parameter s [] (length s) [] list (D.procedureHead (inside n) s))) ≡ true = rw e at h in
+      let list : ℕ = tokenAt mixed s from .to in
+      let l : isRead (readProcedure from (D.namesAt mixed (inside n) parameter s [] (length s) [] list (D.procedureHead mixed (inside n) s))) ≡ true = rw e at h in
       let u : isPast (namesEnd (41 ∷ []) s (length s) list) ≡ true = after-read s (inside n) from (namesEnd (41 ∷ []) s (length s) list) (namesRead s (length s) list) (ap (λ (z : D.Declaring). isRead (readProcedure from z)) (sym (listed-names s (inside n) list)) ∙ l) in
-      let v : namesIn (D.namesAt (inside n) parameter s [] (length s) [] list (D.procedureHead (inside n) s)) ≡ means (inside n) parameter (namesRead s (length s) list) = ap namesIn (listed-names s (inside n) list) ∙ after-names s (inside n) (namesEnd (41 ∷ []) s (length s) list) (namesRead s (length s) list) in
+      let v : namesIn (D.namesAt mixed (inside n) parameter s [] (length s) [] list (D.procedureHead mixed (inside n) s)) ≡ means (inside n) parameter (namesRead s (length s) list) = ap namesIn (listed-names s (inside n) list) ∙ after-names s (inside n) (namesEnd (41 ∷ []) s (length s) list) (namesRead s (length s) list) in
       rw (e, v) (book-twice d t (parameterTwice s list (length s) list) x ∙ twice-names s list m n (bookOf d t x) u)
   procedure-by false e h = rw (e, head-names s (inside n) [] from)
 
-  pub procedure-names : (r : Read) → r ≡ readProcedure from (D.procedureClause (inside n) s from) → isRead r ≡ true → bookOf d t (procedureTally s from r x) ≡ bookWhole m [] (namesIn (D.procedureClause (inside n) s from)) (bookOf d t x)
+  pub procedure-names : (r : Read) → r ≡ readProcedure from (D.procedureClause mixed (inside n) s from) → isRead r ≡ true → bookOf d t (procedureTally s from r x) ≡ bookWhole m [] (namesIn (D.procedureClause mixed (inside n) s from)) (bookOf d t x)
   unfolding procedureTally
-  procedure-names r e h = rw (h, sign-spelled "(" (40 ∷ []) refl (tokenAt s from .token)) (procedure-by (isSign "(" (tokenAt s from .token)) refl (ap isRead (sym e) ∙ h))
+  procedure-names r e h = rw (h, sign-spelled "(" (40 ∷ []) refl (tokenAt mixed s from .token)) (procedure-by (isSign "(" (tokenAt mixed s from .token)) refl (ap isRead (sym e) ∙ h))
 
   -- and of one that is refused, but for what is declared twice
   none-entered : (ns : List Named) (b : Book) → bookAll m (means (inside n) parameter ns) b ≡ b
@@ -472,12 +473,12 @@ module _ (d t : List ℕ) (x : Tally) (m n : ℕ) (s : List ℕ) (from : ℕ) wh
   none-entered [] b = refl
   none-entered (y ∷ ns) b = none-entered ns b
 
-  refused-none : bookAll m (namesIn (D.procedureClause (inside n) s from)) (bookOf d t x) ≡ bookOf d t x
-  refused-none = rw (clause-names s (inside n) from) (none-entered (when (isSign "(" (tokenAt s from .token)) (λ _. namesRead s (length s) (tokenAt s from .to)) (λ _. [])) (bookOf d t x))
+  refused-none : bookAll m (namesIn (D.procedureClause mixed (inside n) s from)) (bookOf d t x) ≡ bookOf d t x
+  refused-none = rw (clause-names s (inside n) from) (none-entered (when (isSign "(" (tokenAt mixed s from .token)) (λ _. namesRead s (length s) (tokenAt mixed s from .to)) (λ _. [])) (bookOf d t x))
 
-  pub procedure-refused : (r : Read) → isRead r ≡ false → Almost (bookWhole m [] (namesIn (D.procedureClause (inside n) s from)) (bookOf d t x)) (bookOf d t (procedureTally s from r x))
+  pub procedure-refused : (r : Read) → isRead r ≡ false → Almost (bookWhole m [] (namesIn (D.procedureClause mixed (inside n) s from)) (bookOf d t x)) (bookOf d t (procedureTally s from r x))
   unfolding procedureTally
   procedure-refused r h =
       let b : Book = bookOf d t x in
-      let c : Book = bookWhole m [] (namesIn (D.procedureClause (inside n) s from)) b in
-      rw h (subst (λ (z : Book). Almost c z) refused-none (whole-almost m [] (namesIn (D.procedureClause (inside n) s from)) b b (almost-self b)))
+      let c : Book = bookWhole m [] (namesIn (D.procedureClause mixed (inside n) s from)) b in
+      rw h (subst (λ (z : Book). Almost c z) refused-none (whole-almost m [] (namesIn (D.procedureClause mixed (inside n) s from)) b b (almost-self b)))

@@ -9,7 +9,7 @@ use mathlib.Core.Path.{_≡_, refl}
 use lib.Dec.{leb}
 use lib.ListN.{length, List·getD-eq-default}
 use borrow.Author.Tests.{leb-true, leb-false, le-leb}
-use Rattle.definition.specs.Bytes.{isBlank}
+use Rattle.definition.specs.Bytes.{mixed, isBlank}
 use Rattle.definition.specs.Tokens.{Token, word, integer, string, bits, sign, nothing, wrong, Lexeme, lexeme, isSign, upTo, spaces, isSpace, isComment, lexemeAt, tokenAt}
 use Rattle.definition.specs.Reading.{begins}
 use Rattle.definition.proofs.Ends.{Real, Lies, tokenAt-lies}
@@ -19,7 +19,7 @@ unfolding spaces isSpace isBlank isComment
 spaces-end zero s e h = refl
 spaces-end (suc f) s e h = rw (List·getD-eq-default s 0 h)
 
-token-end : (s : List ℕ) (e : ℕ) → length s ≤ e → tokenAt s e ≡ lexeme nothing e e
+token-end : (s : List ℕ) (e : ℕ) → length s ≤ e → tokenAt mixed s e ≡ lexeme nothing e e
 unfolding tokenAt lexemeAt
 token-end s e h = rw (spaces-end (length s) s e h, le-leb (length s) e h)
 
@@ -28,12 +28,12 @@ pub record On (s : List ℕ) (e : ℕ) (t : Lexeme) : Type 0 where
   pub order : t .from ≤ t .to
   pub some : Real (t .token) → (t .from < t .to) × (t .to ≤ length s)
 
-pub token-on : (s : List ℕ) (e : ℕ) → On s e (tokenAt s e)
+pub token-on : (s : List ℕ) (e : ℕ) → On s e (tokenAt mixed s e)
 token-on s e = go′ (leb (length s) e) refl
   where
-    go′ : (b : Bool) → leb (length s) e ≡ b → On s e (tokenAt s e)
+    go′ : (b : Bool) → leb (length s) e ≡ b → On s e (tokenAt mixed s e)
     go′ true z = rw (token-end s e (leb-true (length s) e z)) (record { low = omega arith; order = omega arith; some = λ x. absurd x })
-    go′ false z = let t : Lies s e (tokenAt s e) = tokenAt-lies s e (omega (arith, leb-false (length s) e z)) in record { low = t .low; order = t .order; some = λ x. (t .some x, t .high) }
+    go′ false z = let t : Lies s e (tokenAt mixed s e) = tokenAt-lies s e (omega (arith, leb-false (length s) e z)) in record { low = t .low; order = t .order; some = λ x. (t .some x, t .high) }
 
 pub begins-real : (t : Token) → begins t ≡ true → Real t
 begins-real (word w) e = tt

@@ -7,6 +7,7 @@ use mathlib.Core.List.{List, [], _∷_, _++_}
 use Prim.Native.Nat.{ℕ, zero, suc}
 use native.Mathlib.Omega.{arith}
 use lib.ListN.{length}
+use Rattle.definition.specs.Bytes.{mixed}
 use Rattle.definition.specs.Choice.{when}
 use Rattle.definition.specs.Tokens.{Token, isWord, isSign, tokenAt}
 use Rattle.definition.specs.Expressions.{Reading, read, refused, Named, nameAt, expectSign, expectWord}
@@ -46,46 +47,46 @@ module _ (E : St.Declaring → St.Declaring → Type 0) (same : (c : St.Clause) 
   by-when false f g f′ g′ h i = i
 
   by-names : (k j : P.Scope) (m l : P.Meaning) (s : List ℕ) (ds es : List P.Declared) (n : ℕ) (ns : List Named) (at : ℕ) (f g : List Named → ℕ → St.Declaring) → ((ms : List Named) (e : ℕ) → E (f ms e) (g ms e))
-      → E (St.namesAt k m s ds n ns at f) (St.namesAt j l s es n ns at g)
+      → E (St.namesAt mixed k m s ds n ns at f) (St.namesAt mixed j l s es n ns at g)
   unfolding St.namesAt
   by-names k j m l s ds es zero ns at f g h = none Syntax at ds es
   by-names k j m l s ds es (suc n) ns at f g h =
-      by-then (ds ++ St.means k m ns) (es ++ St.means j l ns) (nameAt s at) _ _ λ x.
-      by-when (isSign "," (tokenAt s (x .to) .token)) _ _ _ _ (by-names k j m l s ds es n (ns ++ x ∷ []) (tokenAt s (x .to) .to) f g h)
-      (by-then (ds ++ St.means k m (ns ++ x ∷ [])) (es ++ St.means j l (ns ++ x ∷ [])) (expectSign ")" s (x .to)) _ _ λ e. h (ns ++ x ∷ []) e)
+      by-then (ds ++ St.means k m ns) (es ++ St.means j l ns) (nameAt mixed s at) _ _ λ x.
+      by-when (isSign "," (tokenAt mixed s (x .to) .token)) _ _ _ _ (by-names k j m l s ds es n (ns ++ x ∷ []) (tokenAt mixed s (x .to) .to) f g h)
+      (by-then (ds ++ St.means k m (ns ++ x ∷ [])) (es ++ St.means j l (ns ++ x ∷ [])) (expectSign mixed ")" s (x .to)) _ _ λ e. h (ns ++ x ∷ []) e)
 
   by-next : (s : List ℕ) (f g : List P.Declared → ℕ → St.Declaring) → ((ds es : List P.Declared) (e : ℕ) → St.spellings ds ≡ St.spellings es → E (f ds e) (g es e))
-      → (ds es : List P.Declared) (e : ℕ) → St.spellings ds ≡ St.spellings es → E (St.declareNext s f ds e) (St.declareNext s g es e)
+      → (ds es : List P.Declared) (e : ℕ) → St.spellings ds ≡ St.spellings es → E (St.declareNext mixed s f ds e) (St.declareNext mixed s g es e)
   unfolding St.declareNext
   by-next s f g h ds es e z =
-      by-when (isSign "," (tokenAt s e .token)) _ _ _ _ (h ds es (tokenAt s e .to) z)
-      (by-then ds es (expectSign ";" s e) _ _ λ q. subst (λ (y : List (List ℕ)). E (St.declared (St.clause (P.declare (St.spellings ds)) St.opensNothing q) ds) (St.declared (St.clause (P.declare y) St.opensNothing q) es)) z (same (St.clause (P.declare (St.spellings ds)) St.opensNothing q) ds es))
+      by-when (isSign "," (tokenAt mixed s e .token)) _ _ _ _ (h ds es (tokenAt mixed s e .to) z)
+      (by-then ds es (expectSign mixed ";" s e) _ _ λ q. subst (λ (y : List (List ℕ)). E (St.declared (St.clause (P.declare (St.spellings ds)) St.opensNothing q) ds) (St.declared (St.clause (P.declare y) St.opensNothing q) es)) z (same (St.clause (P.declare (St.spellings ds)) St.opensNothing q) ds es))
 
   module _ (k j : P.Scope) where
     module _ (attribute : (t : Token) (from to : ℕ) (f g : P.Meaning → ℕ → St.Declaring) (w : Why) (p : ℕ) (xs ys : List P.Declared) → ((m l : P.Meaning) → E (f m to) (g l to)) → E (St.attribute k t from to f (λ _. St.undeclared w p xs)) (St.attribute j t from to g (λ _. St.undeclared w p ys))) where
       by-item : (s : List ℕ) (ds es : List P.Declared) (ns : List Named) (e : ℕ) (f g : List P.Declared → ℕ → St.Declaring) → St.spellings ds ≡ St.spellings es
-          → ((cs bs : List P.Declared) (q : ℕ) → St.spellings cs ≡ St.spellings bs → E (f cs q) (g bs q)) → E (St.declareNames k s ds ns e f) (St.declareNames j s es ns e g)
+          → ((cs bs : List P.Declared) (q : ℕ) → St.spellings cs ≡ St.spellings bs → E (f cs q) (g bs q)) → E (St.declareNames mixed k s ds ns e f) (St.declareNames mixed j s es ns e g)
       unfolding St.declareNames
       by-item s ds es ns e f g z h =
-          attribute (tokenAt s e .token) (tokenAt s e .from) (tokenAt s e .to) (λ m to. f (ds ++ St.means k m ns) to) (λ m to. g (es ++ St.means j m ns) to) Syntax (tokenAt s e .from) (ds ++ St.means k (P.variable FixedType) ns) (es ++ St.means j (P.variable FixedType) ns)
-          (λ m l. h (ds ++ St.means k m ns) (es ++ St.means j l ns) (tokenAt s e .to) (spell-more k j m l ds es ns z))
+          attribute (tokenAt mixed s e .token) (tokenAt mixed s e .from) (tokenAt mixed s e .to) (λ m to. f (ds ++ St.means k m ns) to) (λ m to. g (es ++ St.means j m ns) to) Syntax (tokenAt mixed s e .from) (ds ++ St.means k (P.variable FixedType) ns) (es ++ St.means j (P.variable FixedType) ns)
+          (λ m l. h (ds ++ St.means k m ns) (es ++ St.means j l ns) (tokenAt mixed s e .to) (spell-more k j m l ds es ns z))
 
-      by-declare : (s : List ℕ) (f : ℕ) (ds es : List P.Declared) (at : ℕ) → St.spellings ds ≡ St.spellings es → E (St.declareFrom k s f ds at) (St.declareFrom j s f es at)
+      by-declare : (s : List ℕ) (f : ℕ) (ds es : List P.Declared) (at : ℕ) → St.spellings ds ≡ St.spellings es → E (St.declareFrom mixed k s f ds at) (St.declareFrom mixed j s f es at)
       unfolding St.declareFrom
       by-declare s zero ds es at z = none Syntax at ds es
       by-declare s (suc f) ds es at z =
-          by-when (isSign "(" (tokenAt s at .token)) _ _ _ _
-          (by-names k j (P.variable FixedType) (P.variable FixedType) s ds es (length s) [] (tokenAt s at .to) _ _ λ ns e.
-          by-item s ds es ns e (St.declareNext s (St.declareFrom k s f)) (St.declareNext s (St.declareFrom j s f)) z (by-next s (St.declareFrom k s f) (St.declareFrom j s f) (λ cs bs q y. by-declare s f cs bs q y)))
-          (by-then ds es (nameAt s at) _ _ λ n.
-          by-item s ds es (n ∷ []) (n .to) (St.declareNext s (St.declareFrom k s f)) (St.declareNext s (St.declareFrom j s f)) z (by-next s (St.declareFrom k s f) (St.declareFrom j s f) (λ cs bs q y. by-declare s f cs bs q y)))
+          by-when (isSign "(" (tokenAt mixed s at .token)) _ _ _ _
+          (by-names k j (P.variable FixedType) (P.variable FixedType) s ds es (length s) [] (tokenAt mixed s at .to) _ _ λ ns e.
+          by-item s ds es ns e (St.declareNext mixed s (St.declareFrom mixed k s f)) (St.declareNext mixed s (St.declareFrom mixed j s f)) z (by-next s (St.declareFrom mixed k s f) (St.declareFrom mixed j s f) (λ cs bs q y. by-declare s f cs bs q y)))
+          (by-then ds es (nameAt mixed s at) _ _ λ n.
+          by-item s ds es (n ∷ []) (n .to) (St.declareNext mixed s (St.declareFrom mixed k s f)) (St.declareNext mixed s (St.declareFrom mixed j s f)) z (by-next s (St.declareFrom mixed k s f) (St.declareFrom mixed j s f) (λ cs bs q y. by-declare s f cs bs q y)))
 
-    by-head : (s : List ℕ) (ns : List Named) (at : ℕ) → E (St.procedureHead k s ns at) (St.procedureHead j s ns at)
+    by-head : (s : List ℕ) (ns : List Named) (at : ℕ) → E (St.procedureHead mixed k s ns at) (St.procedureHead mixed j s ns at)
     unfolding St.procedureHead St.returnsType
     by-head s ns at =
-        by-then ds es (expectWord "RETURNS" s at) _ _ λ e. by-then ds es (expectSign "(" s e) _ _ λ q.
-        by-when (St.isCharacter (tokenAt s q .token)) _ _ _ _ (last CharacterType (tokenAt s q .to))
-        (by-then ds es (expectWord "FIXED" s q) _ _ (last FixedType))
+        by-then ds es (expectWord mixed "RETURNS" s at) _ _ λ e. by-then ds es (expectSign mixed "(" s e) _ _ λ q.
+        by-when (St.isCharacter (tokenAt mixed s q .token)) _ _ _ _ (last CharacterType (tokenAt mixed s q .to))
+        (by-then ds es (expectWord mixed "FIXED" s q) _ _ (last FixedType))
       where
         ds : List P.Declared
         ds = St.means k P.parameter ns
@@ -93,15 +94,15 @@ module _ (E : St.Declaring → St.Declaring → Type 0) (same : (c : St.Clause) 
         es : List P.Declared
         es = St.means j P.parameter ns
 
-        last : (t : ValueType) (e : ℕ) → E (St.thenDeclare ds (expectSign ")" s e) λ q. St.thenDeclare ds (expectSign ";" s q) λ z. St.declared (St.clause (P.procedure (St.spellings ds) t) St.opensBody z) ds) (St.thenDeclare es (expectSign ")" s e) λ q. St.thenDeclare es (expectSign ";" s q) λ z. St.declared (St.clause (P.procedure (St.spellings es) t) St.opensBody z) es)
+        last : (t : ValueType) (e : ℕ) → E (St.thenDeclare ds (expectSign mixed ")" s e) λ q. St.thenDeclare ds (expectSign mixed ";" s q) λ z. St.declared (St.clause (P.procedure (St.spellings ds) t) St.opensBody z) ds) (St.thenDeclare es (expectSign mixed ")" s e) λ q. St.thenDeclare es (expectSign mixed ";" s q) λ z. St.declared (St.clause (P.procedure (St.spellings es) t) St.opensBody z) es)
         last t e =
-            by-then ds es (expectSign ")" s e) _ _ λ q. by-then ds es (expectSign ";" s q) _ _ λ z.
+            by-then ds es (expectSign mixed ")" s e) _ _ λ q. by-then ds es (expectSign mixed ";" s q) _ _ λ z.
             subst (λ (y : List (List ℕ)). E (St.declared (St.clause (P.procedure (St.spellings ds) t) St.opensBody z) ds) (St.declared (St.clause (P.procedure y t) St.opensBody z) es)) (spell-means k j P.parameter P.parameter ns) (same (St.clause (P.procedure (St.spellings ds) t) St.opensBody z) ds es)
 
-    by-procedure : (s : List ℕ) (at : ℕ) → E (St.procedureClause k s at) (St.procedureClause j s at)
+    by-procedure : (s : List ℕ) (at : ℕ) → E (St.procedureClause mixed k s at) (St.procedureClause mixed j s at)
     unfolding St.procedureClause
     by-procedure s at =
-        by-when (isSign "(" (tokenAt s at .token)) _ _ _ _ (by-names k j P.parameter P.parameter s [] [] (length s) [] (tokenAt s at .to) (St.procedureHead k s) (St.procedureHead j s) (by-head s)) (by-head s [] at)
+        by-when (isSign "(" (tokenAt mixed s at .token)) _ _ _ _ (by-names k j P.parameter P.parameter s [] [] (length s) [] (tokenAt mixed s at .to) (St.procedureHead mixed k s) (St.procedureHead mixed j s) (by-head s)) (by-head s [] at)
 
 -- ---- of any procedure all is the same
 abbrev Alike : St.Declaring → St.Declaring → Type 0
@@ -145,17 +146,17 @@ agreed x (St.declared y ds) (St.undeclared w p es) c h e f = let z : _≡_ {A = 
 agreed x (St.undeclared w p ds) b c h e f = ap statementIn (sym f ∙ e)
 
 module _ (s : List ℕ) (at : ℕ) (x : St.Clause) where
-  again-inside : (r : ℕ) → clauseIn (St.declareFrom (P.inside r) s (length s) [] at) ≡ read x → statementAt s S.Declare at ≡ x .statement
+  again-inside : (r : ℕ) → clauseIn (St.declareFrom mixed (P.inside r) s (length s) [] at) ≡ read x → statementAt s S.Declare at ≡ x .statement
   unfolding statementAt declareAgain
   again-inside r e =
-      agreed x (St.declareFrom P.global s (length s) [] at) (St.declareFrom (P.inside r) s (length s) [] at) (clauseIn (St.declareFrom (P.inside 0) s (length s) [] at))
+      agreed x (St.declareFrom mixed P.global s (length s) [] at) (St.declareFrom mixed (P.inside r) s (length s) [] at) (clauseIn (St.declareFrom mixed (P.inside 0) s (length s) [] at))
       (by-declare Agree (λ c ds es. refl) (λ v z ds es. tt) P.global (P.inside r) (scopes-agree r) s (length s) [] [] at refl) e
       (by-declare Alike (λ c ds es. refl) (λ v z ds es. refl) (P.inside r) (P.inside 0) (inside-alike r 0) s (length s) [] [] at refl)
 
-  pub again-declare-in : (o : Owner) → clauseIn (St.declareFrom (scopeOf o) s (length s) [] at) ≡ read x → statementAt s S.Declare at ≡ x .statement
+  pub again-declare-in : (o : Owner) → clauseIn (St.declareFrom mixed (scopeOf o) s (length s) [] at) ≡ read x → statementAt s S.Declare at ≡ x .statement
   again-declare-in Everyone e = again-declare s at x e
   again-declare-in (Procedure p) e = again-inside (p .row) e
 
-  pub again-procedure : (k : P.Scope) → clauseIn (St.procedureClause k s at) ≡ read x → statementAt s S.Procedure at ≡ x .statement
+  pub again-procedure : (k : P.Scope) → clauseIn (St.procedureClause mixed k s at) ≡ read x → statementAt s S.Procedure at ≡ x .statement
   unfolding statementAt
   again-procedure k e = ap statementIn (by-procedure Alike (λ c ds es. refl) (λ v z ds es. refl) (P.inside 0) k s at ∙ e)

@@ -7,6 +7,7 @@ use mathlib.Core.List.{List, [], _∷_, _++_}
 use Prim.Native.Nat.{ℕ, suc, _+_, _<_, _≤_}
 use native.Mathlib.Omega.{arith}
 use lib.ListN.{length}
+use Rattle.definition.specs.Bytes.{mixed}
 use Rattle.definition.specs.Expressions.{read, Named}
 use Rattle.definition.specs.Program as P
 use Rattle.definition.specs.Statements as St
@@ -101,27 +102,27 @@ module _ (s : List ℕ) where
   complete-in : (w : D.Where) (i : ℕ) (l : P.Link) (bs : List (List ℕ)) (os : List D.Open) (n e : ℕ) (st : D.State) (f : ℕ → D.Turn) → length (st .rows) ≤ 1024 → n < length (st .rows)
       → Stand (length (st .rows)) (record { kind = w; row = i; last = l; labels = bs } ∷ os) → suc (length os) ≤ D.counts w + D.depth os + 1 + procedures (st .scope) → D.counts w + D.depth os ≤ 16
       → (i < length (st .rows) → Stand (length (st .rows)) os → length os ≤ D.depth os + 1 + procedures (st .scope) → D.depth os ≤ 16 → WellTurn (f i))
-      → WellTurn (D.completeIn w s i os n e (D.withOpened (record { kind = w; row = i; last = l; labels = bs } ∷ os) (st .scope) st) f)
+      → WellTurn (D.completeIn mixed w s i os n e (D.withOpened (record { kind = w; row = i; last = l; labels = bs } ∷ os) (st .scope) st) f)
   unfolding D.depth
   complete-in D.inProgram i l bs os n e st f few low h c d r = (record { few = few; stand = h; count = c }, behind-well (st .scope) n (D.withOpened (record { kind = D.inProgram; row = i; last = l; labels = bs } ∷ os) (st .scope) st) d low)
   complete-in D.inGroup i l bs os n e st f few low h c d r = (record { few = few; stand = h; count = c }, behind-well (st .scope) n (D.withOpened (record { kind = D.inGroup; row = i; last = l; labels = bs } ∷ os) (st .scope) st) d low)
   complete-in D.inBody i l bs os n e st f few low h c d r = (record { few = few; stand = h; count = c }, behind-well (st .scope) n (D.withOpened (record { kind = D.inBody; row = i; last = l; labels = bs } ∷ os) (st .scope) st) d low)
   complete-in D.inThen i l bs os n e st f few low h c d r =
-      elsed-well 0 i l bs os n e (D.withOpened (record { kind = D.inThen; row = i; last = l; labels = bs } ∷ os) (st .scope) st) f few low (D.elseAt (D.isInside (st .scope)) s e) i (h .0 .row) (h .1) c d (r (h .0 .row) (h .1) (omega (arith, c)) (omega (arith, d)))
+      elsed-well 0 i l bs os n e (D.withOpened (record { kind = D.inThen; row = i; last = l; labels = bs } ∷ os) (st .scope) st) f few low (D.elseAt mixed (D.isInside (st .scope)) s e) i (h .0 .row) (h .1) c d (r (h .0 .row) (h .1) (omega (arith, c)) (omega (arith, d)))
   complete-in D.inElse i l bs os n e st f few low h c d r = r (h .0 .row) (h .1) (omega (arith, c)) (omega (arith, d))
 
-  complete-well : (L : List D.Open) (n e : ℕ) (st : D.State) → length (st .rows) ≤ 1024 → n < length (st .rows) → Stand (length (st .rows)) L → length L ≤ D.depth L + 1 + procedures (st .scope) → D.depth L ≤ 16 → WellTurn (D.complete s L n e st)
+  complete-well : (L : List D.Open) (n e : ℕ) (st : D.State) → length (st .rows) ≤ 1024 → n < length (st .rows) → Stand (length (st .rows)) L → length L ≤ D.depth L + 1 + procedures (st .scope) → D.depth L ≤ 16 → WellTurn (D.complete mixed s L n e st)
   unfolding D.complete D.depth
   complete-well [] n e st few low h c d = tt
   complete-well (o ∷ os) n e st few low h c d =
-      complete-in (o .kind) (o .row) (o .last) (o .labels) os n e st (λ i. D.complete s os i e st) few low h c d (λ li hs cs ds. complete-well os (o .row) e st few li hs cs ds)
+      complete-in (o .kind) (o .row) (o .last) (o .labels) os n e st (λ i. D.complete mixed s os i e st) few low h c d (λ li hs cs ds. complete-well os (o .row) e st few li hs cs ds)
 
   -- ---- what a statement opens
   mode-either : (b : Bool) (st : D.State) → D.depth (st .opened) ≤ 16 → WellFor (cond b D.inner D.leadingText) st
   mode-either true st h = h
   mode-either false st h = h
 
-  opened-well : (o : St.Opens) (n : ℕ) (ns : List Named) (e : ℕ) (st : D.State) → Well st → n < length (st .rows) → D.depth (st .opened) ≤ 16 → Room o st → WellTurn (D.opened o s n ns e st)
+  opened-well : (o : St.Opens) (n : ℕ) (ns : List Named) (e : ℕ) (st : D.State) → Well st → n < length (st .rows) → D.depth (st .opened) ≤ 16 → Room o st → WellTurn (D.opened mixed o s n ns e st)
   unfolding D.depth
   opened-well St.opensNothing n ns e st h low d r = complete-well (st .opened) n e st (h .few) low (h .stand) (h .count) d
   opened-well St.opensGroup n ns e st h low d r = (
@@ -139,7 +140,7 @@ module _ (s : List ℕ) where
 
   -- ---- a statement that was read, where there is room for its row
   module _ (p : ℕ) (ns : List Named) (st : D.State) (h : Well st) (d : D.depth (st .opened) ≤ 16) (small : length (st .rows) < 1024) where
-    taken-well : (c : St.Clause) (es : List P.Declared) → Room (c .opens) st → WellTurn (D.taken s p ns st c es)
+    taken-well : (c : St.Clause) (es : List P.Declared) → Room (c .opens) st → WellTurn (D.taken mixed s p ns st c es)
     unfolding D.taken
     taken-well c es r =
         let n : ℕ = length (st .rows) in
@@ -155,14 +156,14 @@ module _ (s : List ℕ) where
   -- ---- END of a group or a procedure
   end-in : (w : D.Where) (k : ℕ) (l : P.Link) (bs : List (List ℕ)) (os : List D.Open) (ns : List Named) (e : ℕ) (st : D.State) → Ended w → length (st .rows) ≤ 1024 → Stand (length (st .rows)) (record { kind = w; row = k; last = l; labels = bs } ∷ os)
       → suc (length os) ≤ D.counts w + D.depth os + 1 + procedures (st .scope) → D.counts w + D.depth os ≤ 16
-      → WellTurn (D.complete s os k e (D.withOpened os (D.scopeOut w (st .scope)) (D.withNames (St.means (st .scope) (P.endLabel k) ns) st)))
+      → WellTurn (D.complete mixed s os k e (D.withOpened os (D.scopeOut w (st .scope)) (D.withNames (St.means (st .scope) (P.endLabel k) ns) st)))
   end-in D.inProgram k l bs os ns e st x few h c d = absurd x
   end-in D.inGroup k l bs os ns e st x few h c d = complete-well os k e (D.withOpened os (st .scope) (D.withNames (St.means (st .scope) (P.endLabel k) ns) st)) few (h .0 .row) (h .1) (omega (arith, c)) (omega (arith, d))
   end-in D.inBody k l bs os ns e st x few h c d = complete-well os k e (D.withOpened os P.global (D.withNames (St.means (st .scope) (P.endLabel k) ns) st)) few (h .0 .row) (h .1) (omega (arith, c, few-procedures (st .scope))) (omega (arith, d))
   end-in D.inThen k l bs os ns e st x few h c d = absurd x
   end-in D.inElse k l bs os ns e st x few h c d = absurd x
 
-  ends : (o : D.Open) (os : List D.Open) (ns : List Named) (e : ℕ) (st : D.State) → Well st → st .opened ≡ o ∷ os → Ended (o .kind) → D.depth (st .opened) ≤ 16 → WellTurn (D.endRead s ns o os st (read e))
+  ends : (o : D.Open) (os : List D.Open) (ns : List Named) (e : ℕ) (st : D.State) → Well st → st .opened ≡ o ∷ os → Ended (o .kind) → D.depth (st .opened) ≤ 16 → WellTurn (D.endRead mixed s ns o os st (read e))
   unfolding D.depth
   ends o os ns e st h q x d =
       end-in (o .kind) (o .row) (o .last) (o .labels) os ns e st x (h .few) (subst (λ (L : List D.Open). Stand (length (st .rows)) L) q (h .stand))
@@ -180,7 +181,7 @@ module _ (s : List ℕ) where
     leads = λ x st h. record { few = h .few; stand = h .stand; count = h .count };
   }
 
-  pub turn-well : (m : D.Mode) (at : ℕ) (st : D.State) → Well st → WellFor m st → WellTurn (D.turn s m at st)
+  pub turn-well : (m : D.Mode) (at : ℕ) (st : D.State) → Well st → WellFor m st → WellTurn (D.turn mixed s m at st)
   turn-well m at st h d = turn-walk s Well WellTurn steps m at st h (shallow m st d)
 
 -- and so does the start

@@ -7,6 +7,7 @@ use Prim.Native.Nat.{ℕ, _-_, _<_, _≤_}
 use native.Mathlib.Omega.{arith}
 use lib.Dec.{ltb}
 use lib.ListN.{length}
+use Rattle.definition.specs.Bytes.{mixed}
 use Rattle.definition.specs.Lists.{same}
 use Rattle.definition.specs.Tokens as Tk
 use Rattle.definition.specs.Tokens.{tokenAt}
@@ -50,8 +51,8 @@ no-word false false false n x = refl
 no-keyword : (s : List ℕ) (w : D.Where) (b : Bool) (l : Lexeme) (c : ℕ) → isWordKind (l .kind) ≡ false → keywordAt s w b l c ≡ K.Other
 unfolding keywordAt isWordIn
 no-keyword s w b l c e =
-    ap (λ (g : Bool). keywordHere (Tk.isSign "=" (tokenAt s (l .to) .token)) (D.isList w) b (ltb 0 c) (λ v. g && same (spelling s l) v)) e
-    ∙ no-word (Tk.isSign "=" (tokenAt s (l .to) .token)) (D.isList w) b (ltb 0 c) (spelling s l)
+    ap (λ (g : Bool). keywordHere (Tk.isSign "=" (tokenAt mixed s (l .to) .token)) (D.isList w) b (ltb 0 c) (λ v. g && same (spelling s l) v)) e
+    ∙ no-word (Tk.isSign "=" (tokenAt mixed s (l .to) .token)) (D.isList w) b (ltb 0 c) (spelling s l)
 
 module _ (d s t n : List ℕ) (x : State) (k : Keyword) (l : Lexeme) (from p labels : ℕ) (r : Turned) (v : Bool) (hv : v ≡ isWordKind (l .kind)) where
   pub token-by-word : (m : ℕ) (t′ n′ : List ℕ) → v ≡ true → m ≡ l .to - l .from → m ≤ 31 → ByWord d s t n x k l from p labels t′ n′ r → ByToken d s t n x k l from p labels t′ n′ r
@@ -60,12 +61,12 @@ module _ (d s t n : List ℕ) (x : State) (k : Keyword) (l : Lexeme) (from p lab
     so = λ ns c i hk hc.
         let short : l .to - l .from ≤ 31 = omega (arith, hm, low) in
         subst (λ (X : D.Turn). Clausal d s t n x (D.labelMeaning (opensBy k) (x .rows)) ns X t′ n′ r)
-        (sym (token-word s p ns (fromState s t x) from l (i .lexed) (sym hv ∙ e) short c hc ∙ ap (λ (q : Keyword). byKeyword q s p ns (spelling s l) (tokenAt s from) (tokenAt s (tokenAt s from .to)) (fromState s t x)) (sym hk)))
+        (sym (token-word s p ns (fromState s t x) from l (i .lexed) (sym hv ∙ e) short c hc ∙ ap (λ (q : Keyword). byKeyword q s p ns (spelling s l) (tokenAt mixed s from) (tokenAt mixed s (tokenAt mixed s from .to)) (fromState s t x)) (sym hk)))
         (h .so ns i (sym hv ∙ e) short);
   }
 
   -- a token that is wrong
-  wrong : (w : Why) → r ≡ turned x (Nx.Stop w (l .from)) → ((ns : List Named) → Lexed s from l → D.byToken (tokenAt s from .token) s p ns (tokenAt s from) (fromState s t x) ≡ D.untaken p ns (fromState s t x) w (l .from) []) → ByToken d s t n x k l from p labels t n r
+  wrong : (w : Why) → r ≡ turned x (Nx.Stop w (l .from)) → ((ns : List Named) → Lexed s from l → D.byToken mixed (tokenAt mixed s from .token) s p ns (tokenAt mixed s from) (fromState s t x) ≡ D.untaken p ns (fromState s t x) w (l .from) []) → ByToken d s t n x k l from p labels t n r
   wrong w hr f = record {
     so = λ ns c i hk hc. subst (λ (X : D.Turn). Clausal d s t n x (D.labelMeaning (opensBy k) (x .rows)) ns X t n r) (sym (f ns (i .lexed)))
         (clausal-read d s t n x l from p labels ns i S.Null (opensBy k) t r (Rd.Refused w (l .from)) (takes-refused s t x p labels r (Rd.Refused w (l .from)) w (l .from) refl hr) (refused w (l .from)) (refl, refl) tt);
@@ -85,7 +86,7 @@ module _ (d s t n : List ℕ) (x : State) (k : Keyword) (l : Lexeme) (from p lab
     pub token-empty : (y : Read) (t′ : List ℕ) → g ≡ true → y ≡ nullFor (l .from) (l .to) → TakesAs s t x y p labels t′ r → ByToken d s t n x k l from p labels t′ n r
     token-empty y t′ f hy h = record {
       so = λ ns c i hk hc.
-          let b : (tokenAt s from .from < tokenAt s from .to) × (tokenAt s from .to ≤ length s) = token-on s from .some (sign-real ";" (tokenAt s from .token) (sym (is-sign s from l (i .lexed) ";" (59 ∷ []) refl) ∙ sym hg ∙ f)) in
+          let b : (tokenAt mixed s from .from < tokenAt mixed s from .to) × (tokenAt mixed s from .to ≤ length s) = token-on s from .some (sign-real ";" (tokenAt mixed s from .token) (sym (is-sign s from l (i .lexed) ";" (59 ∷ []) refl) ∙ sym hg ∙ f)) in
           let z : k ≡ K.Other = hk ∙ no-keyword s (D.kindOf (openedOf s (x .opened))) (D.isInside (scopeOf (x .scope))) l c (sym hv ∙ e) in
           subst (λ (X : D.Turn). Clausal d s t n x (D.labelMeaning (opensBy k) (x .rows)) ns X t′ n r) (sym (token-null s p ns (fromState s t x) from l (i .lexed) (sym hv ∙ e) (sym hg ∙ f)))
           (clausal-read d s t n x l from p labels ns i S.Null (opensBy k) t′ r y h (read (St.clause P.null St.opensNothing (l .to))) (null-stood y hy (omega (arith, b .0, b .1, i .lexed .from, i .sits .short))) (record { opens = ap opensBy (sym z); statement = ap opensBy (sym z); kind = refl }));

@@ -10,6 +10,7 @@ use borrow.Author.Tests.{le-leb, lt-leb, leb-false}
 use lib.Dec.{leb, eqb}
 use lib.ListN.{length, getD}
 use Prim.Native.Char.{code}
+use Rattle.definition.specs.Bytes.{mixed}
 use Rattle.definition.specs.Choice.{when}
 use Rattle.definition.specs.Room.{over}
 use Rattle.definition.proofs.Rooms.{length-over}
@@ -91,12 +92,12 @@ module _ (d s t n : List ℕ) (x : State) (e : Ending) where
   pub texted-percent : (p q : ℕ) (t′ n′ : List ℕ) (r : Turned) → e ≡ En.Percent p → PlaceAfter s p q → Clauses d s t n x p q t′ n′ r → Texts d s t n x e t′ n′ r
   texted-percent p q t′ n′ r he a c = rw he (record { so = λ h E f k low hf ho. by h E f k low hf })
     where
-      by : Sits d s t n x → (E : TextEnd) (f : ℕ → D.State) → En.Percent p ≡ endingFor E → p < length s → f p ≡ fromState s t x → Takes d s t n x (D.texted E s f) t′ n′ r
+      by : Sits d s t n x → (E : TextEnd) (f : ℕ → D.State) → En.Percent p ≡ endingFor E → p < length s → f p ≡ fromState s t x → Takes d s t n x (D.texted mixed E s f) t′ n′ r
       by h (percentAt j) f k low hf =
           let z : p ≡ j = cc in
-          subst (λ (i : ℕ). Takes d s t n x (D.clauseAt s i (i + 1) (f i)) t′ n′ r) z
-          (subst (λ (st : D.State). Takes d s t n x (D.clauseAt s p (p + 1) st) t′ n′ r) (sym hf)
-          (subst (λ (i : ℕ). Takes d s t n x (D.clauseAt s p i (fromState s t x)) t′ n′ r) (a .is low)
+          subst (λ (i : ℕ). Takes d s t n x (D.clauseAt mixed s i (i + 1) (f i)) t′ n′ r) z
+          (subst (λ (st : D.State). Takes d s t n x (D.clauseAt mixed s p (p + 1) st) t′ n′ r) (sym hf)
+          (subst (λ (i : ℕ). Takes d s t n x (D.clauseAt mixed s p i (fromState s t x)) t′ n′ r) (a .is low)
           (c .so h low (omega (arith, low, a .is low)) (behind (omega (arith, a .is low))))))
       by h atEnd f k low hf = let z : _≡_ {A = ℕ} 0 1 = cc in absurd (omega arith)
       by h (openAt j) f k low hf = let z : _≡_ {A = ℕ} 0 1 = cc in absurd (omega arith)
@@ -104,7 +105,7 @@ module _ (d s t n : List ℕ) (x : State) (e : Ending) where
   pub texted-finish : e ≡ En.AtEnd → x .opened .count ≤ 1 → Texts d s t n x e t n (turned x Nx.Finish)
   texted-finish he l = rw he (record { so = λ h E f k low hf ho. by h E f k hf ho })
     where
-      by : Sits d s t n x → (E : TextEnd) (f : ℕ → D.State) → En.AtEnd ≡ endingFor E → f (length s) ≡ fromState s t x → length (f 0 .opened) ≡ x .opened .count → Takes d s t n x (D.texted E s f) t n (turned x Nx.Finish)
+      by : Sits d s t n x → (E : TextEnd) (f : ℕ → D.State) → En.AtEnd ≡ endingFor E → f (length s) ≡ fromState s t x → length (f 0 .opened) ≡ x .opened .count → Takes d s t n x (D.texted mixed E s f) t n (turned x Nx.Finish)
       by h (percentAt j) f k hf ho = let z : _≡_ {A = ℕ} 0 1 = cc in absurd (omega arith)
       by h atEnd f k hf ho = rw (le-leb (length (f 0 .opened)) 1 (omega (arith, ho, l)), hf) (stay-finish d s t n x h)
       by h (openAt j) f k hf ho = let z : _≡_ {A = ℕ} 0 1 = cc in absurd (omega arith)
@@ -112,7 +113,7 @@ module _ (d s t n : List ℕ) (x : State) (e : Ending) where
   pub texted-short : (r : Turned) → e ≡ En.AtEnd → 1 < x .opened .count → r ≡ turned x (Nx.Stop Syntax (length s)) → Texts d s t n x e t n r
   texted-short r he l hr = rw (he, hr) (record { so = λ h E f k low hf ho. by h E f k hf ho })
     where
-      by : Sits d s t n x → (E : TextEnd) (f : ℕ → D.State) → En.AtEnd ≡ endingFor E → f (length s) ≡ fromState s t x → length (f 0 .opened) ≡ x .opened .count → Takes d s t n x (D.texted E s f) t n (turned x (Nx.Stop Syntax (length s)))
+      by : Sits d s t n x → (E : TextEnd) (f : ℕ → D.State) → En.AtEnd ≡ endingFor E → f (length s) ≡ fromState s t x → length (f 0 .opened) ≡ x .opened .count → Takes d s t n x (D.texted mixed E s f) t n (turned x (Nx.Stop Syntax (length s)))
       by h (percentAt j) f k hf ho = let z : _≡_ {A = ℕ} 0 1 = cc in absurd (omega arith)
       by h atEnd f k hf ho = rw (lt-leb (length (f 0 .opened)) 1 (omega (arith, ho, l)), hf) (stay-stop d s t n x h Syntax (length s) [] (stay-early d s t n x h Syntax (length s)))
       by h (openAt j) f k hf ho = let z : _≡_ {A = ℕ} 0 1 = cc in absurd (omega arith)
@@ -120,7 +121,7 @@ module _ (d s t n : List ℕ) (x : State) (e : Ending) where
   pub texted-open : (p : ℕ) (r : Turned) → e ≡ En.OpenAt p → r ≡ turned x (Nx.Stop Syntax p) → Texts d s t n x e t n r
   texted-open p r he hr = rw (he, hr) (record { so = λ h E f k low hf ho. by h E f k hf })
     where
-      by : Sits d s t n x → (E : TextEnd) (f : ℕ → D.State) → En.OpenAt p ≡ endingFor E → f p ≡ fromState s t x → Takes d s t n x (D.texted E s f) t n (turned x (Nx.Stop Syntax p))
+      by : Sits d s t n x → (E : TextEnd) (f : ℕ → D.State) → En.OpenAt p ≡ endingFor E → f p ≡ fromState s t x → Takes d s t n x (D.texted mixed E s f) t n (turned x (Nx.Stop Syntax p))
       by h (percentAt j) f k hf = let z : _≡_ {A = ℕ} 0 1 = cc in absurd (omega arith)
       by h atEnd f k hf = let z : _≡_ {A = ℕ} 0 1 = cc in absurd (omega arith)
       by h (openAt j) f k hf =
@@ -140,13 +141,13 @@ text-on s (Tk.name w) p q f h k = k
 text-on s Tk.plain p q f h k = k
 text-on s Tk.unclosed p q f h k = h
 
-text-within : (s : List ℕ) (f p : ℕ) → placeOf s (textEnd f s p) ≤ length s
+text-within : (s : List ℕ) (f p : ℕ) → placeOf s (textEnd mixed f s p) ≤ length s
 unfolding textEnd
 text-within s zero p = omega arith
 text-within s (suc f) p =
     when-has (λ (E : TextEnd). placeOf s E ≤ length s) (leb (length s) p) _ _ (λ _. omega arith) λ e.
     let h : p ≤ length s = omega (arith, leb-false (length s) p e) in
-    when-has (λ (E : TextEnd). placeOf s E ≤ length s) (eqb (getD s p 0) (code "%")) _ _ (λ _. h) λ _. text-on s (Tk.pieceAt s p .piece) p (Tk.pieceAt s p .to) (textEnd f s) h (text-within s f (Tk.pieceAt s p .to))
+    when-has (λ (E : TextEnd). placeOf s E ≤ length s) (eqb (getD s p 0) (code "%")) _ _ (λ _. h) λ _. text-on s (Tk.pieceAt mixed s p .piece) p (Tk.pieceAt mixed s p .to) (textEnd mixed f s) h (text-within s f (Tk.pieceAt mixed s p .to))
 
 place-same : (s : List ℕ) (E : TextEnd) → endFor s (endingFor E) ≡ placeOf s E
 place-same s (percentAt p) = refl
@@ -159,18 +160,18 @@ low-end s atEnd h = tt
 low-end s (openAt q) h = tt
 
 -- the stretch up to there
-module _ (s : List ℕ) (at z : ℕ) (e : Ending) (y : Stretch) (short : length s < 65536) (l : at ≤ length s) (he : e ≡ endingFor (textEnd (suc (length s)) s at)) (hz : z ≡ endFor s e) (hy : y ≡ stretchAt at z) where
+module _ (s : List ℕ) (at z : ℕ) (e : Ending) (y : Stretch) (short : length s < 65536) (l : at ≤ length s) (he : e ≡ endingFor (textEnd mixed (suc (length s)) s at)) (hz : z ≡ endFor s e) (hy : y ≡ stretchAt at z) where
   text-from : y .from ≡ at
   text-from = ap (λ (w : Stretch). w .from) hy ∙ mod-eq-of-lt (omega arith)
 
-  text-end : z ≡ placeOf s (textEnd (suc (length s)) s at)
-  text-end = hz ∙ ap (endFor s) he ∙ place-same s (textEnd (suc (length s)) s at)
+  text-end : z ≡ placeOf s (textEnd mixed (suc (length s)) s at)
+  text-end = hz ∙ ap (endFor s) he ∙ place-same s (textEnd mixed (suc (length s)) s at)
 
   text-to : y .to ≡ endFor s e
   text-to = ap (λ (w : Stretch). w .to) hy ∙ mod-eq-of-lt (omega (arith, text-end, text-within s (suc (length s)) at, short)) ∙ hz
 
   text-low : LowEnd s e
-  text-low = subst (LowEnd s) (sym he) (low-end s (textEnd (suc (length s)) s at) (λ q g. percent-there (suc (length s)) s at q g .inside))
+  text-low = subst (LowEnd s) (sym he) (low-end s (textEnd mixed (suc (length s)) s at) (λ q g. percent-there (suc (length s)) s at q g .inside))
 
 -- what is open stays
 lead-kept : (w : D.Where) (k : ℕ) (l : P.Link) (bs : List (List ℕ)) (os : List D.Open) (a b : ℕ) (st : D.State) → D.leadIn (record { kind = w; row = k; last = l; labels = bs } ∷ os) a b st .opened ≡ st .opened
@@ -222,21 +223,21 @@ module _ (d s t u n : List ℕ) (x y : State) (he : y .entered ≡ x .entered) (
       }
 
 module _ (d s t n : List ℕ) (x : State) (m : Mode) (at : ℕ) (t′ n′ : List ℕ) (r : Turned) where
-  pub turn-leading : (e : Ending) (z : ℕ) (y : Stretch) (u : List ℕ) (led : State) → m ≡ Md.Leading → e ≡ endingFor (textEnd (suc (length s)) s at) → z ≡ endFor s e → y ≡ stretchAt at z → Leads t x y u led → Texts d s u n led e t′ n′ r
+  pub turn-leading : (e : Ending) (z : ℕ) (y : Stretch) (u : List ℕ) (led : State) → m ≡ Md.Leading → e ≡ endingFor (textEnd mixed (suc (length s)) s at) → z ≡ endFor s e → y ≡ stretchAt at z → Leads t x y u led → Texts d s u n led e t′ n′ r
       → Turns d s t n x m at t′ n′ r
   unfolding D.turn stateOf
   turn-leading e z y u led hm he hz hy a b = rw hm (record {
     so = λ h l k.
         let from : y .from ≡ at = text-from s at z e y (h .short) l he hz hy in
         let to : y .to ≡ endFor s e = text-to s at z e y (h .short) l he hz hy in
-        takes-from d s t u n x led (a .keeps .entered) (a .keeps .tally) (a .size) (a .rows) (a .opened) (a .marks) (D.turn s D.leadingText at (stateOf s t [] x)) t′ n′ r
+        takes-from d s t u n x led (a .keeps .entered) (a .keeps .tally) (a .size) (a .rows) (a .opened) (a .marks) (D.turn mixed s D.leadingText at (stateOf s t [] x)) t′ n′ r
         (b .so (sits-from d s t u n x led (a .keeps .entered) (a .keeps .tally) (a .size) (a .rows) (a .opened) (a .marks) (a .keeps .own) h)
-        (textEnd (suc (length s)) s at) (λ p. D.leadIn (openedOf s (x .opened)) at p (stateOf s t [] x)) he (text-low s at z e y (h .short) l he hz hy)
+        (textEnd mixed (suc (length s)) s at) (λ p. D.leadIn (openedOf s (x .opened)) at p (stateOf s t [] x)) he (text-low s at z e y (h .short) l he hz hy)
         (sym (a .is s [] (h .placed) (h .few) ∙ ap (λ (i : ℕ). D.leadIn (openedOf s (x .opened)) i (y .to) (stateOf s t [] x)) from ∙ ap (λ (i : ℕ). D.leadIn (openedOf s (x .opened)) at i (stateOf s t [] x)) to))
         (ap length (lead-opened (openedOf s (x .opened)) at 0 (stateOf s t [] x)) ∙ opened-length s (x .opened) ∙ sym (ap (λ (w : Opened). w .count) (a .opened))));
   })
 
-  pub turn-behind : (k : ℕ) (e : Ending) (z : ℕ) (y : Stretch) (u : List ℕ) → m ≡ Md.Behind k → e ≡ endingFor (textEnd (suc (length s)) s at) → z ≡ endFor s e → y ≡ stretchAt at z → u ≡ over t (16 * k + 12) (stretchNumbers y) → Texts d s u n x e t′ n′ r
+  pub turn-behind : (k : ℕ) (e : Ending) (z : ℕ) (y : Stretch) (u : List ℕ) → m ≡ Md.Behind k → e ≡ endingFor (textEnd mixed (suc (length s)) s at) → z ≡ endFor s e → y ≡ stretchAt at z → u ≡ over t (16 * k + 12) (stretchNumbers y) → Texts d s u n x e t′ n′ r
       → Turns d s t n x m at t′ n′ r
   unfolding D.turn stateOf
   turn-behind k e z y u hm he hz hy hu b = rw hm (record {
@@ -246,9 +247,9 @@ module _ (d s t n : List ℕ) (x : State) (m : Mode) (at : ℕ) (t′ n′ : Lis
         let size : length u ≡ length t = ap length hu ∙ length-over t (16 * k + 12) (stretchNumbers y) in
         let rows : rowsFrom s u 0 (x .rows) ≡ D.change k (D.setText (D.stretch (y .from) (y .to))) (rowsFrom s t 0 (x .rows)) = ap (λ (w : List ℕ). rowsFrom s w 0 (x .rows)) hu ∙ text-set t k s (x .rows) f (h .placed .room (x .rows) (h .placed .own) (h .few)) y in
         let same : (i : ℕ) → Alike (rowIn u i) (rowIn t i) = λ i. subst (λ (w : List ℕ). Alike (rowIn w i) (rowIn t i)) (sym hu) (alike-over t (stretchNumbers y) k 12 i (omega arith) (omega arith)) in
-        takes-from d s t u n x x refl refl size refl refl same (D.turn s (D.textBehind k) at (stateOf s t [] x)) t′ n′ r
+        takes-from d s t u n x x refl refl size refl refl same (D.turn mixed s (D.textBehind k) at (stateOf s t [] x)) t′ n′ r
         (b .so (sits-from d s t u n x x refl refl size refl refl same (λ w. w) h)
-        (textEnd (suc (length s)) s at) (λ p. D.withRows (D.change k (D.setText (D.stretch at p)) (rowsFrom s t 0 (x .rows))) (stateOf s t [] x)) he (text-low s at z e y (h .short) l he hz hy)
+        (textEnd mixed (suc (length s)) s at) (λ p. D.withRows (D.change k (D.setText (D.stretch at p)) (rowsFrom s t 0 (x .rows))) (stateOf s t [] x)) he (text-low s at z e y (h .short) l he hz hy)
         (sym (ap (λ (w : List P.Row). D.withRows w (stateOf s t [] x)) (rows ∙ ap (λ (i : ℕ). D.change k (D.setText (D.stretch i (y .to))) (rowsFrom s t 0 (x .rows))) from ∙ ap (λ (i : ℕ). D.change k (D.setText (D.stretch at i)) (rowsFrom s t 0 (x .rows))) to)))
         (opened-length s (x .opened)));
   })
@@ -269,28 +270,28 @@ pub no-body : (s : List ℕ) (k : Lexeme) (w : Where) (a : Bool) → a ≡ D.isI
 no-body s k w a ha na = rw (sym ha ∙ na)
 
 module _ (d s t n : List ℕ) (x : State) (at : ℕ) (k : Lexeme) (lex : Lexed s at k) (w : Where) (hw : TopKind (x .opened) w) (b : Bool) (hb : b ≡ (D.isInBody (whereOf w) && isSignIn s k (37 ∷ []))) where
-  in-body : (D.isInBody (D.kindOf (openedOf s (x .opened))) && Tk.isSign "%" (tokenAt s at .token)) ≡ b
+  in-body : (D.isInBody (D.kindOf (openedOf s (x .opened))) && Tk.isSign "%" (tokenAt mixed s at .token)) ≡ b
   in-body = sym (hb ∙ rw (hw .is s, is-sign s at k lex "%" (37 ∷ []) refl))
 
   pub inner-end : (n′ : List ℕ) (r : Turned) → b ≡ true → EndsBody d s n x (k .to) n′ r → Inners d s t n x at t n′ r
   unfolding D.innerAt stateOf
   inner-end n′ r y p = record {
     so = λ h l.
-        let e : D.isInBody (D.kindOf (openedOf s (x .opened))) ≡ true = and-left (D.isInBody (D.kindOf (openedOf s (x .opened)))) (Tk.isSign "%" (tokenAt s at .token)) (in-body ∙ y) in
-        rw (in-body ∙ y) (subst (λ (i : ℕ). Takes d s t n x (D.procedureEnd s (D.labels s i) (fromState s t x)) t n′ r) (lex .to) (p .so t h e));
+        let e : D.isInBody (D.kindOf (openedOf s (x .opened))) ≡ true = and-left (D.isInBody (D.kindOf (openedOf s (x .opened)))) (Tk.isSign "%" (tokenAt mixed s at .token)) (in-body ∙ y) in
+        rw (in-body ∙ y) (subst (λ (i : ℕ). Takes d s t n x (D.procedureEnd mixed s (D.labels mixed s i) (fromState s t x)) t n′ r) (lex .to) (p .so t h e));
   }
 
   module _ (no : b ≡ false) (c : Bool) (hc : c ≡ beginsIn s k) where
-    begun : D.begins (tokenAt s at .token) ≡ c
+    begun : D.begins (tokenAt mixed s at .token) ≡ c
     begun = sym (hc ∙ begins-is s at k lex)
 
     pub inner-clause : (t′ n′ : List ℕ) (r : Turned) → c ≡ true → Clauses d s t n x (k .from) at t′ n′ r → Inners d s t n x at t′ n′ r
     unfolding D.innerAt stateOf
     inner-clause t′ n′ r y q = record {
       so = λ h l.
-          let z : Lies s at (tokenAt s at) = tokenAt-lies s at l in
-          let low : k .from < length s = omega (arith, lex .from, z .some (begins-real (tokenAt s at .token) (begun ∙ y)), z .high) in
-          rw (in-body ∙ no, begun ∙ y) (subst (λ (i : ℕ). Takes d s t n x (D.clauseAt s i at (fromState s t x)) t′ n′ r) (lex .from) (q .so h low l (opens (lex .from) (begun ∙ y))));
+          let z : Lies s at (tokenAt mixed s at) = tokenAt-lies s at l in
+          let low : k .from < length s = omega (arith, lex .from, z .some (begins-real (tokenAt mixed s at .token) (begun ∙ y)), z .high) in
+          rw (in-body ∙ no, begun ∙ y) (subst (λ (i : ℕ). Takes d s t n x (D.clauseAt mixed s i at (fromState s t x)) t′ n′ r) (lex .from) (q .so h low l (opens (lex .from) (begun ∙ y))));
     }
 
     pub inner-wrong : (r : Turned) → c ≡ false → r ≡ turned x (Nx.Stop Syntax (k .from)) → Inners d s t n x at t n r
@@ -306,39 +307,39 @@ pub record Entering (s : List ℕ) (p q : ℕ) : Type 0 where
   pub within : q ≤ length s
   pub starts : Starts s p q
 
-enters-low : (s : List ℕ) (at q : ℕ) → at ≤ length s → Enters s at q → Entering s (tokenAt s at .from) q
+enters-low : (s : List ℕ) (at q : ℕ) → at ≤ length s → Enters s at q → Entering s (tokenAt mixed s at .from) q
 enters-low s at q l (first e f) =
-    let z : Lies s at (tokenAt s at) = tokenAt-lies s at l in
+    let z : Lies s at (tokenAt mixed s at) = tokenAt-lies s at l in
     record {
-      low = omega (arith, z .some (begins-real (tokenAt s at .token) f), z .high);
+      low = omega (arith, z .some (begins-real (tokenAt mixed s at .token) f), z .high);
       within = omega (arith, e, l);
-      starts = opens (ap (λ (i : ℕ). tokenAt s i .from) (sym e)) (ap (λ (i : ℕ). D.begins (tokenAt s i .token)) e ∙ f);
+      starts = opens (ap (λ (i : ℕ). tokenAt mixed s i .from) (sym e)) (ap (λ (i : ℕ). D.begins (tokenAt mixed s i .token)) e ∙ f);
     }
 enters-low s at q l (enters-behind e f) =
-    let z : Lies s at (tokenAt s at) = tokenAt-lies s at l in
-    let some : tokenAt s at .from < tokenAt s at .to = z .some (sign-real "%" (tokenAt s at .token) f) in
+    let z : Lies s at (tokenAt mixed s at) = tokenAt-lies s at l in
+    let some : tokenAt mixed s at .from < tokenAt mixed s at .to = z .some (sign-real "%" (tokenAt mixed s at .token) f) in
     record { low = omega (arith, some, z .high); within = omega (arith, e, z .high); starts = behind (omega (arith, some, e)) }
 
 module _ (d s t n : List ℕ) (x : State) (at : ℕ) (k : Lexeme) (lex : Lexed s at k) (m : Mark) (hm : AlternativeFrom s (x .scope) k at m) where
   pub alternative-wrong : (r : Turned) → m ≡ Unmarked → r ≡ turned x (Nx.Stop Syntax (k .from)) → Alternatives d s t n x at t n r
   alternative-wrong r y hr = rw hr (record {
     so = λ h l.
-        subst (λ (X : D.Turn). Takes d s t n x X t n (turned x (Nx.Stop Syntax (k .from)))) (sym (hm .is lex (fromState s t x) ∙ ap (λ (w : Mark). alternativeTurn w s (tokenAt s at) (fromState s t x)) y))
+        subst (λ (X : D.Turn). Takes d s t n x X t n (turned x (Nx.Stop Syntax (k .from)))) (sym (hm .is lex (fromState s t x) ∙ ap (λ (w : Mark). alternativeTurn w s (tokenAt mixed s at) (fromState s t x)) y))
         (subst (λ (i : ℕ). Takes d s t n x (D.stop Syntax i [] (fromState s t x)) t n (turned x (Nx.Stop Syntax (k .from)))) (lex .from) (stay-stop d s t n x h Syntax (k .from) [] (stay-early d s t n x h Syntax (k .from))));
   })
 
   module _ (q g : ℕ) (y : m ≡ Marked q) (hg : Deep (x .opened) g) where
-    deep-is : D.alternativeAt (scopeOf (x .scope)) s at (tokenAt s at) (fromState s t x) ≡ when (leb g 16) (λ _. D.clauseAt s (tokenAt s at .from) q (fromState s t x)) (λ _. D.stop OverLimit (tokenAt s at .from) (tokenAt s at .from ∷ []) (fromState s t x))
+    deep-is : D.alternativeAt mixed (scopeOf (x .scope)) s at (tokenAt mixed s at) (fromState s t x) ≡ when (leb g 16) (λ _. D.clauseAt mixed s (tokenAt mixed s at .from) q (fromState s t x)) (λ _. D.stop OverLimit (tokenAt mixed s at .from) (tokenAt mixed s at .from ∷ []) (fromState s t x))
     unfolding D.deepEnough stateOf
-    deep-is = hm .is lex (fromState s t x) ∙ ap (λ (w : Mark). alternativeTurn w s (tokenAt s at) (fromState s t x)) y ∙ rw (hg .is s)
+    deep-is = hm .is lex (fromState s t x) ∙ ap (λ (w : Mark). alternativeTurn w s (tokenAt mixed s at) (fromState s t x)) y ∙ rw (hg .is s)
 
     pub alternative-clause : (t′ n′ : List ℕ) (r : Turned) → g ≤ 16 → Clauses d s t n x (k .from) q t′ n′ r → Alternatives d s t n x at t′ n′ r
     alternative-clause t′ n′ r l c = record {
       so = λ h w.
-          let e : Entering s (tokenAt s at .from) q = enters-low s at q w (hm .enters lex q y) in
+          let e : Entering s (tokenAt mixed s at .from) q = enters-low s at q w (hm .enters lex q y) in
           let f : Entering s (k .from) q = subst (λ (i : ℕ). Entering s i q) (sym (lex .from)) e in
           subst (λ (X : D.Turn). Takes d s t n x X t′ n′ r) (sym (deep-is ∙ rw (le-leb g 16 l)))
-          (subst (λ (i : ℕ). Takes d s t n x (D.clauseAt s i q (fromState s t x)) t′ n′ r) (lex .from) (c .so h (f .low) (f .within) (f .starts)));
+          (subst (λ (i : ℕ). Takes d s t n x (D.clauseAt mixed s i q (fromState s t x)) t′ n′ r) (lex .from) (c .so h (f .low) (f .within) (f .starts)));
     }
 
     pub alternative-deep : (r : Turned) → 16 < g → r ≡ turned x (Nx.Stop OverLimit (k .from)) → Alternatives d s t n x at t n r

@@ -8,6 +8,7 @@ use Prim.Native.Nat.{ℕ, _-_, _<_, _≤_}
 use native.Mathlib.Omega.{arith}
 use lib.ListN.{length}
 use borrow.Author.Tests.{le-leb, lt-ltb, le-ltb}
+use Rattle.definition.specs.Bytes.{mixed}
 use Rattle.definition.specs.Choice.{when}
 use Rattle.definition.specs.Tokens as Tk
 use Rattle.definition.specs.Tokens.{tokenAt}
@@ -70,18 +71,18 @@ add-declared (o ∷ os) y p st = by (o .kind)
     by D.inThen = refl
     by D.inElse = refl
 
-opened-onward : (o : St.Opens) (s : List ℕ) (n : ℕ) (ns : List Named) (e : ℕ) (st : D.State) → Onward (st .declared) (D.opened o s n ns e st)
+opened-onward : (o : St.Opens) (s : List ℕ) (n : ℕ) (ns : List Named) (e : ℕ) (st : D.State) → Onward (st .declared) (D.opened mixed o s n ns e st)
 opened-onward St.opensNothing s n ns e st = complete-onward s e (st .opened) n st
 opened-onward St.opensGroup s n ns e st = refl
 opened-onward St.opensBody s n ns e st = refl
 opened-onward St.opensThen s n ns e st = refl
 
-taken-onward : (s : List ℕ) (p : ℕ) (ns : List Named) (st : D.State) (c : St.Clause) (es : List P.Declared) → Onward (st .declared ++ (St.means (st .scope) (D.labelMeaning (c .opens) (length (st .rows))) ns ++ es)) (D.taken s p ns st c es)
+taken-onward : (s : List ℕ) (p : ℕ) (ns : List Named) (st : D.State) (c : St.Clause) (es : List P.Declared) → Onward (st .declared ++ (St.means (st .scope) (D.labelMeaning (c .opens) (length (st .rows))) ns ++ es)) (D.taken mixed s p ns st c es)
 unfolding D.taken D.addRow
 taken-onward s p ns st c es =
     let ms : List P.Declared = St.means (st .scope) (D.labelMeaning (c .opens) (length (st .rows))) ns ++ es in
     let y : D.State = D.withNames ms (D.addTo (st .opened) (c .statement) p st) in
-    subst (λ (z : List P.Declared). Onward (z ++ ms) (D.opened (c .opens) s (length (st .rows)) ns (c .to) y)) (add-declared (st .opened) (c .statement) p st) (opened-onward (c .opens) s (length (st .rows)) ns (c .to) y)
+    subst (λ (z : List P.Declared). Onward (z ++ ms) (D.opened mixed (c .opens) s (length (st .rows)) ns (c .to) y)) (add-declared (st .opened) (c .statement) p st) (opened-onward (c .opens) s (length (st .rows)) ns (c .to) y)
 
 comes-onward : (d s n : List ℕ) (x : State) (ds wrong es : List P.Declared) (t′ n′ : List ℕ) (r : Turned) (X : D.Turn) → Onward ds X → turnOf s t′ ds r ≡ X
     → Entered d n (x .tally) (bookWhole (x .tally .member) [] es) n′ (r .state .tally) → Comes d s n x ds wrong es X t′ n′ r
@@ -101,16 +102,16 @@ module _ (d s t n : List ℕ) (x : State) (l : Lexeme) (from p labels : ℕ) (ns
   kept : Own (x .tally .member) (r .state .scope)
   kept = subst (λ (m : ℕ). Own m (r .state .scope)) mine (h .keeps .own (subst (λ (m : ℕ). Own m (x .scope)) (sym mine) (i .sits .ready .own)))
 
-  pub clausal : (Q : St.Declaring) → Stood s y (clauseIn Q) → DeclaresSo k o Q → NamesOf d n x n′ z Q → Clausal d s t n x (D.labelMeaning o (x .rows)) ns (D.takeDeclared s p ns (fromState s t x) Q) t′ n′ r
+  pub clausal : (Q : St.Declaring) → Stood s y (clauseIn Q) → DeclaresSo k o Q → NamesOf d n x n′ z Q → Clausal d s t n x (D.labelMeaning o (x .rows)) ns (D.takeDeclared mixed s p ns (fromState s t x) Q) t′ n′ r
   unfolding stateOf
   clausal (St.declared c es) g so e =
       let ds : List P.Declared = St.means (scopeOf (x .scope)) (D.labelMeaning (c .opens) (x .rows)) ns ++ es in
-      let on : Onward ds (D.taken s p ns (fromState s t x) c es) = subst (λ (k : ℕ). Onward (St.means (scopeOf (x .scope)) (D.labelMeaning (c .opens) k) ns ++ es) (D.taken s p ns (fromState s t x) c es)) (rows-length s t 0 (x .rows)) (taken-onward s p ns (fromState s t x) c es) in
+      let on : Onward ds (D.taken mixed s p ns (fromState s t x) c es) = subst (λ (k : ℕ). Onward (St.means (scopeOf (x .scope)) (D.labelMeaning (c .opens) k) ns ++ es) (D.taken mixed s p ns (fromState s t x) c es)) (rows-length s t 0 (x .rows)) (taken-onward s p ns (fromState s t x) c es) in
       let tk : Taken s t (withTally x z) p t′ r ns [] es (read c) = h .is (read c) ns [] es g placed (i .room) (omega (arith, i .sits .placed .deep)) (i .place) (i .labelled) in
       record {
         names = es;
-        comes = subst (λ (a : St.Opens). Comes d s n x (St.means (scopeOf (x .scope)) (D.labelMeaning a (x .rows)) ns ++ es) (St.means (scopeOf (x .scope)) (P.label 0) ns ++ es) es (D.taken s p ns (fromState s t x) c es) t′ n′ r) (so .opens)
-            (comes-onward d s n x ds (St.means (scopeOf (x .scope)) (P.label 0) ns ++ es) es t′ n′ r (D.taken s p ns (fromState s t x) c es) on tk (subst (λ (u : Tally). Entered d n (x .tally) (bookWhole (x .tally .member) [] es) n′ u) (sym (h .keeps .tally)) e));
+        comes = subst (λ (a : St.Opens). Comes d s n x (St.means (scopeOf (x .scope)) (D.labelMeaning a (x .rows)) ns ++ es) (St.means (scopeOf (x .scope)) (P.label 0) ns ++ es) es (D.taken mixed s p ns (fromState s t x) c es) t′ n′ r) (so .opens)
+            (comes-onward d s n x ds (St.means (scopeOf (x .scope)) (P.label 0) ns ++ es) es t′ n′ r (D.taken mixed s p ns (fromState s t x) c es) on tk (subst (λ (u : Tally). Entered d n (x .tally) (bookWhole (x .tally .member) [] es) n′ u) (sym (h .keeps .tally)) e));
         before = h .keeps .entered;
         few = h .rows (i .room);
         own = kept;
@@ -137,7 +138,7 @@ module _ (d s t n : List ℕ) (x : State) (l : Lexeme) (from p labels : ℕ) (ns
 
 -- without names
 module _ (d s t n : List ℕ) (x : State) (l : Lexeme) (from p labels : ℕ) (ns : List Named) (i : Begun d s t n x l from p labels ns) (k : Statement) (o : St.Opens) (t′ : List ℕ) (r : Turned) (y : Read) (h : TakesAs s t x y p labels t′ r) where
-  pub clausal-read : (R : Reading St.Clause) → Stood s y R → OpensSo k o R → Clausal d s t n x (D.labelMeaning o (x .rows)) ns (D.takeRead s p ns (fromState s t x) R) t′ n r
+  pub clausal-read : (R : Reading St.Clause) → Stood s y R → OpensSo k o R → Clausal d s t n x (D.labelMeaning o (x .rows)) ns (D.takeRead mixed s p ns (fromState s t x) R) t′ n r
   unfolding bookAll bookWhole
   clausal-read (read c) g so = clausal d s t n x l from p labels ns i k o t′ n r (x .tally) y h refl (St.declared c []) g so (record { book = refl; roomy = i .sits .ready .roomy; member = refl; base = refl })
   clausal-read (refused w q) g so = clausal d s t n x l from p labels ns i k o t′ n r (x .tally) y h refl (St.undeclared w q []) g tt (refl, refl)
@@ -158,9 +159,9 @@ real-name Tk.nothing e = absurd (false≢true e)
 real-name Tk.wrong e = absurd (false≢true e)
 
 -- a word ends inside
-word-end : (d s t n : List ℕ) (x : State) (l : Lexeme) (from p labels : ℕ) (ns : List Named) → Begun d s t n x l from p labels ns → isWordKind (l .kind) ≡ true → tokenAt s from .to < 65536
+word-end : (d s t n : List ℕ) (x : State) (l : Lexeme) (from p labels : ℕ) (ns : List Named) → Begun d s t n x l from p labels ns → isWordKind (l .kind) ≡ true → tokenAt mixed s from .to < 65536
 word-end d s t n x l from p labels ns i e =
-    let b : (tokenAt s from .from < tokenAt s from .to) × (tokenAt s from .to ≤ length s) = token-on s from .some (real-name (tokenAt s from .token) (sym (name-kind (tokenAt s from .token)) ∙ ap isWordKind (sym (i .lexed .kind)) ∙ e)) in
+    let b : (tokenAt mixed s from .from < tokenAt mixed s from .to) × (tokenAt mixed s from .to ≤ length s) = token-on s from .some (real-name (tokenAt mixed s from .token) (sym (name-kind (tokenAt mixed s from .token)) ∙ ap isWordKind (sym (i .lexed .kind)) ∙ e)) in
     omega (arith, b .1, i .sits .short)
 
 -- ---- GO TO, DO and assignments
@@ -173,43 +174,43 @@ word-real W (Tk.sign x) e = tt
 word-real W Tk.nothing e = absurd (false≢true e)
 word-real W Tk.wrong e = absurd (false≢true e)
 
-go-end : (s : List ℕ) (at : ℕ) (z : St.Clause) → goClause s at ≡ read z → tokenAt s at .to ≤ length s
+go-end : (s : List ℕ) (at : ℕ) (z : St.Clause) → goClause s at ≡ read z → tokenAt mixed s at .to ≤ length s
 unfolding goClause expectWord
-go-end s at z h = token-on s at .some (word-real "TO" (tokenAt s at .token) (there (Tk.isWord "TO" (tokenAt s at .token)) (tokenAt s at .to) (tokenAt s at .from) h)) .1
+go-end s at z h = token-on s at .some (word-real "TO" (tokenAt mixed s at .token) (there (Tk.isWord "TO" (tokenAt mixed s at .token)) (tokenAt mixed s at .to) (tokenAt mixed s at .from) h)) .1
   where
-    there : (g : Bool) (to fr : ℕ) → then (cond g (read to) (refused Syntax fr)) (St.gotoClause s) ≡ read z → g ≡ true
+    there : (g : Bool) (to fr : ℕ) → then (cond g (read to) (refused Syntax fr)) (St.gotoClause mixed s) ≡ read z → g ≡ true
     there true to fr e = refl
     there false to fr e = let q : _≡_ {A = ℕ} 0 1 = cc in absurd (omega arith)
 
-do-there : (s : List ℕ) (from to : ℕ) (st : D.State) (m : ℕ) → m ≡ D.depth (st .opened) → m < 16 → D.doAt s from to st ≡ St.doClause s to
+do-there : (s : List ℕ) (from to : ℕ) (st : D.State) (m : ℕ) → m ≡ D.depth (st .opened) → m < 16 → D.doAt mixed s from to st ≡ St.doClause mixed s to
 unfolding D.doAt
 do-there s from to st m e h = rw (← e, lt-ltb m 16 h)
 
-do-deep : (s : List ℕ) (from to : ℕ) (st : D.State) (m : ℕ) → m ≡ D.depth (st .opened) → 16 ≤ m → D.doAt s from to st ≡ refused OverLimit from
+do-deep : (s : List ℕ) (from to : ℕ) (st : D.State) (m : ℕ) → m ≡ D.depth (st .opened) → 16 ≤ m → D.doAt mixed s from to st ≡ refused OverLimit from
 unfolding D.doAt
 do-deep s from to st m e h = rw (← e, le-ltb m 16 h)
 
 -- the target is no part of what is kept
-assign-stood : (s w : List ℕ) (at c : ℕ) → c < 65536 → ((z : St.Clause) → St.assignment s w at ≡ read z → statementAt s S.Assign c ≡ z .statement) → Stood s (readFor S.Assign c FixedType (St.assignment s [] at)) (St.assignment s w at)
+assign-stood : (s w : List ℕ) (at c : ℕ) → c < 65536 → ((z : St.Clause) → St.assignment mixed s w at ≡ read z → statementAt s S.Assign c ≡ z .statement) → Stood s (readFor S.Assign c FixedType (St.assignment mixed s [] at)) (St.assignment mixed s w at)
 unfolding St.assignment St.ended readFor
-assign-stood s w at c lc f = by-tree (wholeExpression s at) f
+assign-stood s w at c lc f = by-tree (wholeExpression mixed s at) f
   where
     by-sign : (T : Tree) (Q : Reading ℕ) → ((z : St.Clause) → then Q (λ e. read (St.clause (P.assign w T) St.opensNothing e)) ≡ read z → statementAt s S.Assign c ≡ z .statement) → Stood s (readFor S.Assign c FixedType (then Q (λ e. read (St.clause (P.assign [] T) St.opensNothing e)))) (then Q (λ e. read (St.clause (P.assign w T) St.opensNothing e)))
     by-sign T (read e) g = record { statement = g (St.clause (P.assign w T) St.opensNothing e) refl; content = lc; opens = refl; to = refl; kind = refl; type = refl }
     by-sign T (refused v q) g = (refl, refl)
 
-    by-tree : (R : Reading Parsed) → ((z : St.Clause) → then R (λ r. then (expectSign ";" s (r .to)) (λ e. read (St.clause (P.assign w (r .tree)) St.opensNothing e))) ≡ read z → statementAt s S.Assign c ≡ z .statement)
-        → Stood s (readFor S.Assign c FixedType (then R (λ r. then (expectSign ";" s (r .to)) (λ e. read (St.clause (P.assign [] (r .tree)) St.opensNothing e))))) (then R (λ r. then (expectSign ";" s (r .to)) (λ e. read (St.clause (P.assign w (r .tree)) St.opensNothing e))))
-    by-tree (read r) g = by-sign (r .tree) (expectSign ";" s (r .to)) g
+    by-tree : (R : Reading Parsed) → ((z : St.Clause) → then R (λ r. then (expectSign mixed ";" s (r .to)) (λ e. read (St.clause (P.assign w (r .tree)) St.opensNothing e))) ≡ read z → statementAt s S.Assign c ≡ z .statement)
+        → Stood s (readFor S.Assign c FixedType (then R (λ r. then (expectSign mixed ";" s (r .to)) (λ e. read (St.clause (P.assign [] (r .tree)) St.opensNothing e))))) (then R (λ r. then (expectSign mixed ";" s (r .to)) (λ e. read (St.clause (P.assign w (r .tree)) St.opensNothing e))))
+    by-tree (read r) g = by-sign (r .tree) (expectSign mixed ";" s (r .to)) g
     by-tree (refused v q) g = (refl, refl)
 
-other-stood : (s : List ℕ) (c : ℕ) (w : List ℕ) (u : Tk.Lexeme) (g : Bool) → c < 65536 → ((z : St.Clause) → g ≡ true → St.assignment s w (u .to) ≡ read z → statementAt s S.Assign c ≡ z .statement)
-    → Stood s (readFor S.Assign c FixedType (when g (λ _. St.assignment s [] (u .to)) (λ _. refused Syntax (u .from)))) (when g (λ _. St.assignment s w (u .to)) (λ _. refused Syntax (u .from)))
+other-stood : (s : List ℕ) (c : ℕ) (w : List ℕ) (u : Tk.Lexeme) (g : Bool) → c < 65536 → ((z : St.Clause) → g ≡ true → St.assignment mixed s w (u .to) ≡ read z → statementAt s S.Assign c ≡ z .statement)
+    → Stood s (readFor S.Assign c FixedType (when g (λ _. St.assignment mixed s [] (u .to)) (λ _. refused Syntax (u .from)))) (when g (λ _. St.assignment mixed s w (u .to)) (λ _. refused Syntax (u .from)))
 unfolding readFor
 other-stood s c w u true lc f = assign-stood s w (u .to) c lc (λ z h. f z refl h)
 other-stood s c w u false lc f = (refl, refl)
 
-equals-there : (s : List ℕ) (at : ℕ) → Tk.isSign "=" (tokenAt s at .token) ≡ true → expectSign "=" s at ≡ read (tokenAt s at .to)
+equals-there : (s : List ℕ) (at : ℕ) → Tk.isSign "=" (tokenAt mixed s at .token) ≡ true → expectSign mixed "=" s at ≡ read (tokenAt mixed s at .to)
 unfolding expectSign
 equals-there s at e = rw e
 
@@ -222,48 +223,48 @@ word-kind Kd.Sign x y e = absurd (false≢true e)
 word-kind Kd.Nothing x y e = absurd (false≢true e)
 word-kind Kd.Wrong x y e = absurd (false≢true e)
 
-named-word : (s : List ℕ) (at : ℕ) (l : Lexeme) → Lexed s at l → isWordKind (l .kind) ≡ true → l .to - l .from ≤ 31 → nameAt s at ≡ read (record { spelling = spelling s l; place = tokenAt s at .from; to = tokenAt s at .to })
+named-word : (s : List ℕ) (at : ℕ) (l : Lexeme) → Lexed s at l → isWordKind (l .kind) ≡ true → l .to - l .from ≤ 31 → nameAt mixed s at ≡ read (record { spelling = spelling s l; place = tokenAt mixed s at .from; to = tokenAt mixed s at .to })
 unfolding nameAt spelling
 named-word s at l lex w h =
-    ap (λ (u : Tk.Token). nameOf u (tokenAt s at .from) (tokenAt s at .to)) (token-is s at l lex ∙ word-kind (l .kind) (spelling s l) (content s (l .from)) w)
-    ∙ ap (λ (b : Bool). cond b (read (record { spelling = spelling s l; place = tokenAt s at .from; to = tokenAt s at .to })) (refused OverLimit (tokenAt s at .from))) (le-leb (length (spelling s l)) 31 (omega (arith, length-part (l .to - l .from) (l .from) s, h)))
+    ap (λ (u : Tk.Token). nameOf u (tokenAt mixed s at .from) (tokenAt mixed s at .to)) (token-is s at l lex ∙ word-kind (l .kind) (spelling s l) (content s (l .from)) w)
+    ∙ ap (λ (b : Bool). cond b (read (record { spelling = spelling s l; place = tokenAt mixed s at .from; to = tokenAt mixed s at .to })) (refused OverLimit (tokenAt mixed s at .from))) (le-leb (length (spelling s l)) 31 (omega (arith, length-part (l .to - l .from) (l .from) s, h)))
 
 -- ---- one law for each keyword
 module _ (d s t n : List ℕ) (x : State) (k : Keyword) (l : Lexeme) (from p labels : ℕ) (t′ : List ℕ) (r : Turned) (y : Read) (h : TakesAs s t x y p labels t′ r) where
   -- the clause R of the definition is what y reads again
   by : (q : Keyword) → k ≡ q → (kind : Statement) (R : Reading St.Clause) → OpensSo kind (opensBy q) R → ((ns : List Named) → Begun d s t n x l from p labels ns → isWordKind (l .kind) ≡ true → l .to - l .from ≤ 31 → Stood s y R)
-      → ((ns : List Named) → byKeyword q s p ns (spelling s l) (tokenAt s from) (tokenAt s (tokenAt s from .to)) (fromState s t x) ≡ D.takeRead s p ns (fromState s t x) R) → ByWord d s t n x k l from p labels t′ n r
+      → ((ns : List Named) → byKeyword q s p ns (spelling s l) (tokenAt mixed s from) (tokenAt mixed s (tokenAt mixed s from .to)) (fromState s t x) ≡ D.takeRead mixed s p ns (fromState s t x) R) → ByWord d s t n x k l from p labels t′ n r
   by q e kind R so st f = rw e (record {
     so = λ ns i w c. subst (λ (X : D.Turn). Clausal d s t n x (D.labelMeaning (opensBy q) (x .rows)) ns X t′ n r) (sym (f ns)) (clausal-read d s t n x l from p labels ns i kind (opensBy q) t′ r y h R (st ns i w c) so);
   })
 
   -- behind the word
-  at-word : (F : ℕ → Read) → y ≡ F (l .to) → Lexed s from l → y ≡ F (tokenAt s from .to)
+  at-word : (F : ℕ → Read) → y ≡ F (l .to) → Lexed s from l → y ≡ F (tokenAt mixed s from .to)
   at-word F e lex = e ∙ ap F (lex .to)
 
   plain : (o : St.Opens) → NoBody o → (kind : Statement) (R : ℕ → Reading St.Clause) → ((c : ℕ) → OpensSo kind o (R c)) → (F : ℕ → Read) → ((c : ℕ) → F c ≡ readFor kind c FixedType (R c)) → ((c : ℕ) (z : St.Clause) → R c ≡ read z → statementAt s kind c ≡ z .statement) → y ≡ F (l .to)
-      → (ns : List Named) → Begun d s t n x l from p labels ns → isWordKind (l .kind) ≡ true → l .to - l .from ≤ 31 → Stood s y (R (tokenAt s from .to))
-  plain o nb kind R so F g a e ns i w c = subst (λ (u : Read). Stood s u (R (tokenAt s from .to))) (sym (at-word F e (i .lexed) ∙ g (tokenAt s from .to))) (stood-for s kind o nb (tokenAt s from .to) (R (tokenAt s from .to)) (so (tokenAt s from .to)) (λ z q. word-end d s t n x l from p labels ns i w) (a (tokenAt s from .to)))
+      → (ns : List Named) → Begun d s t n x l from p labels ns → isWordKind (l .kind) ≡ true → l .to - l .from ≤ 31 → Stood s y (R (tokenAt mixed s from .to))
+  plain o nb kind R so F g a e ns i w c = subst (λ (u : Read). Stood s u (R (tokenAt mixed s from .to))) (sym (at-word F e (i .lexed) ∙ g (tokenAt mixed s from .to))) (stood-for s kind o nb (tokenAt mixed s from .to) (R (tokenAt mixed s from .to)) (so (tokenAt mixed s from .to)) (λ z q. word-end d s t n x l from p labels ns i w) (a (tokenAt mixed s from .to)))
 
   pub word-goto : (b : Bool) → k ≡ K.Goto → y ≡ plainFor k b s (l .from) (l .to) → ByWord d s t n x k l from p labels t′ n r
   unfolding plainFor
-  word-goto b e f = by K.Goto e S.Goto (St.gotoClause s (tokenAt s from .to)) (goto-so s (tokenAt s from .to)) (plain St.opensNothing tt S.Goto (St.gotoClause s) (goto-so s) (λ c. plainFor K.Goto b s (l .from) c) (λ c. refl) (λ c z. again-goto s c z) (rw e at f)) (λ ns. refl)
+  word-goto b e f = by K.Goto e S.Goto (St.gotoClause mixed s (tokenAt mixed s from .to)) (goto-so s (tokenAt mixed s from .to)) (plain St.opensNothing tt S.Goto (St.gotoClause mixed s) (goto-so s) (λ c. plainFor K.Goto b s (l .from) c) (λ c. refl) (λ c z. again-goto s c z) (rw e at f)) (λ ns. refl)
 
   pub word-include : (b : Bool) → k ≡ K.Include → y ≡ plainFor k b s (l .from) (l .to) → ByWord d s t n x k l from p labels t′ n r
   unfolding plainFor
-  word-include b e f = by K.Include e S.Include (St.includeClause s (tokenAt s from .to)) (include-so s (tokenAt s from .to)) (plain St.opensNothing tt S.Include (St.includeClause s) (include-so s) (λ c. plainFor K.Include b s (l .from) c) (λ c. refl) (λ c z. again-include s c z) (rw e at f)) (λ ns. refl)
+  word-include b e f = by K.Include e S.Include (St.includeClause mixed s (tokenAt mixed s from .to)) (include-so s (tokenAt mixed s from .to)) (plain St.opensNothing tt S.Include (St.includeClause mixed s) (include-so s) (λ c. plainFor K.Include b s (l .from) c) (λ c. refl) (λ c z. again-include s c z) (rw e at f)) (λ ns. refl)
 
   pub word-activate : (b : Bool) → k ≡ K.Activate → y ≡ plainFor k b s (l .from) (l .to) → ByWord d s t n x k l from p labels t′ n r
   unfolding plainFor
-  word-activate b e f = by K.Activate e S.Activate (St.activateClause s (tokenAt s from .to)) (activate-so s (tokenAt s from .to)) (plain St.opensNothing tt S.Activate (St.activateClause s) (activate-so s) (λ c. plainFor K.Activate b s (l .from) c) (λ c. refl) (λ c z. again-activate s c z) (rw e at f)) (λ ns. refl)
+  word-activate b e f = by K.Activate e S.Activate (St.activateClause mixed s (tokenAt mixed s from .to)) (activate-so s (tokenAt mixed s from .to)) (plain St.opensNothing tt S.Activate (St.activateClause mixed s) (activate-so s) (λ c. plainFor K.Activate b s (l .from) c) (λ c. refl) (λ c z. again-activate s c z) (rw e at f)) (λ ns. refl)
 
   pub word-deactivate : (b : Bool) → k ≡ K.Deactivate → y ≡ plainFor k b s (l .from) (l .to) → ByWord d s t n x k l from p labels t′ n r
   unfolding plainFor
-  word-deactivate b e f = by K.Deactivate e S.Deactivate (St.deactivateClause s (tokenAt s from .to)) (deactivate-so s (tokenAt s from .to)) (plain St.opensNothing tt S.Deactivate (St.deactivateClause s) (deactivate-so s) (λ c. plainFor K.Deactivate b s (l .from) c) (λ c. refl) (λ c z. again-deactivate s c z) (rw e at f)) (λ ns. refl)
+  word-deactivate b e f = by K.Deactivate e S.Deactivate (St.deactivateClause mixed s (tokenAt mixed s from .to)) (deactivate-so s (tokenAt mixed s from .to)) (plain St.opensNothing tt S.Deactivate (St.deactivateClause mixed s) (deactivate-so s) (λ c. plainFor K.Deactivate b s (l .from) c) (λ c. refl) (λ c z. again-deactivate s c z) (rw e at f)) (λ ns. refl)
 
   pub word-return : (b : Bool) → k ≡ K.Return → y ≡ plainFor k b s (l .from) (l .to) → ByWord d s t n x k l from p labels t′ n r
   unfolding plainFor
-  word-return b e f = by K.Return e S.Return (St.returnClause s (tokenAt s from .to)) (return-so s (tokenAt s from .to)) (plain St.opensNothing tt S.Return (St.returnClause s) (return-so s) (λ c. plainFor K.Return b s (l .from) c) (λ c. refl) (λ c z. again-return s c z) (rw e at f)) (λ ns. refl)
+  word-return b e f = by K.Return e S.Return (St.returnClause mixed s (tokenAt mixed s from .to)) (return-so s (tokenAt mixed s from .to)) (plain St.opensNothing tt S.Return (St.returnClause mixed s) (return-so s) (λ c. plainFor K.Return b s (l .from) c) (λ c. refl) (λ c z. again-return s c z) (rw e at f)) (λ ns. refl)
 
   stands : (o : St.Opens) → NoBody o → (kind : Statement) (c : ℕ) (R : Reading St.Clause) → OpensSo kind o R → y ≡ readFor kind c FixedType R → ((z : St.Clause) → R ≡ read z → c < 65536) → ((z : St.Clause) → R ≡ read z → statementAt s kind c ≡ z .statement) → Stood s y R
   stands o nb kind c R so e lc a = subst (λ (u : Read). Stood s u R) (sym e) (stood-for s kind o nb c R so lc a)
@@ -271,42 +272,42 @@ module _ (d s t n : List ℕ) (x : State) (k : Keyword) (l : Lexeme) (from p lab
   pub word-if : (b : Bool) → k ≡ K.If → b ≡ isInside (x .scope) → y ≡ plainFor k b s (l .from) (l .to) → ByWord d s t n x k l from p labels t′ n r
   unfolding plainFor stateOf
   word-if b e hb f =
-      by K.If e S.Conditional (St.ifClause (D.isInside (scopeOf (x .scope))) s (tokenAt s from .to)) (if-so (D.isInside (scopeOf (x .scope))) s (tokenAt s from .to))
-      (plain St.opensThen tt S.Conditional (St.ifClause (D.isInside (scopeOf (x .scope))) s) (if-so (D.isInside (scopeOf (x .scope))) s) (λ c. plainFor K.If b s (l .from) c) (λ c. ap (λ (u : Bool). readFor S.Conditional c FixedType (St.ifClause u s c)) (hb ∙ sym (inside-is (x .scope))))
+      by K.If e S.Conditional (St.ifClause mixed (D.isInside (scopeOf (x .scope))) s (tokenAt mixed s from .to)) (if-so (D.isInside (scopeOf (x .scope))) s (tokenAt mixed s from .to))
+      (plain St.opensThen tt S.Conditional (St.ifClause mixed (D.isInside (scopeOf (x .scope))) s) (if-so (D.isInside (scopeOf (x .scope))) s) (λ c. plainFor K.If b s (l .from) c) (λ c. ap (λ (u : Bool). readFor S.Conditional c FixedType (St.ifClause mixed u s c)) (hb ∙ sym (inside-is (x .scope))))
       (λ c z. again-if s c z (D.isInside (scopeOf (x .scope)))) (rw e at f)) (λ ns. refl)
 
   pub word-go : (b : Bool) → k ≡ K.Go → y ≡ plainFor k b s (l .from) (l .to) → ByWord d s t n x k l from p labels t′ n r
   unfolding plainFor
   word-go b e f =
-      by K.Go e S.Goto (goClause s (tokenAt s from .to)) (go-so s (tokenAt s from .to))
-      (λ ns i w c. stands St.opensNothing tt S.Goto (tokenAt s (tokenAt s from .to) .to) (goClause s (tokenAt s from .to)) (go-so s (tokenAt s from .to)) (at-word (λ q. plainFor K.Go b s (l .from) q) (rw e at f) (i .lexed))
-      (λ z h. let q : tokenAt s (tokenAt s from .to) .to ≤ length s = go-end s (tokenAt s from .to) z h in omega (arith, q, i .sits .short)) (λ z. again-go s (tokenAt s from .to) z)) (λ ns. refl)
+      by K.Go e S.Goto (goClause s (tokenAt mixed s from .to)) (go-so s (tokenAt mixed s from .to))
+      (λ ns i w c. stands St.opensNothing tt S.Goto (tokenAt mixed s (tokenAt mixed s from .to) .to) (goClause s (tokenAt mixed s from .to)) (go-so s (tokenAt mixed s from .to)) (at-word (λ q. plainFor K.Go b s (l .from) q) (rw e at f) (i .lexed))
+      (λ z h. let q : tokenAt mixed s (tokenAt mixed s from .to) .to ≤ length s = go-end s (tokenAt mixed s from .to) z h in omega (arith, q, i .sits .short)) (λ z. again-go s (tokenAt mixed s from .to) z)) (λ ns. refl)
 
   pub word-do : (b : Bool) (m : ℕ) → k ≡ K.Do → Deep (x .opened) m → m < 16 → y ≡ plainFor k b s (l .from) (l .to) → ByWord d s t n x k l from p labels t′ n r
   unfolding plainFor stateOf
   word-do b m e deep low f =
-      let there : D.doAt s (tokenAt s from .from) (tokenAt s from .to) (fromState s t x) ≡ St.doClause s (tokenAt s from .to) = do-there s (tokenAt s from .from) (tokenAt s from .to) (fromState s t x) m (deep .is s) low in
-      let so : OpensSo (doKind s (tokenAt s from .to)) St.opensGroup (St.doClause s (tokenAt s from .to)) = subst (OpensSo (doKind s (tokenAt s from .to)) St.opensGroup) there (do-so s (tokenAt s from .from) (tokenAt s from .to) (fromState s t x)) in
-      by K.Do e (doKind s (tokenAt s from .to)) (St.doClause s (tokenAt s from .to)) so
-      (λ ns i w c. stands St.opensGroup tt (doKind s (tokenAt s from .to)) (tokenAt s from .to) (St.doClause s (tokenAt s from .to)) so (at-word (λ q. plainFor K.Do b s (l .from) q) (rw e at f) (i .lexed))
-      (λ z h. word-end d s t n x l from p labels ns i w) (λ z. again-do s (tokenAt s from .to) z))
-      (λ ns. ap (D.takeRead s p ns (fromState s t x)) there)
+      let there : D.doAt mixed s (tokenAt mixed s from .from) (tokenAt mixed s from .to) (fromState s t x) ≡ St.doClause mixed s (tokenAt mixed s from .to) = do-there s (tokenAt mixed s from .from) (tokenAt mixed s from .to) (fromState s t x) m (deep .is s) low in
+      let so : OpensSo (doKind s (tokenAt mixed s from .to)) St.opensGroup (St.doClause mixed s (tokenAt mixed s from .to)) = subst (OpensSo (doKind s (tokenAt mixed s from .to)) St.opensGroup) there (do-so s (tokenAt mixed s from .from) (tokenAt mixed s from .to) (fromState s t x)) in
+      by K.Do e (doKind s (tokenAt mixed s from .to)) (St.doClause mixed s (tokenAt mixed s from .to)) so
+      (λ ns i w c. stands St.opensGroup tt (doKind s (tokenAt mixed s from .to)) (tokenAt mixed s from .to) (St.doClause mixed s (tokenAt mixed s from .to)) so (at-word (λ q. plainFor K.Do b s (l .from) q) (rw e at f) (i .lexed))
+      (λ z h. word-end d s t n x l from p labels ns i w) (λ z. again-do s (tokenAt mixed s from .to) z))
+      (λ ns. ap (D.takeRead mixed s p ns (fromState s t x)) there)
 
   pub word-other : k ≡ K.Other → y ≡ otherFor s from (l .to) → ByWord d s t n x k l from p labels t′ n r
   unfolding otherFor otherAt
   word-other e f =
-      by K.Other e S.Assign (otherAt s (spelling s l) (tokenAt s (tokenAt s from .to))) (other-so s (spelling s l) (tokenAt s (tokenAt s from .to)))
-      (λ ns i w c. subst (λ (u : Read). Stood s u (otherAt s (spelling s l) (tokenAt s (tokenAt s from .to)))) (sym (at-word (λ q. otherFor s from q) f (i .lexed)))
-      (other-stood s from (spelling s l) (tokenAt s (tokenAt s from .to)) (Tk.isSign "=" (tokenAt s (tokenAt s from .to) .token)) (omega (arith, token-on s from .low, token-on s from .order, word-end d s t n x l from p labels ns i w))
-      (λ z g h. again-assign s from z (record { spelling = spelling s l; place = tokenAt s from .from; to = tokenAt s from .to }) (tokenAt s (tokenAt s from .to) .to) (named-word s from l (i .lexed) w c) (equals-there s (tokenAt s from .to) g) h)))
+      by K.Other e S.Assign (otherAt s (spelling s l) (tokenAt mixed s (tokenAt mixed s from .to))) (other-so s (spelling s l) (tokenAt mixed s (tokenAt mixed s from .to)))
+      (λ ns i w c. subst (λ (u : Read). Stood s u (otherAt s (spelling s l) (tokenAt mixed s (tokenAt mixed s from .to)))) (sym (at-word (λ q. otherFor s from q) f (i .lexed)))
+      (other-stood s from (spelling s l) (tokenAt mixed s (tokenAt mixed s from .to)) (Tk.isSign "=" (tokenAt mixed s (tokenAt mixed s from .to) .token)) (omega (arith, token-on s from .low, token-on s from .order, word-end d s t n x l from p labels ns i w))
+      (λ z g h. again-assign s from z (record { spelling = spelling s l; place = tokenAt mixed s from .from; to = tokenAt mixed s from .to }) (tokenAt mixed s (tokenAt mixed s from .to) .to) (named-word s from l (i .lexed) w c) (equals-there s (tokenAt mixed s from .to) g) h)))
       (λ ns. refl)
 
 -- a 17th group
 pub word-deep : (d s t n : List ℕ) (x : State) (k : Keyword) (l : Lexeme) (from p labels : ℕ) (r : Turned) (m : ℕ) → k ≡ K.Do → Deep (x .opened) m → 16 ≤ m → r ≡ turned x (Nx.Stop OverLimit (l .from)) → ByWord d s t n x k l from p labels t n r
 unfolding stateOf
 word-deep d s t n x k l from p labels r m e deep high hr = rw e (record {
-  so = λ ns i w c. subst (λ (X : D.Turn). Clausal d s t n x (D.labelMeaning (opensBy K.Do) (x .rows)) ns X t n r) (sym (ap (D.takeRead s p ns (fromState s t x)) (do-deep s (tokenAt s from .from) (tokenAt s from .to) (fromState s t x) m (deep .is s) high)))
-      (clausal-read d s t n x l from p labels ns i S.Group (opensBy K.Do) t r (Rd.Refused OverLimit (l .from)) (takes-refused s t x p labels r (Rd.Refused OverLimit (l .from)) OverLimit (l .from) refl hr) (refused OverLimit (tokenAt s from .from)) (refl, i .lexed .from) tt);
+  so = λ ns i w c. subst (λ (X : D.Turn). Clausal d s t n x (D.labelMeaning (opensBy K.Do) (x .rows)) ns X t n r) (sym (ap (D.takeRead mixed s p ns (fromState s t x)) (do-deep s (tokenAt mixed s from .from) (tokenAt mixed s from .to) (fromState s t x) m (deep .is s) high)))
+      (clausal-read d s t n x l from p labels ns i S.Group (opensBy K.Do) t r (Rd.Refused OverLimit (l .from)) (takes-refused s t x p labels r (Rd.Refused OverLimit (l .from)) OverLimit (l .from) refl hr) (refused OverLimit (tokenAt mixed s from .from)) (refl, i .lexed .from) tt);
 })
 
 -- ---- with names
@@ -323,13 +324,13 @@ pub word-declare : (d s t n : List ℕ) (x : State) (k : Keyword) (l : Lexeme) (
 unfolding stateOf
 word-declare d s t n x k l from p labels t′ n′ r a e hd h = rw e (record {
   so = λ ns i w c.
-      let Q : St.Declaring = St.declareFrom (scopeOf (x .scope)) s (length s) [] (tokenAt s from .to) in
-      let so : DeclaresSo S.Declare St.opensNothing Q = declare-so (scopeOf (x .scope)) s (length s) [] (tokenAt s from .to) in
-      let g : Declares d s n (x .tally) (x .scope) (tokenAt s from .to) n′ a = subst (λ (q : ℕ). Declares d s n (x .tally) (x .scope) q n′ a) (i .lexed .to) (hd .is (i .sits .ready)) in
+      let Q : St.Declaring = St.declareFrom mixed (scopeOf (x .scope)) s (length s) [] (tokenAt mixed s from .to) in
+      let so : DeclaresSo S.Declare St.opensNothing Q = declare-so (scopeOf (x .scope)) s (length s) [] (tokenAt mixed s from .to) in
+      let g : Declares d s n (x .tally) (x .scope) (tokenAt mixed s from .to) n′ a = subst (λ (q : ℕ). Declares d s n (x .tally) (x .scope) q n′ a) (i .lexed .to) (hd .is (i .sits .ready)) in
       clausal d s t n x l from p labels ns i S.Declare (opensBy K.Declare) t′ n′ r (a .tally) (a .read) h (g .entered .member) Q
-      (subst (λ (u : Read). Stood s u (clauseIn Q)) (sym (g .is)) (stood-for s S.Declare St.opensNothing tt (tokenAt s from .to) (clauseIn Q) (declares-open S.Declare St.opensNothing Q so) (λ z q. word-end d s t n x l from p labels ns i w) (λ z q. again-declare-in s (tokenAt s from .to) z (x .scope) q)))
+      (subst (λ (u : Read). Stood s u (clauseIn Q)) (sym (g .is)) (stood-for s S.Declare St.opensNothing tt (tokenAt mixed s from .to) (clauseIn Q) (declares-open S.Declare St.opensNothing Q so) (λ z q. word-end d s t n x l from p labels ns i w) (λ z q. again-declare-in s (tokenAt mixed s from .to) z (x .scope) q)))
       so
-      (names-plain d n x n′ (a .tally) Q (declare-plain s (scopeOf (x .scope)) (length s) [] (tokenAt s from .to) tt) (g .entered));
+      (names-plain d n x n′ (a .tally) Q (declare-plain s (scopeOf (x .scope)) (length s) [] (tokenAt mixed s from .to) tt) (g .entered));
 })
 
 -- PROCEDURE: the room of names stays
@@ -340,7 +341,7 @@ record SameNames (x y : Tally) : Type 0 where
 
 procedure-keeps : (s : List ℕ) (at : ℕ) (r : Read) (x : Tally) → SameNames x (procedureTally s at r x)
 unfolding procedureTally
-procedure-keeps s at r x = by (isRead r && isSpelled (bytesOf "(") (tokenAt s at .token)) (parameterTwice s (tokenAt s at .to) (length s) (tokenAt s at .to))
+procedure-keeps s at r x = by (isRead r && isSpelled (bytesOf "(") (tokenAt mixed s at .token)) (parameterTwice s (tokenAt mixed s at .to) (length s) (tokenAt mixed s at .to))
   where
     by : (b : Bool) (m : Mark) → SameNames x (cond b (tallyTwice m x) x)
     by false m = record { names = refl; member = refl; base = refl }
@@ -352,8 +353,8 @@ unfolding readProcedure
 stood-procedure s c (St.declared z es) so lc f = record { statement = f z refl; content = lc; opens = refl; to = refl; kind = sym (so .kind); type = refl }
 stood-procedure s c (St.undeclared w q es) so lc f = (refl, refl)
 
-module _ (d s n : List ℕ) (x : State) (m c : ℕ) (ro : Roomy n (x .tally)) (y : Read) (hy : y ≡ readProcedure c (St.procedureClause (P.inside m) s c)) where
-  procedure-of : (Q : St.Declaring) → St.procedureClause (P.inside m) s c ≡ Q → NamesOf d n x n (procedureTally s c y (x .tally)) Q
+module _ (d s n : List ℕ) (x : State) (m c : ℕ) (ro : Roomy n (x .tally)) (y : Read) (hy : y ≡ readProcedure c (St.procedureClause mixed (P.inside m) s c)) where
+  procedure-of : (Q : St.Declaring) → St.procedureClause mixed (P.inside m) s c ≡ Q → NamesOf d n x n (procedureTally s c y (x .tally)) Q
   unfolding readProcedure
   procedure-of (St.declared z es) e =
       let k : SameNames (x .tally) (procedureTally s c y (x .tally)) = procedure-keeps s c y (x .tally) in
@@ -374,13 +375,13 @@ pub word-procedure : (d s t n : List ℕ) (x : State) (k : Keyword) (l : Lexeme)
 unfolding stateOf
 word-procedure d s t n x k l from p labels t′ r a e hd h = rw e (record {
   so = λ ns i w c.
-      let Q : St.Declaring = St.procedureClause (P.inside (length (rowsFrom s t 0 (x .rows)))) s (tokenAt s from .to) in
-      let so : DeclaresSo S.Procedure St.opensBody Q = procedure-so (P.inside (length (rowsFrom s t 0 (x .rows)))) s (tokenAt s from .to) in
-      let g : Heads s (x .tally) (tokenAt s from .to) a = subst (λ (q : ℕ). Heads s (x .tally) q a) (i .lexed .to) hd in
-      clausal d s t n x l from p labels ns i S.Procedure (opensBy K.Procedure) t′ n r (a .tally) (a .read) h (ap (λ (u : Tally). u .member) (g .tally) ∙ procedure-keeps s (tokenAt s from .to) (a .read) (x .tally) .member) Q
-      (subst (λ (u : Read). Stood s u (clauseIn Q)) (sym (g .is (P.inside (length (rowsFrom s t 0 (x .rows)))))) (stood-procedure s (tokenAt s from .to) Q so (word-end d s t n x l from p labels ns i w) (λ z q. again-procedure s (tokenAt s from .to) z (P.inside (length (rowsFrom s t 0 (x .rows)))) q)))
+      let Q : St.Declaring = St.procedureClause mixed (P.inside (length (rowsFrom s t 0 (x .rows)))) s (tokenAt mixed s from .to) in
+      let so : DeclaresSo S.Procedure St.opensBody Q = procedure-so (P.inside (length (rowsFrom s t 0 (x .rows)))) s (tokenAt mixed s from .to) in
+      let g : Heads s (x .tally) (tokenAt mixed s from .to) a = subst (λ (q : ℕ). Heads s (x .tally) q a) (i .lexed .to) hd in
+      clausal d s t n x l from p labels ns i S.Procedure (opensBy K.Procedure) t′ n r (a .tally) (a .read) h (ap (λ (u : Tally). u .member) (g .tally) ∙ procedure-keeps s (tokenAt mixed s from .to) (a .read) (x .tally) .member) Q
+      (subst (λ (u : Read). Stood s u (clauseIn Q)) (sym (g .is (P.inside (length (rowsFrom s t 0 (x .rows)))))) (stood-procedure s (tokenAt mixed s from .to) Q so (word-end d s t n x l from p labels ns i w) (λ z q. again-procedure s (tokenAt mixed s from .to) z (P.inside (length (rowsFrom s t 0 (x .rows)))) q)))
       so
-      (subst (λ (u : Tally). NamesOf d n x n u Q) (sym (g .tally)) (procedure-of d s n x (length (rowsFrom s t 0 (x .rows))) (tokenAt s from .to) (i .sits .ready .roomy) (a .read) (g .is (P.inside (length (rowsFrom s t 0 (x .rows))))) Q refl));
+      (subst (λ (u : Tally). NamesOf d n x n u Q) (sym (g .tally)) (procedure-of d s n x (length (rowsFrom s t 0 (x .rows))) (tokenAt mixed s from .to) (i .sits .ready .roomy) (a .read) (g .is (P.inside (length (rowsFrom s t 0 (x .rows))))) Q refl));
 })
 
 pub after-declares : (s t : List ℕ) (x z : State) (q : Tally) (y : Read) (p labels : ℕ) (t′ : List ℕ) (r : Turned) → z ≡ withTally x q → TakesAs s t z y p labels t′ r → TakesAs s t (withTally x q) y p labels t′ r

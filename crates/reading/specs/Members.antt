@@ -3,6 +3,7 @@ use Prim.Native.Nat.{ℕ, _+_, _%_, _≤_, _<_}
 use mathlib.Core.List.{List}
 use mathlib.Core.Path.{_≡_}
 use lib.ListN.{length}
+use Rattle.definition.specs.Bytes.{mixed}
 use Rattle.definition.specs.Deck.{lineAt}
 use Rattle.definition.specs.Reading as D
 use Rattle.definition.specs.World as W
@@ -40,7 +41,7 @@ pub record Whole (d s : List ℕ) (m entered : ℕ) (b : Book) (t′ n′ : List
 
 pub record Membered (d s n : List ℕ) (m entered names : ℕ) (t′ n′ : List ℕ) (r : Source) : Type 0 where
   pub whole : r .fault ≡ Sound → Whole d s m entered (namesOf d n names) t′ n′ r
-  pub enters : (w : W.World) → Shows w (namesOf d n names) → w .sentences ≡ entered → Entry m (D.readMember s) (namesOf d n′ (r .names)) (N.enter m (D.readMember s) w) (r .fault)
+  pub enters : (w : W.World) → Shows w (namesOf d n names) → w .sentences ≡ entered → Entry m (D.readMember mixed s) (namesOf d n′ (r .names)) (N.enter m (D.readMember mixed s) w) (r .fault)
 
 pub record Members (d t n : List ℕ) (m entered names : ℕ) (t′ n′ : List ℕ) (r : Source) : Type 0 where
   pub so : Fresh d (bodyIn d m) t n (baseOf d m) entered names → Membered d (bodyIn d m) n m entered names t′ n′ r

@@ -5,6 +5,7 @@ use mathlib.Core.List.{List, [], _++_}
 use mathlib.Core.Path.{_≡_}
 use lib.Dec.{leb, ltb}
 use lib.ListN.{length}
+use Rattle.definition.specs.Bytes.{mixed}
 use Rattle.definition.specs.Tokens.{tokenAt}
 use Rattle.definition.specs.Expressions.{Reading, read, refused, Named}
 use Rattle.definition.specs.Program as P
@@ -27,21 +28,21 @@ use Rattle.reading.specs.State.{rowsFrom, turnOf, stateIn, Spare, Marks,
 -- ---- END
 -- another word could still be a label
 abbrev pub notEndNext : List ℕ → Reading Named → Next
-notEndNext s (read n) = Nx.Stop Syntax (tokenAt s (n .to) .from)
+notEndNext s (read n) = Nx.Stop Syntax (tokenAt mixed s (n .to) .from)
 notEndNext s (refused w p) = Nx.Stop w p
 
 -- with a label over 31 bytes at q, of any rows
 pub record EndsLong (d s n : List ℕ) (x : State) (labels q : ℕ) (n′ : List ℕ) (r : Turned) : Type 0 where
-  pub so : (t : List ℕ) → Sits d s t n x → Takes d s t n x (D.stop OverLimit q [] (D.named (D.labels s labels .labels) (fromState s t x))) t n′ r
+  pub so : (t : List ℕ) → Sits d s t n x → Takes d s t n x (D.stop OverLimit q [] (D.named (D.labels mixed s labels .labels) (fromState s t x))) t n′ r
 
 -- from behind it, where a group or a body is open
 pub record EndsAt (d s n : List ℕ) (x : State) (labels at : ℕ) (n′ : List ℕ) (r : Turned) : Type 0 where
   pub so : (t : List ℕ) → Sits d s t n x → (D.isInGroup (D.kindOf (openedOf s (x .opened))) || D.isInBody (D.kindOf (openedOf s (x .opened)))) ≡ true
-      → Takes d s t n x (D.endAt s (D.labels s labels .labels) at (openedOf s (x .opened)) (fromState s t x)) t n′ r
+      → Takes d s t n x (D.endAt mixed s (D.labels mixed s labels .labels) at (openedOf s (x .opened)) (fromState s t x)) t n′ r
 
 -- of a procedure, behind its `%`
 pub record EndsBody (d s n : List ℕ) (x : State) (at : ℕ) (n′ : List ℕ) (r : Turned) : Type 0 where
-  pub so : (t : List ℕ) → Sits d s t n x → D.isInBody (D.kindOf (openedOf s (x .opened))) ≡ true → Takes d s t n x (D.procedureEnd s (D.labels s at) (fromState s t x)) t n′ r
+  pub so : (t : List ℕ) → Sits d s t n x → D.isInBody (D.kindOf (openedOf s (x .opened))) ≡ true → Takes d s t n x (D.procedureEnd mixed s (D.labels mixed s at) (fromState s t x)) t n′ r
 
 -- ---- a clause whose labels were entered before it: ds are its names with those of its labels, es its own
 -- where the reading goes on
@@ -84,12 +85,12 @@ pub record Begun (d s t n : List ℕ) (x : State) (l : Lexeme) (from p labels : 
 -- the statement k, by its word
 pub record ByWord (d s t n : List ℕ) (x : State) (k : Keyword) (l : Lexeme) (from p labels : ℕ) (t′ n′ : List ℕ) (r : Turned) : Type 0 where
   pub so : (ns : List Named) → Begun d s t n x l from p labels ns → isWordKind (l .kind) ≡ true → l .to - l .from ≤ 31
-      → Clausal d s t n x (D.labelMeaning (opensBy k) (x .rows)) ns (byKeyword k s p ns (spelling s l) (tokenAt s from) (tokenAt s (tokenAt s from .to)) (fromState s t x)) t′ n′ r
+      → Clausal d s t n x (D.labelMeaning (opensBy k) (x .rows)) ns (byKeyword k s p ns (spelling s l) (tokenAt mixed s from) (tokenAt mixed s (tokenAt mixed s from .to)) (fromState s t x)) t′ n′ r
 
 -- and by its first token, behind c labels
 pub record ByToken (d s t n : List ℕ) (x : State) (k : Keyword) (l : Lexeme) (from p labels : ℕ) (t′ n′ : List ℕ) (r : Turned) : Type 0 where
   pub so : (ns : List Named) (c : ℕ) → Begun d s t n x l from p labels ns → k ≡ keywordAt s (D.kindOf (openedOf s (x .opened))) (D.isInside (scopeOf (x .scope))) l c → ltb 0 c ≡ not (D.isNone ns)
-      → Clausal d s t n x (D.labelMeaning (opensBy k) (x .rows)) ns (D.byToken (tokenAt s from .token) s p ns (tokenAt s from) (fromState s t x)) t′ n′ r
+      → Clausal d s t n x (D.labelMeaning (opensBy k) (x .rows)) ns (D.byToken mixed (tokenAt mixed s from .token) s p ns (tokenAt mixed s from) (fromState s t x)) t′ n′ r
 
 -- "over 1,024 sentences and procedure statements in a member, 2,048 in those entered"
 abbrev pub isFull : State → Bool

@@ -5,6 +5,7 @@ use mathlib.Core.Bool.{true, false, _&&_}
 use mathlib.Core.List.{List, [], _∷_, _++_}
 use mathlib.Core.Path.{_≡_}
 use lib.ListN.{length}
+use Rattle.definition.specs.Bytes.{mixed}
 use Rattle.definition.specs.Room.{over}
 use Rattle.definition.specs.Expressions.{Reading, read, refused, Named}
 use Rattle.definition.specs.Tokens.{tokenAt, TextEnd}
@@ -228,13 +229,13 @@ pub record Leads (t : List ℕ) (x : State) (y : Stretch) (t′ : List ℕ) (r :
 -- ---- behind a statement: of any rows and declarations
 pub record Ends (s : List ℕ) (x : State) (n e : ℕ) (r : Turned) : Type 0 where
   pub is : (t : List ℕ) (ds : List P.Declared) (m : ℕ) → Stand m (openedOf s (x .opened)) → x .opened .count ≤ 20
-      → turnOf s t ds r ≡ D.complete s (openedOf s (x .opened)) n e (stateOf s t ds x)
+      → turnOf s t ds r ≡ D.complete mixed s (openedOf s (x .opened)) n e (stateOf s t ds x)
   pub rows : r .state .rows ≡ x .rows
   pub keeps : Keeps x (r .state)
 
 pub record OpensIn (s : List ℕ) (x : State) (o : St.Opens) (n labels e : ℕ) (r : Turned) : Type 0 where
   pub is : (t : List ℕ) (ds : List P.Declared) (ns : List Named) (m : ℕ) → Stand m (openedOf s (x .opened)) → x .opened .count < 20 → D.spelled ns ≡ labelled s labels
-      → turnOf s t ds r ≡ D.opened o s n ns e (stateOf s t ds x)
+      → turnOf s t ds r ≡ D.opened mixed o s n ns e (stateOf s t ds x)
   pub rows : r .state .rows ≡ x .rows
   pub keeps : Keeps x (r .state)
 
@@ -258,7 +259,7 @@ Stood s (Rd.Refused v p) (refused w q) = (v ≡ w) × (p ≡ q)
 
 -- where the clause is read, its names es follow those of its labels ns, whatever was declared before; where it is not, nothing changes
 abbrev pub Taken : List ℕ → List ℕ → State → ℕ → List ℕ → Turned → List Named → List P.Declared → List P.Declared → Reading St.Clause → Type 0
-Taken s t x p t′ r ns ds es (read c) = turnOf s t′ (ds ++ (St.means (scopeOf (x .scope)) (D.labelMeaning (c .opens) (x .rows)) ns ++ es)) r ≡ D.taken s p ns (stateOf s t ds x) c es
+Taken s t x p t′ r ns ds es (read c) = turnOf s t′ (ds ++ (St.means (scopeOf (x .scope)) (D.labelMeaning (c .opens) (x .rows)) ns ++ es)) r ≡ D.taken mixed s p ns (stateOf s t ds x) c es
 Taken s t x p t′ r ns ds es (refused w q) = (r ≡ turned x (Nx.Stop w q)) × (t′ ≡ t)
 
 pub record TakesAs (s t : List ℕ) (x : State) (y : Read) (p labels : ℕ) (t′ : List ℕ) (r : Turned) : Type 0 where
@@ -308,7 +309,7 @@ Does d s n k (D.finish st) t′ n′ r = Goes d s n k (D.finish st) t′ n′ r
 -- a statement from `at` on begins at p: behind its `%`, or with its first token
 pub data Starts (s : List ℕ) (p at : ℕ) : Type 0 where
   behind : p < at → Starts s p at
-  opens : p ≡ tokenAt s at .from → D.begins (tokenAt s at .token) ≡ true → Starts s p at
+  opens : p ≡ tokenAt mixed s at .from → D.begins (tokenAt mixed s at .token) ≡ true → Starts s p at
 
 -- the 2,049th sentence of all inclusions stops the reading at its place, where the definition reads its clause and on
 pub record Over (s : List ℕ) (entered : ℕ) (X : D.Turn) (r : Turned) : Type 0 where
@@ -321,8 +322,8 @@ pub record Over (s : List ℕ) (entered : ℕ) (X : D.Turn) (r : Turned) : Type 
   pub starts : Starts s place at
   pub some : 0 < length (state .opened)
   pub none : state .declared ≡ []
-  pub sentence : (D.isInGroup (D.kindOf (state .opened)) && D.isEnd s (D.labels s at .behind)) ≡ false
-  pub is : X ≡ D.clauseAt s place at state
+  pub sentence : (D.isInGroup (D.kindOf (state .opened)) && D.isEnd mixed s (D.labels mixed s at .behind)) ≡ false
+  pub is : X ≡ D.clauseAt mixed s place at state
 
 -- where that sentence does not come first: the turn refuses with fewer begun, or by a limit at the last that it began
 pub data Counts (entered : ℕ) (w : Why) (p : ℕ) (begun : List ℕ) (st : D.State) : Type 0 where
@@ -351,7 +352,7 @@ fromState s t x = stateOf s t [] x
 
 -- ---- THE CONTRACTS, each with the definition's function of the same name
 pub record Clauses (d s t n : List ℕ) (x : State) (p at : ℕ) (t′ n′ : List ℕ) (r : Turned) : Type 0 where
-  pub so : Sits d s t n x → p < length s → at ≤ length s → Starts s p at → Takes d s t n x (D.clauseAt s p at (fromState s t x)) t′ n′ r
+  pub so : Sits d s t n x → p < length s → at ≤ length s → Starts s p at → Takes d s t n x (D.clauseAt mixed s p at (fromState s t x)) t′ n′ r
 
 -- a text ended with e; f are the states that it leads to, by where it ends
 abbrev pub LowEnd : List ℕ → Ending → Type 0
@@ -361,13 +362,13 @@ LowEnd s (En.OpenAt p) = Unit {0}
 
 pub record Texts (d s t n : List ℕ) (x : State) (e : Ending) (t′ n′ : List ℕ) (r : Turned) : Type 0 where
   pub so : Sits d s t n x → (E : TextEnd) (f : ℕ → D.State) → e ≡ endingFor E → LowEnd s e → f (endFor s e) ≡ fromState s t x → length (f 0 .opened) ≡ x .opened .count
-      → Takes d s t n x (D.texted E s f) t′ n′ r
+      → Takes d s t n x (D.texted mixed E s f) t′ n′ r
 
 pub record Inners (d s t n : List ℕ) (x : State) (at : ℕ) (t′ n′ : List ℕ) (r : Turned) : Type 0 where
-  pub so : Sits d s t n x → at ≤ length s → Takes d s t n x (D.innerAt s at (tokenAt s at) (fromState s t x)) t′ n′ r
+  pub so : Sits d s t n x → at ≤ length s → Takes d s t n x (D.innerAt mixed s at (tokenAt mixed s at) (fromState s t x)) t′ n′ r
 
 pub record Alternatives (d s t n : List ℕ) (x : State) (at : ℕ) (t′ n′ : List ℕ) (r : Turned) : Type 0 where
-  pub so : Sits d s t n x → at ≤ length s → Takes d s t n x (D.alternativeAt (scopeOf (x .scope)) s at (tokenAt s at) (fromState s t x)) t′ n′ r
+  pub so : Sits d s t n x → at ≤ length s → Takes d s t n x (D.alternativeAt mixed (scopeOf (x .scope)) s at (tokenAt mixed s at) (fromState s t x)) t′ n′ r
 
 -- where a text follows a row, the row is there
 abbrev pub Follows : Mode → ℕ → Type 0
@@ -377,7 +378,7 @@ Follows Md.Alternative n = Unit {0}
 Follows Md.Inner n = Unit {0}
 
 pub record Turns (d s t n : List ℕ) (x : State) (m : Mode) (at : ℕ) (t′ n′ : List ℕ) (r : Turned) : Type 0 where
-  pub so : Sits d s t n x → at ≤ length s → Follows m (x .rows) → Takes d s t n x (D.turn s (modeOf m) at (fromState s t x)) t′ n′ r
+  pub so : Sits d s t n x → at ≤ length s → Follows m (x .rows) → Takes d s t n x (D.turn mixed s (modeOf m) at (fromState s t x)) t′ n′ r
 
 -- of `start`: the member m begins at base in the deck, with so many sentences and names before it
 pub record Begins (m base before names : ℕ) (r : State) : Type 0 where
@@ -396,8 +397,8 @@ sourceOf x f = record { first = x .first; lead = x .lead; rows = x .rows; names 
 
 -- THE MEMBER m of the deck, whose body is s; b is the book before it
 pub record Reads (s : List ℕ) (m : ℕ) (b : Book) (t′ : List ℕ) (c : Book) (r : Source) : Type 0 where
-  pub lead : stretchOf (r .lead) ≡ D.readMember s .lead
-  pub first : linkOf (r .first) ≡ D.readMember s .first
-  pub rows : rowsFrom s t′ 0 (r .rows) ≡ D.readMember s .rows
-  pub tabled : Tabled t′ (D.readMember s .rows)
-  pub names : c ≡ bookWhole m [] (D.readMember s .declared) b
+  pub lead : stretchOf (r .lead) ≡ D.readMember mixed s .lead
+  pub first : linkOf (r .first) ≡ D.readMember mixed s .first
+  pub rows : rowsFrom s t′ 0 (r .rows) ≡ D.readMember mixed s .rows
+  pub tabled : Tabled t′ (D.readMember mixed s .rows)
+  pub names : c ≡ bookWhole m [] (D.readMember mixed s .declared) b

@@ -4,6 +4,7 @@
 ghost use mathlib.Core.Path.{_≡_};
 ghost use mathlib.Core.Bool.{_&&_};
 ghost use Prim.Native.Nat.{_%_};
+ghost use Rattle.definition.specs.Bytes.{mixed};
 ghost use Rattle.definition.specs.Text.{bytesOf};
 ghost use Rattle.definition.specs.Expressions.{nameAt};
 ghost use Rattle.definition.specs.Reading as D;
@@ -683,7 +684,7 @@ fn procedure_end(deck: &[u8], s: &[u8], names: &mut [u16], st: State, at: usize)
 
 // Another word could still be a label, and the token behind it is wrong.
 fn not_end(s: &[u8], st: State, at: usize) -> Turned
-    ensures { λ r. ⌜ r ≡ T.turned st (S.notEndNext (now (s .entry)) (nameAt (now (s .entry)) at)) ⌝ }
+    ensures { λ r. ⌜ r ≡ T.turned st (S.notEndNext (now (s .entry)) (nameAt mixed (now (s .entry)) at)) ⌝ }
 {
     let n = name_at(s, at);
     match n {

@@ -8,6 +8,7 @@ use native.Mathlib.Omega.{arith}
 use borrow.Author.Tests.{eq-eqb}
 use lib.ListN.{length, take, drop, length-append, length-drop, drop-of-length-le}
 use lib.Seq.{take-all, length-take-le}
+use Rattle.definition.specs.Bytes.{mixed}
 use Rattle.definition.specs.Room.{over, zeros}
 use Rattle.definition.specs.Deck as Deck
 use Rattle.definition.specs.Program as P
@@ -171,7 +172,7 @@ unfolding rowsIn
 rows-newest m s v = rw (eq-eqb m m refl)
 
 -- ---- THE HEART: the rooms show the world B, and the member m of the deck was read
-module _ (deck rows names c l h w t ls : List ℕ) (starts : Starts) (g : Progress) (B : World) (S : Stage deck rows names c l h w t ls starts g B) (m : ℕ) (sound : Deck.isSound deck ≡ true) (line : m < Deck.count deck)
+module _ (deck rows names c l h w t ls : List ℕ) (starts : Starts) (g : Progress) (B : World) (S : Stage deck rows names c l h w t ls starts g B) (m : ℕ) (sound : Deck.isSound mixed deck ≡ true) (line : m < Deck.count deck)
     (rows′ names′ : List ℕ) (x : Source) (R : ReadIs deck rows names m g rows′ names′ x) where
   abbrev before : World
   before = worldIn B c l h (g .meter .used)
@@ -201,8 +202,8 @@ module _ (deck rows names c l h w t ls : List ℕ) (starts : Starts) (g : Progre
   grew-read = subst (λ (n : ℕ). Grew rows n rows′) (sym (S .sentences)) (grew-behind rows rows′ (R .part) (g .rows) (R .behind table) (R .size))
 
   -- a member that is refused
-  entry-refused : (f : Fault) (e : Why) (p : ℕ) → f ≡ Faulty e p → Entry m (D.readMember (bodyIn deck m)) (namesOf deck names′ (x .names)) (N.enter m (D.readMember (bodyIn deck m)) before) f
-      → N.enter m (D.readMember (bodyIn deck m)) before ≡ N.unreadable e p
+  entry-refused : (f : Fault) (e : Why) (p : ℕ) → f ≡ Faulty e p → Entry m (D.readMember mixed (bodyIn deck m)) (namesOf deck names′ (x .names)) (N.enter m (D.readMember mixed (bodyIn deck m)) before) f
+      → N.enter m (D.readMember mixed (bodyIn deck m)) before ≡ N.unreadable e p
   entry-refused f e p q (goes-in v a b z) = let k : _≡_ {A = ℕ} 0 1 = cc in absurd (omega arith)
   entry-refused f e p q (stays-out y k a z) = let i : Faulty y k ≡ Faulty e p = sym z ∙ q in let j : y ≡ e = cc in let n : k ≡ p = cc in a ∙ rw (j, n)
 
@@ -210,9 +211,9 @@ module _ (deck rows names c l h w t ls : List ℕ) (starts : Starts) (g : Progre
   unfolding enterRun
   refused-read e p q left on =
       let b : Lined deck m = lined deck sound m line in
-      let out : N.enter m (D.readMember (bodyOf deck m)) before ≡ N.unreadable e p =
-      subst (λ (s : List ℕ). N.enter m (D.readMember s) before ≡ N.unreadable e p) (b .same) (entry-refused (x .fault) e p q (membered .enters before shown-before (S .sentences))) in
-      ap (λ (y : N.Entering). enteredRun y m before (λ v. Run.runMember left deck m on v)) out
+      let out : N.enter m (D.readMember mixed (bodyOf deck m)) before ≡ N.unreadable e p =
+      subst (λ (s : List ℕ). N.enter m (D.readMember mixed s) before ≡ N.unreadable e p) (b .same) (entry-refused (x .fault) e p q (membered .enters before shown-before (S .sentences))) in
+      ap (λ (y : N.Entering). enteredRun y m before (λ v. Run.runMember mixed left deck m on v)) out
 
   -- a member that goes in, where its rows start behind the others
   module _ (starts′ : Starts) (st : StartsAt starts m (g .rows) starts′) (fine : x .fault ≡ Sound) where
@@ -233,8 +234,8 @@ module _ (deck rows names c l h w t ls : List ℕ) (starts : Starts) (g : Progre
 
     held : Held (B .denotations) (after .denotations)
     held =
-        let y : Entered m (D.readMember (bodyIn deck m)) before after = entered-is m (D.readMember (bodyIn deck m)) before after (goes .is) in
-        subst (λ (ds : List W.Denotation). Held (B .denotations) ds) (sym (ap (λ (z : World). z .denotations) (y .world))) (declare-held m (D.readMember (bodyIn deck m) .declared) before (y .named) (y .declared))
+        let y : Entered m (D.readMember mixed (bodyIn deck m)) before after = entered-is m (D.readMember mixed (bodyIn deck m)) before after (goes .is) in
+        subst (λ (ds : List W.Denotation). Held (B .denotations) ds) (sym (ap (λ (z : World). z .denotations) (y .world))) (declare-held m (D.readMember mixed (bodyIn deck m) .declared) before (y .named) (y .declared))
 
     named-after : Named deck names′ (x .names) after
     named-after = let n : Named deck names′ (x .names) (goes .named) = book-named deck names′ (x .names) (goes .named) (goes .book) in record { identifiers = n .identifiers; denotations = n .denotations }
@@ -322,21 +323,21 @@ module _ (deck rows names c l h w t ls : List ℕ) (starts : Starts) (g : Progre
               whole = b .same;
               short = b .short;
               low = b .low;
-              entered = rows-newest m (D.readMember (bodyIn deck m)) (goes .named) ∙ ap (λ (s : List ℕ). D.readMember s .rows) (b .same);
+              entered = rows-newest m (D.readMember mixed (bodyIn deck m)) (goes .named) ∙ ap (λ (s : List ℕ). D.readMember mixed s .rows) (b .same);
             };
             stand = stand-later (belowOf below) B after (since-after .later) stand;
             deep = deep;
           }
 
-      source-after : SourceOf (D.readMember (bodyOf deck m)) x
-      source-after = subst (λ (s : List ℕ). SourceOf (D.readMember s) x) (lined deck sound m line .same) (record { lead = whole .reads .lead; first = whole .reads .first })
+      source-after : SourceOf (D.readMember mixed (bodyOf deck m)) x
+      source-after = subst (λ (s : List ℕ). SourceOf (D.readMember mixed s) x) (lined deck sound m line .same) (record { lead = whole .reads .lead; first = whole .reads .first })
 
-      run-after : (left : ℕ) (on : List Place) → enterRun left deck m on before ≡ Run.runMember left deck m on (worldIn after c′ l h (g .meter .used))
+      run-after : (left : ℕ) (on : List Place) → enterRun left deck m on before ≡ Run.runMember mixed left deck m on (worldIn after c′ l h (g .meter .used))
       unfolding enterRun
       run-after left on =
-          let in′ : N.enter m (D.readMember (bodyOf deck m)) before ≡ N.entered after =
-          subst (λ (s : List ℕ). N.enter m (D.readMember s) before ≡ N.entered after) (lined deck sound m line .same) (goes .is) in
-          ap (λ (y : N.Entering). enteredRun y m before (λ v. Run.runMember left deck m on v)) in′ ∙ ap (λ (v : World). Run.runMember left deck m on v) (sym world-after)
+          let in′ : N.enter m (D.readMember mixed (bodyOf deck m)) before ≡ N.entered after =
+          subst (λ (s : List ℕ). N.enter m (D.readMember mixed s) before ≡ N.entered after) (lined deck sound m line .same) (goes .is) in
+          ap (λ (y : N.Entering). enteredRun y m before (λ v. Run.runMember mixed left deck m on v)) in′ ∙ ap (λ (v : World). Run.runMember mixed left deck m on v) (sym world-after)
 
 -- ---- THE ANSWERS of `enter_and_run`
 module _ (deck rows names c l h w t ls : List ℕ) (below : Below) (here : Here) (left : ℕ) (g : Progress) (rows′ names′ : List ℕ) (x : Source) (R : ReadIs deck rows names (here .member) g rows′ names′ x) where
@@ -360,17 +361,17 @@ module _ (deck rows names c l h w t ls : List ℕ) (below : Below) (here : Here)
       record { is = λ B S sound line stand deep. by k B S sound line stand deep }
     where
       by : SourceIs deck rows′ names′ c′ l h w t ls x below (hereAt (here .member) (here′ .starts)) left g′ rows″ names″ c″ l″ h″ w″ t″ ls″ r → (B : World) → Stage deck rows names c l h w t ls (here .starts) g B
-          → Deck.isSound deck ≡ true → here .member < Deck.count deck → Stand (belowOf below) B → Deep below left
+          → Deck.isSound mixed deck ≡ true → here .member < Deck.count deck → Stand (belowOf below) B → Deep below left
           → EndsAs (belowOf below) deck rows B rows″ names″ c″ l″ h″ w″ t″ ls″ (here .member) (enterRun left deck (here .member) (belowOf below) (worldIn B c l h (g .meter .used))) r
       by k B S sound line stand deep =
           let A : World = memberIn deck (here .member) (goes deck rows names c l h w t ls (here .starts) g B S (here .member) sound line rows′ names′ x R (here′ .starts) (st .starts) f .named) in
           let stage : Stage deck rows′ names′ c′ l h w t ls (here′ .starts) g′ A = stage-after deck rows names c l h w t ls (here .starts) g B S (here .member) sound line rows′ names′ x R (here′ .starts) (st .starts) f c′ z g′ e in
           let runs : Running deck (bodyIn deck (here .member)) rows′ (hereAt (here .member) (here′ .starts)) below left A =
           running-after deck rows names c l h w t ls (here .starts) g B S (here .member) sound line rows′ names′ x R (here′ .starts) (st .starts) f c′ z below left stand deep in
-          let is : enterRun left deck (here .member) (belowOf below) (worldIn B c l h (g .meter .used)) ≡ Run.runMember left deck (here .member) (belowOf below) (worldIn A c′ l h (g′ .meter .used)) =
+          let is : enterRun left deck (here .member) (belowOf below) (worldIn B c l h (g .meter .used)) ≡ Run.runMember mixed left deck (here .member) (belowOf below) (worldIn A c′ l h (g′ .meter .used)) =
           run-after deck rows names c l h w t ls (here .starts) g B S (here .member) sound line rows′ names′ x R (here′ .starts) (st .starts) f c′ z left (belowOf below)
-          ∙ ap (λ (y : Meter). Run.runMember left deck (here .member) (belowOf below) (worldIn A c′ l h (y .used))) (sym (e .meter)) in
-          let ends : EndsAs (belowOf below) deck rows′ A rows″ names″ c″ l″ h″ w″ t″ ls″ (here .member) (Run.runMember left deck (here .member) (belowOf below) (worldIn A c′ l h (g′ .meter .used))) r =
+          ∙ ap (λ (y : Meter). Run.runMember mixed left deck (here .member) (belowOf below) (worldIn A c′ l h (y .used))) (sym (e .meter)) in
+          let ends : EndsAs (belowOf below) deck rows′ A rows″ names″ c″ l″ h″ w″ t″ ls″ (here .member) (Run.runMember mixed left deck (here .member) (belowOf below) (worldIn A c′ l h (g′ .meter .used))) r =
           k .is A stage runs (source-after deck rows names c l h w t ls (here .starts) g B S (here .member) sound line rows′ names′ x R (here′ .starts) (st .starts) f c′ z) in
           let since : Since rows B rows′ A = since-after deck rows names c l h w t ls (here .starts) g B S (here .member) sound line rows′ names′ x R (here′ .starts) (st .starts) f c′ z in
           subst (λ (y : Res Run.Stop F.End). EndsAs (belowOf below) deck rows B rows″ names″ c″ l″ h″ w″ t″ ls″ (here .member) y r) (sym is)
@@ -429,7 +430,7 @@ module _ (deck rows names c l h w t ls : List ℕ) (y : Layout) (steps : ℕ) (m
   abbrev Main : Type 0
   Main = EndsAs [] deck rows (X.worldFor y (length t) (length ls) steps) rows′ names′ c′ l′ h′ w′ t′ ls′ 0 (enterRun 8 deck 0 [] (X.worldFor y (length t) (length ls) steps)) x
 
-  main-ends : Deck.isSound deck ≡ true → Roomy rows names c → 65536 ≤ length l → 65536 ≤ length h → 65536 ≤ length w → t ≡ zeros (length t) → ls ≡ zeros (length ls) → Main
+  main-ends : Deck.isSound mixed deck ≡ true → Roomy rows names c → 65536 ≤ length l → 65536 ≤ length h → 65536 ≤ length w → t ≡ zeros (length t) → ls ≡ zeros (length ls) → Main
   main-ends sound roomy low high work e f =
       let B : World = X.worldFor y (length t) (length ls) steps in
       let S : Stage deck rows names c l h w t ls starts (record { meter = m; layout = y; out = o; rows = 0; names = 0 }) B =
@@ -445,13 +446,13 @@ module _ (deck rows names c l h w t ls : List ℕ) (y : Layout) (steps : ℕ) (m
   Ended′ k e = EndNow [] deck rows′ names′ c′ l′ h′ w′ t′ ls′ (hereAt 0 (x .starts)) (enterRun 8 deck 0 [] (X.worldFor y (length t) (length ls) steps)) (k .world) e
 
   -- what was told stays told
-  layout-kept : (E : N.Entering) → E ≡ N.enter 0 (readMember (bodyOf deck 0)) (X.worldFor y (length t) (length ls) steps) → (e : F.End) (v : World) → enteredRun E 0 (X.worldFor y (length t) (length ls) steps) (λ u. Run.runMember 8 deck 0 [] u) ≡ good e v → v .layout ≡ y
+  layout-kept : (E : N.Entering) → E ≡ N.enter 0 (readMember mixed (bodyOf deck 0)) (X.worldFor y (length t) (length ls) steps) → (e : F.End) (v : World) → enteredRun E 0 (X.worldFor y (length t) (length ls) steps) (λ u. Run.runMember mixed 8 deck 0 [] u) ≡ good e v → v .layout ≡ y
   layout-kept (N.unreadable z p) i e v q = bad-good q
   layout-kept (N.entered u) i e v q = main-layout y deck (length t) (length ls) steps (sym i) q
 
   told-kept : (e : F.End) (v : World) → enterRun 8 deck 0 [] (X.worldFor y (length t) (length ls) steps) ≡ good e v → v .layout ≡ y
   unfolding enterRun
-  told-kept e v q = layout-kept (N.enter 0 (readMember (bodyOf deck 0)) (X.worldFor y (length t) (length ls) steps)) refl e v q
+  told-kept e v q = layout-kept (N.enter 0 (readMember mixed (bodyOf deck 0)) (X.worldFor y (length t) (length ls) steps)) refl e v q
 
   ran-to : (e : F.End) (g : Progress) (B : World) → Written (sizeIn deck) (g .layout) t′ ls′ (g .out) B → enterRun 8 deck 0 [] (X.worldFor y (length t) (length ls) steps) ≡ good e (worldIn B c′ l′ h′ (g .meter .used)) → RanTo deck y t′ ls′ (enterRun 8 deck 0 [] (X.worldFor y (length t) (length ls) steps)) (Rn.Good g)
   ran-to e g B v q =

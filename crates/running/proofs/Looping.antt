@@ -8,6 +8,7 @@ use Prim.Native.Nat.{ℕ, zero, suc, _-_, _<_, _≤_}
 use native.Mathlib.Omega.{arith}
 use borrow.Author.Tests.{le-ltb}
 use lib.ListN.{length}
+use Rattle.definition.specs.Bytes.{mixed}
 use Rattle.definition.specs.Steps.{isLeft}
 use Rattle.definition.specs.Program as P
 use Rattle.definition.specs.Reading.{readMember}
@@ -285,7 +286,7 @@ unfolding firstOf
 first-is Nowhere = refl
 first-is (To n) = refl
 
-first-at : (inner : Run.Level) (deck : List ℕ) (m : ℕ) (on : List Place) (t : List ℕ) (ds : List Denotation) (a : Link) → linkOf a ≡ readMember (bodyOf deck m) .first → AtNext (machineOf inner deck m on) t ds noFrames [] (firstOf a)
+first-at : (inner : Run.Level) (deck : List ℕ) (m : ℕ) (on : List Place) (t : List ℕ) (ds : List Denotation) (a : Link) → linkOf a ≡ readMember mixed (bodyOf deck m) .first → AtNext (machineOf inner deck m on) t ds noFrames [] (firstOf a)
 unfolding firstOf memberMachine
 first-at inner deck m on t ds Nowhere e = at-over (machineOf inner deck m on) t ds noFrames []
 first-at inner deck m on t ds (To n) e = at-begin (machineOf inner deck m on) t ds noFrames [] n (record { within = first-read (bodyOf deck m) n (sym e) .within; framed = framed-start (machineOf inner deck m on) t ds n })
@@ -296,7 +297,7 @@ module _ (deck s rows names c l h w t ls : List ℕ) (y : Source) (below : Below
   member = machineOf (levelOf left deck) deck (here .member) (belowOf below)
 
   abbrev source : P.Source
-  source = readMember (bodyOf deck (here .member))
+  source = readMember mixed (bodyOf deck (here .member))
 
   module _ (B : World) (st : Stage deck rows names c l h w t ls (here .starts) g B) (ru : Running deck (bodyIn deck (here .member)) rows here below left B) (so : SourceOf source y) where
     abbrev first-world : World
@@ -321,7 +322,7 @@ module _ (deck s rows names c l h w t ls : List ℕ) (y : Source) (below : Below
     abbrev then : Res Run.Stop (Unit {0}) → Res Run.Stop F.End
     then R = bind R λ _ v. F.runOn member (v .limit - v .used) (Calls.firstOf (source .first)) [] v
 
-    member-is : Run.runMember left deck (here .member) (belowOf below) first-world ≡ then (F.leadOut member (source .lead) first-world)
+    member-is : Run.runMember mixed left deck (here .member) (belowOf below) first-world ≡ then (F.leadOut member (source .lead) first-world)
     unfolding Run.runSource
     member-is = run-member-is left deck (here .member) (belowOf below) first-world
 
@@ -349,13 +350,13 @@ module _ (deck s rows names c l h w t ls : List ℕ) (y : Source) (below : Below
       }
 
       rows-led : (x : Next) → x ≡ firstOf (y .first) → (rows′ names′ c′ l′ h′ w′ t′ ls′ : List ℕ) (r : Left) → RowsAre deck rows names c₁ l₁ h₁ w₁ t₁ ls₁ x below here left g₁ rows′ names′ c′ l′ h′ w′ t′ ls′ r
-          → EndsAs (belowOf below) deck rows B rows′ names′ c′ l′ h′ w′ t′ ls′ (here .member) (Run.runMember left deck (here .member) (belowOf below) first-world) r
+          → EndsAs (belowOf below) deck rows B rows′ names′ c′ l′ h′ w′ t′ ls′ (here .member) (Run.runMember mixed left deck (here .member) (belowOf below) first-world) r
       rows-led x ex rows′ names′ c′ l′ h′ w′ t′ ls′ r ra =
           let B₁ : World = af .world in
           let second : World = worldIn B₁ c₁ l₁ h₁ (g₁ .meter .used) in
           let ends : EndsAs (belowOf below) deck rows B₁ rows′ names′ c′ l′ h′ w′ t′ ls′ (here .member) (F.runOn member (B₁ .limit - g₁ .meter .used) (nextFrom x) [] second) r =
           ra .is B₁ stage-led running-led (rw ex (first-at (levelOf left deck) deck (here .member) (belowOf below) (partHere rows here) (B₁ .denotations) (y .first) (so .first))) in
-          let is : F.runOn member (B₁ .limit - g₁ .meter .used) (nextFrom x) [] second ≡ Run.runMember left deck (here .member) (belowOf below) first-world =
+          let is : F.runOn member (B₁ .limit - g₁ .meter .used) (nextFrom x) [] second ≡ Run.runMember mixed left deck (here .member) (belowOf below) first-world =
           ap (λ (i : F.Next). F.runOn member (B₁ .limit - g₁ .meter .used) i [] second) (ap nextFrom ex ∙ first-is (y .first) ∙ ap Calls.firstOf (so .first)) ∙ sym (member-is ∙ ap then (af .is)) in
           record {
             world = ends .world;

@@ -6,6 +6,7 @@ use mathlib.Core.List.{List, [], _∷_}
 use Prim.Native.Nat.{ℕ, zero, suc, _+_, _-_, _<_, _≤_}
 use native.Mathlib.Omega.{arith}
 use lib.ListN.{length}
+use Rattle.definition.specs.Bytes.{mixed}
 use Rattle.definition.specs.Limits.{includeLevels}
 use Rattle.definition.specs.Tokens.{isSign, tokenAt}
 use Rattle.definition.specs.Deck as Deck
@@ -87,10 +88,10 @@ ends-in on deck rows B rows′ names c l h w t ls k m R r x = record { world = x
 
 module _ (deck rows names c l h w t ls : List ℕ) (x : Sought) (p : ℕ) (below : Below) (here : Here) (left : ℕ) (g : Progress) (f : Found) (named : FoundIs deck (here .member) x f) where
   abbrev found : Deck.Found
-  found = find (soughtIn (bodyIn deck (here .member)) x) 0 (lines deck)
+  found = find mixed (soughtIn (bodyIn deck (here .member)) x) 0 (lines deck)
 
   -- a refusal here
-  one-refused : (e : Why) → (isSound deck ≡ true → here .member < count deck → Within (length (bodyIn deck (here .member))) x → (v : World) → foundRun found left deck p (here .member) (belowOf below) v ≡ bad (Run.stop (here .member) p e) (v .used))
+  one-refused : (e : Why) → (isSound mixed deck ≡ true → here .member < count deck → Within (length (bodyIn deck (here .member))) x → (v : World) → foundRun found left deck p (here .member) (belowOf below) v ≡ bad (Run.stop (here .member) p e) (v .used))
       → IncludeOneIs deck rows names c l h w t ls x p below here left g rows names c l h w t ls (leftAt here (stoppedAt g e (here .member) p))
   one-refused e q = record { is = λ B S sound line within stand deep some. record { world = B; since = since-none rows B; now = q sound line within (worldIn B c l h (g .meter .used)) } }
 
@@ -165,7 +166,7 @@ module _ (deck rows names c l h w t ls : List ℕ) (n left place from : ℕ) (in
   -- what is asked of the world at first, and of the names
   pub record Asked (B : World) (ns : List Deck.Sought) : Type 0 where
     pub stage : Stage deck rows names c l h w t ls (before .starts) g₀ B
-    pub sound : isSound deck ≡ true
+    pub sound : isSound mixed deck ≡ true
     pub line : before .member < count deck
     pub low : before .member < 32
     pub there : n < length (rowsOf (before .member) B)
@@ -251,9 +252,9 @@ module _ (deck rows names c l h w t ls : List ℕ) (n left place from : ℕ) (in
           by (y ∷ ys) k few same =
               let sp : Spells (bodyIn deck (before .member)) at y = named-first (bodyIn deck (before .member)) at y ys k in
               let v : World = worldIn (z .world) c₁ l₁ h₁ (g .meter .used) in
-              let R : Res Run.Stop F.End = foundRun (find y 0 (lines deck)) left deck place (before .member) (belowOf inner) v in
+              let R : Res Run.Stop F.End = foundRun (find mixed y 0 (lines deck)) left deck place (before .member) (belowOf inner) v in
               let ends : EndsAs (belowOf inner) deck rows₁ (z .world) rows₂ names₂ c₂ l₂ h₂ w₂ t₂ ls₂ (before .member) R x =
-              subst (λ (q : Deck.Sought). EndsAs (belowOf inner) deck rows₁ (z .world) rows₂ names₂ c₂ l₂ h₂ w₂ t₂ ls₂ (before .member) (foundRun (find q 0 (lines deck)) left deck place (before .member) (belowOf inner) v) x) (item-here .is ∙ sp .is)
+              subst (λ (q : Deck.Sought). EndsAs (belowOf inner) deck rows₁ (z .world) rows₂ names₂ c₂ l₂ h₂ w₂ t₂ ls₂ (before .member) (foundRun (find mixed q 0 (lines deck)) left deck place (before .member) (belowOf inner) v) x) (item-here .is ∙ sp .is)
               (ran-here .is (z .world) (z .stage) (a .sound) (a .line) (item-here .within (length (bodyIn deck (before .member))) (sp .within)) (stand-later (belowOf inner) B (z .world) (z .since .later) (a .stand)) (a .deep) (a .some)) in
               record {
                 world = ends .world;
@@ -293,11 +294,11 @@ module _ (deck rows names c l h w t ls : List ℕ) (n left place from : ℕ) (in
 
       -- the member has run: the next name, or the end
       module _ (g₂ : Progress) (e : x .ended ≡ En.Ran g₂) (cm : Lexeme) (lex₂ : Lexed s (it .to) cm) (b : Bool) (sign : b ≡ isSignIn s cm (44 ∷ [])) where
-        comma : (v : Bool) → b ≡ v → isSign "," (tokenAt (bodyIn deck (before .member)) (itemEnd (bodyIn deck (before .member)) at) .token) ≡ v
-        comma v q = subst (λ (z : List ℕ). isSign "," (tokenAt z (itemEnd z at) .token) ≡ v) body (subst (λ (i : ℕ). isSign "," (tokenAt s i .token) ≡ v) (item .to) (told s (it .to) cm lex₂ "," (44 ∷ []) b v refl sign q))
+        comma : (v : Bool) → b ≡ v → isSign "," (tokenAt mixed (bodyIn deck (before .member)) (itemEnd (bodyIn deck (before .member)) at) .token) ≡ v
+        comma v q = subst (λ (z : List ℕ). isSign "," (tokenAt mixed z (itemEnd z at) .token) ≡ v) body (subst (λ (i : ℕ). isSign "," (tokenAt mixed s i .token) ≡ v) (item .to) (told s (it .to) cm lex₂ "," (44 ∷ []) b v refl sign q))
 
-        behind : cm .to ≡ tokenAt (bodyIn deck (before .member)) (itemEnd (bodyIn deck (before .member)) at) .to
-        behind = lex₂ .to ∙ ap (λ (i : ℕ). tokenAt s i .to) (item .to) ∙ ap (λ (z : List ℕ). tokenAt z (itemEnd z at) .to) body
+        behind : cm .to ≡ tokenAt mixed (bodyIn deck (before .member)) (itemEnd (bodyIn deck (before .member)) at) .to
+        behind = lex₂ .to ∙ ap (λ (i : ℕ). tokenAt mixed s i .to) (item .to) ∙ ap (λ (z : List ℕ). tokenAt mixed z (itemEnd z at) .to) body
 
         ran-by : (B : World) (ns : List Deck.Sought) (k : Past B ns) → EndNow (belowOf inner) deck rows₂ names₂ c₂ l₂ h₂ w₂ t₂ ls₂ (hereAt (before .member) (here₂ .starts)) (k .answer) (k .world) (En.Ran g₂)
         ran-by B ns k = subst (λ (v : Ended). EndNow (belowOf inner) deck rows₂ names₂ c₂ l₂ h₂ w₂ t₂ ls₂ (hereAt (before .member) (here₂ .starts)) (k .answer) (k .world) v) e (k .now)
@@ -347,7 +348,7 @@ module _ (deck rows names c l h w t ls : List ℕ) (n left : ℕ) (inner : Below
   row-is : r ≡ rowIn (partHere rows before) n
   row-is = row ∙ ap (λ (x : List ℕ). rowIn x n) own
 
-  asked : (B : World) → Stage deck rows names c l h w t ls (before .starts) g₀ B → Running deck (bodyIn deck (before .member)) rows before below left B → (ns : List Deck.Sought) → n < length (readMember (bodyOf deck (before .member)) .rows)
+  asked : (B : World) → Stage deck rows names c l h w t ls (before .starts) g₀ B → Running deck (bodyIn deck (before .member)) rows before below left B → (ns : List Deck.Sought) → n < length (readMember mixed (bodyOf deck (before .member)) .rows)
       → Named (bodyIn deck (before .member)) (rowIn (partHere rows before) n .content) ns → Asked deck rows names c l h w t ls n left (r .place) (r .content) inner before g₀ B ns
   asked B S run ns there named =
       let few : below .count < 16 = omega (arith, run .deep) in
@@ -369,7 +370,7 @@ module _ (deck rows names c l h w t ls : List ℕ) (n left : ℕ) (inner : Below
       → IncludeAllIs deck rows names c l h w t ls n below before left g₀ rows₂ names₂ c₂ l₂ h₂ w₂ t₂ ls₂ y
   all-is rows₂ names₂ c₂ l₂ h₂ w₂ t₂ ls₂ y z e f = subst (λ (v : Left). IncludeAllIs deck rows names c l h w t ls n below before left g₀ rows₂ names₂ c₂ l₂ h₂ w₂ t₂ ls₂ v) (sym e) (record { is = by })
     where
-      by : (B : World) → Stage deck rows names c l h w t ls (before .starts) g₀ B → Running deck (bodyIn deck (before .member)) rows before below left B → (ns : List Deck.Sought) → n < length (readMember (bodyOf deck (before .member)) .rows)
+      by : (B : World) → Stage deck rows names c l h w t ls (before .starts) g₀ B → Running deck (bodyIn deck (before .member)) rows before below left B → (ns : List Deck.Sought) → n < length (readMember mixed (bodyOf deck (before .member)) .rows)
           → Named (bodyIn deck (before .member)) (rowIn (partHere rows before) n .content) ns
           → EndsAs (placeAt (before .member) n ∷ belowOf below) deck rows B rows₂ names₂ c₂ l₂ h₂ w₂ t₂ ls₂ (before .member)
           (includeOn left deck (rowIn (partHere rows before) n .place) (before .member) (placeAt (before .member) n ∷ belowOf below) ns (worldIn B c l h (g₀ .meter .used))) z

@@ -8,6 +8,7 @@ use native.Mathlib.Omega.{arith}
 use borrow.Author.Tests.{leb-true}
 use lib.Dec.{leb}
 use lib.ListN.{length, take, drop}
+use Rattle.definition.specs.Bytes.{mixed}
 use Rattle.definition.specs.Lists.{part}
 use Rattle.definition.specs.Tokens.{isSign, tokenAt}
 use Rattle.definition.specs.Deck as Deck
@@ -39,9 +40,9 @@ record Lexes (s : List ℕ) (at : ℕ) (t : Lexeme) : Type 0 where
 
 lexes : (s : List ℕ) (at : ℕ) (t : Lexeme) → Lexed s at t → Lexes s at t
 lexes s at t lex =
-    let on : On s at (tokenAt s at) = token-on s at in
+    let on : On s at (tokenAt mixed s at) = token-on s at in
     record {
-      spells = ap (λ (i : ℕ). part (i - t .from) (t .from) s) (lex .to) ∙ ap (λ (i : ℕ). part (tokenAt s at .to - i) i s) (lex .from);
+      spells = ap (λ (i : ℕ). part (i - t .from) (t .from) s) (lex .to) ∙ ap (λ (i : ℕ). part (tokenAt mixed s at .to - i) i s) (lex .from);
       low = omega (arith, on .low, lex .from);
       order = omega (arith, on .order, lex .from, lex .to);
     }
@@ -50,8 +51,8 @@ pub spelled-is : (t : Lexeme) (n : ℕ) → n ≡ t .to - t .from → _≡_ {A =
 spelled-is t n e = rw e
 
 module _ (s : List ℕ) (at : ℕ) (t : Lexeme) (lex : Lexed s at t) (x : Spelled) (e : x ≡ spelledBy t) (o : Lexeme) (lex₂ : Lexed s (t .to) o) (v : Bool) (sign : v ≡ isSignIn s o (40 ∷ [])) where
-  open-is : (b : Bool) → v ≡ b → isSign "(" (tokenAt s (tokenAt s at .to) .token) ≡ b
-  open-is b q = subst (λ (i : ℕ). isSign "(" (tokenAt s i .token) ≡ b) (lex .to) (told s (t .to) o lex₂ "(" (40 ∷ []) v b refl sign q)
+  open-is : (b : Bool) → v ≡ b → isSign "(" (tokenAt mixed s (tokenAt mixed s at .to) .token) ≡ b
+  open-is b q = subst (λ (i : ℕ). isSign "(" (tokenAt mixed s i .token) ≡ b) (lex .to) (told s (t .to) o lex₂ "(" (40 ∷ []) v b refl sign q)
 
   first : spelled s x ≡ spelledAt s at
   first = ap (spelled s) e ∙ lexes s at t lex .spells
@@ -68,13 +69,13 @@ module _ (s : List ℕ) (at : ℕ) (t : Lexeme) (lex : Lexed s at t) (x : Spelle
 
   module _ (m : Lexeme) (lex₃ : Lexed s (o .to) m) (y : Spelled) (f : y ≡ spelledBy m) (c : Lexeme) (lex₄ : Lexed s (m .to) c) where
     inner : Lexed s (behindOpen s at) m
-    inner = subst (λ (i : ℕ). Lexed s i m) (lex₂ .to ∙ ap (λ (i : ℕ). tokenAt s i .to) (lex .to)) lex₃
+    inner = subst (λ (i : ℕ). Lexed s i m) (lex₂ .to ∙ ap (λ (i : ℕ). tokenAt mixed s i .to) (lex .to)) lex₃
 
     second : spelled s y ≡ spelledAt s (behindOpen s at)
     second = ap (spelled s) f ∙ lexes s (behindOpen s at) m inner .spells
 
-    close-is : c .to ≡ tokenAt s (tokenAt s (behindOpen s at) .to) .to
-    close-is = lex₄ .to ∙ ap (λ (i : ℕ). tokenAt s i .to) (inner .to)
+    close-is : c .to ≡ tokenAt mixed s (tokenAt mixed s (behindOpen s at) .to) .to
+    close-is = lex₄ .to ∙ ap (λ (i : ℕ). tokenAt mixed s i .to) (inner .to)
 
     pub item-library : v ≡ true → ItemIs s at (record { sought = InLibrary x y; to = c .to })
     unfolding soughtIn soughtAt itemEnd
@@ -102,7 +103,7 @@ body-there d k l = by (leb (lineAt d k .offset + lineAt d k .size) (length d)) r
 pub deck-is : (base : ℕ) (w : Spelled) (n : ℕ) → n ≡ sumTo greatest base (w .from) → _≡_ {A = Spelled} (record { from = n; len = w .len }) (inDeck base w)
 deck-is base w n e = rw e
 
-name-there : (d : List ℕ) (m : ℕ) → isSound d ≡ true → m < count d → (from n : ℕ) → from + n ≤ length (bodyIn d m) → part n (sumTo greatest (lineAt d m .offset) from) d ≡ part n from (bodyIn d m)
+name-there : (d : List ℕ) (m : ℕ) → isSound mixed d ≡ true → m < count d → (from n : ℕ) → from + n ≤ length (bodyIn d m) → part n (sumTo greatest (lineAt d m .offset) from) d ≡ part n from (bodyIn d m)
 unfolding bodyOf
 name-there d m sound line from zero h = refl
 name-there d m sound line from (suc n) h =
@@ -114,17 +115,17 @@ name-there d m sound line from (suc n) h =
 
 -- ---- THE LINE for what is sought
 module _ (d : List ℕ) (m : ℕ) (x : Sought) (base : ℕ) (e : base ≡ lineAt d m .offset) (r : Found) where
-  in-deck : isSound d ≡ true → m < count d → (w v : Spelled) → v ≡ inDeck base w → w .from + w .len ≤ length (bodyIn d m) → spelled d v ≡ spelled (bodyIn d m) w
+  in-deck : isSound mixed d ≡ true → m < count d → (w v : Spelled) → v ≡ inDeck base w → w .from + w .len ≤ length (bodyIn d m) → spelled d v ≡ spelled (bodyIn d m) w
   in-deck sound line w v f h = ap (spelled d) (f ∙ ap (λ (i : ℕ). inDeck i w) e) ∙ name-there d m sound line (w .from) (w .len) h
 
-  pub found-bare : (w v : Spelled) → x ≡ Bare w → v ≡ inDeck base w → r ≡ foundFor (find (soughtIn d (Bare v)) 0 (lines d)) → FoundIs d m x r
+  pub found-bare : (w v : Spelled) → x ≡ Bare w → v ≡ inDeck base w → r ≡ foundFor (find mixed (soughtIn d (Bare v)) 0 (lines d)) → FoundIs d m x r
   unfolding soughtIn
-  found-bare w v f g k = subst (λ (z : Sought). FoundIs d m z r) (sym f) (record { is = λ sound line h. k ∙ ap (λ (z : List ℕ). foundFor (find (Deck.bare z) 0 (lines d))) (in-deck sound line w v g h) })
+  found-bare w v f g k = subst (λ (z : Sought). FoundIs d m z r) (sym f) (record { is = λ sound line h. k ∙ ap (λ (z : List ℕ). foundFor (find mixed (Deck.bare z) 0 (lines d))) (in-deck sound line w v g h) })
 
-  pub found-library : (l w q v : Spelled) → x ≡ InLibrary l w → q ≡ inDeck base l → v ≡ inDeck base w → r ≡ foundFor (find (soughtIn d (InLibrary q v)) 0 (lines d)) → FoundIs d m x r
+  pub found-library : (l w q v : Spelled) → x ≡ InLibrary l w → q ≡ inDeck base l → v ≡ inDeck base w → r ≡ foundFor (find mixed (soughtIn d (InLibrary q v)) 0 (lines d)) → FoundIs d m x r
   unfolding soughtIn
   found-library l w q v f g i k = subst (λ (z : Sought). FoundIs d m z r) (sym f) (record {
     is = λ sound line h. k
-        ∙ ap (λ (z : List ℕ). foundFor (find (Deck.inLibrary z (spelled d v)) 0 (lines d))) (in-deck sound line l q g (h .0))
-        ∙ ap (λ (z : List ℕ). foundFor (find (Deck.inLibrary (spelled (bodyIn d m) l) z) 0 (lines d))) (in-deck sound line w v i (h .1));
+        ∙ ap (λ (z : List ℕ). foundFor (find mixed (Deck.inLibrary z (spelled d v)) 0 (lines d))) (in-deck sound line l q g (h .0))
+        ∙ ap (λ (z : List ℕ). foundFor (find mixed (Deck.inLibrary (spelled (bodyIn d m) l) z) 0 (lines d))) (in-deck sound line w v i (h .1));
   })

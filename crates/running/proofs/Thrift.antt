@@ -8,6 +8,7 @@ use mathlib.Core.Path.{_≡_, refl, subst}
 use borrow.Author.Tests.{ltb-true}
 use lib.Dec.{ltb}
 use lib.IntN.{ℤ}
+use Rattle.definition.specs.Bytes.{mixed}
 use Rattle.definition.specs.Choice.{when}
 use Rattle.definition.specs.Limits.{runningProcedures}
 use Rattle.definition.specs.Deck as Deck
@@ -39,7 +40,7 @@ module _ (least limit : ℕ) (d : List ℕ) where
   abbrev laws : Laws (Kept least limit) Any (Spent least limit)
   laws = thrift least limit
 
-  texts : (m : ℕ) (x : Stretch) (w : World) → TextOf (readMember (bodyOf d m)) x → Kept least limit w → Leaves laws Any (textOut m (bodyOf d m) x w)
+  texts : (m : ℕ) (x : Stretch) (w : World) → TextOf (readMember mixed (bodyOf d m)) x → Kept least limit w → Leaves laws Any (textOut mixed m (bodyOf d m) x w)
   texts = text-out laws d (λ e _ n v _ k. record { same = k .same; spent = k .spent })
 
   -- ACTIVATE, DEACTIVATE, DECLARE
@@ -81,11 +82,11 @@ module _ (least limit : ℕ) (d : List ℕ) where
   jump-from unknown here rs ps n h = halt laws h
 
   -- INCLUDE, with so many levels left
-  include-leaves : (n : ℕ) (p m r : ℕ) (ps : List Place) (xs : List Deck.Sought) {w : World} → Kept least limit w → Leaves laws (OfDeed Any) (includeAll (levelOf n d) d p m r ps xs w)
+  include-leaves : (n : ℕ) (p m r : ℕ) (ps : List Place) (xs : List Deck.Sought) {w : World} → Kept least limit w → Leaves laws (OfDeed Any) (includeAll mixed (levelOf n d) d p m r ps xs w)
   include-leaves zero p m r ps xs {w} h = include-all laws d texts noLevel tt p m r ps xs w h
-  include-leaves (suc n) p m r ps xs {w} h = include-all laws d texts (level (runMember n d)) (member-leaves laws d texts n) p m r ps xs w h
+  include-leaves (suc n) p m r ps xs {w} h = include-all laws d texts (level (runMember mixed n d)) (member-leaves laws d texts n) p m r ps xs w h
 
-  act-as : (s : Statement) (n p m r : ℕ) (ps : List Place) {w : World} → Kept least limit w → Leaves laws (OfDeed Any) (actAs s (levelOf n d) d p m r ps w)
+  act-as : (s : Statement) (n p m r : ℕ) (ps : List Place) {w : World} → Kept least limit w → Leaves laws (OfDeed Any) (actAs mixed s (levelOf n d) d p m r ps w)
   act-as null n p m r ps h = leaves tt h
   act-as (declare ns) n p m r ps {w} h = placed-leaves laws _ (bind-leaves laws (activate-all rescanned ns w h) λ _ v _ k. leaves tt k)
   act-as (procedure ns t) n p m r ps h = leaves tt h
@@ -108,34 +109,34 @@ module _ (least limit : ℕ) (d : List ℕ) where
     unfolding memberMachine
     values x v k = evaluate-leaves laws callOut (calls-leaves laws runningProcedures []) W.everyone x 0 v k
 
-    outs : (x : Stretch) (v : World) → TextOf (readMember (bodyOf d m)) x → Kept least limit v → Leaves laws Any (machine .out x v)
+    outs : (x : Stretch) (v : World) → TextOf (readMember mixed (bodyOf d m)) x → Kept least limit v → Leaves laws Any (machine .out x v)
     unfolding memberMachine
     outs x v k h = texts m x v k h
 
     acts : (r : ℕ) (v : World) → Kept least limit v → Leaves laws (OfDeed Any) (machine .act r v)
     unfolding memberMachine
-    acts r v k = act-as (rowOf (readMember (bodyOf d m) .rows) r .statement) n _ m r on k
+    acts r v k = act-as (rowOf (readMember mixed (bodyOf d m) .rows) r .statement) n _ m r on k
 
     jumps : (r : ℕ) (t : List ℕ) (v : World) → Kept least limit v → Leaves laws Any (machine .jump r t v)
     unfolding memberMachine
-    jumps r t v k = placed-leaves laws _ (jump-from (W.addressOf t W.everyone v) m (readMember (bodyOf d m) .rows) on r k)
+    jumps r t v k = placed-leaves laws _ (jump-from (W.addressOf t W.everyone v) m (readMember mixed (bodyOf d m) .rows) on r k)
 
-    texts-of : (r : ℕ) → TextOf (readMember (bodyOf d m)) (rowOf (machine .rows) r .text)
+    texts-of : (r : ℕ) → TextOf (readMember mixed (bodyOf d m)) (rowOf (machine .rows) r .text)
     unfolding memberMachine
     texts-of r = behind r
 
-    leads-of : (r : ℕ) → TextOf (readMember (bodyOf d m)) (rowOf (machine .rows) r .lead)
+    leads-of : (r : ℕ) → TextOf (readMember mixed (bodyOf d m)) (rowOf (machine .rows) r .lead)
     unfolding memberMachine
     leads-of r = leading r
 
     -- a statement, and what comes behind a test
     statement-left : (s : Statement) (G : List F.Frame) (r : ℕ) {w : World} → Kept least limit w → Leaves laws (OfTurn Any) (F.statement machine s G r w)
-    statement-left s G r h = statement-leaves laws machine (TextOf (readMember (bodyOf d m))) texts-of leads-of values outs acts jumps s G r h
+    statement-left s G r h = statement-leaves laws machine (TextOf (readMember mixed (bodyOf d m))) texts-of leads-of values outs acts jumps s G r h
 
     tested-left : (b : Bool) (G : List F.Frame) (g : ℕ) {w : World} → Kept least limit w → Leaves laws Any (when b (λ _. F.onward machine G (F.into machine G g w)) (λ _. F.onward machine G (F.behind machine G g w)))
     tested-left b G g {w} h =
-        when-leaves laws b _ _ (bind-any laws (into-leaves laws machine (TextOf (readMember (bodyOf d m))) texts-of leads-of values outs acts jumps G g h) λ x v k. passes laws k)
-        (bind-any laws (behind-leaves laws machine (TextOf (readMember (bodyOf d m))) texts-of leads-of values outs acts jumps G (suc g) g w h) λ x v k. passes laws k)
+        when-leaves laws b _ _ (bind-any laws (into-leaves laws machine (TextOf (readMember mixed (bodyOf d m))) texts-of leads-of values outs acts jumps G g h) λ x v k. passes laws k)
+        (bind-any laws (behind-leaves laws machine (TextOf (readMember mixed (bodyOf d m))) texts-of leads-of values outs acts jumps G (suc g) g w h) λ x v k. passes laws k)
 
     pub statement-keeps : (s : Statement) (G : List F.Frame) (r : ℕ) (w : World) → Kept least limit w → (a : F.Turn) (v : World) → F.statement machine s G r w ≡ good a v → Kept least limit v
     statement-keeps s G r w h a v e = leaves-it laws (statement-left s G r h) e .1

@@ -7,6 +7,7 @@ use Prim.Native.Nat.{ℕ, _<_}
 use borrow.Author.Tests.{eqb-true, eq-eqb, ne-eqb, eqb-false}
 use lib.Dec.{eqb}
 use lib.ListN.{length}
+use Rattle.definition.specs.Bytes.{mixed}
 use Rattle.definition.specs.Steps.{isLeft, usedAfter}
 use Rattle.definition.specs.Deck as Deck
 use Rattle.definition.specs.Program as P
@@ -173,16 +174,16 @@ module _ (deck : List ℕ) (m n left : ℕ) (on : List Place) (G : List F.Frame)
   abbrev afterIt : Res Run.Stop F.End → Res Run.Stop F.Turn
   afterIt Q = bind (bind Q (λ x u. cameOut m x u (λ y. good F.passed y))) (λ d u. F.done machine d G n u)
 
-  include-acts : (ns : List Deck.Sought) (v : World) → F.at machine n .statement ≡ P.include ns → machine .act n v ≡ Run.includeAll (levelOf left deck) deck (F.at machine n .place) m n on ns v
+  include-acts : (ns : List Deck.Sought) (v : World) → F.at machine n .statement ≡ P.include ns → machine .act n v ≡ Run.includeAll mixed (levelOf left deck) deck (F.at machine n .place) m n on ns v
   unfolding memberMachine
-  include-acts ns v e = ap (λ (x : P.Statement). Run.actAs x (levelOf left deck) deck (F.at machine n .place) m n on v) e
+  include-acts ns v e = ap (λ (x : P.Statement). Run.actAs mixed x (levelOf left deck) deck (F.at machine n .place) m n on v) e
 
   include-turns : (ns : List Deck.Sought) (v : World) (p : ℕ) → F.at machine n .statement ≡ P.include ns → p ≡ F.at machine n .place
       → F.statement machine (F.at machine n .statement) G n v ≡ afterIt (includeOn left deck p m (record { member = m; row = n } ∷ on) ns v)
   unfolding F.statement
   include-turns ns v p e f =
       ap (λ (x : P.Statement). F.statement machine x G n v) e
-      ∙ ap (λ (R : Res Run.Stop F.Deed). bind R (λ d u. F.done machine d G n u)) (include-acts ns v e ∙ ap (λ (q : ℕ). Run.includeAll (levelOf left deck) deck q m n on ns v) (sym f) ∙ include-is deck p m n on left ns v)
+      ∙ ap (λ (R : Res Run.Stop F.Deed). bind R (λ d u. F.done machine d G n u)) (include-acts ns v e ∙ ap (λ (q : ℕ). Run.includeAll mixed (levelOf left deck) deck q m n on ns v) (sym f) ∙ include-is deck p m n on left ns v)
 
 -- how its members have ended, in the world B′ that the rooms show now: R is what the statement does
 module _ (deck s rows names c l h w t ls : List ℕ) (fs : Frames) (n : ℕ) (below : Below) (here : Here) (left : ℕ) (g : Progress) (B : World) (st : Stage deck rows names c l h w t ls (here .starts) g B) (im : InMember deck s rows here B)

@@ -4,6 +4,7 @@ use mathlib.Core.Bool.{true, false}
 use mathlib.Core.Path.{_≡_}
 use mathlib.Core.List.{List, [], _∷_}
 use lib.ListN.{length}
+use Rattle.definition.specs.Bytes.{mixed}
 use Rattle.definition.specs.Room.{zeros}
 use Rattle.definition.specs.Limits.{includeLevels}
 use Rattle.definition.specs.Deck as Deck
@@ -75,7 +76,7 @@ Deep below left = below .count + left ≤ includeLevels
 
 -- what every member that runs asks for: a sound deck, and that the members below stand at rows
 pub record Running (deck s rows : List ℕ) (here : Here) (below : Below) (left : ℕ) (B : World) : Type 0 where
-  pub sound : Deck.isSound deck ≡ true
+  pub sound : Deck.isSound mixed deck ≡ true
   pub line : here .member < Deck.count deck
   pub member : InMember deck s rows here B
   pub stand : Stand (belowOf below) B
@@ -102,19 +103,19 @@ inDeck base w = record { from = sumTo greatest base (w .from); len = w .len }
 
 -- the line of the deck for what is sought, which the body of the member spells
 pub record FoundIs (deck : List ℕ) (m : ℕ) (x : Sought) (r : Found) : Type 0 where
-  pub is : Deck.isSound deck ≡ true → m < Deck.count deck → Within (length (bodyIn deck m)) x → r ≡ foundFor (Deck.find (soughtIn (bodyIn deck m) x) 0 (Deck.lines deck))
+  pub is : Deck.isSound mixed deck ≡ true → m < Deck.count deck → Within (length (bodyIn deck m)) x → r ≡ foundFor (Deck.find mixed (soughtIn (bodyIn deck m) x) 0 (Deck.lines deck))
 
 -- one of its members; `below` has the INCLUDE itself, of the member m
 pub record IncludeOneIs (deck rows names c l h w t ls : List ℕ) (x : Sought) (p : ℕ) (below : Below) (here : Here) (left : ℕ) (g : Progress) (rows′ names′ c′ l′ h′ w′ t′ ls′ : List ℕ) (r : Left) : Type 0 where
-  pub is : (B : World) → Stage deck rows names c l h w t ls (here .starts) g B → Deck.isSound deck ≡ true → here .member < Deck.count deck → Within (length (bodyIn deck (here .member))) x → Stand (belowOf below) B
+  pub is : (B : World) → Stage deck rows names c l h w t ls (here .starts) g B → Deck.isSound mixed deck ≡ true → here .member < Deck.count deck → Within (length (bodyIn deck (here .member))) x → Stand (belowOf below) B
       → below .count + left ≤ suc includeLevels → 1 ≤ below .count
       → EndsAs (belowOf below) deck rows B rows′ names′ c′ l′ h′ w′ t′ ls′ (here .member)
-      (foundRun (Deck.find (soughtIn (bodyIn deck (here .member)) x) 0 (Deck.lines deck)) left deck p (here .member) (belowOf below) (worldIn B c l h (g .meter .used))) r
+      (foundRun (Deck.find mixed (soughtIn (bodyIn deck (here .member)) x) 0 (Deck.lines deck)) left deck p (here .member) (belowOf below) (worldIn B c l h (g .meter .used))) r
 
 -- all of them: its rows are looked at where they were
 pub record IncludeAllIs (deck rows names c l h w t ls : List ℕ) (n : ℕ) (below : Below) (here : Here) (left : ℕ) (g : Progress) (rows′ names′ c′ l′ h′ w′ t′ ls′ : List ℕ) (r : Left) : Type 0 where
   pub is : (B : World) → Stage deck rows names c l h w t ls (here .starts) g B → Running deck (bodyIn deck (here .member)) rows here below left B → (ns : List Deck.Sought)
-      → n < length (readMember (bodyOf deck (here .member)) .rows) → Named (bodyIn deck (here .member)) (rowIn (partHere rows here) n .content) ns
+      → n < length (readMember mixed (bodyOf deck (here .member)) .rows) → Named (bodyIn deck (here .member)) (rowIn (partHere rows here) n .content) ns
       → EndsAs (record { member = here .member; row = n } ∷ belowOf below) deck rows B rows′ names′ c′ l′ h′ w′ t′ ls′ (here .member)
       (includeOn left deck (rowIn (partHere rows here) n .place) (here .member) (record { member = here .member; row = n } ∷ belowOf below) ns (worldIn B c l h (g .meter .used))) r
       × (startIn (r .starts) (here .member) ≡ startIn (here .starts) (here .member))
@@ -145,12 +146,12 @@ pub record SourceOf (x : P.Source) (y : Source) : Type 0 where
   pub first : linkOf (y .first) ≡ x .first
 
 pub record SourceIs (deck rows names c l h w t ls : List ℕ) (y : Source) (below : Below) (here : Here) (left : ℕ) (g : Progress) (rows′ names′ c′ l′ h′ w′ t′ ls′ : List ℕ) (r : Left) : Type 0 where
-  pub is : (B : World) → Stage deck rows names c l h w t ls (here .starts) g B → Running deck (bodyIn deck (here .member)) rows here below left B → SourceOf (readMember (bodyOf deck (here .member))) y
-      → EndsAs (belowOf below) deck rows B rows′ names′ c′ l′ h′ w′ t′ ls′ (here .member) (Run.runMember left deck (here .member) (belowOf below) (worldIn B c l h (g .meter .used))) r
+  pub is : (B : World) → Stage deck rows names c l h w t ls (here .starts) g B → Running deck (bodyIn deck (here .member)) rows here below left B → SourceOf (readMember mixed (bodyOf deck (here .member))) y
+      → EndsAs (belowOf below) deck rows B rows′ names′ c′ l′ h′ w′ t′ ls′ (here .member) (Run.runMember mixed left deck (here .member) (belowOf below) (worldIn B c l h (g .meter .used))) r
 
 -- THE MEMBER of a line of the deck, which is read, entered and run
 pub record EnterIs (deck rows names c l h w t ls : List ℕ) (below : Below) (here : Here) (left : ℕ) (g : Progress) (rows′ names′ c′ l′ h′ w′ t′ ls′ : List ℕ) (r : Left) : Type 0 where
-  pub is : (B : World) → Stage deck rows names c l h w t ls (here .starts) g B → Deck.isSound deck ≡ true → here .member < Deck.count deck → Stand (belowOf below) B → Deep below left
+  pub is : (B : World) → Stage deck rows names c l h w t ls (here .starts) g B → Deck.isSound mixed deck ≡ true → here .member < Deck.count deck → Stand (belowOf below) B → Deep below left
       → EndsAs (belowOf below) deck rows B rows′ names′ c′ l′ h′ w′ t′ ls′ (here .member) (enterRun left deck (here .member) (belowOf below) (worldIn B c l h (g .meter .used))) r
 
 -- ---- THE RUN of a sound deck, where the text room and the list room are zero: R is the end of the main program
@@ -159,5 +160,5 @@ RanTo deck y t ls R (Rn.Good g) = (B : World) × Written (sizeIn deck) y t ls (g
 RanTo deck y t ls R (Rn.Bad x g) = (e : Run.Stop) × (e ≡ stopFor x) × (X.result R ≡ X.refusal (e .why) (e .member) (e .place) (g .meter .used))
 
 pub record RunIs (y : Layout) (deck rows names c l h w t ls : List ℕ) (steps : ℕ) (t′ ls′ : List ℕ) (r : Ran) : Type 0 where
-  pub is : Deck.isSound deck ≡ true → Roomy rows names c → 65536 ≤ length l → 65536 ≤ length h → 65536 ≤ length w → t ≡ zeros (length t) → ls ≡ zeros (length ls)
+  pub is : Deck.isSound mixed deck ≡ true → Roomy rows names c → 65536 ≤ length l → 65536 ≤ length h → 65536 ≤ length w → t ≡ zeros (length t) → ls ≡ zeros (length ls)
       → RanTo deck y t′ ls′ (enterRun includeLevels deck 0 [] (X.worldFor y (length t) (length ls) steps)) r

@@ -7,6 +7,7 @@ use Prim.Native.Nat.{ℕ, suc, _+_, _-_, _<_, _≤_}
 use native.Mathlib.Omega.{arith}
 use lib.ListN.{length, take, length-set}
 use lib.IntN.{ℤ}
+use Rattle.definition.specs.Bytes.{mixed}
 use Rattle.definition.specs.Lists.{part}
 use Rattle.definition.specs.Tokens.{tokenAt}
 use Rattle.definition.specs.Values as Val
@@ -204,10 +205,10 @@ module _ (deck names : List ℕ) (sc : Scene) (pl : Place) (T : List ℕ) (pa : 
   abbrev nw : World
   nw = namesWorld deck names (sc .names)
 
-  next-is : (prm : Parameter) → pa ≡ P.Is prm → prm .to ≡ tokenAt (bodyIn deck (pl .member)) (tokenAt (bodyIn deck (pl .member)) at .to) .to
+  next-is : (prm : Parameter) → pa ≡ P.Is prm → prm .to ≡ tokenAt mixed (bodyIn deck (pl .member)) (tokenAt mixed (bodyIn deck (pl .member)) at .to) .to
   next-is prm f =
-      let g : P.Is prm ≡ P.Is (record { address = prm .address; «value_type» = prm .«value_type»; to = tokenAt (bodyIn deck (pl .member)) (tokenAt (bodyIn deck (pl .member)) at .to) .to }) = rw f at (pi .to) in
-      let j : prm ≡ record { address = prm .address; «value_type» = prm .«value_type»; to = tokenAt (bodyIn deck (pl .member)) (tokenAt (bodyIn deck (pl .member)) at .to) .to } = cc in
+      let g : P.Is prm ≡ P.Is (record { address = prm .address; «value_type» = prm .«value_type»; to = tokenAt mixed (bodyIn deck (pl .member)) (tokenAt mixed (bodyIn deck (pl .member)) at .to) .to }) = rw f at (pi .to) in
+      let j : prm ≡ record { address = prm .address; «value_type» = prm .«value_type»; to = tokenAt mixed (bodyIn deck (pl .member)) (tokenAt mixed (bodyIn deck (pl .member)) at .to) .to } = cc in
       ap (λ (a : Parameter). a .to) j
 
   and-gives : (a : Val.Answer (List Ev.Parameter)) (p₀ q₀ : Ev.Parameter) (qs : List Ev.Parameter) → Val.andThen a (λ ps. Val.gives (p₀ ∷ ps)) ≡ Val.gives (q₀ ∷ qs) → (a ≡ Val.gives qs) × (p₀ ≡ q₀)

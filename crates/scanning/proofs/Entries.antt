@@ -8,6 +8,7 @@ use native.Mathlib.Omega.{arith}
 use borrow.Author.Tests.{eq-eqb, ne-eqb}
 use lib.Dec.{eqb}
 use lib.ListN.{length}
+use Rattle.definition.specs.Bytes.{mixed}
 use Rattle.definition.specs.Values as Val
 use Rattle.definition.specs.World.{World, Res, bad, bind}
 use Rattle.definition.specs.Evaluate as Ev
@@ -70,7 +71,7 @@ waiting-none k u ps e = rw e tt
 
 module _ (deck s rows names c l h w t : List ℕ) (x : Src) (p : ℕ) (z : Callee) (y : Activity) (o : Dest) (u n : ℕ) (sc : Scene) (m : Meter) where
   abbrev entered : World → Ev.Callee → Res Why D.Replaced
-  entered B b = D.replaceEntry (runIn sc) (scannerIn sc n) (textOf s w x) p (activityOf y) (intoOf o) u b (worldIn B c l h (m .used))
+  entered B b = D.replaceEntry mixed (runIn sc) (scannerIn sc n) (textOf s w x) p (activityOf y) (intoOf o) u b (worldIn B c l h (m .used))
 
   plain-is : (B : World) (b : Ev.Callee) (k : Held) → b .parameters ≡ [] → entered B b ≡ D.upTo p (D.callWith (runIn sc) (scannerIn sc n) (activityOf y) (intoOf o) u b (heldFrom w k 0 u (b .parameters)) (worldIn B c l h (m .used)))
   unfolding D.replaceEntry
@@ -84,11 +85,11 @@ module _ (deck s rows names c l h w t : List ℕ) (x : Src) (p : ℕ) (z : Calle
   })
 
   module _ (many : 1 ≤ z .count) (ls : Listing) (li : ListIn (roomOf s w x) (x .from) (x .to) p ls) where
-    list-is : Sourced s w x u → ls ≡ listingFor (pastBlanks (textOf s w x) p + 1) (listAt (textOf s w x) p)
+    list-is : Sourced s w x u → ls ≡ listingFor (pastBlanks (textOf s w x) p + 1) (listAt mixed (textOf s w x) p)
     unfolding textOf
     list-is so = li .is (so .within)
 
-    with-is : (B : World) (b : Ev.Callee) → CalleeShown deck names (sc .names) z b B → (a : D.Arguments) → listAt (textOf s w x) p ≡ a → entered B b ≡ D.withList (runIn sc) (scannerIn sc n) (textOf s w x) (activityOf y) (intoOf o) u b a (worldIn B c l h (m .used))
+    with-is : (B : World) (b : Ev.Callee) → CalleeShown deck names (sc .names) z b B → (a : D.Arguments) → listAt mixed (textOf s w x) p ≡ a → entered B b ≡ D.withList (runIn sc) (scannerIn sc n) (textOf s w x) (activityOf y) (intoOf o) u b a (worldIn B c l h (m .used))
     unfolding D.replaceEntry
     with-is B b cs a e = let f : length (b .parameters) ≡ 0 → ⊥ = λ i. omega (arith, cs .count) in rw (ne-eqb (length (b .parameters)) 0 f, e)
 
@@ -96,11 +97,11 @@ module _ (deck s rows names c l h w t : List ℕ) (x : Src) (p : ℕ) (z : Calle
     wrong B b g q = gone-bad B o u w t c l h w t WrongArguments m _ (sym q) (left-same deck rows names c l h w u sc m t o B g)
 
     pub entry-none : ls ≡ L.NoList → EntryIs deck s rows names c l h w t x p z y o u n sc m c l h w t (R.Bad WrongArguments m)
-    entry-none e = record { is = λ B g so on b cs. wrong B b g (with-is B b cs noList (listed-none (listAt (textOf s w x) p) (pastBlanks (textOf s w x) p + 1) (sym e ∙ list-is so))) }
+    entry-none e = record { is = λ B g so on b cs. wrong B b g (with-is B b cs noList (listed-none (listAt mixed (textOf s w x) p) (pastBlanks (textOf s w x) p + 1) (sym e ∙ list-is so))) }
 
     module _ (cnt first q : ℕ) (e : ls ≡ L.Upto cnt first q) where
-      listed : Sourced s w x u → ListedAs (listAt (textOf s w x) p) (pastBlanks (textOf s w x) p + 1) cnt first q
-      listed so = listed-as (listAt (textOf s w x) p) (pastBlanks (textOf s w x) p + 1) cnt first q (sym e ∙ list-is so)
+      listed : Sourced s w x u → ListedAs (listAt mixed (textOf s w x) p) (pastBlanks (textOf s w x) p + 1) cnt first q
+      listed so = listed-as (listAt mixed (textOf s w x) p) (pastBlanks (textOf s w x) p + 1) cnt first q (sym e ∙ list-is so)
 
       pub entry-many : (cnt ≡ z .count → ⊥) → EntryIs deck s rows names c l h w t x p z y o u n sc m c l h w t (R.Bad WrongArguments m)
       entry-many f = record {
@@ -112,7 +113,7 @@ module _ (deck s rows names c l h w t : List ℕ) (x : Src) (p : ℕ) (z : Calle
 
       module _ (same : cnt ≡ z .count) (c₁ l₁ h₁ w₁ t₁ : List ℕ) (k : Held) (oc : Outcome) (tk : TakenIs deck s rows names c l h w t x first z u n sc m c₁ l₁ h₁ w₁ t₁ k oc) where
         module _ (B : World) (g : Stage deck rows names c l h w u sc m t o B) (so : Sourced s w x u) (b : Ev.Callee) (cs : CalleeShown deck names (sc .names) z b B) where
-          abbrev d : ListedAs (listAt (textOf s w x) p) (pastBlanks (textOf s w x) p + 1) cnt first q
+          abbrev d : ListedAs (listAt mixed (textOf s w x) p) (pastBlanks (textOf s w x) p + 1) cnt first q
           d = listed so
 
           sized : length (d .arguments) ≡ length (b .parameters)

@@ -8,6 +8,7 @@ use native.Mathlib.Numerals.{add-one}
 use native.Mathlib.Omega.{arith}
 use borrow.Author.Tests.{le-leb, lt-leb}
 use lib.ListN.{length}
+use Rattle.definition.specs.Bytes.{mixed}
 use Rattle.definition.specs.Choice.{when}
 use Rattle.definition.specs.Lists.{part}
 use Rattle.definition.specs.Steps.{isLeft, usedAfter}
@@ -67,7 +68,7 @@ token-bind (D.active a y) f i t out u p q w on = refl
 
 -- ---- THE INVARIANT: what is left to scan, behind the outcome so far, gives what all gives
 pub record Going (s c₀ l₀ h₀ w₀ t₀ : List ℕ) (x : Src) (o : Dest) (u n : ℕ) (sc : Scene) (m₀ : Meter) (B : World) (turns k p : ℕ) (m : Meter) (c l h w t : List ℕ) : Type 0 where
-  pub same : D.scanOn (replacerIn sc n) (intoOf o) (textOf s w₀ x) u turns (outIn o t w u k) p (worldIn B c l h (m .used)) ≡ scannerIn sc n (intoOf o) (textOf s w₀ x) u (worldIn B c₀ l₀ h₀ (m₀ .used))
+  pub same : D.scanOn mixed (replacerIn sc n) (intoOf o) (textOf s w₀ x) u turns (outIn o t w u k) p (worldIn B c l h (m .used)) ≡ scannerIn sc n (intoOf o) (textOf s w₀ x) u (worldIn B c₀ l₀ h₀ (m₀ .used))
   pub put : Put B o u t₀ w t k
   pub left : Left B u w₀ t₀ c l h w t m
 
@@ -121,7 +122,7 @@ module _ (deck s rows names c₀ l₀ h₀ w₀ t₀ : List ℕ) (x : Src) (o : 
       now-is : Going s c₀ l₀ h₀ w₀ t₀ x o u n sc m₀ B turns k p m c l h w t
       now-is = i .so B g q
 
-      turn : (f : ℕ) → turns ≡ suc f → bind (charge (worldIn B c l h (m .used))) (λ _ v. D.token (D.activeIn (pieceAt text p .piece) v) (replacerIn sc n) (intoOf o) text (outIn o t w u k) u p (pieceAt text p .to) v (λ o₁ q₁ x₁. D.scanOn (replacerIn sc n) (intoOf o) text u f o₁ q₁ x₁)) ≡ all
+      turn : (f : ℕ) → turns ≡ suc f → bind (charge (worldIn B c l h (m .used))) (λ _ v. D.token (D.activeIn (pieceAt mixed text p .piece) v) (replacerIn sc n) (intoOf o) text (outIn o t w u k) u p (pieceAt mixed text p .to) v (λ o₁ q₁ x₁. D.scanOn mixed (replacerIn sc n) (intoOf o) text u f o₁ q₁ x₁)) ≡ all
       unfolding D.scanOn
       turn f j = rw (j, lt-leb (length text) p (omega (arith, text-length s w₀ x))) at (now-is .same)
 
@@ -132,12 +133,12 @@ module _ (deck s rows names c₀ l₀ h₀ w₀ t₀ : List ℕ) (x : Src) (o : 
       none-is j f v = rw (charge-none B c l h m r ch (now-is .left .limit) j) at (turn f v)
 
       paid-is : r .paid ≡ true → (f : ℕ) → turns ≡ suc f
-          → bind (tokenAt (replacerIn sc n) (intoOf o) text k u p (worldIn B c l h (r .meter .used))) (λ y v. D.scanOn (replacerIn sc n) (intoOf o) text u f (outIn o t w u k ++ y .bytes) (y .to) v) ≡ all
+          → bind (tokenAt (replacerIn sc n) (intoOf o) text k u p (worldIn B c l h (r .meter .used))) (λ y v. D.scanOn mixed (replacerIn sc n) (intoOf o) text u f (outIn o t w u k ++ y .bytes) (y .to) v) ≡ all
       unfolding tokenAt
       paid-is j f v =
-          let a : D.token (D.activeIn (pieceAt text p .piece) (worldIn B c l h (r .meter .used))) (replacerIn sc n) (intoOf o) text (outIn o t w u k) u p (pieceAt text p .to) (worldIn B c l h (r .meter .used)) (λ o₁ q₁ x₁. D.scanOn (replacerIn sc n) (intoOf o) text u f o₁ q₁ x₁) ≡ all =
+          let a : D.token (D.activeIn (pieceAt mixed text p .piece) (worldIn B c l h (r .meter .used))) (replacerIn sc n) (intoOf o) text (outIn o t w u k) u p (pieceAt mixed text p .to) (worldIn B c l h (r .meter .used)) (λ o₁ q₁ x₁. D.scanOn mixed (replacerIn sc n) (intoOf o) text u f o₁ q₁ x₁) ≡ all =
           rw (charge-paid B c l h m r ch (now-is .left .limit) j) at (turn f v) in
-          let b = token-bind (D.activeIn (pieceAt text p .piece) (worldIn B c l h (r .meter .used))) (replacerIn sc n) (intoOf o) text (outIn o t w u k) u p (pieceAt text p .to) (worldIn B c l h (r .meter .used)) (λ o₁ q₁ x₁. D.scanOn (replacerIn sc n) (intoOf o) text u f o₁ q₁ x₁) in
+          let b = token-bind (D.activeIn (pieceAt mixed text p .piece) (worldIn B c l h (r .meter .used))) (replacerIn sc n) (intoOf o) text (outIn o t w u k) u p (pieceAt mixed text p .to) (worldIn B c l h (r .meter .used)) (λ o₁ q₁ x₁. D.scanOn mixed (replacerIn sc n) (intoOf o) text u f o₁ q₁ x₁) in
           rw (out-length o t w u k) at (sym b ∙ a)
 
       source-now : textOf s w x ≡ text

@@ -5,6 +5,7 @@ use mathlib.Core.Bool.{true, false}
 use mathlib.Core.List.{List}
 use Prim.Native.Nat.{ℕ, _-_, _<_, _≤_}
 use lib.ListN.{length}
+use Rattle.definition.specs.Bytes.{mixed}
 use Rattle.definition.specs.Lists.{part}
 use Rattle.definition.specs.Room.{over}
 use Rattle.definition.specs.World.{World, Res, good, bad}
@@ -70,22 +71,22 @@ module _ (deck s rows names c l h w t : List ℕ) (x : Src) (p a : ℕ) (y : Act
   unfolding textOf stretchOf
   text-is = rw room-is
 
-  here-is : (k : World) → replacerIn sc n (textOf s w x) p a (activityOf y) (intoOf (toPlace at room)) 0 k ≡ D.replacer callOut n (part (x .to - x .from) (x .from) s) p a (activityOf y) (D.toText room) 0 k
+  here-is : (k : World) → replacerIn sc n (textOf s w x) p a (activityOf y) (intoOf (toPlace at room)) 0 k ≡ D.replacer mixed callOut n (part (x .to - x .from) (x .from) s) p a (activityOf y) (D.toText room) 0 k
   unfolding replacerIn intoOf
   here-is k =
-      ap (λ (z : List ℕ). D.replacer (runIn sc) n z p a (activityOf y) (D.toText room) 0 k) text-is
-      ∙ ap (λ (z : Call). D.replacer z n (part (x .to - x .from) (x .from) s) p a (activityOf y) (D.toText room) 0 k) (run-out sc none)
+      ap (λ (z : List ℕ). D.replacer mixed (runIn sc) n z p a (activityOf y) (D.toText room) 0 k) text-is
+      ∙ ap (λ (z : Call). D.replacer mixed z n (part (x .to - x .from) (x .from) s) p a (activityOf y) (D.toText room) 0 k) (run-out sc none)
 
   sourced : Within s (x .from) (x .to) → Sourced s w x 0
   sourced k = record { within = rw room-is k; below = λ f. never _ (let z : false ≡ true = sym out ∙ f in cc) }
 
   gone : (B : World) → Stage deck rows names c l h w 0 sc m t (toPlace at room) B → Within s (x .from) (x .to) → a < sc .names → isOn y ≡ true
-      → Gone B (toPlace at room) 0 w t c′ l′ h′ w′ t′ r (D.replacer callOut n (part (x .to - x .from) (x .from) s) p a (activityOf y) (D.toText room) 0 (worldIn B c l h (m .used)))
+      → Gone B (toPlace at room) 0 w t c′ l′ h′ w′ t′ r (D.replacer mixed callOut n (part (x .to - x .from) (x .from) s) p a (activityOf y) (D.toText room) 0 (worldIn B c l h (m .used)))
   gone B g k lt on = rw (← here-is (worldIn B c l h (m .used))) (ri .is B g (sourced k) lt on)
 
   -- THE REPLACEMENT in program text is the definition's
   pub replaced-here : (B : World) → Stage deck rows names c l h w 0 sc m t (toPlace at room) B → Within s (x .from) (x .to) → a < sc .names → isOn y ≡ true
-      → WentAs B t c′ l′ h′ t′ at room r (D.replacer callOut n (part (x .to - x .from) (x .from) s) p a (activityOf y) (D.toText room) 0 (worldIn B c l h (m .used)))
+      → WentAs B t c′ l′ h′ t′ at room r (D.replacer mixed callOut n (part (x .to - x .from) (x .from) s) p a (activityOf y) (D.toText room) 0 (worldIn B c l h (m .used)))
   replaced-here B g k lt on = went-as B 0 w t c′ l′ h′ w′ t′ at room r _ (gone B g k lt on)
 
   -- and what it leaves as it was

@@ -7,6 +7,7 @@ use Prim.Native.Nat.{ℕ, zero, suc, _+_, _-_, _<_, _≤_}
 use native.Mathlib.Nat.{zero-add, add-zero}
 use native.Mathlib.Omega.{arith}
 use lib.ListN.{length, getD}
+use Rattle.definition.specs.Bytes.{mixed}
 use Rattle.definition.specs.Values as Val
 use Rattle.definition.specs.World as W
 use Rattle.definition.specs.World.{World, bad, bind, ask, variableOf, entryOf, builtinName}
@@ -74,11 +75,11 @@ module _ (deck s rows names c l h w t : List ℕ) (x : Src) (p a : ℕ) (y : Act
     abbrev n : ℕ
     n = left - 1
 
-    replacer-suc : (j : ℕ) (T : List ℕ) (W₁ : World) → replacerIn sc (suc j) T p a (activityOf y) (intoOf o) u W₁ ≡ D.replaceAs (W.denotation a W₁) (runIn sc) (scannerIn sc j) T p a (activityOf y) (intoOf o) u W₁
+    replacer-suc : (j : ℕ) (T : List ℕ) (W₁ : World) → replacerIn sc (suc j) T p a (activityOf y) (intoOf o) u W₁ ≡ D.replaceAs mixed (W.denotation a W₁) (runIn sc) (scannerIn sc j) T p a (activityOf y) (intoOf o) u W₁
     unfolding replacerIn D.replacer scannerIn
     replacer-suc j T W₁ = refl
 
-    replacer-is : (T : List ℕ) (W₁ : World) → replacerIn sc left T p a (activityOf y) (intoOf o) u W₁ ≡ D.replaceAs (W.denotation a W₁) (runIn sc) (scannerIn sc n) T p a (activityOf y) (intoOf o) u W₁
+    replacer-is : (T : List ℕ) (W₁ : World) → replacerIn sc left T p a (activityOf y) (intoOf o) u W₁ ≡ D.replaceAs mixed (W.denotation a W₁) (runIn sc) (scannerIn sc n) T p a (activityOf y) (intoOf o) u W₁
     replacer-is T W₁ = let q : left ≡ suc (left - 1) = omega arith in ap (λ (z : ℕ). replacerIn sc z T p a (activityOf y) (intoOf o) u W₁) q ∙ replacer-suc (left - 1) T W₁
 
     module _ (B : World) (g : Stage deck rows names c l h w u sc m t o B) (lt : a < sc .names) where
@@ -88,7 +89,7 @@ module _ (deck s rows names c l h w t : List ℕ) (x : Src) (p a : ℕ) (y : Act
       denotation-is : getD (B .denotations) a builtinName ≡ denotationOf (nm .denotation)
       denotation-is = rw (g .shows .named .denotations) (denotations-at names 0 (sc .names) a lt ∙ rw (zero-add, e))
 
-      as-is : (T : List ℕ) (d : W.Denotation) → denotationOf (nm .denotation) ≡ d → replacerIn sc left T p a (activityOf y) (intoOf o) u world ≡ D.replaceAs d (runIn sc) (scannerIn sc n) T p a (activityOf y) (intoOf o) u world
+      as-is : (T : List ℕ) (d : W.Denotation) → denotationOf (nm .denotation) ≡ d → replacerIn sc left T p a (activityOf y) (intoOf o) u world ≡ D.replaceAs mixed d (runIn sc) (scannerIn sc n) T p a (activityOf y) (intoOf o) u world
       as-is T d f = replacer-is T world ∙ rw (denotation-is ∙ f)
 
       wrong : (T : List ℕ) (f : Why) → replacerIn sc left T p a (activityOf y) (intoOf o) u world ≡ bad f (m .used) → Gone B o u w t c l h w t (R.Bad f m) (replacerIn sc left T p a (activityOf y) (intoOf o) u world)
@@ -142,7 +143,7 @@ module _ (deck s rows names c l h w t : List ℕ) (x : Src) (p a : ℕ) (y : Act
 
     module _ (en : Entry) (f : nm .denotation ≡ N.EntryName en) (yc : Called) (co : CalleeOf deck rows (sc .starts) names (sc .names) (en .body) yc) where
       entry-is : (B : World) (g : Stage deck rows names c l h w u sc m t o B) (lt : a < sc .names) (T : List ℕ) (b : Body) → en .body ≡ b → (q : Val.Answer Ev.Callee) → callee (bodyOf b) (worldIn B c l h (m .used)) ≡ q
-          → replacerIn sc left T p a (activityOf y) (intoOf o) u (worldIn B c l h (m .used)) ≡ bind (ask q (worldIn B c l h (m .used))) (λ z v. D.replaceEntry (runIn sc) (scannerIn sc (left - 1)) T p (activityOf y) (intoOf o) u z v)
+          → replacerIn sc left T p a (activityOf y) (intoOf o) u (worldIn B c l h (m .used)) ≡ bind (ask q (worldIn B c l h (m .used))) (λ z v. D.replaceEntry mixed (runIn sc) (scannerIn sc (left - 1)) T p (activityOf y) (intoOf o) u z v)
       entry-is B g lt T b i q j = as-is B g lt T (entryOf (en .declared) (bodyOf (en .body))) (ap denotationOf f) ∙ rw (i, j)
 
       place-is : (B : World) (g : Stage deck rows names c l h w u sc m t o B) (lt : a < sc .names) (pl : Place) → en .body ≡ Bd.At pl → Found deck rows names (sc .names) pl yc (worldIn B c l h (m .used)) B

@@ -8,6 +8,7 @@ use native.Mathlib.Omega.{arith}
 use borrow.Author.Tests.{leb-true}
 use lib.Dec.{leb}
 use lib.ListN.{length, take}
+use Rattle.definition.specs.Bytes.{mixed}
 use Rattle.definition.specs.Choice.{when}
 use Rattle.definition.specs.Lists.{part}
 use Rattle.definition.specs.Room.{over}
@@ -185,14 +186,14 @@ module _ (deck s rows names c l h w t : List ℕ) (x : Src) (p k : ℕ) (o : Des
     abbrev world : World
     world = worldIn B c l h (m .used)
 
-    piece-at : y ≡ pieceFor (pieceAt text p)
+    piece-at : y ≡ pieceFor (pieceAt mixed text p)
     unfolding textOf
     piece-at = pi .is (so .within) lt
 
-    to-is : y .to ≡ pieceAt text p .to
+    to-is : y .to ≡ pieceAt mixed text p .to
     to-is = ap (λ (z : Piece). z .to) piece-at
 
-    active-at : activeFor act ≡ D.activeIn (pieceAt text p .piece) world
+    active-at : activeFor act ≡ D.activeIn (pieceAt mixed text p .piece) world
     unfolding textOf
     active-at = ah .is world (record { identifiers = g .awake .identifiers; activities = g .awake .activities }) (so .within) lt (pi .is (so .within) lt)
 
@@ -207,7 +208,7 @@ module _ (deck s rows names c l h w t : List ℕ) (x : Src) (p k : ℕ) (o : Des
     unfolding bytesAt textOf stretchOf
     bytes-are = rw (sum-fits (x .from) p (omega (arith, so .within .short))) (sym (part-of-part (y .to - p) p (x .to - x .from) (x .from) (roomOf s w x) (omega (arith, past-place .0, past-place .1))))
 
-    token-is : (z : D.Active) → D.activeIn (pieceAt text p .piece) world ≡ z → tokenAt (replacerIn sc n) (intoOf o) text k u p world ≡ tokenBy z (replacerIn sc n) (intoOf o) text k u p (y .to) world
+    token-is : (z : D.Active) → D.activeIn (pieceAt mixed text p .piece) world ≡ z → tokenAt (replacerIn sc n) (intoOf o) text k u p world ≡ tokenBy z (replacerIn sc n) (intoOf o) text k u p (y .to) world
     unfolding tokenAt
     token-is z e = rw (e, to-is)
 
@@ -243,8 +244,8 @@ module _ (deck s rows names c l h w t : List ℕ) (x : Src) (p k : ℕ) (o : Des
     replaced-by : (c′ l′ h′ w′ t′ : List ℕ) (r : Replaced) (a : Address) (v : Activity) → act ≡ IsActive a v → ReplaceIs deck s rows names c l h w t x (y .to) (a .0) v (afterOf o k) (waitingOf o u k) n sc m c′ l′ h′ w′ t′ r
         → k ≤ o .room → (o .«to_work» ≡ true → u + k ≤ 65536) → Gone B (afterOf o k) (waitingOf o u k) w t c′ l′ h′ w′ t′ r (tokenAt (replacerIn sc n) (intoOf o) text k u p world)
     replaced-by c′ l′ h′ w′ t′ r a v e ri kr kf =
-        let aw : (D.activeIn (pieceAt text p .piece) world ≡ D.active (a .0) (activityOf v)) × (a .0 < sc .names) × (isOn v ≡ true) =
-        awake-active deck names (sc .names) world (record { identifiers = g .awake .identifiers; activities = g .awake .activities }) (pieceAt text p .piece) act a v active-at e in
+        let aw : (D.activeIn (pieceAt mixed text p .piece) world ≡ D.active (a .0) (activityOf v)) × (a .0 < sc .names) × (isOn v ≡ true) =
+        awake-active deck names (sc .names) world (record { identifiers = g .awake .identifiers; activities = g .awake .activities }) (pieceAt mixed text p .piece) act a v active-at e in
         let st : Stage deck rows names c l h w (waitingOf o u k) sc m t (afterOf o k) B = stage-on deck rows names c l h w u sc m t o B c l h w (waitingOf o u k) m t (afterOf o k) g (g .shows .slots) refl (wait-top o u k (g .shows .taken) kf) (g .shows .limit) (aims-after t o k (g .aims) kr) in
         let ss : Sourced s w x (waitingOf o u k) = source-still s w w x u (waitingOf o u k) so refl (wait-low o u k kf) in
         let q : tokenAt (replacerIn sc n) (intoOf o) text k u p world ≡ replacerIn sc n text (y .to) (a .0) (activityOf v) (intoOf (afterOf o k)) (waitingOf o u k) world =

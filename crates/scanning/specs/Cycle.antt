@@ -4,6 +4,7 @@ use mathlib.Core.Bool.{Bool, true, false, cond}
 use mathlib.Core.Path.{_≡_}
 use mathlib.Core.List.{List}
 use lib.ListN.{length, take}
+use Rattle.definition.specs.Bytes.{mixed}
 use Rattle.definition.specs.Choice.{when}
 use Rattle.definition.specs.Limits.{textBytes, unfinishedBytes}
 use Rattle.definition.specs.Lists.{part}
@@ -119,10 +120,10 @@ pub record Gone (B : World) (o : Dest) (u : ℕ) (w t c′ l′ h′ w′ t′ :
 -- ---- the cycle
 -- how a text is scanned with n levels left
 unfoldable pub scannerIn : Scene → ℕ → Scanner
-scannerIn x n = λ i t u w. D.scanWith (D.replacer (runIn x) n) i t u w
+scannerIn x n = λ i t u w. D.scanWith mixed (D.replacer mixed (runIn x) n) i t u w
 
 unfoldable pub replacerIn : Scene → ℕ → Replacer
-replacerIn x n = λ t p a y i u w. D.replacer (runIn x) n t p a y i u w
+replacerIn x n = λ t p a y i u w. D.replacer mixed (runIn x) n t p a y i u w
 
 abbrev pub isOn : Activity → Bool
 isOn A.Inactive = false
@@ -139,7 +140,7 @@ tokenBy D.notActive replace i t k u p q w = when (D.fits i u k (q - p)) (λ _. g
 tokenBy (D.active a y) replace i t k u p q w = replace t q a y (D.after i k) (D.waiting i u k) w
 
 unfoldable pub tokenAt : Replacer → Into → List ℕ → ℕ → ℕ → ℕ → World → Res Why D.Replaced
-tokenAt replace i t k u p w = tokenBy (D.activeIn (pieceAt t p .piece) w) replace i t k u p (pieceAt t p .to) w
+tokenAt replace i t k u p w = tokenBy (D.activeIn (pieceAt mixed t p .piece) w) replace i t k u p (pieceAt mixed t p .to) w
 
 pub record TokenIs (deck s rows names c l h w t : List ℕ) (x : Src) (p k : ℕ) (o : Dest) (u n : ℕ) (sc : Scene) (m : Meter) (c′ l′ h′ w′ t′ : List ℕ) (r : Replaced) : Type 0 where
   pub is : (B : World) → Stage deck rows names c l h w u sc m t o B → Sourced s w x u → p < x .to - x .from → k ≤ o .room → (o .«to_work» ≡ true → u + k ≤ unfinishedBytes)
@@ -152,7 +153,7 @@ pub record ReplaceIs (deck s rows names c l h w t : List ℕ) (x : Src) (p a : �
 
 pub record EntryIs (deck s rows names c l h w t : List ℕ) (x : Src) (p : ℕ) (z : Callee) (y : Activity) (o : Dest) (u n : ℕ) (sc : Scene) (m : Meter) (c′ l′ h′ w′ t′ : List ℕ) (r : Replaced) : Type 0 where
   pub is : (B : World) → Stage deck rows names c l h w u sc m t o B → Sourced s w x u → isOn y ≡ true → (b : Ev.Callee) → CalleeShown deck names (sc .names) z b B
-      → Gone B o u w t c′ l′ h′ w′ t′ r (D.replaceEntry (runIn sc) (scannerIn sc n) (textOf s w x) p (activityOf y) (intoOf o) u b (worldIn B c l h (m .used)))
+      → Gone B o u w t c′ l′ h′ w′ t′ r (D.replaceEntry mixed (runIn sc) (scannerIn sc n) (textOf s w x) p (activityOf y) (intoOf o) u b (worldIn B c l h (m .used)))
 
 pub record CallWith (deck s rows names c l h w t : List ℕ) (z : Callee) (k : Held) (y : Activity) (o : Dest) (u n : ℕ) (sc : Scene) (m : Meter) (c′ l′ h′ w′ t′ : List ℕ) (r : Scanned) : Type 0 where
   pub is : (B : World) → Stage deck rows names c l h w u sc m t o B → isOn y ≡ true → (b : Ev.Callee) → CalleeShown deck names (sc .names) z b B → Waiting k 0 u (b .parameters)

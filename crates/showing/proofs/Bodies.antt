@@ -10,6 +10,7 @@ use borrow.Author.Tests.{eqb-true, le-leb, ltb-true, ltb-false}
 use lib.Dec.{ltb, eqb}
 use lib.ListN.{length, getD, take, drop}
 use lib.Seq.{drop-cons}
+use Rattle.definition.specs.Bytes.{mixed}
 use Rattle.definition.specs.Lists.{part}
 use Rattle.definition.specs.Deck.{Sought, count, linePlace, lineAt, linesFrom, lines, line, find, isCalled, follow, isSound}
 use Rattle.definition.specs.Run.{bodyOf}
@@ -21,16 +22,16 @@ use Rattle.statements.specs.Clauses.{Lies}
 use Rattle.reading.specs.Members.{baseOf}
 
 -- ---- a line that is found is one of the deck
-found-by : (t : Bool) (x : Sought) (d : List ℕ) (i n k : ℕ) → cond t (line i) (find x (suc i) (linesFrom d (suc i) n)) ≡ line k → (find x (suc i) (linesFrom d (suc i) n) ≡ line k → k < suc i + n) → k < i + suc n
+found-by : (t : Bool) (x : Sought) (d : List ℕ) (i n k : ℕ) → cond t (line i) (find mixed x (suc i) (linesFrom d (suc i) n)) ≡ line k → (find mixed x (suc i) (linesFrom d (suc i) n) ≡ line k → k < suc i + n) → k < i + suc n
 found-by true x d i n k e h = let z : i ≡ k = cc in omega arith
 found-by false x d i n k e h = omega (arith, h e)
 
-found-low : (x : Sought) (d : List ℕ) (i n k : ℕ) → find x i (linesFrom d i n) ≡ line k → k < i + n
+found-low : (x : Sought) (d : List ℕ) (i n k : ℕ) → find mixed x i (linesFrom d i n) ≡ line k → k < i + n
 unfolding find linesFrom
 found-low x d i zero k e = let z : _≡_ {A = ℕ} 0 1 = cc in absurd (omega arith)
-found-low x d i (suc n) k e = found-by (isCalled x (lineAt d i)) x d i n k e (found-low x d (suc i) n k)
+found-low x d i (suc n) k e = found-by (isCalled mixed x (lineAt d i)) x d i n k e (found-low x d (suc i) n k)
 
-pub find-low : (d : List ℕ) (x : Sought) (k : ℕ) → find x 0 (lines d) ≡ line k → k < count d
+pub find-low : (d : List ℕ) (x : Sought) (k : ℕ) → find mixed x 0 (lines d) ≡ line k → k < count d
 find-low d x k e = omega (arith, found-low x d 0 (count d) k e)
 
 -- ---- bodies follow in order, up to the end
@@ -58,7 +59,7 @@ between d i (suc n) at end j e h =
         let e : suc i + m ≡ i + suc m = omega arith in
         subst (λ (v : ℕ). Between d at end v) e (record { low = omega (arith, b .low); within = b .within })
 
-pub main-low : (d : List ℕ) → isSound d ≡ true → 0 < count d
+pub main-low : (d : List ℕ) → isSound mixed d ≡ true → 0 < count d
 main-low d h = sound-parts d h .some
 
 -- ---- THE BODY of line k
@@ -87,7 +88,7 @@ lies-at d from n h = by (ltb from 65536) refl
         let full : from ≡ 65536 = omega (arith, ltb-false from 65536 e) in
         rw (z, full) (record { size = omega arith; same = refl })
 
-pub lined : (d : List ℕ) → isSound d ≡ true → (k : ℕ) → k < count d → Lined d k
+pub lined : (d : List ℕ) → isSound mixed d ≡ true → (k : ℕ) → k < count d → Lined d k
 unfolding bodyOf
 lined d sound k l =
     let b : Sound d = sound-parts d sound in

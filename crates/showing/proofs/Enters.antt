@@ -5,6 +5,7 @@ use mathlib.Core.List.{List}
 use Prim.Native.Nat.{ℕ, _+_, _<_}
 use native.Mathlib.Omega.{arith}
 use lib.ListN.{length}
+use Rattle.definition.specs.Bytes.{mixed}
 use Rattle.definition.specs.Program as P
 use Rattle.definition.specs.Reading as D
 use Rattle.definition.specs.World as W
@@ -41,10 +42,10 @@ same-book m s u v c e h = record {
 -- the member m was read behind the rows of w
 module _ (deck rows rows′ n n′ t : List ℕ) (starts starts′ : Starts) (m entered names : ℕ) (r : Source) (w : World) (placed : Placed (bodyIn deck) w) (laid : Laid deck rows starts entered w) (count : w .sentences ≡ entered)
     (back : Behind rows entered rows′ t) (st : StartsAt starts m entered starts′) (low : m < 32) where
-  goes : Whole deck (bodyIn deck m) m entered (namesOf deck n names) t n′ r → (v : World) → N.enter m (D.readMember (bodyIn deck m)) w ≡ N.entered (N.withMember m (D.readMember (bodyIn deck m)) v)
+  goes : Whole deck (bodyIn deck m) m entered (namesOf deck n names) t n′ r → (v : World) → N.enter m (D.readMember mixed (bodyIn deck m)) w ≡ N.entered (N.withMember m (D.readMember mixed (bodyIn deck m)) v)
       → Shows v (namesOf deck n′ (r .names)) → Enters deck rows′ n′ starts′ m (entered + r .rows) (r .names) w
   goes whole v q sh =
-      let s : P.Source = D.readMember (bodyIn deck m) in
+      let s : P.Source = D.readMember mixed (bodyIn deck m) in
       let x : Entered m s w (N.withMember m s v) = entered-is m s w (N.withMember m s v) q in
       let u : World = x .named in
       let is : N.enter m s w ≡ N.entered (N.withMember m s u) = q ∙ ap (λ (z : World). N.entered z) (x .world) in
@@ -66,7 +67,7 @@ module _ (deck rows rows′ n n′ t : List ℕ) (starts starts′ : Starts) (m 
       }
 
   by-entry : (f : Fault) → f ≡ Sound → Whole deck (bodyIn deck m) m entered (namesOf deck n names) t n′ r
-      → Entry m (D.readMember (bodyIn deck m)) (namesOf deck n′ (r .names)) (N.enter m (D.readMember (bodyIn deck m)) w) f → Enters deck rows′ n′ starts′ m (entered + r .rows) (r .names) w
+      → Entry m (D.readMember mixed (bodyIn deck m)) (namesOf deck n′ (r .names)) (N.enter m (D.readMember mixed (bodyIn deck m)) w) f → Enters deck rows′ n′ starts′ m (entered + r .rows) (r .names) w
   by-entry f e whole (goes-in v q sh z) = goes whole v q sh
   by-entry f e whole (stays-out y k q z) = let c : _≡_ {A = ℕ} 0 1 = cc in absurd (omega arith)
 

@@ -6,6 +6,7 @@ use mathlib.Core.List.{List, [], _∷_, _++_, append-assoc}
 use Prim.Native.Nat.{ℕ, zero, suc, _+_, _≤_}
 use native.Mathlib.Omega.{arith}
 use lib.ListN.{length}
+use Rattle.definition.specs.Bytes.{mixed}
 use Rattle.definition.specs.Choice.{when}
 use Rattle.definition.specs.Tokens as Tk
 use Rattle.definition.specs.Tokens.{Token, isSign, tokenAt}
@@ -37,22 +38,22 @@ module _ (s : List ℕ) where
     spells : Spells s at x
     to : itemEnd s at ≡ e
 
-  module _ (at : ℕ) (n : E.Named) (e : nameAt s at ≡ read n) where
-    first-to : n .to ≡ tokenAt s at .to
+  module _ (at : ℕ) (n : E.Named) (e : nameAt mixed s at ≡ read n) where
+    first-to : n .to ≡ tokenAt mixed s at .to
     first-to = name-is s at n e .to
 
     first-past : Past s at (n .to)
     unfolding nameAt
     first-past =
-        let on : On s at (tokenAt s at) = token-on s at in
-        let real : Real (tokenAt s at .token) = name-real (tokenAt s at .token) (tokenAt s at .from) (tokenAt s at .to) n e in
+        let on : On s at (tokenAt mixed s at) = token-on s at in
+        let real : Real (tokenAt mixed s at .token) = name-real (tokenAt mixed s at .token) (tokenAt mixed s at .from) (tokenAt mixed s at .to) n e in
         record { above = omega (arith, on .low, on .some real .0, first-to); within = omega (arith, on .some real .1, first-to) }
 
     -- whether `(` stands behind the name
-    open-is : (b : Bool) → isSign "(" (tokenAt s (n .to) .token) ≡ b → isSign "(" (tokenAt s (tokenAt s at .to) .token) ≡ b
-    open-is b f = subst (λ (q : ℕ). isSign "(" (tokenAt s q .token) ≡ b) first-to f
+    open-is : (b : Bool) → isSign "(" (tokenAt mixed s (n .to) .token) ≡ b → isSign "(" (tokenAt mixed s (tokenAt mixed s at .to) .token) ≡ b
+    open-is b f = subst (λ (q : ℕ). isSign "(" (tokenAt mixed s q .token) ≡ b) first-to f
 
-    bare-ends : isSign "(" (tokenAt s (n .to) .token) ≡ false → Ends at (bare (n .spelling)) (n .to)
+    bare-ends : isSign "(" (tokenAt mixed s (n .to) .token) ≡ false → Ends at (bare (n .spelling)) (n .to)
     unfolding soughtAt itemEnd
     bare-ends f =
         let to : itemEnd s at ≡ n .to = rw (open-is false f) (sym first-to) in
@@ -61,13 +62,13 @@ module _ (s : List ℕ) where
           to = to;
         }
 
-    module _ (f : isSign "(" (tokenAt s (n .to) .token) ≡ true) (m : E.Named) (g : nameAt s (tokenAt s (n .to) .to) ≡ read m) (q : ℕ) (h : expectSign ")" s (m .to) ≡ read q) where
-      inner : nameAt s (behindOpen s at) ≡ read m
-      inner = subst (λ (i : ℕ). nameAt s (tokenAt s i .to) ≡ read m) first-to g
+    module _ (f : isSign "(" (tokenAt mixed s (n .to) .token) ≡ true) (m : E.Named) (g : nameAt mixed s (tokenAt mixed s (n .to) .to) ≡ read m) (q : ℕ) (h : expectSign mixed ")" s (m .to) ≡ read q) where
+      inner : nameAt mixed s (behindOpen s at) ≡ read m
+      inner = subst (λ (i : ℕ). nameAt mixed s (tokenAt mixed s i .to) ≡ read m) first-to g
 
       close-to : itemEnd s at ≡ q
       unfolding itemEnd
-      close-to = rw (open-is true f) (ap (λ (i : ℕ). tokenAt s i .to) (sym (name-is s (behindOpen s at) m inner .to)) ∙ sym (expect-is ")" s (m .to) q h))
+      close-to = rw (open-is true f) (ap (λ (i : ℕ). tokenAt mixed s i .to) (sym (name-is s (behindOpen s at) m inner .to)) ∙ sym (expect-is ")" s (m .to) q h))
 
       sought-is : soughtAt s at ≡ inLibrary (n .spelling) (m .spelling)
       unfolding soughtAt
@@ -75,8 +76,8 @@ module _ (s : List ℕ) where
 
       library-ends : Ends at (inLibrary (n .spelling) (m .spelling)) q
       library-ends =
-          let opened : Lies s (n .to) (tokenAt s (n .to)) = tokenAt-lies s (n .to) (first-past .within) in
-          let name : Past s (tokenAt s (n .to) .to) (m .to) = reads-it (nameAt-past s (tokenAt s (n .to) .to) (opened .high)) g in
+          let opened : Lies s (n .to) (tokenAt mixed s (n .to)) = tokenAt-lies s (n .to) (first-past .within) in
+          let name : Past s (tokenAt mixed s (n .to) .to) (m .to) = reads-it (nameAt-past s (tokenAt mixed s (n .to) .to) (opened .high)) g in
           let close : Past s (m .to) q = reads-it (expectSign-past s ")" (m .to) (name .within)) h in
           record {
             spells = record { is = sought-is; above = omega (arith, close-to, first-past .above, opened .low, opened .order, name .above, close .above); within = omega (arith, close-to, close .within) };
@@ -85,7 +86,7 @@ module _ (s : List ℕ) where
 
   -- ---- a list that goes on, and one that ends
   module _ (at : ℕ) (n : Sought) where
-    named-behind : (ns : List Sought) → Spells s at n → isSign "," (tokenAt s (itemEnd s at) .token) ≡ true → Named s (tokenAt s (itemEnd s at) .to) ns → Named s at (n ∷ ns)
+    named-behind : (ns : List Sought) → Spells s at n → isSign "," (tokenAt mixed s (itemEnd s at) .token) ≡ true → Named s (tokenAt mixed s (itemEnd s at) .to) ns → Named s at (n ∷ ns)
     named-behind [] h c k = absurd k
     named-behind (m ∷ ns) h c k = (h, c, k)
 
@@ -93,11 +94,11 @@ module _ (s : List ℕ) where
     named-first [] k = k .0
     named-first (m ∷ ns) k = k .0
 
-    pub named-more : (ns : List Sought) → Named s at (n ∷ ns) → isSign "," (tokenAt s (itemEnd s at) .token) ≡ true → Named s (tokenAt s (itemEnd s at) .to) ns
+    pub named-more : (ns : List Sought) → Named s at (n ∷ ns) → isSign "," (tokenAt mixed s (itemEnd s at) .token) ≡ true → Named s (tokenAt mixed s (itemEnd s at) .to) ns
     named-more [] k c = absurd (false≢true (sym (k .1) ∙ c))
     named-more (m ∷ ns) k c = k .2
 
-    pub named-last : (ns : List Sought) → Named s at (n ∷ ns) → isSign "," (tokenAt s (itemEnd s at) .token) ≡ false → ns ≡ []
+    pub named-last : (ns : List Sought) → Named s at (n ∷ ns) → isSign "," (tokenAt mixed s (itemEnd s at) .token) ≡ false → ns ≡ []
     named-last [] k c = refl
     named-last (m ∷ ns) k c = absurd (false≢true (sym c ∙ k .1))
 
@@ -106,8 +107,8 @@ module _ (s : List ℕ) where
   named-short at [] k = absurd k
   named-short at (n ∷ []) k = omega (arith, k .0 .above, k .0 .within)
   named-short at (n ∷ m ∷ ns) k =
-      let comma : On s (itemEnd s at) (tokenAt s (itemEnd s at)) = token-on s (itemEnd s at) in
-      omega (arith, k .0 .above, comma .low, comma .order, named-short (tokenAt s (itemEnd s at) .to) (m ∷ ns) (k .2))
+      let comma : On s (itemEnd s at) (tokenAt mixed s (itemEnd s at)) = token-on s (itemEnd s at) in
+      omega (arith, k .0 .above, comma .low, comma .order, named-short (tokenAt mixed s (itemEnd s at) .to) (m ∷ ns) (k .2))
 
   pub named-few : (at : ℕ) (ns : List Sought) → Named s at ns → length ns ≤ length s
   named-few at ns k = omega (arith, named-short at ns k)
@@ -122,38 +123,38 @@ module _ (s : List ℕ) where
   after xs at (refused w p) F h = tt
 
   module _ (xs : List Sought) (at : ℕ) (n : Sought) (h : Spells s at n) where
-    includes-more : (R : Reading St.Clause) → isSign "," (tokenAt s (itemEnd s at) .token) ≡ true → Includes (xs ++ n ∷ []) (tokenAt s (itemEnd s at) .to) R → Includes xs at R
+    includes-more : (R : Reading St.Clause) → isSign "," (tokenAt mixed s (itemEnd s at) .token) ≡ true → Includes (xs ++ n ∷ []) (tokenAt mixed s (itemEnd s at) .to) R → Includes xs at R
     includes-more (refused w p) c k = tt
     includes-more (read x) c (ns, e, k) = (n ∷ ns, e ∙ ap P.include (append-assoc xs (n ∷ []) ns), named-behind at n ns h c k)
 
-    includes-last : isSign "," (tokenAt s (itemEnd s at) .token) ≡ false → Includes xs at (St.ended s (P.include (xs ++ n ∷ [])) (itemEnd s at))
+    includes-last : isSign "," (tokenAt mixed s (itemEnd s at) .token) ≡ false → Includes xs at (St.ended mixed s (P.include (xs ++ n ∷ [])) (itemEnd s at))
     unfolding St.ended
-    includes-last c = after xs at (expectSign ";" s (itemEnd s at)) (λ e. read (St.clause (P.include (xs ++ n ∷ [])) St.opensNothing e)) λ e f. (n ∷ [], refl, (h, c))
+    includes-last c = after xs at (expectSign mixed ";" s (itemEnd s at)) (λ e. read (St.clause (P.include (xs ++ n ∷ [])) St.opensNothing e)) λ e f. (n ∷ [], refl, (h, c))
 
-    includes-one : (R : Reading St.Clause) (e : ℕ) → itemEnd s at ≡ e → Includes (xs ++ n ∷ []) (tokenAt s e .to) R
-        → Includes xs at (when (isSign "," (tokenAt s e .token)) (λ _. R) (λ _. St.ended s (P.include (xs ++ n ∷ [])) e))
+    includes-one : (R : Reading St.Clause) (e : ℕ) → itemEnd s at ≡ e → Includes (xs ++ n ∷ []) (tokenAt mixed s e .to) R
+        → Includes xs at (when (isSign "," (tokenAt mixed s e .token)) (λ _. R) (λ _. St.ended mixed s (P.include (xs ++ n ∷ [])) e))
     includes-one R e q k =
-        subst (λ (z : ℕ). Includes (xs ++ n ∷ []) (tokenAt s z .to) R → Includes xs at (when (isSign "," (tokenAt s z .token)) (λ _. R) (λ _. St.ended s (P.include (xs ++ n ∷ [])) z))) q
-        (λ j. when-has (Includes xs at) (isSign "," (tokenAt s (itemEnd s at) .token)) (λ _. R) (λ _. St.ended s (P.include (xs ++ n ∷ [])) (itemEnd s at)) (λ c. includes-more R c j) includes-last) k
+        subst (λ (z : ℕ). Includes (xs ++ n ∷ []) (tokenAt mixed s z .to) R → Includes xs at (when (isSign "," (tokenAt mixed s z .token)) (λ _. R) (λ _. St.ended mixed s (P.include (xs ++ n ∷ [])) z))) q
+        (λ j. when-has (Includes xs at) (isSign "," (tokenAt mixed s (itemEnd s at) .token)) (λ _. R) (λ _. St.ended mixed s (P.include (xs ++ n ∷ [])) (itemEnd s at)) (λ c. includes-more R c j) includes-last) k
 
-  includes-item : (f : ℕ) (xs : List Sought) (at : ℕ) (x : Sought) (e : ℕ) → Ends at x e → ((ys : List Sought) (q : ℕ) → Includes ys q (St.listOf St.eachMember P.include s f ys q))
-      → Includes xs at (when (isSign "," (tokenAt s e .token)) (λ _. St.listOf St.eachMember P.include s f (xs ++ x ∷ []) (tokenAt s e .to)) (λ _. St.ended s (P.include (xs ++ x ∷ [])) e))
-  includes-item f xs at x e i again = includes-one xs at x (i .spells) (St.listOf St.eachMember P.include s f (xs ++ x ∷ []) (tokenAt s e .to)) e (i .to) (again (xs ++ x ∷ []) (tokenAt s e .to))
+  includes-item : (f : ℕ) (xs : List Sought) (at : ℕ) (x : Sought) (e : ℕ) → Ends at x e → ((ys : List Sought) (q : ℕ) → Includes ys q (St.listOf mixed (St.eachMember mixed) P.include s f ys q))
+      → Includes xs at (when (isSign "," (tokenAt mixed s e .token)) (λ _. St.listOf mixed (St.eachMember mixed) P.include s f (xs ++ x ∷ []) (tokenAt mixed s e .to)) (λ _. St.ended mixed s (P.include (xs ++ x ∷ [])) e))
+  includes-item f xs at x e i again = includes-one xs at x (i .spells) (St.listOf mixed (St.eachMember mixed) P.include s f (xs ++ x ∷ []) (tokenAt mixed s e .to)) e (i .to) (again (xs ++ x ∷ []) (tokenAt mixed s e .to))
 
-  includes : (f : ℕ) (xs : List Sought) (at : ℕ) → Includes xs at (St.listOf St.eachMember P.include s f xs at)
+  includes : (f : ℕ) (xs : List Sought) (at : ℕ) → Includes xs at (St.listOf mixed (St.eachMember mixed) P.include s f xs at)
   unfolding St.listOf
   includes zero xs at = tt
   includes (suc f) xs at =
-      after xs at (nameAt s at) _ λ n e.
-      when-has (Includes xs at) (isSign "(" (tokenAt s (n .to) .token)) _ _
-      (λ b. after xs at (nameAt s (tokenAt s (n .to) .to)) _ λ m g. after xs at (expectSign ")" s (m .to)) _ λ q h. includes-item f xs at (inLibrary (n .spelling) (m .spelling)) q (library-ends at n e b m g q h) (includes f))
+      after xs at (nameAt mixed s at) _ λ n e.
+      when-has (Includes xs at) (isSign "(" (tokenAt mixed s (n .to) .token)) _ _
+      (λ b. after xs at (nameAt mixed s (tokenAt mixed s (n .to) .to)) _ λ m g. after xs at (expectSign mixed ")" s (m .to)) _ λ q h. includes-item f xs at (inLibrary (n .spelling) (m .spelling)) q (library-ends at n e b m g q h) (includes f))
       (λ b. includes-item f xs at (bare (n .spelling)) (n .to) (bare-ends at n e b) (includes f))
 
 include-same : (a b : List Sought) → P.include a ≡ P.include b → a ≡ b
 include-same a b e = let z : a ≡ b = cc in z
 
 -- THE MEMBERS of an INCLUDE that is read at a place
-pub include-named : (s : List ℕ) (at : ℕ) (c : St.Clause) (ns : List Sought) → St.includeClause s at ≡ read c → c .statement ≡ P.include ns → Named s at ns
+pub include-named : (s : List ℕ) (at : ℕ) (c : St.Clause) (ns : List Sought) → St.includeClause mixed s at ≡ read c → c .statement ≡ P.include ns → Named s at ns
 unfolding St.includeClause
 include-named s at c ns e f =
     let k : Includes s [] at (read c) = subst (Includes s [] at) e (includes s (length s) [] at) in

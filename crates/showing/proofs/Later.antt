@@ -10,6 +10,7 @@ use borrow.Author.Tests.{eqb-true, eqb-false}
 use lib.Dec.{eqb}
 use lib.ListN.{length, getD, set}
 use lib.Seq.{getD-set-other}
+use Rattle.definition.specs.Bytes.{mixed}
 use Rattle.definition.specs.Program as P
 use Rattle.definition.specs.Reading as D
 use Rattle.definition.specs.World as W
@@ -108,9 +109,9 @@ declare-stay m ps [] w = λ a t e. e
 declare-stay m ps (d ∷ ds) w = one-stay (N.newOf m (d .meaning)) (N.identifierOf m d) ps (d .place) w (λ qs u. N.declareAll m qs ds u) (λ qs u. declare-stay m qs ds u)
 
 -- ---- A MEMBER IS ENTERED, for the first time or again
-pub later-enter : (b : ℕ → List ℕ) (m : ℕ) (w v : World) → Placed b w → N.enter m (D.readMember (b m)) w ≡ N.entered v → Later w v
+pub later-enter : (b : ℕ → List ℕ) (m : ℕ) (w v : World) → Placed b w → N.enter m (D.readMember mixed (b m)) w ≡ N.entered v → Later w v
 later-enter b m w v h e =
-    let s : P.Source = D.readMember (b m) in
+    let s : P.Source = D.readMember mixed (b m) in
     let x : Entered m s w v = entered-is m s w v e in
     let stay : Stay (w .denotations) (x .named .denotations) = subst (AllStay (w .denotations)) (x .declared) (declare-stay m [] (s .declared) w) in
     record {

@@ -9,6 +9,7 @@ use borrow.Author.Tests.{ltb-true}
 use lib.Dec.{ltb}
 use lib.ListN.{length, getD, take, drop, length-drop, drop-of-length-le, List·getD-append, getD-replicate}
 use lib.Seq.{getD-take, length-take-le, drop-at}
+use Rattle.definition.specs.Bytes.{mixed}
 use Rattle.definition.specs.Program as P
 use Rattle.definition.specs.Reading as D
 use Rattle.definition.specs.declared.Layout.{Layout}
@@ -81,10 +82,10 @@ module _ (deck rows rows′ t : List ℕ) (used : ℕ) (h : Behind rows used row
       there (ap (λ (j : ℕ). rowsFrom (bodyIn deck m) (partIn rows′ starts m) 0 j) size ∙ ap (λ (u : List ℕ). rowsFrom (bodyIn deck m) u 0 k) (sym its) ∙ f) (subst (λ (u : List ℕ). Tabled u rs) its y) (omega (arith, l, size))
 
   -- THE MEMBER m goes in, with k rows
-  pub laid-enter : (starts starts′ : Starts) (m k : ℕ) (w v : World) → Laid deck rows starts used w → N.enter m (D.readMember (bodyIn deck m)) w ≡ N.entered v → StartsAt starts m used starts′ → m < 32
-      → rowsFrom (bodyIn deck m) t 0 k ≡ D.readMember (bodyIn deck m) .rows → Tabled t (D.readMember (bodyIn deck m) .rows) → used + k ≤ 2048 → Laid deck rows′ starts′ (used + k) v
+  pub laid-enter : (starts starts′ : Starts) (m k : ℕ) (w v : World) → Laid deck rows starts used w → N.enter m (D.readMember mixed (bodyIn deck m)) w ≡ N.entered v → StartsAt starts m used starts′ → m < 32
+      → rowsFrom (bodyIn deck m) t 0 k ≡ D.readMember mixed (bodyIn deck m) .rows → Tabled t (D.readMember mixed (bodyIn deck m) .rows) → used + k ≤ 2048 → Laid deck rows′ starts′ (used + k) v
   laid-enter starts starts′ m k w v g e st low f y l =
-      let s : P.Source = D.readMember (bodyIn deck m) in
+      let s : P.Source = D.readMember mixed (bodyIn deck m) in
       let size : length (s .rows) ≡ k = size-read (bodyIn deck m) t k (s .rows) f y in
       let at : (n : ℕ) → m ≡ n → startIn starts′ n ≡ used = λ n q. ap (λ (j : ℕ). startIn starts′ j) (sym q) ∙ st .here low in
       laid-same deck rows′ starts′ (used + k) (N.withMember m s w) v (members-enter m s w v e)

@@ -5,6 +5,7 @@ use mathlib.Core.List.{List, []}
 use Prim.Native.Nat.{ℕ}
 use native.Mathlib.Omega.{arith}
 use lib.ListN.{length}
+use Rattle.definition.specs.Bytes.{mixed}
 use Rattle.definition.specs.Expressions.{Reading, read, refused}
 use Rattle.definition.specs.Program as P
 use Rattle.definition.specs.Statements as St
@@ -21,17 +22,17 @@ clause-again (refused w p) x e n = absurd (n e)
 
 -- DECLARE is read outside procedures, or else inside
 module _ (s : List ℕ) (at : ℕ) (ns : List (List ℕ)) where
-  declare-inside : (Q : St.Declaring) → St.declareFrom (P.inside 0) s (length s) [] at ≡ Q → statementIn (clauseIn Q) ≡ P.declare ns → Lists s at (P.declare ns)
+  declare-inside : (Q : St.Declaring) → St.declareFrom mixed (P.inside 0) s (length s) [] at ≡ Q → statementIn (clauseIn Q) ≡ P.declare ns → Lists s at (P.declare ns)
   declare-inside (St.declared c ds) g e = (P.inside 0, c, ds, g, e)
   declare-inside (St.undeclared w p ds) g e = let z : _≡_ {A = ℕ} 0 1 = cc in absurd (omega arith)
 
-  declare-by : (R : St.Declaring) → St.declareFrom P.global s (length s) [] at ≡ R → statementIn (orElse (clauseIn R) (clauseIn (St.declareFrom (P.inside 0) s (length s) [] at))) ≡ P.declare ns → Lists s at (P.declare ns)
+  declare-by : (R : St.Declaring) → St.declareFrom mixed P.global s (length s) [] at ≡ R → statementIn (orElse (clauseIn R) (clauseIn (St.declareFrom mixed (P.inside 0) s (length s) [] at))) ≡ P.declare ns → Lists s at (P.declare ns)
   declare-by (St.declared c ds) f e = (P.global, c, ds, f, e)
-  declare-by (St.undeclared w p ds) f e = declare-inside (St.declareFrom (P.inside 0) s (length s) [] at) refl e
+  declare-by (St.undeclared w p ds) f e = declare-inside (St.declareFrom mixed (P.inside 0) s (length s) [] at) refl e
 
   declare-lists : statementIn (declareAgain s at) ≡ P.declare ns → Lists s at (P.declare ns)
   unfolding declareAgain
-  declare-lists e = declare-by (St.declareFrom P.global s (length s) [] at) refl e
+  declare-lists e = declare-by (St.declareFrom mixed P.global s (length s) [] at) refl e
 
 -- THE NAMES of a statement of a kind that is read again at a place
 pub lists-again : (s : List ℕ) (k : Statement) (c : ℕ) (st : P.Statement) → statementAt s k c ≡ st → k ≡ kindOf st → Lists s c st
@@ -45,9 +46,9 @@ lists-again s k c P.group e f = tt
 lists-again s k c (P.iterated n x bs) e f = tt
 lists-again s k c (P.goto n) e f = tt
 lists-again s k c (P.include ns) e f =
-    clause-again (St.includeClause s c) (P.include ns) (subst (λ (x : Statement). statementAt s x c ≡ P.include ns) f e) λ g. let z : _≡_ {A = ℕ} 0 1 = cc in absurd (omega arith)
+    clause-again (St.includeClause mixed s c) (P.include ns) (subst (λ (x : Statement). statementAt s x c ≡ P.include ns) f e) λ g. let z : _≡_ {A = ℕ} 0 1 = cc in absurd (omega arith)
 lists-again s k c (P.activate xs) e f =
-    clause-again (St.activateClause s c) (P.activate xs) (subst (λ (x : Statement). statementAt s x c ≡ P.activate xs) f e) λ g. let z : _≡_ {A = ℕ} 0 1 = cc in absurd (omega arith)
+    clause-again (St.activateClause mixed s c) (P.activate xs) (subst (λ (x : Statement). statementAt s x c ≡ P.activate xs) f e) λ g. let z : _≡_ {A = ℕ} 0 1 = cc in absurd (omega arith)
 lists-again s k c (P.deactivate ns) e f =
-    clause-again (St.deactivateClause s c) (P.deactivate ns) (subst (λ (x : Statement). statementAt s x c ≡ P.deactivate ns) f e) λ g. let z : _≡_ {A = ℕ} 0 1 = cc in absurd (omega arith)
+    clause-again (St.deactivateClause mixed s c) (P.deactivate ns) (subst (λ (x : Statement). statementAt s x c ≡ P.deactivate ns) f e) λ g. let z : _≡_ {A = ℕ} 0 1 = cc in absurd (omega arith)
 lists-again s k c (P.return x) e f = tt

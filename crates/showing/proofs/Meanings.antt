@@ -6,6 +6,7 @@ use mathlib.Core.List.{List, [], _∷_, _++_, append-assoc, append-nil}
 use Prim.Native.Nat.{ℕ, zero, suc, _<_}
 use native.Mathlib.Omega.{arith}
 use lib.ListN.{length}
+use Rattle.definition.specs.Bytes.{mixed}
 use Rattle.definition.specs.Tokens.{Token, isWord, isSign, tokenAt}
 use Rattle.definition.specs.Expressions.{Reading, read, refused, Named, nameAt, expectSign, expectWord}
 use Rattle.definition.specs.Program as P
@@ -68,14 +69,14 @@ module _ (rs : List P.Row) where
   after-mean ds (refused w p) F h = tt
 
   module _ (s : List ℕ) where
-    names-mean : (k : P.Scope) (m : P.Meaning) (ds : List P.Declared) (f : ℕ) (ns : List Named) (at : ℕ) (K : List Named → ℕ → St.Declaring) → ((ms : List Named) (e : ℕ) → MeanSo (K ms e)) → MeanSo (St.namesAt k m s ds f ns at K)
+    names-mean : (k : P.Scope) (m : P.Meaning) (ds : List P.Declared) (f : ℕ) (ns : List Named) (at : ℕ) (K : List Named → ℕ → St.Declaring) → ((ms : List Named) (e : ℕ) → MeanSo (K ms e)) → MeanSo (St.namesAt mixed k m s ds f ns at K)
     unfolding St.namesAt
     names-mean k m ds zero ns at K h = tt
     names-mean k m ds (suc f) ns at K h =
-        after-mean (ds ++ St.means k m ns) (nameAt s at) _ λ x.
-        when-has MeanSo (isSign "," (tokenAt s (x .to) .token)) (λ _. St.namesAt k m s ds f (ns ++ x ∷ []) (tokenAt s (x .to) .to) K) _
-        (λ _. names-mean k m ds f (ns ++ x ∷ []) (tokenAt s (x .to) .to) K h) λ _.
-        after-mean (ds ++ St.means k m (ns ++ x ∷ [])) (expectSign ")" s (x .to)) (λ e. K (ns ++ x ∷ []) e) λ e. h (ns ++ x ∷ []) e
+        after-mean (ds ++ St.means k m ns) (nameAt mixed s at) _ λ x.
+        when-has MeanSo (isSign "," (tokenAt mixed s (x .to) .token)) (λ _. St.namesAt mixed k m s ds f (ns ++ x ∷ []) (tokenAt mixed s (x .to) .to) K) _
+        (λ _. names-mean k m ds f (ns ++ x ∷ []) (tokenAt mixed s (x .to) .to) K h) λ _.
+        after-mean (ds ++ St.means k m (ns ++ x ∷ [])) (expectSign mixed ")" s (x .to)) (λ e. K (ns ++ x ∷ []) e) λ e. h (ns ++ x ∷ []) e
 
     attribute-mean : (k : P.Scope) (t : Token) (from to : ℕ) (F : P.Meaning → ℕ → St.Declaring) (G : Unit {0} → St.Declaring) → ((m : P.Meaning) → MeansRow rs m → MeanSo (F m to)) → MeanSo (G tt) → MeanSo (St.attribute k t from to F G)
     unfolding St.attribute
@@ -89,25 +90,25 @@ module _ (rs : List P.Row) where
     abbrev Next : (List P.Declared → ℕ → St.Declaring) → Type 0
     Next F = (es : List P.Declared) (q : ℕ) → AllMean rs es → MeanSo (F es q)
 
-    item-mean : (k : P.Scope) (ds : List P.Declared) (ns : List Named) (e : ℕ) (F : List P.Declared → ℕ → St.Declaring) → AllMean rs ds → Next F → MeanSo (St.declareNames k s ds ns e F)
+    item-mean : (k : P.Scope) (ds : List P.Declared) (ns : List Named) (e : ℕ) (F : List P.Declared → ℕ → St.Declaring) → AllMean rs ds → Next F → MeanSo (St.declareNames mixed k s ds ns e F)
     unfolding St.declareNames
     item-mean k ds ns e F h i =
-        attribute-mean k (tokenAt s e .token) (tokenAt s e .from) (tokenAt s e .to) (λ m to. F (ds ++ St.means k m ns) to) _
-        (λ m z. i (ds ++ St.means k m ns) (tokenAt s e .to) (all-append ds (St.means k m ns) h (all-means k m ns z))) tt
+        attribute-mean k (tokenAt mixed s e .token) (tokenAt mixed s e .from) (tokenAt mixed s e .to) (λ m to. F (ds ++ St.means k m ns) to) _
+        (λ m z. i (ds ++ St.means k m ns) (tokenAt mixed s e .to) (all-append ds (St.means k m ns) h (all-means k m ns z))) tt
 
-    next-mean : (F : List P.Declared → ℕ → St.Declaring) → Next F → Next (St.declareNext s F)
+    next-mean : (F : List P.Declared → ℕ → St.Declaring) → Next F → Next (St.declareNext mixed s F)
     unfolding St.declareNext
-    next-mean F i ds e h = when-has MeanSo (isSign "," (tokenAt s e .token)) _ _ (λ _. i ds (tokenAt s e .to) h) λ _. after-mean ds (expectSign ";" s e) (λ q. St.declared (St.clause (P.declare (St.spellings ds)) St.opensNothing q) ds) λ q. h
+    next-mean F i ds e h = when-has MeanSo (isSign "," (tokenAt mixed s e .token)) _ _ (λ _. i ds (tokenAt mixed s e .to) h) λ _. after-mean ds (expectSign mixed ";" s e) (λ q. St.declared (St.clause (P.declare (St.spellings ds)) St.opensNothing q) ds) λ q. h
 
-    pub declare-mean : (k : P.Scope) (f : ℕ) (ds : List P.Declared) (at : ℕ) → AllMean rs ds → MeanSo (St.declareFrom k s f ds at)
+    pub declare-mean : (k : P.Scope) (f : ℕ) (ds : List P.Declared) (at : ℕ) → AllMean rs ds → MeanSo (St.declareFrom mixed k s f ds at)
     unfolding St.declareFrom
     declare-mean k zero ds at h = tt
     declare-mean k (suc f) ds at h =
-        when-has MeanSo (isSign "(" (tokenAt s at .token)) _ _
-        (λ _. names-mean k (P.variable FixedType) ds (length s) [] (tokenAt s at .to) (λ ns e. St.declareNames k s ds ns e (St.declareNext s (St.declareFrom k s f))) λ ns e.
-        item-mean k ds ns e (St.declareNext s (St.declareFrom k s f)) h (next-mean (St.declareFrom k s f) (λ es q. declare-mean k f es q))) λ _.
-        after-mean ds (nameAt s at) (λ n. St.declareNames k s ds (n ∷ []) (n .to) (St.declareNext s (St.declareFrom k s f))) λ n.
-        item-mean k ds (n ∷ []) (n .to) (St.declareNext s (St.declareFrom k s f)) h (next-mean (St.declareFrom k s f) (λ es q. declare-mean k f es q))
+        when-has MeanSo (isSign "(" (tokenAt mixed s at .token)) _ _
+        (λ _. names-mean k (P.variable FixedType) ds (length s) [] (tokenAt mixed s at .to) (λ ns e. St.declareNames mixed k s ds ns e (St.declareNext mixed s (St.declareFrom mixed k s f))) λ ns e.
+        item-mean k ds ns e (St.declareNext mixed s (St.declareFrom mixed k s f)) h (next-mean (St.declareFrom mixed k s f) (λ es q. declare-mean k f es q))) λ _.
+        after-mean ds (nameAt mixed s at) (λ n. St.declareNames mixed k s ds (n ∷ []) (n .to) (St.declareNext mixed s (St.declareFrom mixed k s f))) λ n.
+        item-mean k ds (n ∷ []) (n .to) (St.declareNext mixed s (St.declareFrom mixed k s f)) h (next-mean (St.declareFrom mixed k s f) (λ es q. declare-mean k f es q))
 
 -- ---- PROCEDURE lists its parameters, in its own scope
 abbrev pub HeadSo : P.Scope → St.Declaring → Type 0
@@ -123,31 +124,31 @@ module _ (s : List ℕ) (k : P.Scope) where
   after-head ds (read a) F h = h a
   after-head ds (refused w p) F h = tt
 
-  names-head : (f : ℕ) (ns : List Named) (at : ℕ) (K : List Named → ℕ → St.Declaring) → ((ms : List Named) (e : ℕ) → HeadSo k (K ms e)) → HeadSo k (St.namesAt k P.parameter s [] f ns at K)
+  names-head : (f : ℕ) (ns : List Named) (at : ℕ) (K : List Named → ℕ → St.Declaring) → ((ms : List Named) (e : ℕ) → HeadSo k (K ms e)) → HeadSo k (St.namesAt mixed k P.parameter s [] f ns at K)
   unfolding St.namesAt
   names-head zero ns at K h = tt
   names-head (suc f) ns at K h =
-      after-head ([] ++ St.means k P.parameter ns) (nameAt s at) _ λ x.
-      when-has (HeadSo k) (isSign "," (tokenAt s (x .to) .token)) (λ _. St.namesAt k P.parameter s [] f (ns ++ x ∷ []) (tokenAt s (x .to) .to) K) _
-      (λ _. names-head f (ns ++ x ∷ []) (tokenAt s (x .to) .to) K h) λ _.
-      after-head ([] ++ St.means k P.parameter (ns ++ x ∷ [])) (expectSign ")" s (x .to)) (λ e. K (ns ++ x ∷ []) e) λ e. h (ns ++ x ∷ []) e
+      after-head ([] ++ St.means k P.parameter ns) (nameAt mixed s at) _ λ x.
+      when-has (HeadSo k) (isSign "," (tokenAt mixed s (x .to) .token)) (λ _. St.namesAt mixed k P.parameter s [] f (ns ++ x ∷ []) (tokenAt mixed s (x .to) .to) K) _
+      (λ _. names-head f (ns ++ x ∷ []) (tokenAt mixed s (x .to) .to) K h) λ _.
+      after-head ([] ++ St.means k P.parameter (ns ++ x ∷ [])) (expectSign mixed ")" s (x .to)) (λ e. K (ns ++ x ∷ []) e) λ e. h (ns ++ x ∷ []) e
 
-  head-head : (ns : List Named) (at : ℕ) → HeadSo k (St.procedureHead k s ns at)
+  head-head : (ns : List Named) (at : ℕ) → HeadSo k (St.procedureHead mixed k s ns at)
   unfolding St.procedureHead St.returnsType
   head-head ns at =
       let ds : List P.Declared = St.means k P.parameter ns in
-      let last : (v : ValueType) (z : ℕ) → HeadSo k (St.thenDeclare ds (expectSign ")" s z) λ q. St.thenDeclare ds (expectSign ";" s q) λ y. St.declared (St.clause (P.procedure (St.spellings ds) v) St.opensBody y) ds) = λ v z.
-      after-head ds (expectSign ")" s z) _ λ q. after-head ds (expectSign ";" s q) (λ y. St.declared (St.clause (P.procedure (St.spellings ds) v) St.opensBody y) ds) λ y.
+      let last : (v : ValueType) (z : ℕ) → HeadSo k (St.thenDeclare ds (expectSign mixed ")" s z) λ q. St.thenDeclare ds (expectSign mixed ";" s q) λ y. St.declared (St.clause (P.procedure (St.spellings ds) v) St.opensBody y) ds) = λ v z.
+      after-head ds (expectSign mixed ")" s z) _ λ q. after-head ds (expectSign mixed ";" s q) (λ y. St.declared (St.clause (P.procedure (St.spellings ds) v) St.opensBody y) ds) λ y.
       (ns, v, refl, ap (λ (l : List (List ℕ)). P.procedure l v) (spelled-means k P.parameter ns)) in
-      after-head ds (expectWord "RETURNS" s at) _ λ e. after-head ds (expectSign "(" s e) _ λ q.
-      when-has (HeadSo k) (St.isCharacter (tokenAt s q .token)) _ _ (λ _. last CharacterType (tokenAt s q .to)) λ _.
-      after-head ds (expectWord "FIXED" s q) _ λ z. last FixedType z
+      after-head ds (expectWord mixed "RETURNS" s at) _ λ e. after-head ds (expectSign mixed "(" s e) _ λ q.
+      when-has (HeadSo k) (St.isCharacter (tokenAt mixed s q .token)) _ _ (λ _. last CharacterType (tokenAt mixed s q .to)) λ _.
+      after-head ds (expectWord mixed "FIXED" s q) _ λ z. last FixedType z
 
-  pub procedure-head : (at : ℕ) → HeadSo k (St.procedureClause k s at)
+  pub procedure-head : (at : ℕ) → HeadSo k (St.procedureClause mixed k s at)
   unfolding St.procedureClause
   procedure-head at =
-      when-has (HeadSo k) (isSign "(" (tokenAt s at .token)) _ _
-      (λ _. names-head (length s) [] (tokenAt s at .to) (St.procedureHead k s) head-head) λ _. head-head [] at
+      when-has (HeadSo k) (isSign "(" (tokenAt mixed s at .token)) _ _
+      (λ _. names-head (length s) [] (tokenAt mixed s at .to) (St.procedureHead mixed k s) head-head) λ _. head-head [] at
 
 -- ---- among the names of a member stand the parameters ns of the scope k
 pub record HeadIn (k : P.Scope) (ns : List (List ℕ)) (ds : List P.Declared) : Type 0 where

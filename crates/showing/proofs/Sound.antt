@@ -9,6 +9,7 @@ use native.Mathlib.Omega.{arith}
 use borrow.Author.Tests.{ltb-true, ltb-false}
 use lib.Dec.{ltb}
 use lib.ListN.{length}
+use Rattle.definition.specs.Bytes.{mixed}
 use Rattle.definition.specs.Expressions.{Named}
 use Rattle.definition.specs.Program as P
 use Rattle.definition.specs.Statements as St
@@ -212,19 +213,19 @@ module _ (s : List ℕ) where
   elsed-sound D.noElse i os st up h l a r = r
 
   complete-in : (w : D.Where) (i : ℕ) (l : P.Link) (bs : List (List ℕ)) (os : List D.Open) (n e : ℕ) (st : D.State) (up : ℕ → D.Turn) → Core st → Held (st .rows) (record { kind = w; row = i; last = l; labels = bs } ∷ os)
-      → (Held (st .rows) os → SoundTurn (up i)) → SoundTurn (D.completeIn w s i os n e (D.withOpened (record { kind = w; row = i; last = l; labels = bs } ∷ os) (st .scope) st) up)
+      → (Held (st .rows) os → SoundTurn (up i)) → SoundTurn (D.completeIn mixed w s i os n e (D.withOpened (record { kind = w; row = i; last = l; labels = bs } ∷ os) (st .scope) st) up)
   complete-in D.inProgram i l bs os n e st up h a r = record { core = opened-core (record { kind = D.inProgram; row = i; last = l; labels = bs } ∷ os) (st .scope) st h; held = a }
   complete-in D.inGroup i l bs os n e st up h a r = record { core = opened-core (record { kind = D.inGroup; row = i; last = l; labels = bs } ∷ os) (st .scope) st h; held = a }
   complete-in D.inBody i l bs os n e st up h a r = record { core = opened-core (record { kind = D.inBody; row = i; last = l; labels = bs } ∷ os) (st .scope) st h; held = a }
   complete-in D.inThen i l bs os n e st up h a r =
       let L : List D.Open = record { kind = D.inThen; row = i; last = l; labels = bs } ∷ os in
-      elsed-sound (D.elseAt (D.isInside (st .scope)) s e) i os (D.withOpened L (st .scope) st) (λ _. up i) (opened-core L (st .scope) st h) (a .0 .row i refl) (a .1) (r (a .1))
+      elsed-sound (D.elseAt mixed (D.isInside (st .scope)) s e) i os (D.withOpened L (st .scope) st) (λ _. up i) (opened-core L (st .scope) st h) (a .0 .row i refl) (a .1) (r (a .1))
   complete-in D.inElse i l bs os n e st up h a r = r (a .1)
 
-  pub complete-sound : (L : List D.Open) (n e : ℕ) (st : D.State) → Core st → Held (st .rows) L → SoundTurn (D.complete s L n e st)
+  pub complete-sound : (L : List D.Open) (n e : ℕ) (st : D.State) → Core st → Held (st .rows) L → SoundTurn (D.complete mixed s L n e st)
   unfolding D.complete
   complete-sound [] n e st h a = absurd a
-  complete-sound (o ∷ os) n e st h a = complete-in (o .kind) (o .row) (o .last) (o .labels) os n e st (λ i. D.complete s os i e st) h a (complete-sound os (o .row) e st h)
+  complete-sound (o ∷ os) n e st h a = complete-in (o .kind) (o .row) (o .last) (o .labels) os n e st (λ i. D.complete mixed s os i e st) h a (complete-sound os (o .row) e st h)
 
   held-new : (w : D.Where) (n : ℕ) (ls : List (List ℕ)) (rs : List P.Row) (L : List D.Open) → n < length rs → Around w (Held rs L) → Held rs (D.opening w n ls ∷ L)
   held-new w n ls rs L l a = (record { last = λ m e. nowhere-not m e; row = by w }, a)
@@ -236,14 +237,14 @@ module _ (s : List ℕ) where
       by D.inThen g e = subst (λ (z : ℕ). z < length rs) (row-is n g e) l
       by D.inElse g e = subst (λ (z : ℕ). z < length rs) (row-is n g e) l
 
-  opened-sound : (o : St.Opens) (n : ℕ) (ns : List Named) (e : ℕ) (st : D.State) → Sound st → n < length (st .rows) → SoundTurn (D.opened o s n ns e st)
+  opened-sound : (o : St.Opens) (n : ℕ) (ns : List Named) (e : ℕ) (st : D.State) → Sound st → n < length (st .rows) → SoundTurn (D.opened mixed o s n ns e st)
   opened-sound St.opensNothing n ns e st h l = complete-sound (st .opened) n e st (h .core) (h .held)
   opened-sound St.opensGroup n ns e st h l = record { core = opened-core (D.opening D.inGroup n (D.spelled ns) ∷ st .opened) (st .scope) st (h .core); held = held-new D.inGroup n (D.spelled ns) (st .rows) (st .opened) l (h .held) }
   opened-sound St.opensBody n ns e st h l = record { core = opened-core (D.opening D.inBody n (D.spelled ns) ∷ st .opened) (P.inside n) st (h .core); held = held-new D.inBody n (D.spelled ns) (st .rows) (st .opened) l (h .held) }
   opened-sound St.opensThen n ns e st h l = record { core = opened-core (D.opening D.inThen n [] ∷ st .opened) (st .scope) st (h .core); held = held-new D.inThen n [] (st .rows) (st .opened) l (h .held) }
 
   -- THE STATEMENT that is taken
-  pub taken-sound : (p : ℕ) (ns : List Named) (st : D.State) (c : St.Clause) (es : List P.Declared) → Sound st → Fits (length (st .rows)) c es → SoundTurn (D.taken s p ns st c es)
+  pub taken-sound : (p : ℕ) (ns : List Named) (st : D.State) (c : St.Clause) (es : List P.Declared) → Sound st → Fits (length (st .rows)) c es → SoundTurn (D.taken mixed s p ns st c es)
   unfolding D.taken D.addRow
   taken-sound p ns st c es h f =
       let a : Added (length (st .rows)) (D.withNames (St.means (st .scope) (D.labelMeaning (c .opens) (length (st .rows))) ns ++ es) (D.addTo (st .opened) (c .statement) p st)) = add-sound (st .opened) p ns c es st (h .core) (h .held) f in

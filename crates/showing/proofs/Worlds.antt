@@ -8,6 +8,7 @@ use native.Mathlib.Omega.{arith}
 use borrow.Author.Tests.{eqb-true, eqb-false, eq-eqb}
 use lib.Dec.{eqb, ltb}
 use lib.ListN.{length, getD}
+use Rattle.definition.specs.Bytes.{mixed}
 use Rattle.definition.specs.Limits.{enteredSentences}
 use Rattle.definition.specs.Program as P
 use Rattle.definition.specs.Reading as D
@@ -43,7 +44,7 @@ placed-same b w v e f g h = record {
   names = subst (λ (ms : List W.Entered). AllLead (λ m. rowsIn m ms) (v .identifiers) (v .denotations)) (sym g)
       (subst (λ (is : List W.Identifier). AllLead (λ m. rowsOf m w) is (v .denotations)) (sym e) (subst (λ (ds : List W.Denotation). AllLead (λ m. rowsOf m w) (w .identifiers) ds) (sym f) (h .names)));
   apart = subst (λ (ms : List W.Entered). (m : ℕ) → Parted (rowsIn m ms)) (sym g) (h .apart);
-  read = subst (λ (ms : List W.Entered). (m : ℕ) → Wider (rowsIn m ms) (D.readMember (b m) .rows)) (sym g) (h .read);
+  read = subst (λ (ms : List W.Entered). (m : ℕ) → Wider (rowsIn m ms) (D.readMember mixed (b m) .rows)) (sym g) (h .read);
 }
 
 -- a world without names and members
@@ -95,10 +96,10 @@ unfolding rowsIn
 by-first m s ms h = rw (eq-eqb m m refl) h
 
 -- the names of the member lead to its rows
-entered-led : (b : ℕ → List ℕ) (m : ℕ) (w v : World) → Placed b w → (x : Entered m (D.readMember (b m)) w v)
-    → AllLead (λ n. rowsIn n (record { member = m; source = D.readMember (b m) } ∷ w .members)) (x .named .identifiers) (x .named .denotations)
+entered-led : (b : ℕ → List ℕ) (m : ℕ) (w v : World) → Placed b w → (x : Entered m (D.readMember mixed (b m)) w v)
+    → AllLead (λ n. rowsIn n (record { member = m; source = D.readMember mixed (b m) } ∷ w .members)) (x .named .identifiers) (x .named .denotations)
 entered-led b m w v h x =
-    let s : P.Source = D.readMember (b m) in
+    let s : P.Source = D.readMember mixed (b m) in
     let R : ℕ → List P.Row = λ n. rowsIn n (record { member = m; source = s } ∷ w .members) in
     let wider : (n : ℕ) → Wider (rowsOf n w) (R n) = λ n.
     rows-by m s (w .members) n (λ (l : List P.Row). Wider (rowsOf n w) l) (λ q. subst (λ (k : ℕ). Wider (rowsOf k w) (s .rows)) q (h .read m)) (λ _. kept refl) in
@@ -118,9 +119,9 @@ members-enter m s w v e =
     ap (λ (z : World). z .members) (x .world) ∙ ap (λ (ms : List W.Entered). record { member = m; source = s } ∷ ms) (entered-members m s w v x)
 
 -- ENTERING keeps it
-pub placed-enter : (b : ℕ → List ℕ) (m : ℕ) (w v : World) → Placed b w → N.enter m (D.readMember (b m)) w ≡ N.entered v → Placed b v
+pub placed-enter : (b : ℕ → List ℕ) (m : ℕ) (w v : World) → Placed b w → N.enter m (D.readMember mixed (b m)) w ≡ N.entered v → Placed b v
 placed-enter b m w v h e =
-    let s : P.Source = D.readMember (b m) in
+    let s : P.Source = D.readMember mixed (b m) in
     let x : Entered m s w v = entered-is m s w v e in
     let u : World = x .named in
     let same : w .members ≡ u .members = sym (entered-members m s w v x) in
@@ -130,8 +131,8 @@ placed-enter b m w v h e =
       apart = λ n. rows-by m s (u .members) n (λ (l : List P.Row). Parted l)
           (λ q r ns t l f. head-distinct m r ns (s .declared) w (member-sound (b m) .heads (x .fault) r ns t l f) (subst IsFine (sym (x .declared)) tt))
           (λ _. subst (λ (ms : List W.Entered). Parted (rowsIn n ms)) same (h .apart n));
-      read = λ n. rows-by m s (u .members) n (λ (l : List P.Row). Wider l (D.readMember (b n) .rows)) (λ q. kept (ap (λ (k : ℕ). D.readMember (b k) .rows) q))
-          (λ _. subst (λ (ms : List W.Entered). Wider (rowsIn n ms) (D.readMember (b n) .rows)) same (h .read n));
+      read = λ n. rows-by m s (u .members) n (λ (l : List P.Row). Wider l (D.readMember mixed (b n) .rows)) (λ q. kept (ap (λ (k : ℕ). D.readMember mixed (b k) .rows) q))
+          (λ _. subst (λ (ms : List W.Entered). Wider (rowsIn n ms) (D.readMember mixed (b n) .rows)) same (h .read n));
     })
 
 -- ---- what a run asks of such a world
@@ -162,7 +163,7 @@ module _ (b : ℕ → List ℕ) (B : World) (h : Placed b B) where
   pub linked-placed : (m : ℕ) → Linked (rowsOf m B)
   linked-placed m = by (rowsOf m B) (h .read m)
     where
-      by : (rs : List P.Row) → Wider rs (D.readMember (b m) .rows) → Linked rs
+      by : (rs : List P.Row) → Wider rs (D.readMember mixed (b m) .rows) → Linked rs
       by rs (none e) = subst Linked (sym e) (record { next = λ n k l f. absurd (omega arith); child = λ n k l f. absurd (omega arith); other = λ n k l f. absurd (omega arith) })
       by rs (kept e) = subst Linked (sym e) (linked-read (b m))
 

@@ -5,6 +5,7 @@ use mathlib.Core.Bool.{false}
 use mathlib.Core.Path.{_≡_}
 use mathlib.Core.List.{List, [], _∷_, _++_}
 use lib.ListN.{length, drop, replicate}
+use Rattle.definition.specs.Bytes.{mixed}
 use Rattle.definition.specs.Lists.{same}
 use Rattle.definition.specs.Program as P
 use Rattle.definition.specs.Reading as D
@@ -68,7 +69,7 @@ pub data Wider (rs qs : List P.Row) : Type 0 where
 pub record Placed (b : ℕ → List ℕ) (w : World) : Type 0 where
   pub names : AllLead (λ m. rowsOf m w) (w .identifiers) (w .denotations)
   pub apart : (m : ℕ) → Parted (rowsOf m w)
-  pub read : (m : ℕ) → Wider (rowsOf m w) (D.readMember (b m) .rows)
+  pub read : (m : ℕ) → Wider (rowsOf m w) (D.readMember mixed (b m) .rows)
 
 -- ---- the rows rs of the member m are its part of the table, or there are none
 pub data Stored (deck rows : List ℕ) (starts : Starts) (m : ℕ) (rs : List P.Row) : Type 0 where
@@ -93,12 +94,12 @@ pub record Grown (w v : World) : Type 0 where
   pub values : v .values ≡ w .values ++ replicate more W.noValue
 
 abbrev pub memberIn : List ℕ → ℕ → World → World
-memberIn deck m v = N.withMember m (D.readMember (bodyIn deck m)) v
+memberIn deck m v = N.withMember m (D.readMember mixed (bodyIn deck m)) v
 
 -- THE MEMBER m goes into w, with its names; then there are `used` rows and `count` names
 pub record Enters (deck rows names : List ℕ) (starts : Starts) (m used count : ℕ) (w : World) : Type 0 where
   pub named : World
-  pub is : N.enter m (D.readMember (bodyIn deck m)) w ≡ N.entered (memberIn deck m named)
+  pub is : N.enter m (D.readMember mixed (bodyIn deck m)) w ≡ N.entered (memberIn deck m named)
   pub grown : Grown w named
   pub book : Shows named (namesOf deck names count)
   pub sentences : memberIn deck m named .sentences ≡ used

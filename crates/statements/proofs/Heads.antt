@@ -7,6 +7,7 @@ use Prim.Native.Nat.{ℕ, zero, suc, _-_, _<_, _≤_}
 use native.Mathlib.Omega.{arith}
 use native.Mathlib.Numerals.{sub-one}
 use lib.ListN.{length}
+use Rattle.definition.specs.Bytes.{mixed}
 use Rattle.definition.specs.Choice.{when}
 use Rattle.definition.specs.Lists.{same}
 use Rattle.definition.specs.Tokens.{isWord, tokenAt}
@@ -42,72 +43,72 @@ use Rattle.statements.proofs.Items.{names-at, afterNames}
 -- ---- the head
 module _ (k : P.Scope) (s : List ℕ) (c : ℕ) (ds : List P.Declared) where
   abbrev last : ValueType → ℕ → D.Declaring
-  last t e = D.thenDeclare ds (expectSign ")" s e) λ q. D.thenDeclare ds (expectSign ";" s q) λ z. D.declared (D.clause (P.procedure (D.spellings ds) t) D.opensBody z) ds
+  last t e = D.thenDeclare ds (expectSign mixed ")" s e) λ q. D.thenDeclare ds (expectSign mixed ";" s q) λ z. D.declared (D.clause (P.procedure (D.spellings ds) t) D.opensBody z) ds
 
   end-by : (t : ValueType) (Q : Reading ℕ) → headUpTo t c (expectFor Q) ≡ readProcedure c (D.thenDeclare ds Q λ z. D.declared (D.clause (P.procedure (D.spellings ds) t) D.opensBody z) ds)
   unfolding headUpTo readProcedure
   end-by t (read e) = refl
   end-by t (refused w p) = refl
 
-  end-at : (t : ValueType) (e : ℕ) → headUpTo t c (expected (59 ∷ []) s e) ≡ readProcedure c (D.thenDeclare ds (expectSign ";" s e) λ z. D.declared (D.clause (P.procedure (D.spellings ds) t) D.opensBody z) ds)
-  end-at t e = rw (expected-is ";" (59 ∷ []) refl s e) (end-by t (expectSign ";" s e))
+  end-at : (t : ValueType) (e : ℕ) → headUpTo t c (expected (59 ∷ []) s e) ≡ readProcedure c (D.thenDeclare ds (expectSign mixed ";" s e) λ z. D.declared (D.clause (P.procedure (D.spellings ds) t) D.opensBody z) ds)
+  end-at t e = rw (expected-is ";" (59 ∷ []) refl s e) (end-by t (expectSign mixed ";" s e))
 
-  close-by : (t : ValueType) (Q : Reading ℕ) → headUpTo t c (thenSign (59 ∷ []) s (expectFor Q)) ≡ readProcedure c (D.thenDeclare ds Q λ q. D.thenDeclare ds (expectSign ";" s q) λ z. D.declared (D.clause (P.procedure (D.spellings ds) t) D.opensBody z) ds)
+  close-by : (t : ValueType) (Q : Reading ℕ) → headUpTo t c (thenSign (59 ∷ []) s (expectFor Q)) ≡ readProcedure c (D.thenDeclare ds Q λ q. D.thenDeclare ds (expectSign mixed ";" s q) λ z. D.declared (D.clause (P.procedure (D.spellings ds) t) D.opensBody z) ds)
   unfolding headUpTo readProcedure thenSign
   close-by t (read e) = end-at t e
   close-by t (refused w p) = refl
 
   close-at : (t : ValueType) (e : ℕ) → headUpTo t c (thenSign (59 ∷ []) s (expected (41 ∷ []) s e)) ≡ readProcedure c (last t e)
-  close-at t e = rw (expected-is ")" (41 ∷ []) refl s e) (close-by t (expectSign ")" s e))
+  close-at t e = rw (expected-is ")" (41 ∷ []) refl s e) (close-by t (expectSign mixed ")" s e))
 
-  type-by : (q : ℕ) (a b : Bool) → headFrom s c (typeBy a b (tokenAt s q .from) (tokenAt s q .to))
-      ≡ readProcedure c (when a (λ _. last CharacterType (tokenAt s q .to)) (λ _. D.thenDeclare ds (cond b (read (tokenAt s q .to)) (refused Syntax (tokenAt s q .from))) (last FixedType)))
+  type-by : (q : ℕ) (a b : Bool) → headFrom s c (typeBy a b (tokenAt mixed s q .from) (tokenAt mixed s q .to))
+      ≡ readProcedure c (when a (λ _. last CharacterType (tokenAt mixed s q .to)) (λ _. D.thenDeclare ds (cond b (read (tokenAt mixed s q .to)) (refused Syntax (tokenAt mixed s q .from))) (last FixedType)))
   unfolding headFrom readProcedure
-  type-by q true b = close-at CharacterType (tokenAt s q .to)
-  type-by q false true = close-at FixedType (tokenAt s q .to)
+  type-by q true b = close-at CharacterType (tokenAt mixed s q .to)
+  type-by q false true = close-at FixedType (tokenAt mixed s q .to)
   type-by q false false = refl
 
-  type-at : (q : ℕ) → headFrom s c (typeFrom s (Past q)) ≡ readProcedure c (when (D.isCharacter (tokenAt s q .token)) (λ _. last CharacterType (tokenAt s q .to)) (λ _. D.thenDeclare ds (expectWord "FIXED" s q) (last FixedType)))
+  type-at : (q : ℕ) → headFrom s c (typeFrom s (Past q)) ≡ readProcedure c (when (D.isCharacter (tokenAt mixed s q .token)) (λ _. last CharacterType (tokenAt mixed s q .to)) (λ _. D.thenDeclare ds (expectWord mixed "FIXED" s q) (last FixedType)))
   unfolding typeFrom expectWord
-  type-at q = rw (word-spelled "CHARACTER" (67 ∷ 72 ∷ 65 ∷ 82 ∷ 65 ∷ 67 ∷ 84 ∷ 69 ∷ 82 ∷ []) refl (tokenAt s q .token), word-spelled "CHAR" (67 ∷ 72 ∷ 65 ∷ 82 ∷ []) refl (tokenAt s q .token), word-spelled "FIXED" (70 ∷ 73 ∷ 88 ∷ 69 ∷ 68 ∷ []) refl (tokenAt s q .token)) (type-by q (D.isCharacter (tokenAt s q .token)) (isWord "FIXED" (tokenAt s q .token)))
+  type-at q = rw (word-spelled "CHARACTER" (67 ∷ 72 ∷ 65 ∷ 82 ∷ 65 ∷ 67 ∷ 84 ∷ 69 ∷ 82 ∷ []) refl (tokenAt mixed s q .token), word-spelled "CHAR" (67 ∷ 72 ∷ 65 ∷ 82 ∷ []) refl (tokenAt mixed s q .token), word-spelled "FIXED" (70 ∷ 73 ∷ 88 ∷ 69 ∷ 68 ∷ []) refl (tokenAt mixed s q .token)) (type-by q (D.isCharacter (tokenAt mixed s q .token)) (isWord "FIXED" (tokenAt mixed s q .token)))
 
-  open-by : (Q : Reading ℕ) → headFrom s c (typeFrom s (expectFor Q)) ≡ readProcedure c (D.thenDeclare ds Q λ q. when (D.isCharacter (tokenAt s q .token)) (λ _. last CharacterType (tokenAt s q .to)) (λ _. D.thenDeclare ds (expectWord "FIXED" s q) (last FixedType)))
+  open-by : (Q : Reading ℕ) → headFrom s c (typeFrom s (expectFor Q)) ≡ readProcedure c (D.thenDeclare ds Q λ q. when (D.isCharacter (tokenAt mixed s q .token)) (λ _. last CharacterType (tokenAt mixed s q .to)) (λ _. D.thenDeclare ds (expectWord mixed "FIXED" s q) (last FixedType)))
   unfolding typeFrom headFrom readProcedure
   open-by (read q) = type-at q
   open-by (refused w p) = refl
 
-  open-at : (e : ℕ) → headFrom s c (typeFrom s (expected (40 ∷ []) s e)) ≡ readProcedure c (D.thenDeclare ds (expectSign "(" s e) λ q. when (D.isCharacter (tokenAt s q .token)) (λ _. last CharacterType (tokenAt s q .to)) (λ _. D.thenDeclare ds (expectWord "FIXED" s q) (last FixedType)))
-  open-at e = rw (expected-is "(" (40 ∷ []) refl s e) (open-by (expectSign "(" s e))
+  open-at : (e : ℕ) → headFrom s c (typeFrom s (expected (40 ∷ []) s e)) ≡ readProcedure c (D.thenDeclare ds (expectSign mixed "(" s e) λ q. when (D.isCharacter (tokenAt mixed s q .token)) (λ _. last CharacterType (tokenAt mixed s q .to)) (λ _. D.thenDeclare ds (expectWord mixed "FIXED" s q) (last FixedType)))
+  open-at e = rw (expected-is "(" (40 ∷ []) refl s e) (open-by (expectSign mixed "(" s e))
 
-  word-by : (Q : Reading ℕ) → headFrom s c (typeFrom s (thenSign (40 ∷ []) s (expectFor Q))) ≡ readProcedure c (D.thenDeclare ds Q λ e. D.thenDeclare ds (expectSign "(" s e) λ q. when (D.isCharacter (tokenAt s q .token)) (λ _. last CharacterType (tokenAt s q .to)) (λ _. D.thenDeclare ds (expectWord "FIXED" s q) (last FixedType)))
+  word-by : (Q : Reading ℕ) → headFrom s c (typeFrom s (thenSign (40 ∷ []) s (expectFor Q))) ≡ readProcedure c (D.thenDeclare ds Q λ e. D.thenDeclare ds (expectSign mixed "(" s e) λ q. when (D.isCharacter (tokenAt mixed s q .token)) (λ _. last CharacterType (tokenAt mixed s q .to)) (λ _. D.thenDeclare ds (expectWord mixed "FIXED" s q) (last FixedType)))
   unfolding thenSign typeFrom headFrom readProcedure
   word-by (read e) = open-at e
   word-by (refused w p) = refl
 
-head-at : (k : P.Scope) (s : List ℕ) (c : ℕ) (ns : List Named) (at : ℕ) → headFrom s c (typeFrom s (thenSign (40 ∷ []) s (thenWord (82 ∷ 69 ∷ 84 ∷ 85 ∷ 82 ∷ 78 ∷ 83 ∷ []) s (Past at)))) ≡ readProcedure c (D.procedureHead k s ns at)
+head-at : (k : P.Scope) (s : List ℕ) (c : ℕ) (ns : List Named) (at : ℕ) → headFrom s c (typeFrom s (thenSign (40 ∷ []) s (thenWord (82 ∷ 69 ∷ 84 ∷ 85 ∷ 82 ∷ 78 ∷ 83 ∷ []) s (Past at)))) ≡ readProcedure c (D.procedureHead mixed k s ns at)
 unfolding D.procedureHead D.returnsType thenWord
-head-at k s c ns at = rw (expectedWord-is "RETURNS" (82 ∷ 69 ∷ 84 ∷ 85 ∷ 82 ∷ 78 ∷ 83 ∷ []) refl s at) (word-by k s c (D.means k P.parameter ns) (expectWord "RETURNS" s at))
+head-at k s c ns at = rw (expectedWord-is "RETURNS" (82 ∷ 69 ∷ 84 ∷ 85 ∷ 82 ∷ 78 ∷ 83 ∷ []) refl s at) (word-by k s c (D.means k P.parameter ns) (expectWord mixed "RETURNS" s at))
 
-head-by : (k : P.Scope) (s : List ℕ) (c : ℕ) (ns : List Named) (x : Expected) → headFrom s c (typeFrom s (thenSign (40 ∷ []) s (thenWord (82 ∷ 69 ∷ 84 ∷ 85 ∷ 82 ∷ 78 ∷ 83 ∷ []) s x))) ≡ readProcedure c (afterNames k P.parameter s [] (D.procedureHead k s) x ns)
+head-by : (k : P.Scope) (s : List ℕ) (c : ℕ) (ns : List Named) (x : Expected) → headFrom s c (typeFrom s (thenSign (40 ∷ []) s (thenWord (82 ∷ 69 ∷ 84 ∷ 85 ∷ 82 ∷ 78 ∷ 83 ∷ []) s x))) ≡ readProcedure c (afterNames k P.parameter s [] (D.procedureHead mixed k s) x ns)
 unfolding thenWord thenSign typeFrom headFrom readProcedure
 head-by k s c ns (Past e) = head-at k s c ns e
 head-by k s c ns (Refused w p) = refl
 
 module _ (s : List ℕ) (from : ℕ) (l : Lexeme) (lex : Lexed s from l) (v : Bool) (b : v ≡ isSignIn s l (40 ∷ [])) (k : P.Scope) where
-  pub head-plain : v ≡ false → (r : Read) → r ≡ headFrom s from (typeFrom s (thenSign (40 ∷ []) s (thenWord (82 ∷ 69 ∷ 84 ∷ 85 ∷ 82 ∷ 78 ∷ 83 ∷ []) s (Past from)))) → r ≡ readProcedure from (D.procedureClause k s from)
+  pub head-plain : v ≡ false → (r : Read) → r ≡ headFrom s from (typeFrom s (thenSign (40 ∷ []) s (thenWord (82 ∷ 69 ∷ 84 ∷ 85 ∷ 82 ∷ 78 ∷ 83 ∷ []) s (Past from)))) → r ≡ readProcedure from (D.procedureClause mixed k s from)
   unfolding D.procedureClause
   head-plain d r e = rw (told s from l lex "(" (40 ∷ []) v false refl b d, e) (head-at k s from [] from)
 
-  pub head-listed : v ≡ true → (x : Expected) (r : Read) → x ≡ namesEnd (41 ∷ []) s (length s) (l .to) → r ≡ headFrom s from (typeFrom s (thenSign (40 ∷ []) s (thenWord (82 ∷ 69 ∷ 84 ∷ 85 ∷ 82 ∷ 78 ∷ 83 ∷ []) s x))) → r ≡ readProcedure from (D.procedureClause k s from)
+  pub head-listed : v ≡ true → (x : Expected) (r : Read) → x ≡ namesEnd (41 ∷ []) s (length s) (l .to) → r ≡ headFrom s from (typeFrom s (thenSign (40 ∷ []) s (thenWord (82 ∷ 69 ∷ 84 ∷ 85 ∷ 82 ∷ 78 ∷ 83 ∷ []) s x))) → r ≡ readProcedure from (D.procedureClause mixed k s from)
   unfolding D.procedureClause
   head-listed d x r f e =
-      rw (told s from l lex "(" (40 ∷ []) v true refl b d, e, f, lex .to, names-at k P.parameter s [] (D.procedureHead k s) (length s) [] (tokenAt s from .to) (omega arith) (λ z. absurd (omega arith)))
-      (head-by k s from (namesRead s (length s) (tokenAt s from .to)) (namesEnd (41 ∷ []) s (length s) (tokenAt s from .to)))
+      rw (told s from l lex "(" (40 ∷ []) v true refl b d, e, f, lex .to, names-at k P.parameter s [] (D.procedureHead mixed k s) (length s) [] (tokenAt mixed s from .to) (omega arith) (λ z. absurd (omega arith)))
+      (head-by k s from (namesRead s (length s) (tokenAt mixed s from .to)) (namesEnd (41 ∷ []) s (length s) (tokenAt mixed s from .to)))
 
 module _ (s : List ℕ) (t : Tally) (from : ℕ) (l : Lexeme) (lex : Lexed s from l) (v : Bool) (b : v ≡ isSignIn s l (40 ∷ [])) where
   pub heads-plain : v ≡ false → (r : Read) → r ≡ headFrom s from (typeFrom s (thenSign (40 ∷ []) s (thenWord (82 ∷ 69 ∷ 84 ∷ 85 ∷ 82 ∷ 78 ∷ 83 ∷ []) s (Past from)))) → Heads s t from (record { tally = t; read = r })
   unfolding procedureTally
-  heads-plain d r e = record { is = λ k. head-plain s from l lex v b k d r e; tally = rw (← sign-in s from l lex (40 ∷ []), ← b, d) (no-tally (isRead r) t (tallyTwice (parameterTwice s (tokenAt s from .to) (length s) (tokenAt s from .to)) t)) }
+  heads-plain d r e = record { is = λ k. head-plain s from l lex v b k d r e; tally = rw (← sign-in s from l lex (40 ∷ []), ← b, d) (no-tally (isRead r) t (tallyTwice (parameterTwice s (tokenAt mixed s from .to) (length s) (tokenAt mixed s from .to)) t)) }
     where
       no-tally : (a : Bool) (x y : Tally) → x ≡ cond (a && false) y x
       no-tally true x y = refl
@@ -128,7 +129,7 @@ pub record Before (s : List ℕ) (from to list turns at : ℕ) : Type 0 where
 
 module _ (s : List ℕ) (from to : ℕ) where
   before-turn : (n at : ℕ) → 0 < n → listedBefore s from to n at
-      ≡ when (leb from (tokenAt s at .from)) (λ _. false) (λ _. when (spelledAs s from to (tokenAt s at .from) (tokenAt s at .to)) (λ _. true) (λ _. listedBefore s from to (n - 1) (tokenAt s (tokenAt s at .to) .to)))
+      ≡ when (leb from (tokenAt mixed s at .from)) (λ _. false) (λ _. when (spelledAs s from to (tokenAt mixed s at .from) (tokenAt mixed s at .to)) (λ _. true) (λ _. listedBefore s from to (n - 1) (tokenAt mixed s (tokenAt mixed s at .to) .to)))
   unfolding listedBefore
   before-turn zero at h = absurd (omega arith)
   before-turn (suc n) at h = rw sub-one
@@ -142,7 +143,7 @@ module _ (s : List ℕ) (from to : ℕ) where
     before-end k = let z : turns ≡ 0 = omega arith in rw z at (h .same)
 
     module _ (k : 0 < turns) (l : Lexeme) (lex : Lexed s at l) where
-      turned : when (leb from (l .from)) (λ _. false) (λ _. when (spelledAs s from to (l .from) (l .to)) (λ _. true) (λ _. listedBefore s from to (turns - 1) (tokenAt s (l .to) .to))) ≡ listedBefore s from to (length s) list
+      turned : when (leb from (l .from)) (λ _. false) (λ _. when (spelledAs s from to (l .from) (l .to)) (λ _. true) (λ _. listedBefore s from to (turns - 1) (tokenAt mixed s (l .to) .to))) ≡ listedBefore s from to (length s) list
       turned = rw (lex .from, lex .to) (sym (before-turn turns at k) ∙ h .same)
 
       pub before-own : from ≤ l .from → false ≡ listedBefore s from to (length s) list
@@ -169,7 +170,7 @@ pub record Twice (s : List ℕ) (list turns at : ℕ) : Type 0 where
 
 module _ (s : List ℕ) (list : ℕ) where
   twice-turn : (n at : ℕ) → 0 < n → parameterTwice s list n at
-      ≡ when (listedBefore s (tokenAt s at .from) (tokenAt s at .to) (length s) list) (λ _. Marked (tokenAt s at .from)) (λ _. when (isSpelled (44 ∷ []) (tokenAt s (tokenAt s at .to) .token)) (λ _. parameterTwice s list (n - 1) (tokenAt s (tokenAt s at .to) .to)) (λ _. Unmarked))
+      ≡ when (listedBefore s (tokenAt mixed s at .from) (tokenAt mixed s at .to) (length s) list) (λ _. Marked (tokenAt mixed s at .from)) (λ _. when (isSpelled (44 ∷ []) (tokenAt mixed s (tokenAt mixed s at .to) .token)) (λ _. parameterTwice s list (n - 1) (tokenAt mixed s (tokenAt mixed s at .to) .to)) (λ _. Unmarked))
   unfolding parameterTwice
   twice-turn zero at h = absurd (omega arith)
   twice-turn (suc n) at h = rw sub-one
@@ -183,7 +184,7 @@ module _ (s : List ℕ) (list : ℕ) where
     twice-end k = let z : turns ≡ 0 = omega arith in rw (← rw z at (h .same))
 
     module _ (k : 0 < turns) (l : Lexeme) (lex : Lexed s at l) (b : Bool) (f : b ≡ listedBefore s (l .from) (l .to) (length s) list) where
-      doubled : when b (λ _. Marked (l .from)) (λ _. when (isSpelled (44 ∷ []) (tokenAt s (l .to) .token)) (λ _. parameterTwice s list (turns - 1) (tokenAt s (l .to) .to)) (λ _. Unmarked)) ≡ parameterTwice s list (length s) list
+      doubled : when b (λ _. Marked (l .from)) (λ _. when (isSpelled (44 ∷ []) (tokenAt mixed s (l .to) .token)) (λ _. parameterTwice s list (turns - 1) (tokenAt mixed s (l .to) .to)) (λ _. Unmarked)) ≡ parameterTwice s list (length s) list
       doubled = rw (f, lex .from, lex .to) (sym (twice-turn turns at k) ∙ h .same)
 
       pub twice-there : b ≡ true → (y : Tally) → y ≡ tallySecond t (l .from) → y ≡ tallyTwice (parameterTwice s list (length s) list) t

@@ -7,6 +7,7 @@ use Prim.Native.Nat.{ℕ, zero, suc, _+_, _-_, _<_, _≤_}
 use native.Mathlib.Omega.{arith}
 use native.Mathlib.Numerals.{sub-one}
 use lib.ListN.{length}
+use Rattle.definition.specs.Bytes.{mixed}
 use Rattle.definition.specs.Choice.{when}
 use Rattle.definition.specs.Tokens.{Token, word, integer, string, bits, sign, nothing, wrong, isSign, isWord, tokenAt}
 use Rattle.definition.specs.Expressions.{Reading, read, refused, then, expectSign, Named, nameAt}
@@ -55,15 +56,15 @@ sign-real (sign x) e = refl
 sign-real nothing e = let z : _≡_ {A = ℕ} 0 1 = cc in absurd (omega arith)
 sign-real wrong e = let z : _≡_ {A = ℕ} 0 1 = cc in absurd (omega arith)
 
-comma-past : (s : List ℕ) (e : ℕ) → isSign "," (tokenAt s e .token) ≡ true → (e < tokenAt s e .to) × (tokenAt s e .to ≤ length s)
+comma-past : (s : List ℕ) (e : ℕ) → isSign "," (tokenAt mixed s e .token) ≡ true → (e < tokenAt mixed s e .to) × (tokenAt mixed s e .to ≤ length s)
 comma-past s e h =
-    let l : Lexeme = lexemeFor (tokenAt s e) in
+    let l : Lexeme = lexemeFor (tokenAt mixed s e) in
     let x : Lexed s e l = record { kind = refl; from = refl; to = refl } in
-    let r : isToken (l .kind) ≡ true = sign-real (tokenAt s e .token) h in
+    let r : isToken (l .kind) ≡ true = sign-real (tokenAt mixed s e .token) h in
     omega (arith, token-low s e l x, token-past s e l x r, token-inside s e l x r)
 
-name-past : (s : List ℕ) (at : ℕ) (n : Named) → nameAt s at ≡ read n → at < n .to
-name-past s at n e = let f : Names s at (n .place) (n .to) = named-is s at (namedFor (nameAt s at)) (n .place) (n .to) refl (ap namedFor e) in omega (arith, f .past, f .low)
+name-past : (s : List ℕ) (at : ℕ) (n : Named) → nameAt mixed s at ≡ read n → at < n .to
+name-past s at n e = let f : Names s at (n .place) (n .to) = named-is s at (namedFor (nameAt mixed s at)) (n .place) (n .to) refl (ap namedFor e) in omega (arith, f .past, f .low)
 
 nil-of : {A : Type 0} (xs : List A) → length xs ≡ 0 → xs ≡ []
 nil-of [] e = refl
@@ -79,30 +80,30 @@ module _ (k : P.Scope) (g : P.Meaning) (s : List ℕ) (ds : List P.Declared) (co
   closing ns (refused w p) = refl
 
   comma-by : (f : ℕ) (ns : List Named) (n : Named) (b : Bool)
-      → (b ≡ true → D.namesAt k g s ds f (ns ++ n ∷ []) (tokenAt s (n .to) .to) cont ≡ afterNames (namesEnd (41 ∷ []) s f (tokenAt s (n .to) .to)) ((ns ++ n ∷ []) ++ namesRead s f (tokenAt s (n .to) .to)))
-      → when b (λ _. D.namesAt k g s ds f (ns ++ n ∷ []) (tokenAt s (n .to) .to) cont) (λ _. D.thenDeclare (ds ++ D.means k g (ns ++ n ∷ [])) (expectSign ")" s (n .to)) λ e. cont (ns ++ n ∷ []) e)
-      ≡ afterNames (when b (λ _. namesEnd (41 ∷ []) s f (tokenAt s (n .to) .to)) (λ _. expected (41 ∷ []) s (n .to))) (ns ++ (n ∷ when b (λ _. namesRead s f (tokenAt s (n .to) .to)) (λ _. [])))
-  comma-by f ns n true h = h refl ∙ ap (λ (z : List Named). afterNames (namesEnd (41 ∷ []) s f (tokenAt s (n .to) .to)) z) (append-assoc ns (n ∷ []) (namesRead s f (tokenAt s (n .to) .to)))
-  comma-by f ns n false h = rw (expected-is ")" (41 ∷ []) refl s (n .to)) (closing (ns ++ n ∷ []) (expectSign ")" s (n .to)))
+      → (b ≡ true → D.namesAt mixed k g s ds f (ns ++ n ∷ []) (tokenAt mixed s (n .to) .to) cont ≡ afterNames (namesEnd (41 ∷ []) s f (tokenAt mixed s (n .to) .to)) ((ns ++ n ∷ []) ++ namesRead s f (tokenAt mixed s (n .to) .to)))
+      → when b (λ _. D.namesAt mixed k g s ds f (ns ++ n ∷ []) (tokenAt mixed s (n .to) .to) cont) (λ _. D.thenDeclare (ds ++ D.means k g (ns ++ n ∷ [])) (expectSign mixed ")" s (n .to)) λ e. cont (ns ++ n ∷ []) e)
+      ≡ afterNames (when b (λ _. namesEnd (41 ∷ []) s f (tokenAt mixed s (n .to) .to)) (λ _. expected (41 ∷ []) s (n .to))) (ns ++ (n ∷ when b (λ _. namesRead s f (tokenAt mixed s (n .to) .to)) (λ _. [])))
+  comma-by f ns n true h = h refl ∙ ap (λ (z : List Named). afterNames (namesEnd (41 ∷ []) s f (tokenAt mixed s (n .to) .to)) z) (append-assoc ns (n ∷ []) (namesRead s f (tokenAt mixed s (n .to) .to)))
+  comma-by f ns n false h = rw (expected-is ")" (41 ∷ []) refl s (n .to)) (closing (ns ++ n ∷ []) (expectSign mixed ")" s (n .to)))
 
   name-by : (f : ℕ) (ns : List Named) (R : Reading Named)
-      → ((n : Named) → R ≡ read n → isSign "," (tokenAt s (n .to) .token) ≡ true → D.namesAt k g s ds f (ns ++ n ∷ []) (tokenAt s (n .to) .to) cont ≡ afterNames (namesEnd (41 ∷ []) s f (tokenAt s (n .to) .to)) ((ns ++ n ∷ []) ++ namesRead s f (tokenAt s (n .to) .to)))
-      → D.thenDeclare (ds ++ D.means k g ns) R (λ x. when (isSign "," (tokenAt s (x .to) .token)) (λ _. D.namesAt k g s ds f (ns ++ x ∷ []) (tokenAt s (x .to) .to) cont) (λ _. D.thenDeclare (ds ++ D.means k g (ns ++ x ∷ [])) (expectSign ")" s (x .to)) λ e. cont (ns ++ x ∷ []) e))
+      → ((n : Named) → R ≡ read n → isSign "," (tokenAt mixed s (n .to) .token) ≡ true → D.namesAt mixed k g s ds f (ns ++ n ∷ []) (tokenAt mixed s (n .to) .to) cont ≡ afterNames (namesEnd (41 ∷ []) s f (tokenAt mixed s (n .to) .to)) ((ns ++ n ∷ []) ++ namesRead s f (tokenAt mixed s (n .to) .to)))
+      → D.thenDeclare (ds ++ D.means k g ns) R (λ x. when (isSign "," (tokenAt mixed s (x .to) .token)) (λ _. D.namesAt mixed k g s ds f (ns ++ x ∷ []) (tokenAt mixed s (x .to) .to) cont) (λ _. D.thenDeclare (ds ++ D.means k g (ns ++ x ∷ [])) (expectSign mixed ")" s (x .to)) λ e. cont (ns ++ x ∷ []) e))
       ≡ afterNames (listNext (41 ∷ []) s (nameEnd R) (namesEnd (41 ∷ []) s f)) (ns ++ namesNext s R (namesRead s f))
   unfolding nameEnd
-  name-by f ns (read n) h = rw (sign-spelled "," (44 ∷ []) refl (tokenAt s (n .to) .token)) (comma-by f ns n (isSign "," (tokenAt s (n .to) .token)) (h n refl))
+  name-by f ns (read n) h = rw (sign-spelled "," (44 ∷ []) refl (tokenAt mixed s (n .to) .token)) (comma-by f ns n (isSign "," (tokenAt mixed s (n .to) .token)) (h n refl))
   name-by f ns (refused w p) h = rw append-nil
 
-  pub names-at : (f : ℕ) (ns : List Named) (at : ℕ) → length s + length ns ≤ at + f → (0 < length ns → at ≤ length s) → D.namesAt k g s ds f ns at cont ≡ afterNames (namesEnd (41 ∷ []) s f at) (ns ++ namesRead s f at)
+  pub names-at : (f : ℕ) (ns : List Named) (at : ℕ) → length s + length ns ≤ at + f → (0 < length ns → at ≤ length s) → D.namesAt mixed k g s ds f ns at cont ≡ afterNames (namesEnd (41 ∷ []) s f at) (ns ++ namesRead s f at)
   unfolding D.namesAt listEnd namesRead itemPast
   names-at zero ns at h l = let z : ns ≡ [] = nil-of ns (none (length ns) refl) in rw (z, append-nil)
     where
       none : (n : ℕ) → length ns ≡ n → length ns ≡ 0
       none zero e = e
       none (suc n) e = absurd (omega (arith, l (omega (arith, e)), h, e))
-  names-at (suc f) ns at h l = name-by f ns (nameAt s at) λ n e c.
-      let p : (n .to < tokenAt s (n .to) .to) × (tokenAt s (n .to) .to ≤ length s) = comma-past s (n .to) c in
-      names-at f (ns ++ n ∷ []) (tokenAt s (n .to) .to) (omega (arith, h, p .0, name-past s at n e, length-append ns (n ∷ []))) (λ _. p .1)
+  names-at (suc f) ns at h l = name-by f ns (nameAt mixed s at) λ n e c.
+      let p : (n .to < tokenAt mixed s (n .to) .to) × (tokenAt mixed s (n .to) .to ≤ length s) = comma-past s (n .to) c in
+      names-at f (ns ++ n ∷ []) (tokenAt mixed s (n .to) .to) (omega (arith, h, p .0, name-past s at n e, length-append ns (n ∷ []))) (λ _. p .1)
 
 -- ---- the attribute
 module _ (t : Token) (from to : ℕ) (found : P.Meaning → ℕ → D.Declaring) (absent : Unit {0} → D.Declaring) where
@@ -132,13 +133,13 @@ module _ (o : Owner) (s : List ℕ) (ds : List P.Declared) (next : List P.Declar
   stepped-by (A.Means m) ns from to = refl
   stepped-by A.Missing ns from to = refl
 
-  names-then : (ns : List Named) (e : ℕ) → D.declareNames (scopeOf o) s ds ns e next ≡ stepped (itemized s (Past e) (isInside o)) ns
+  names-then : (ns : List Named) (e : ℕ) → D.declareNames mixed (scopeOf o) s ds ns e next ≡ stepped (itemized s (Past e) (isInside o)) ns
   unfolding D.declareNames itemized
   names-then ns e =
-      attribute-is (tokenAt s e .token) (tokenAt s e .from) (tokenAt s e .to) (λ m q. next (ds ++ D.means (scopeOf o) m ns) q) (λ _. D.undeclared Syntax (tokenAt s e .from) (ds ++ D.means (scopeOf o) (P.variable FixedType) ns)) o
-      ∙ stepped-by (attributeBy (isInside o) (worded (tokenAt s e .token))) ns (tokenAt s e .from) (tokenAt s e .to)
+      attribute-is (tokenAt mixed s e .token) (tokenAt mixed s e .from) (tokenAt mixed s e .to) (λ m q. next (ds ++ D.means (scopeOf o) m ns) q) (λ _. D.undeclared Syntax (tokenAt mixed s e .from) (ds ++ D.means (scopeOf o) (P.variable FixedType) ns)) o
+      ∙ stepped-by (attributeBy (isInside o) (worded (tokenAt mixed s e .token))) ns (tokenAt mixed s e .from) (tokenAt mixed s e .to)
 
-  after-is : (x : Expected) (ns : List Named) → afterNames (scopeOf o) (P.variable FixedType) s ds (λ ms e. D.declareNames (scopeOf o) s ds ms e next) x ns ≡ stepped (itemized s x (isInside o)) ns
+  after-is : (x : Expected) (ns : List Named) → afterNames (scopeOf o) (P.variable FixedType) s ds (λ ms e. D.declareNames mixed (scopeOf o) s ds ms e next) x ns ≡ stepped (itemized s x (isInside o)) ns
   unfolding itemized
   after-is (Past e) ns = names-then ns e
   after-is (Refused w p) ns = refl
@@ -147,39 +148,39 @@ module _ (o : Owner) (s : List ℕ) (ds : List P.Declared) (next : List P.Declar
   one-name true n = refl
   one-name false n = refl
 
-  single-by : (R : Reading Named) (again : ℕ → List Named) → ((q : ℕ) → again q ≡ []) → D.thenDeclare ds R (λ n. D.declareNames (scopeOf o) s ds (n ∷ []) (n .to) next) ≡ stepped (itemized s (nameEnd R) (isInside o)) (namesNext s R again)
+  single-by : (R : Reading Named) (again : ℕ → List Named) → ((q : ℕ) → again q ≡ []) → D.thenDeclare ds R (λ n. D.declareNames mixed (scopeOf o) s ds (n ∷ []) (n .to) next) ≡ stepped (itemized s (nameEnd R) (isInside o)) (namesNext s R again)
   unfolding nameEnd itemized
-  single-by (read n) again h = rw (h (tokenAt s (n .to) .to), one-name (isSpelled (44 ∷ []) (tokenAt s (n .to) .token)) n) (names-then (n ∷ []) (n .to))
+  single-by (read n) again h = rw (h (tokenAt mixed s (n .to) .to), one-name (isSpelled (44 ∷ []) (tokenAt mixed s (n .to) .token)) n) (names-then (n ∷ []) (n .to))
   single-by (refused w p) again h = rw append-nil
 
-  item-by : (at : ℕ) (b : Bool) → isSign "(" (tokenAt s at .token) ≡ b
-      → when b (λ _. D.namesAt (scopeOf o) (P.variable FixedType) s ds (length s) [] (tokenAt s at .to) λ ns e. D.declareNames (scopeOf o) s ds ns e next) (λ _. D.thenDeclare ds (nameAt s at) λ n. D.declareNames (scopeOf o) s ds (n ∷ []) (n .to) next)
-      ≡ stepped (itemized s (cond b (itemOf (tokenAt s at .to) (length s) (namesEnd (41 ∷ []) s (length s) (tokenAt s at .to))) (itemOf at 1 (nameEnd (nameAt s at))) .to) (isInside o))
-      (namesRead s (cond b (itemOf (tokenAt s at .to) (length s) (namesEnd (41 ∷ []) s (length s) (tokenAt s at .to))) (itemOf at 1 (nameEnd (nameAt s at))) .most) (cond b (itemOf (tokenAt s at .to) (length s) (namesEnd (41 ∷ []) s (length s) (tokenAt s at .to))) (itemOf at 1 (nameEnd (nameAt s at))) .names))
+  item-by : (at : ℕ) (b : Bool) → isSign "(" (tokenAt mixed s at .token) ≡ b
+      → when b (λ _. D.namesAt mixed (scopeOf o) (P.variable FixedType) s ds (length s) [] (tokenAt mixed s at .to) λ ns e. D.declareNames mixed (scopeOf o) s ds ns e next) (λ _. D.thenDeclare ds (nameAt mixed s at) λ n. D.declareNames mixed (scopeOf o) s ds (n ∷ []) (n .to) next)
+      ≡ stepped (itemized s (cond b (itemOf (tokenAt mixed s at .to) (length s) (namesEnd (41 ∷ []) s (length s) (tokenAt mixed s at .to))) (itemOf at 1 (nameEnd (nameAt mixed s at))) .to) (isInside o))
+      (namesRead s (cond b (itemOf (tokenAt mixed s at .to) (length s) (namesEnd (41 ∷ []) s (length s) (tokenAt mixed s at .to))) (itemOf at 1 (nameEnd (nameAt mixed s at))) .most) (cond b (itemOf (tokenAt mixed s at .to) (length s) (namesEnd (41 ∷ []) s (length s) (tokenAt mixed s at .to))) (itemOf at 1 (nameEnd (nameAt mixed s at))) .names))
   unfolding namesRead
   item-by at true e =
-      names-at (scopeOf o) (P.variable FixedType) s ds (λ ns q. D.declareNames (scopeOf o) s ds ns q next) (length s) [] (tokenAt s at .to) (omega arith) (λ z. absurd (omega arith))
-      ∙ after-is (namesEnd (41 ∷ []) s (length s) (tokenAt s at .to)) (namesRead s (length s) (tokenAt s at .to))
-  item-by at false e = single-by (nameAt s at) (namesRead s 0) (λ q. refl)
+      names-at (scopeOf o) (P.variable FixedType) s ds (λ ns q. D.declareNames mixed (scopeOf o) s ds ns q next) (length s) [] (tokenAt mixed s at .to) (omega arith) (λ z. absurd (omega arith))
+      ∙ after-is (namesEnd (41 ∷ []) s (length s) (tokenAt mixed s at .to)) (namesRead s (length s) (tokenAt mixed s at .to))
+  item-by at false e = single-by (nameAt mixed s at) (namesRead s 0) (λ q. refl)
 
 declare-turn : (o : Owner) (s : List ℕ) (n : ℕ) (ds : List P.Declared) (at : ℕ) → 0 < n
-    → D.declareFrom (scopeOf o) s n ds at ≡ stepped o s ds (D.declareNext s (D.declareFrom (scopeOf o) s (n - 1))) (itemized s (itemIn s at .to) (isInside o)) (namesRead s (itemIn s at .most) (itemIn s at .names))
+    → D.declareFrom mixed (scopeOf o) s n ds at ≡ stepped o s ds (D.declareNext mixed s (D.declareFrom mixed (scopeOf o) s (n - 1))) (itemized s (itemIn s at .to) (isInside o)) (namesRead s (itemIn s at .most) (itemIn s at .names))
 unfolding D.declareFrom itemIn
 declare-turn o s zero ds at h = absurd (omega arith)
-declare-turn o s (suc n) ds at h = rw (sub-one, sign-spelled "(" (40 ∷ []) refl (tokenAt s at .token)) (item-by o s ds (D.declareNext s (D.declareFrom (scopeOf o) s n)) at (isSign "(" (tokenAt s at .token)) refl)
+declare-turn o s (suc n) ds at h = rw (sub-one, sign-spelled "(" (40 ∷ []) refl (tokenAt mixed s at .token)) (item-by o s ds (D.declareNext mixed s (D.declareFrom mixed (scopeOf o) s n)) at (isSign "(" (tokenAt mixed s at .token)) refl)
 
 -- ---- one item after the other
 pub record Itemizing (d s t₀ : List ℕ) (o : Owner) (x₀ : Tally) (from : ℕ) (t : List ℕ) (x : Tally) (at turns : ℕ) : Type 0 where
   pub done : List P.Declared
   pub entered : Entered d t₀ x₀ (bookAll (x₀ .member) done) t x
-  pub left : D.declareFrom (scopeOf o) s turns done at ≡ D.declareFrom (scopeOf o) s (length s) [] from
+  pub left : D.declareFrom mixed (scopeOf o) s turns done at ≡ D.declareFrom mixed (scopeOf o) s (length s) [] from
   pub size : length t ≡ length t₀
 
 module _ (d s t₀ : List ℕ) (o : Owner) (x₀ : Tally) (r : Ready d s t₀ x₀ o) where
   pub items-start : (from : ℕ) → Itemizing d s t₀ o x₀ from t₀ x₀ from (length s)
   items-start from = record { done = []; entered = entered-none d t₀ x₀ (r .roomy); left = refl; size = refl }
 
-  declares : (from : ℕ) (X : D.Declaring) (u : List ℕ) (y : Declaring) → X ≡ D.declareFrom (scopeOf o) s (length s) [] from → Entered d t₀ x₀ (bookAll (x₀ .member) (namesIn X)) u (y .tally) → y .read ≡ readFor S.Declare from FixedType (clauseIn X) → Declares d s t₀ x₀ o from u y
+  declares : (from : ℕ) (X : D.Declaring) (u : List ℕ) (y : Declaring) → X ≡ D.declareFrom mixed (scopeOf o) s (length s) [] from → Entered d t₀ x₀ (bookAll (x₀ .member) (namesIn X)) u (y .tally) → y .read ≡ readFor S.Declare from FixedType (clauseIn X) → Declares d s t₀ x₀ o from u y
   declares from X u y e a b = record { entered = rw e at a; is = rw e at b }
 
   module _ (from : ℕ) (t : List ℕ) (x : Tally) (at turns : ℕ) (h : Itemizing d s t₀ o x₀ from t x at turns) where
@@ -192,7 +193,7 @@ module _ (d s t₀ : List ℕ) (o : Owner) (x₀ : Tally) (r : Ready d s t₀ x�
 
     module _ (k : 0 < turns) (i : Item) (hi : i ≡ itemIn s at) (y : Itemized) (hy : y ≡ itemized s (i .to) (isInside o)) (m : Meaning) (hm : m ≡ meaningIn y)
         (u : List ℕ) (z : Tally) (size : length u ≡ length t) (b : Entered d t x (bookAll (x .member) (D.means (scopeOf o) (meaningOf m) (namesRead s (i .most) (i .names)))) u z) where
-      turned : stepped o s (h .done) (D.declareNext s (D.declareFrom (scopeOf o) s (turns - 1))) y (namesRead s (i .most) (i .names)) ≡ D.declareFrom (scopeOf o) s (length s) [] from
+      turned : stepped o s (h .done) (D.declareNext mixed s (D.declareFrom mixed (scopeOf o) s (turns - 1))) y (namesRead s (i .most) (i .names)) ≡ D.declareFrom mixed (scopeOf o) s (length s) [] from
       turned = rw (hy, hi) (sym (declare-turn o s turns (h .done) at k) ∙ h .left)
 
       more : Entered d t₀ x₀ (bookAll (x₀ .member) (h .done ++ D.means (scopeOf o) (meaningOf m) (namesRead s (i .most) (i .names)))) u z
@@ -206,21 +207,21 @@ module _ (d s t₀ : List ℕ) (o : Owner) (x₀ : Tally) (r : Ready d s t₀ x�
         both : Entered d t₀ x₀ (bookAll (x₀ .member) (h .done ++ D.means (scopeOf o) (meaningOf g) (namesRead s (i .most) (i .names)))) u z
         both = rw (hm, j) at more
 
-        next : when v (λ _. D.declareFrom (scopeOf o) s (turns - 1) (h .done ++ D.means (scopeOf o) (meaningOf g) (namesRead s (i .most) (i .names))) (l .to)) (λ _. D.thenDeclare (h .done ++ D.means (scopeOf o) (meaningOf g) (namesRead s (i .most) (i .names))) (expectSign ";" s e) λ q. D.declared (D.clause (P.declare (D.spellings (h .done ++ D.means (scopeOf o) (meaningOf g) (namesRead s (i .most) (i .names))))) D.opensNothing q) (h .done ++ D.means (scopeOf o) (meaningOf g) (namesRead s (i .most) (i .names)))) ≡ D.declareFrom (scopeOf o) s (length s) [] from
+        next : when v (λ _. D.declareFrom mixed (scopeOf o) s (turns - 1) (h .done ++ D.means (scopeOf o) (meaningOf g) (namesRead s (i .most) (i .names))) (l .to)) (λ _. D.thenDeclare (h .done ++ D.means (scopeOf o) (meaningOf g) (namesRead s (i .most) (i .names))) (expectSign mixed ";" s e) λ q. D.declared (D.clause (P.declare (D.spellings (h .done ++ D.means (scopeOf o) (meaningOf g) (namesRead s (i .most) (i .names))))) D.opensNothing q) (h .done ++ D.means (scopeOf o) (meaningOf g) (namesRead s (i .most) (i .names)))) ≡ D.declareFrom mixed (scopeOf o) s (length s) [] from
         unfolding D.declareNext
-        next = rw (c, sign-in s e l lex (44 ∷ []), sign-spelled "," (44 ∷ []) refl (tokenAt s e .token), lex .to) (rw j at turned)
+        next = rw (c, sign-in s e l lex (44 ∷ []), sign-spelled "," (44 ∷ []) refl (tokenAt mixed s e .token), lex .to) (rw j at turned)
 
         pub items-more : v ≡ true → Itemizing d s t₀ o x₀ from u z (l .to) (turns - 1)
         items-more f = record { done = (h .done ++ D.means (scopeOf o) (meaningOf g) (namesRead s (i .most) (i .names))); entered = both; left = rw f at next; size = size ∙ h .size }
 
         last-by : (Q : Reading ℕ) → (q : Read) → q ≡ readFor S.Declare from FixedType (then Q λ a. read (D.clause (P.declare (D.spellings (h .done ++ D.means (scopeOf o) (meaningOf g) (namesRead s (i .most) (i .names))))) D.opensNothing a))
-            → D.thenDeclare (h .done ++ D.means (scopeOf o) (meaningOf g) (namesRead s (i .most) (i .names))) Q (λ a. D.declared (D.clause (P.declare (D.spellings (h .done ++ D.means (scopeOf o) (meaningOf g) (namesRead s (i .most) (i .names))))) D.opensNothing a) (h .done ++ D.means (scopeOf o) (meaningOf g) (namesRead s (i .most) (i .names)))) ≡ D.declareFrom (scopeOf o) s (length s) [] from → Declares d s t₀ x₀ o from u (record { tally = z; read = q })
+            → D.thenDeclare (h .done ++ D.means (scopeOf o) (meaningOf g) (namesRead s (i .most) (i .names))) Q (λ a. D.declared (D.clause (P.declare (D.spellings (h .done ++ D.means (scopeOf o) (meaningOf g) (namesRead s (i .most) (i .names))))) D.opensNothing a) (h .done ++ D.means (scopeOf o) (meaningOf g) (namesRead s (i .most) (i .names)))) ≡ D.declareFrom mixed (scopeOf o) s (length s) [] from → Declares d s t₀ x₀ o from u (record { tally = z; read = q })
         last-by (read a) q f n = declares from (D.declared (D.clause (P.declare (D.spellings (h .done ++ D.means (scopeOf o) (meaningOf g) (namesRead s (i .most) (i .names))))) D.opensNothing a) (h .done ++ D.means (scopeOf o) (meaningOf g) (namesRead s (i .most) (i .names)))) u (record { tally = z; read = q }) n both f
         last-by (refused w p) q f n = declares from (D.undeclared w p (h .done ++ D.means (scopeOf o) (meaningOf g) (namesRead s (i .most) (i .names)))) u (record { tally = z; read = q }) n both f
 
         pub items-done : v ≡ false → (a : Expected) (q : Read) → a ≡ expected (59 ∷ []) s e → q ≡ readUpTo S.Declare O.Nothing from a → Declares d s t₀ x₀ o from u (record { tally = z; read = q })
         unfolding D.ended
-        items-done f a q n p = last-by (expectSign ";" s e) q (rw n at p ∙ ended-is S.Declare from s (P.declare (D.spellings (h .done ++ D.means (scopeOf o) (meaningOf g) (namesRead s (i .most) (i .names))))) e) (rw f at next)
+        items-done f a q n p = last-by (expectSign mixed ";" s e) q (rw n at p ∙ ended-is S.Declare from s (P.declare (D.spellings (h .done ++ D.means (scopeOf o) (meaningOf g) (namesRead s (i .most) (i .names))))) e) (rw f at next)
 
 -- ---- the same, where all is in its place
 pub record ItemizingIf (d s t₀ : List ℕ) (o : Owner) (x₀ : Tally) (from : ℕ) (t : List ℕ) (x : Tally) (at turns : ℕ) : Type 0 where

@@ -8,6 +8,7 @@ use Prim.Native.String as Str
 use native.Mathlib.Omega.{arith}
 use native.Mathlib.Numerals.{sub-one}
 use lib.ListN.{length}
+use Rattle.definition.specs.Bytes.{mixed}
 use Rattle.definition.specs.Lists.{same}
 use Rattle.definition.specs.Text.{bytesOf}
 use Rattle.definition.specs.Tokens.{Token, word, integer, string, bits, sign, nothing, wrong, isSign, isWord, tokenAt}
@@ -62,7 +63,7 @@ module _ (k : Statement) (o : Opens) (c : ℕ) (e : Expected) where
   up-refused w p h = rw h
 
 module _ (s : List ℕ) (e : Expected) where
-  pub expression-past : (q : ℕ) (y : Expected) → e ≡ Past q → y ≡ endFor (wholeExpression s q) → y ≡ thenExpression s e
+  pub expression-past : (q : ℕ) (y : Expected) → e ≡ Past q → y ≡ endFor (wholeExpression mixed s q) → y ≡ thenExpression s e
   unfolding thenExpression
   expression-past q y h k = rw h k
 
@@ -95,7 +96,7 @@ pub either-second : (x y a b : Bool) → x ≡ a → x ≡ false → y ≡ b →
 either-second x y a b e h k = rw (← e, h) k
 
 module _ (s : List ℕ) (at : ℕ) (l : Lexeme) (lex : Lexed s at l) where
-  pub word-in : (w : List ℕ) → isWordIn s l w ≡ isWorded w (tokenAt s at .token)
+  pub word-in : (w : List ℕ) → isWordIn s l w ≡ isWorded w (tokenAt mixed s at .token)
   unfolding isWordIn
   word-in w = rw (token-is s at l lex) (by-kind (l .kind) (spelling s l) (content s (l .from)))
     where
@@ -108,7 +109,7 @@ module _ (s : List ℕ) (at : ℕ) (l : Lexeme) (lex : Lexed s at l) where
       by-kind Kd.Nothing x y = refl
       by-kind Kd.Wrong x y = refl
 
-  pub sign-in : (w : List ℕ) → isSignIn s l w ≡ isSpelled w (tokenAt s at .token)
+  pub sign-in : (w : List ℕ) → isSignIn s l w ≡ isSpelled w (tokenAt mixed s at .token)
   unfolding isSignIn
   sign-in w = rw (token-is s at l lex) (by-kind (l .kind) (spelling s l) (content s (l .from)))
     where
@@ -206,7 +207,7 @@ module _ (s w : List ℕ) (e : Expected) where
   bound-refused y p h = rw h
 
   module _ (q : ℕ) (h : e ≡ Past q) (l : Lexeme) (lex : Lexed s q l) (v : Bool) (c : v ≡ isWordIn s l w) where
-    pub bound-there : v ≡ true → (y : Expected) → y ≡ endFor (wholeExpression s (l .to)) → y ≡ boundPast w s e
+    pub bound-there : v ≡ true → (y : Expected) → y ≡ endFor (wholeExpression mixed s (l .to)) → y ≡ boundPast w s e
     unfolding boundPast
     bound-there d y f = rw (h, ← word-in s q l lex w, ← c, d, ← lex .to) f
 
@@ -220,7 +221,7 @@ module _ (s : List ℕ) (e : Expected) where
   bounds-refused y p h = rw h
 
   module _ (q : ℕ) (h : e ≡ Past q) (l : Lexeme) (lex : Lexed s q l) (v : Bool) (c : v ≡ isWordIn s l (66 ∷ 89 ∷ [])) where
-    pub bounds-by : v ≡ true → (x y : Expected) → x ≡ endFor (wholeExpression s (l .to)) → y ≡ boundPast (84 ∷ 79 ∷ []) s x → y ≡ boundsPast s e
+    pub bounds-by : v ≡ true → (x y : Expected) → x ≡ endFor (wholeExpression mixed s (l .to)) → y ≡ boundPast (84 ∷ 79 ∷ []) s x → y ≡ boundsPast s e
     unfolding boundsPast
     bounds-by d x y f g = rw (h, ← word-in s q l lex (66 ∷ 89 ∷ []), ← c, d, ← lex .to, ← f) g
 
@@ -230,7 +231,7 @@ module _ (s : List ℕ) (e : Expected) where
 
 -- ---- lists of names
 module _ (s : List ℕ) (at : ℕ) (l : Lexeme) (lex : Lexed s at l) (v : Bool) (c : v ≡ (isWordIn s l (78 ∷ 79 ∷ 82 ∷ 69 ∷ 83 ∷ 67 ∷ 65 ∷ 78 ∷ []) || isWordIn s l (82 ∷ 69 ∷ 83 ∷ 67 ∷ 65 ∷ 78 ∷ []))) where
-  either : v ≡ (isWorded (78 ∷ 79 ∷ 82 ∷ 69 ∷ 83 ∷ 67 ∷ 65 ∷ 78 ∷ []) (tokenAt s at .token) || isWorded (82 ∷ 69 ∷ 83 ∷ 67 ∷ 65 ∷ 78 ∷ []) (tokenAt s at .token))
+  either : v ≡ (isWorded (78 ∷ 79 ∷ 82 ∷ 69 ∷ 83 ∷ 67 ∷ 65 ∷ 78 ∷ []) (tokenAt mixed s at .token) || isWorded (82 ∷ 69 ∷ 83 ∷ 67 ∷ 65 ∷ 78 ∷ []) (tokenAt mixed s at .token))
   either = rw (word-in s at l lex (78 ∷ 79 ∷ 82 ∷ 69 ∷ 83 ∷ 67 ∷ 65 ∷ 78 ∷ []), word-in s at l lex (82 ∷ 69 ∷ 83 ∷ 67 ∷ 65 ∷ 78 ∷ [])) at c
 
   pub rescan-there : v ≡ true → l .to ≡ rescanPast s at
@@ -247,7 +248,7 @@ module _ (s : List ℕ) (e : Expected) where
   member-refused w p h = rw h
 
   module _ (q : ℕ) (h : e ≡ Past q) (l : Lexeme) (lex : Lexed s q l) (v : Bool) (c : v ≡ isSignIn s l (40 ∷ [])) where
-    pub member-there : v ≡ true → (x y : Expected) → x ≡ nameEnd (nameAt s (l .to)) → y ≡ thenSign (41 ∷ []) s x → y ≡ memberPast s e
+    pub member-there : v ≡ true → (x y : Expected) → x ≡ nameEnd (nameAt mixed s (l .to)) → y ≡ thenSign (41 ∷ []) s x → y ≡ memberPast s e
     unfolding memberPast
     member-there d x y f g = rw (h, ← sign-in s q l lex (40 ∷ []), ← c, d, ← lex .to, ← f) g
 
@@ -255,7 +256,7 @@ module _ (s : List ℕ) (e : Expected) where
     unfolding memberPast
     member-absent d = rw (h, ← sign-in s q l lex (40 ∷ []), ← c, d)
 
-module _ (s : List ℕ) (at : ℕ) (i : Each) (e : Expected) (h : e ≡ nameEnd (nameAt s at)) where
+module _ (s : List ℕ) (at : ℕ) (i : Each) (e : Expected) (h : e ≡ nameEnd (nameAt mixed s at)) where
   pub item-active : i ≡ Ea.Activation → (q x : ℕ) → e ≡ Past q → x ≡ rescanPast s q → Past x ≡ itemPast i s at
   unfolding itemPast
   item-active d q x f g = rw (d, ← h, f, g)
@@ -305,7 +306,7 @@ module _ (w : List ℕ) (j : Each) (s : List ℕ) where
         listing-done d y f = f ∙ (rw (i, ← sign-in s e l lex (44 ∷ []), ← c, d) at turned)
 
 -- names alone
-module _ (w s : List ℕ) (from turns at : ℕ) (h : Listing w Ea.Name s from turns at) (k : 0 < turns) (x : Expected) (a : x ≡ nameEnd (nameAt s at)) where
+module _ (w s : List ℕ) (from turns at : ℕ) (h : Listing w Ea.Name s from turns at) (k : 0 < turns) (x : Expected) (a : x ≡ nameEnd (nameAt mixed s at)) where
   item : x ≡ itemPast Ea.Name s at
   item = item-plain s at Ea.Name x a refl
 

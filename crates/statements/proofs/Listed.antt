@@ -7,6 +7,7 @@ use Prim.Native.Nat.{ℕ, zero, suc, _+_, _-_, _<_, _≤_}
 use native.Mathlib.Omega.{arith}
 use native.Mathlib.Numerals.{sub-one}
 use lib.ListN.{length}
+use Rattle.definition.specs.Bytes.{mixed}
 use Rattle.definition.specs.Choice.{when}
 use Rattle.definition.specs.Lists.{same}
 use Rattle.definition.specs.Tokens.{Token, tokenAt}
@@ -83,7 +84,7 @@ entered-more d t₀ t u x₀ x y xs ys a b = record {
 
 -- ---- a name
 pub record Names (s : List ℕ) (at from to : ℕ) : Type 0 where
-  pub is : nameAt s at ≡ read (record { spelling = part (to - from) from s; place = from; to = to })
+  pub is : nameAt mixed s at ≡ read (record { spelling = part (to - from) from s; place = from; to = to })
   pub past : at ≤ from
   pub low : from < to
   pub high : to ≤ length s
@@ -110,14 +111,14 @@ module _ (x : NamedAt) (from to : ℕ) (k : x ≡ N.Is from to) where
   by-kind Kd.Nothing w c p q h = let z : _≡_ {A = ℕ} 0 1 = cc in absurd (omega arith)
   by-kind Kd.Wrong w c p q h = let z : _≡_ {A = ℕ} 0 1 = cc in absurd (omega arith)
 
-lexed : (s : List ℕ) (at : ℕ) → Lexed s at (lexemeFor (tokenAt s at))
+lexed : (s : List ℕ) (at : ℕ) → Lexed s at (lexemeFor (tokenAt mixed s at))
 lexed s at = record { kind = refl; from = refl; to = refl }
 
-pub named-is : (s : List ℕ) (at : ℕ) (x : NamedAt) (from to : ℕ) → x ≡ namedFor (nameAt s at) → x ≡ N.Is from to → Names s at from to
+pub named-is : (s : List ℕ) (at : ℕ) (x : NamedAt) (from to : ℕ) → x ≡ namedFor (nameAt mixed s at) → x ≡ N.Is from to → Names s at from to
 unfolding nameAt spelling
 named-is s at x from to h k =
-    let l : Lexeme = lexemeFor (tokenAt s at) in
-    let t : tokenAt s at .token ≡ tokenFor (l .kind) (spelling s l) (content s (l .from)) = token-is s at l (lexed s at) in
+    let l : Lexeme = lexemeFor (tokenAt mixed s at) in
+    let t : tokenAt mixed s at .token ≡ tokenFor (l .kind) (spelling s l) (content s (l .from)) = token-is s at l (lexed s at) in
     let w : Word x from to k (l .kind) (spelling s l) (l .from) (l .to) (nameOf (tokenFor (l .kind) (spelling s l) (content s (l .from))) (l .from) (l .to)) = by-kind x from to k (l .kind) (spelling s l) (content s (l .from)) (l .from) (l .to) (h ∙ ap (λ (z : Token). namedFor (nameOf z (l .from) (l .to))) t) in
     let a : l .from ≡ from = w .first in
     let b : l .to ≡ to = w .last in
@@ -156,7 +157,7 @@ pub record Naming (d s t₀ : List ℕ) (o : Owner) (g : Meaning) (x₀ : Tally)
   pub left : done ++ namesRead s turns at ≡ namesRead s most at₀
   pub size : length t ≡ length t₀
 
-names-turn : (s : List ℕ) (n at : ℕ) → 0 < n → namesRead s n at ≡ namesNext s (nameAt s at) (namesRead s (n - 1))
+names-turn : (s : List ℕ) (n at : ℕ) → 0 < n → namesRead s n at ≡ namesNext s (nameAt mixed s at) (namesRead s (n - 1))
 unfolding namesRead
 names-turn s zero at h = absurd (omega arith)
 names-turn s (suc n) at h = rw sub-one
@@ -170,13 +171,13 @@ module _ (d s t₀ : List ℕ) (o : Owner) (g : Meaning) (x₀ : Tally) (r : Rea
     unfolding namesRead
     naming-none k = let z : turns ≡ 0 = omega arith in rw (← rw (z, append-nil) at (h .left)) (h .entered)
 
-    module _ (k : 0 < turns) (n : NamedAt) (hn : n ≡ namedFor (nameAt s at)) where
+    module _ (k : 0 < turns) (n : NamedAt) (hn : n ≡ namedFor (nameAt mixed s at)) where
       no-name : (w : Why) (p : ℕ) (R : Reading Named) → n ≡ namedFor R → n ≡ N.Refused w p → (again : ℕ → List Named) → namesNext s R again ≡ []
       no-name w p (read v) e f again = let z : _≡_ {A = ℕ} 0 1 = cc in absurd (omega arith)
       no-name w p (refused v q) e f again = refl
 
       pub naming-refused : (w : Why) (p : ℕ) → n ≡ N.Refused w p → Entered d t₀ x₀ (bookAll (x₀ .member) (D.means (scopeOf o) (meaningOf g) (namesRead s most at₀))) t x
-      naming-refused w p e = rw (← rw (names-turn s turns at k, no-name w p (nameAt s at) hn e (namesRead s (turns - 1)), append-nil) at (h .left)) (h .entered)
+      naming-refused w p e = rw (← rw (names-turn s turns at k, no-name w p (nameAt mixed s at) hn e (namesRead s (turns - 1)), append-nil) at (h .left)) (h .entered)
 
       module _ (from to : ℕ) (e : n ≡ N.Is from to) where
         name : Names s at from to
@@ -224,7 +225,7 @@ module _ (d s t₀ : List ℕ) (o : Owner) (g : Meaning) (x₀ : Tally) where
     pub if-none : turns ≤ 0 → NamedIf d s t₀ x₀ o (bookAll (x₀ .member) (D.means (scopeOf o) (meaningOf g) (namesRead s most at₀))) t x
     if-none k = record { is = λ r. naming-none d s t₀ o g x₀ r at₀ most t x at turns (h .is r) k }
 
-    module _ (k : 0 < turns) (n : NamedAt) (hn : n ≡ namedFor (nameAt s at)) where
+    module _ (k : 0 < turns) (n : NamedAt) (hn : n ≡ namedFor (nameAt mixed s at)) where
       pub if-refused : (w : Why) (p : ℕ) → n ≡ N.Refused w p → NamedIf d s t₀ x₀ o (bookAll (x₀ .member) (D.means (scopeOf o) (meaningOf g) (namesRead s most at₀))) t x
       if-refused w p e = record { is = λ r. naming-refused d s t₀ o g x₀ r at₀ most t x at turns (h .is r) k n hn w p e }
 

@@ -2,6 +2,7 @@
 use Prim.Native.Nat.{ℕ}
 use mathlib.Core.List.{List, []}
 use lib.ListN.{length}
+use Rattle.definition.specs.Bytes.{mixed}
 use Rattle.definition.specs.Expressions.{Reading, read, refused, then, nameAt, expectSign, wholeExpression}
 use Rattle.definition.specs.Program as P
 use Rattle.definition.specs.Statements as D
@@ -20,25 +21,25 @@ orElse (refused w p) other = other
 
 -- ENTRY stands outside procedures and BUILTIN inside; else a DECLARE is the same in both
 unfoldable pub declareAgain : List ℕ → ℕ → Reading D.Clause
-declareAgain s c = orElse (clauseIn (D.declareFrom P.global s (length s) [] c)) (clauseIn (D.declareFrom (P.inside 0) s (length s) [] c))
+declareAgain s c = orElse (clauseIn (D.declareFrom mixed P.global s (length s) [] c)) (clauseIn (D.declareFrom mixed (P.inside 0) s (length s) [] c))
 
 unfoldable pub assignAgain : List ℕ → ℕ → Reading D.Clause
-assignAgain s c = then (nameAt s c) λ n. then (expectSign "=" s (n .to)) λ e. D.assignment s (n .spelling) e
+assignAgain s c = then (nameAt mixed s c) λ n. then (expectSign mixed "=" s (n .to)) λ e. D.assignment mixed s (n .spelling) e
 
 unfoldable pub conditionAgain : List ℕ → ℕ → Reading D.Clause
-conditionAgain s c = then (wholeExpression s c) λ r. read (D.clause (P.conditional (r .tree)) D.opensThen (r .to))
+conditionAgain s c = then (wholeExpression mixed s c) λ r. read (D.clause (P.conditional (r .tree)) D.opensThen (r .to))
 
 -- THE STATEMENT of a kind that is read again at the place c of the body s
 unfoldable pub statementAt : List ℕ → Statement → ℕ → P.Statement
 statementAt s S.Null c = P.null
 statementAt s S.Declare c = statementIn (declareAgain s c)
-statementAt s S.Procedure c = statementIn (clauseIn (D.procedureClause (P.inside 0) s c))
+statementAt s S.Procedure c = statementIn (clauseIn (D.procedureClause mixed (P.inside 0) s c))
 statementAt s S.Assign c = statementIn (assignAgain s c)
 statementAt s S.Conditional c = statementIn (conditionAgain s c)
 statementAt s S.Group c = P.group
-statementAt s S.Iterated c = statementIn (D.doClause s c)
-statementAt s S.Goto c = statementIn (D.gotoClause s c)
-statementAt s S.Include c = statementIn (D.includeClause s c)
-statementAt s S.Activate c = statementIn (D.activateClause s c)
-statementAt s S.Deactivate c = statementIn (D.deactivateClause s c)
-statementAt s S.Return c = statementIn (D.returnClause s c)
+statementAt s S.Iterated c = statementIn (D.doClause mixed s c)
+statementAt s S.Goto c = statementIn (D.gotoClause mixed s c)
+statementAt s S.Include c = statementIn (D.includeClause mixed s c)
+statementAt s S.Activate c = statementIn (D.activateClause mixed s c)
+statementAt s S.Deactivate c = statementIn (D.deactivateClause mixed s c)
+statementAt s S.Return c = statementIn (D.returnClause mixed s c)

@@ -6,6 +6,7 @@ use mathlib.Core.List.{List, [], _∷_}
 use mathlib.Core.Path.{_≡_}
 use lib.Dec.{leb, eqb}
 use lib.ListN.{length}
+use Rattle.definition.specs.Bytes.{mixed}
 use Rattle.definition.specs.Choice.{when}
 use Rattle.definition.specs.Text.{bytesOf}
 use Rattle.definition.specs.Tokens.{Token, isSign, tokenAt}
@@ -93,17 +94,17 @@ thenWord w s (Past q) = expectedWord w s q
 thenWord w s (Refused y p) = Refused y p
 
 unfoldable pub thenExpression : List ℕ → Expected → Expected
-thenExpression s (Past q) = endFor (wholeExpression s q)
+thenExpression s (Past q) = endFor (wholeExpression mixed s q)
 thenExpression s (Refused y p) = Refused y p
 
 -- BY or TO with its expression, if the word stands there
 unfoldable pub boundPast : List ℕ → List ℕ → Expected → Expected
-boundPast w s (Past q) = cond (isWorded w (tokenAt s q .token)) (endFor (wholeExpression s (tokenAt s q .to))) (Past q)
+boundPast w s (Past q) = cond (isWorded w (tokenAt mixed s q .token)) (endFor (wholeExpression mixed s (tokenAt mixed s q .to))) (Past q)
 boundPast w s (Refused y p) = Refused y p
 
 unfoldable pub boundsPast : List ℕ → Expected → Expected
 boundsPast s (Past q) =
-    cond (isWorded (bytesOf "BY") (tokenAt s q .token)) (boundPast (bytesOf "TO") s (endFor (wholeExpression s (tokenAt s q .to))))
+    cond (isWorded (bytesOf "BY") (tokenAt mixed s q .token)) (boundPast (bytesOf "TO") s (endFor (wholeExpression mixed s (tokenAt mixed s q .to))))
     (boundPast (bytesOf "BY") s (boundPast (bytesOf "TO") s (Past q)))
 boundsPast s (Refused y p) = Refused y p
 
@@ -114,7 +115,7 @@ nameEnd (refused w p) = Refused w p
 
 -- past NORESCAN or RESCAN
 unfoldable pub rescanPast : List ℕ → ℕ → ℕ
-rescanPast s at = cond (isWorded (bytesOf "NORESCAN") (tokenAt s at .token) || isWorded (bytesOf "RESCAN") (tokenAt s at .token)) (tokenAt s at .to) at
+rescanPast s at = cond (isWorded (bytesOf "NORESCAN") (tokenAt mixed s at .token) || isWorded (bytesOf "RESCAN") (tokenAt mixed s at .token)) (tokenAt mixed s at .to) at
 
 abbrev pub rescanned : List ℕ → Expected → Expected
 rescanned s (Past q) = Past (rescanPast s q)
@@ -123,17 +124,17 @@ rescanned s (Refused w p) = Refused w p
 -- past the member in parentheses, behind a library's name
 unfoldable pub memberPast : List ℕ → Expected → Expected
 memberPast s (Past q) =
-    cond (isSpelled (bytesOf "(") (tokenAt s q .token)) (thenSign (bytesOf ")") s (nameEnd (nameAt s (tokenAt s q .to)))) (Past q)
+    cond (isSpelled (bytesOf "(") (tokenAt mixed s q .token)) (thenSign (bytesOf ")") s (nameEnd (nameAt mixed s (tokenAt mixed s q .to)))) (Past q)
 memberPast s (Refused w p) = Refused w p
 
 unfoldable pub itemPast : Each → List ℕ → ℕ → Expected
-itemPast Ea.Name s at = nameEnd (nameAt s at)
-itemPast Ea.Activation s at = rescanned s (nameEnd (nameAt s at))
-itemPast Ea.Member s at = memberPast s (nameEnd (nameAt s at))
+itemPast Ea.Name s at = nameEnd (nameAt mixed s at)
+itemPast Ea.Activation s at = rescanned s (nameEnd (nameAt mixed s at))
+itemPast Ea.Member s at = memberPast s (nameEnd (nameAt mixed s at))
 
 -- items with commas between them and `w` behind; f is more than the turns
 abbrev pub listNext : List ℕ → List ℕ → Expected → (ℕ → Expected) → Expected
-listNext w s (Past e) again = when (isSpelled (bytesOf ",") (tokenAt s e .token)) (λ _. again (tokenAt s e .to)) (λ _. expected w s e)
+listNext w s (Past e) again = when (isSpelled (bytesOf ",") (tokenAt mixed s e .token)) (λ _. again (tokenAt mixed s e .to)) (λ _. expected w s e)
 listNext w s (Refused y p) again = Refused y p
 
 unfoldable pub listEnd : List ℕ → Each → List ℕ → ℕ → ℕ → Expected
@@ -147,22 +148,22 @@ namesEnd w s = listEnd w Ea.Name s
 -- ---- the statements that declare nothing
 -- GO and TO apart
 unfoldable pub goClause : List ℕ → ℕ → Reading D.Clause
-goClause s at = then (expectWord "TO" s at) (D.gotoClause s)
+goClause s at = then (expectWord mixed "TO" s at) (D.gotoClause mixed s)
 
 -- DO alone opens a group, else it is an iterated one
 unfoldable pub doKind : List ℕ → ℕ → Statement
-doKind s at = cond (isSign ";" (tokenAt s at .token)) S.Group S.Iterated
+doKind s at = cond (isSign ";" (tokenAt mixed s at .token)) S.Group S.Iterated
 
 -- from behind the word at `from`, which ends at `at`; b in a procedure
 unfoldable pub plainFor : Keyword → Bool → List ℕ → ℕ → ℕ → Read
-plainFor K.If b s from at = readFor S.Conditional at FixedType (D.ifClause b s at)
-plainFor K.Do b s from at = readFor (doKind s at) at FixedType (D.doClause s at)
-plainFor K.Goto b s from at = readFor S.Goto at FixedType (D.gotoClause s at)
-plainFor K.Go b s from at = readFor S.Goto (tokenAt s at .to) FixedType (goClause s at)
-plainFor K.Include b s from at = readFor S.Include at FixedType (D.includeClause s at)
-plainFor K.Activate b s from at = readFor S.Activate at FixedType (D.activateClause s at)
-plainFor K.Deactivate b s from at = readFor S.Deactivate at FixedType (D.deactivateClause s at)
-plainFor K.Return b s from at = readFor S.Return at FixedType (D.returnClause s at)
+plainFor K.If b s from at = readFor S.Conditional at FixedType (D.ifClause mixed b s at)
+plainFor K.Do b s from at = readFor (doKind s at) at FixedType (D.doClause mixed s at)
+plainFor K.Goto b s from at = readFor S.Goto at FixedType (D.gotoClause mixed s at)
+plainFor K.Go b s from at = readFor S.Goto (tokenAt mixed s at .to) FixedType (goClause s at)
+plainFor K.Include b s from at = readFor S.Include at FixedType (D.includeClause mixed s at)
+plainFor K.Activate b s from at = readFor S.Activate at FixedType (D.activateClause mixed s at)
+plainFor K.Deactivate b s from at = readFor S.Deactivate at FixedType (D.deactivateClause mixed s at)
+plainFor K.Return b s from at = readFor S.Return at FixedType (D.returnClause mixed s at)
 plainFor K.Declare b s from at = R.Refused Syntax from
 plainFor K.Procedure b s from at = R.Refused Syntax from
 plainFor K.Other b s from at = R.Refused Syntax from
@@ -178,12 +179,12 @@ isInside (Procedure p) = true
 
 -- the names from a place on, as far as they can be read; at most f
 abbrev pub namesNext : List ℕ → Reading Named → (ℕ → List Named) → List Named
-namesNext s (read n) again = n ∷ when (isSpelled (bytesOf ",") (tokenAt s (n .to) .token)) (λ _. again (tokenAt s (n .to) .to)) (λ _. [])
+namesNext s (read n) again = n ∷ when (isSpelled (bytesOf ",") (tokenAt mixed s (n .to) .token)) (λ _. again (tokenAt mixed s (n .to) .to)) (λ _. [])
 namesNext s (refused w p) again = []
 
 unfoldable pub namesRead : List ℕ → ℕ → ℕ → List Named
 namesRead s zero at = []
-namesRead s (suc f) at = namesNext s (nameAt s at) (namesRead s f)
+namesRead s (suc f) at = namesNext s (nameAt mixed s at) (namesRead s f)
 
 abbrev pub itemOf : ℕ → ℕ → Expected → Item
 itemOf n m e = record { names = n; most = m; to = e }
@@ -191,9 +192,9 @@ itemOf n m e = record { names = n; most = m; to = e }
 -- the item at a place: one name, or names in parentheses
 unfoldable pub itemIn : List ℕ → ℕ → Item
 itemIn s at =
-    cond (isSpelled (bytesOf "(") (tokenAt s at .token))
-    (itemOf (tokenAt s at .to) (length s) (namesEnd (bytesOf ")") s (length s) (tokenAt s at .to)))
-    (itemOf at 1 (nameEnd (nameAt s at)))
+    cond (isSpelled (bytesOf "(") (tokenAt mixed s at .token))
+    (itemOf (tokenAt mixed s at .to) (length s) (namesEnd (bytesOf ")") s (length s) (tokenAt mixed s at .to)))
+    (itemOf at 1 (nameEnd (nameAt mixed s at)))
 
 -- the attribute that a word is, by a test on its spellings
 unfoldable pub attributeBy : Bool → (List ℕ → Bool) → Attribute
@@ -211,7 +212,7 @@ itemizedBy (A.Means m) from to = I.Means m to
 itemizedBy A.Missing from to = I.Refused Syntax from
 
 unfoldable pub itemized : List ℕ → Expected → Bool → Itemized
-itemized s (Past e) inside = itemizedBy (attributeBy inside (worded (tokenAt s e .token))) (tokenAt s e .from) (tokenAt s e .to)
+itemized s (Past e) inside = itemizedBy (attributeBy inside (worded (tokenAt mixed s e .token))) (tokenAt mixed s e .from) (tokenAt mixed s e .to)
 itemized s (Refused w p) inside = I.Refused w p
 
 abbrev pub meaningIn : Itemized → Meaning
@@ -223,7 +224,7 @@ abbrev pub typeBy : Bool → Bool → ℕ → ℕ → Typed
 typeBy character fixed from to = cond character (T.Is CharacterType to) (cond fixed (T.Is FixedType to) (T.Refused Syntax from))
 
 unfoldable pub typeFrom : List ℕ → Expected → Typed
-typeFrom s (Past q) = typeBy (isWorded (bytesOf "CHARACTER") (tokenAt s q .token) || isWorded (bytesOf "CHAR") (tokenAt s q .token)) (isWorded (bytesOf "FIXED") (tokenAt s q .token)) (tokenAt s q .from) (tokenAt s q .to)
+typeFrom s (Past q) = typeBy (isWorded (bytesOf "CHARACTER") (tokenAt mixed s q .token) || isWorded (bytesOf "CHAR") (tokenAt mixed s q .token)) (isWorded (bytesOf "FIXED") (tokenAt mixed s q .token)) (tokenAt mixed s q .from) (tokenAt mixed s q .to)
 typeFrom s (Refused w p) = T.Refused w p
 
 unfoldable pub headUpTo : ValueType → ℕ → Expected → Read
@@ -264,8 +265,8 @@ pub record NamedIf (d s t : List ℕ) (x : Tally) (o : Owner) (f : Book → Book
 
 -- the statement from behind DECLARE
 pub record Declares (d s t : List ℕ) (x : Tally) (o : Owner) (from : ℕ) (u : List ℕ) (y : Declaring) : Type 0 where
-  pub entered : Entered d t x (bookAll (x .member) (namesIn (D.declareFrom (scopeOf o) s (length s) [] from))) u (y .tally)
-  pub is : y .read ≡ readFor S.Declare from FixedType (clauseIn (D.declareFrom (scopeOf o) s (length s) [] from))
+  pub entered : Entered d t x (bookAll (x .member) (namesIn (D.declareFrom mixed (scopeOf o) s (length s) [] from))) u (y .tally)
+  pub is : y .read ≡ readFor S.Declare from FixedType (clauseIn (D.declareFrom mixed (scopeOf o) s (length s) [] from))
 
 pub record DeclaresIf (d s t : List ℕ) (x : Tally) (o : Owner) (from : ℕ) (u : List ℕ) (y : Declaring) : Type 0 where
   pub is : Ready d s t x o → Declares d s t x o from u y
@@ -297,16 +298,16 @@ spelledAs s from to p q = eqb (q - p) (to - from) && same (part (to - from) p s)
 unfoldable pub listedBefore : List ℕ → ℕ → ℕ → ℕ → ℕ → Bool
 listedBefore s from to zero at = false
 listedBefore s from to (suc f) at =
-    when (leb from (tokenAt s at .from)) (λ _. false)
-    (λ _. when (spelledAs s from to (tokenAt s at .from) (tokenAt s at .to)) (λ _. true)
-    (λ _. listedBefore s from to f (tokenAt s (tokenAt s at .to) .to)))
+    when (leb from (tokenAt mixed s at .from)) (λ _. false)
+    (λ _. when (spelledAs s from to (tokenAt mixed s at .from) (tokenAt mixed s at .to)) (λ _. true)
+    (λ _. listedBefore s from to f (tokenAt mixed s (tokenAt mixed s at .to) .to)))
 
 -- the first parameter that is listed twice
 unfoldable pub parameterTwice : List ℕ → ℕ → ℕ → ℕ → Mark
 parameterTwice s list zero at = Unmarked
 parameterTwice s list (suc f) at =
-    when (listedBefore s (tokenAt s at .from) (tokenAt s at .to) (length s) list) (λ _. Marked (tokenAt s at .from))
-    (λ _. when (isSpelled (bytesOf ",") (tokenAt s (tokenAt s at .to) .token)) (λ _. parameterTwice s list f (tokenAt s (tokenAt s at .to) .to)) (λ _. Unmarked))
+    when (listedBefore s (tokenAt mixed s at .from) (tokenAt mixed s at .to) (length s) list) (λ _. Marked (tokenAt mixed s at .from))
+    (λ _. when (isSpelled (bytesOf ",") (tokenAt mixed s (tokenAt mixed s at .to) .token)) (λ _. parameterTwice s list f (tokenAt mixed s (tokenAt mixed s at .to) .to)) (λ _. Unmarked))
 
 abbrev pub tallyTwice : Mark → Tally → Tally
 tallyTwice Unmarked t = t
@@ -317,9 +318,9 @@ isRead (R.Is c) = true
 isRead (R.Refused w p) = false
 
 unfoldable pub procedureTally : List ℕ → ℕ → Read → Tally → Tally
-procedureTally s at r t = cond (isRead r && isSpelled (bytesOf "(") (tokenAt s at .token)) (tallyTwice (parameterTwice s (tokenAt s at .to) (length s) (tokenAt s at .to)) t) t
+procedureTally s at r t = cond (isRead r && isSpelled (bytesOf "(") (tokenAt mixed s at .token)) (tallyTwice (parameterTwice s (tokenAt mixed s at .to) (length s) (tokenAt mixed s at .to)) t) t
 
 -- k is the scope of the parameters: any, since it does not matter for what is read
 pub record Heads (s : List ℕ) (x : Tally) (from : ℕ) (y : Declaring) : Type 0 where
-  pub is : (k : P.Scope) → y .read ≡ readProcedure from (D.procedureClause k s from)
+  pub is : (k : P.Scope) → y .read ≡ readProcedure from (D.procedureClause mixed k s from)
   pub tally : y .tally ≡ procedureTally s from (y .read) x

@@ -4,6 +4,7 @@ ghost use mathlib.Core.Path.{_≡_};
 ghost use mathlib.Core.Bool.{_||_, true, false};
 ghost use mathlib.Core.List.{_∷_, []};
 ghost use lib.ListN.{length};
+ghost use Rattle.definition.specs.Bytes.{mixed};
 ghost use Rattle.definition.specs.Text.{bytesOf};
 ghost use Rattle.definition.specs.Expressions.{nameAt};
 ghost use Rattle.definition.specs.Statements as D;
@@ -185,7 +186,7 @@ fn then_expression(s: &[u8], e: Expected) -> Expected
 
 // The assignment from behind `=`; its target is the first token behind the place `content`.
 pub fn assignment(s: &[u8], content: usize, at: usize) -> Read
-    ensures { λ r. ⌜ r ≡ C.readFor S.Assign content FixedType (D.assignment (now (s .entry)) [] at) ⌝ }
+    ensures { λ r. ⌜ r ≡ C.readFor S.Assign content FixedType (D.assignment mixed (now (s .entry)) [] at) ⌝ }
 {
     let e = then_sign(s, check(s, at), b";");
     read_up_to(Statement::Assign, Opens::Nothing, content, e)
@@ -193,7 +194,7 @@ pub fn assignment(s: &[u8], content: usize, at: usize) -> Read
 
 // Outside procedures THEN has its own `%`.
 fn if_clause(s: &[u8], at: usize, in_body: bool) -> Read
-    ensures { λ r. ⌜ r ≡ C.readFor S.Conditional at FixedType (D.ifClause «in_body» (now (s .entry)) at) ⌝ }
+    ensures { λ r. ⌜ r ≡ C.readFor S.Conditional at FixedType (D.ifClause mixed «in_body» (now (s .entry)) at) ⌝ }
 {
     let x = check(s, at);
     if in_body {
@@ -237,7 +238,7 @@ fn do_bounds(s: &[u8], e: Expected) -> Expected
 }
 
 fn name_past(s: &[u8], at: usize) -> Expected
-    ensures { λ r. ⌜ r ≡ C.nameEnd (nameAt (now (s .entry)) at) ⌝ }
+    ensures { λ r. ⌜ r ≡ C.nameEnd (nameAt mixed (now (s .entry)) at) ⌝ }
 {
     let n = name_at(s, at);
     match n {
@@ -247,7 +248,7 @@ fn name_past(s: &[u8], at: usize) -> Expected
 }
 
 fn do_clause(s: &[u8], at: usize) -> Read
-    ensures { λ r. ⌜ r ≡ C.readFor (C.doKind (now (s .entry)) at) at FixedType (D.doClause (now (s .entry)) at) ⌝ }
+    ensures { λ r. ⌜ r ≡ C.readFor (C.doKind (now (s .entry)) at) at FixedType (D.doClause mixed (now (s .entry)) at) ⌝ }
 {
     let t = token_at(s, at);
     if is_sign(s, t, b";") {
@@ -259,7 +260,7 @@ fn do_clause(s: &[u8], at: usize) -> Read
 }
 
 fn goto_clause(s: &[u8], at: usize) -> Read
-    ensures { λ r. ⌜ r ≡ C.readFor S.Goto at FixedType (D.gotoClause (now (s .entry)) at) ⌝ }
+    ensures { λ r. ⌜ r ≡ C.readFor S.Goto at FixedType (D.gotoClause mixed (now (s .entry)) at) ⌝ }
 {
     let e = then_sign(s, name_past(s, at), b";");
     read_up_to(Statement::Goto, Opens::Nothing, at, e)
@@ -267,7 +268,7 @@ fn goto_clause(s: &[u8], at: usize) -> Read
 
 // GO and TO apart.
 fn go_clause(s: &[u8], at: usize) -> Read
-    ensures { λ r. ⌜ r ≡ C.readFor S.Goto (tokenAt (now (s .entry)) at .to) FixedType (C.goClause (now (s .entry)) at) ⌝ }
+    ensures { λ r. ⌜ r ≡ C.readFor S.Goto (tokenAt mixed (now (s .entry)) at .to) FixedType (C.goClause (now (s .entry)) at) ⌝ }
 {
     let e = expect_word(s, at, b"TO");
     match e {
@@ -346,7 +347,7 @@ fn name_list(s: &[u8], from: usize, each: Each) -> Expected
 
 // RETURN's own parenthesis is not part of the expression.
 fn return_clause(s: &[u8], at: usize) -> Read
-    ensures { λ r. ⌜ r ≡ C.readFor S.Return at FixedType (D.returnClause (now (s .entry)) at) ⌝ }
+    ensures { λ r. ⌜ r ≡ C.readFor S.Return at FixedType (D.returnClause mixed (now (s .entry)) at) ⌝ }
 {
     let x = then_expression(s, expect_sign(s, at, b"("));
     let e = then_sign(s, then_sign(s, x, b")"), b";");

@@ -6,6 +6,7 @@ use mathlib.Core.List.{List}
 use Prim.Native.Nat.{ℕ, _<_}
 use native.Mathlib.Omega.{arith}
 use lib.ListN.{length}
+use Rattle.definition.specs.Bytes.{mixed}
 use Rattle.definition.specs.Expressions.{Tree}
 use Rattle.definition.specs.Deck.{Sought}
 use Rattle.definition.specs.Program as D
@@ -286,9 +287,9 @@ module _ (deck s part rows names c l h w t ls : List ℕ) (fs : Frames) (n : ℕ
       no-frame i = clash (let q : true ≡ false = sym i ∙ group-plain part (machine .rows) shown n (k .at .within) e in cc)
 
   -- what does nothing
-  pub act-is : (x : D.Statement) → F.at machine n .statement ≡ x → machine .act n now ≡ Run.actAs x inner deck (F.at machine n .place) (here .member) n (belowOf below) now
+  pub act-is : (x : D.Statement) → F.at machine n .statement ≡ x → machine .act n now ≡ Run.actAs mixed x inner deck (F.at machine n .place) (here .member) n (belowOf below) now
   unfolding memberMachine
-  act-is x e = ap (λ (y : D.Statement). Run.actAs y inner deck (F.at machine n .place) (here .member) n (belowOf below) now) e
+  act-is x e = ap (λ (y : D.Statement). Run.actAs mixed y inner deck (F.at machine n .place) (here .member) n (belowOf below) now) e
 
   passes-on : (r : Turned) → r ≡ turnedBy fs (St.On (Up n) g) → (R : Res Run.Stop F.Turn) → R ≡ F.onward machine G (F.behind machine G n now)
       → StepIs machine (belowOf below) deck rows names c l h w t ls here (r .frames) R B (r .step)

@@ -6,6 +6,7 @@ use mathlib.Core.List.{List}
 use Prim.Native.Nat.{ℕ, _<_, _≤_}
 use native.Mathlib.Omega.{arith}
 use lib.ListN.{length, getD}
+use Rattle.definition.specs.Bytes.{mixed}
 use Rattle.definition.specs.Program as P
 use Rattle.definition.specs.Reading.{readMember}
 use Rattle.definition.specs.World as W
@@ -115,8 +116,8 @@ module _ (deck s rows : List ℕ) (here : Here) (B B′ : World) (i : InMember d
     whole = i .whole;
     short = i .short;
     low = i .low;
-    entered = entered-later (rowsOf (here .member) B) (rowsOf (here .member) B′) (readMember (bodyOf deck (here .member)) .rows) (k .rows (here .member))
-        (subst (λ (b : List ℕ). Wider (rowsOf (here .member) B′) (readMember b .rows)) (i .whole) (p .read (here .member))) (i .entered);
+    entered = entered-later (rowsOf (here .member) B) (rowsOf (here .member) B′) (readMember mixed (bodyOf deck (here .member)) .rows) (k .rows (here .member))
+        (subst (λ (b : List ℕ). Wider (rowsOf (here .member) B′) (readMember mixed b .rows)) (i .whole) (p .read (here .member))) (i .entered);
   }
 
 -- ---- THE ROWS of its machine

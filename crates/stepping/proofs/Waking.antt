@@ -6,6 +6,7 @@ use mathlib.Core.List.{List}
 use Prim.Native.Nat.{ℕ, _*_, _≤_}
 use native.Mathlib.Omega.{arith}
 use lib.ListN.{length}
+use Rattle.definition.specs.Bytes.{mixed}
 use Rattle.definition.specs.Program as D
 use Rattle.definition.specs.World as W
 use Rattle.definition.specs.World.{World, Res, bad, bind, placed}
@@ -130,7 +131,7 @@ module _ (deck s part rows names c l h w t ls : List ℕ) (fs : Frames) (n : ℕ
 
   -- the same for the statement x, which acts so
   acts : (x : D.Statement) → F.at machine n .statement ≡ x → F.statement machine x G n now ≡ bind (machine .act n now) (λ d v. F.done machine d G n v) → (R : World → Res Why (Unit {0}))
-      → Run.actAs x inner deck (F.at machine n .place) (here .member) n (belowOf below) now ≡ placed (Run.stop (here .member) (F.at machine n .place)) (Run.deed (R now))
+      → Run.actAs mixed x inner deck (F.at machine n .place) (here .member) n (belowOf below) now ≡ placed (Run.stop (here .member) (F.at machine n .place)) (Run.deed (R now))
       → (u : List ℕ) → Kept deck names u (g .names) → (b : Bool) → Does deck names u (g .names) R b → (r : Turned) → r ≡ activatedTo fs n b g (here .member) (rowIn part n .place) → Wakes u r x
   acts x q e R f u kp b d r er = subst (λ (Q : Res Run.Stop F.Turn). StepIs machine (belowOf below) deck rows u c l h w t ls here (r .frames) Q B (r .step))
       (sym (e ∙ ap (λ (i : Res Run.Stop F.Deed). bind i (λ d v. F.done machine d G n v)) (act-is deck s part rows names c l h w t ls fs n below here g inner B G k x q ∙ f)))

@@ -7,6 +7,7 @@ use mathlib.Core.List.{List}
 use Prim.Native.Nat.{ℕ, suc, _-_, _<_, _≤_}
 use native.Mathlib.Omega.{arith}
 use lib.ListN.{length}
+use Rattle.definition.specs.Bytes.{mixed}
 use Rattle.definition.specs.Program as P
 use Rattle.definition.specs.World.{World, Res, good, bad, bind}
 use Rattle.definition.specs.Flow as F
@@ -70,12 +71,12 @@ module _ (deck s part rows names c l h w t ls : List ℕ) (n : ℕ) (here : Here
           let M : F.Machine Run.Stop = machineOf inner deck (here .member) on in
           let v : World = worldIn B c l h (g .meter .used) in
           let at : r ≡ rowIn (partHere rows here) n = er ∙ ap (λ (y : List ℕ). rowIn y n) e in
-          let o : RanAs deck rows names (here .starts) g B c′ l′ h′ w′ t′ ls′ z (Run.textOut (here .member) s (stretchFor (r .text)) v) =
+          let o : RanAs deck rows names (here .starts) g B c′ l′ h′ w′ t′ ls′ z (Run.textOut mixed (here .member) s (stretchFor (r .text)) v) =
           k .is B (st .onstage) (rw at (text-lies deck s rows names c l h w t ls here g B st i inner on n lt)) (i .low) in
           let same : stretchFor (r .text) ≡ F.at M n .text = rw at (machine-written deck s rows names c l h w t ls here g B st i inner on n lt .text) in
-          let f : Run.textOut (here .member) s (stretchFor (r .text)) v ≡ outBehind M (rowIn part n .role) (F.at M n .text) v =
-          ap (λ (y : List ℕ). Run.textOut (here .member) y (stretchFor (r .text)) v) (its-body deck s rows names c l h w t ls here g B st i inner on)
-          ∙ ap (λ (y : P.Stretch). Run.textOut (here .member) (bodyOf deck (here .member)) y v) same ∙ sym (out-is inner deck (here .member) on _ (F.at M n .text) v) ∙ sym (out-listed M (F.at M n .text) v (rowIn part n .role) (role-is eb q)) in
+          let f : Run.textOut mixed (here .member) s (stretchFor (r .text)) v ≡ outBehind M (rowIn part n .role) (F.at M n .text) v =
+          ap (λ (y : List ℕ). Run.textOut mixed (here .member) y (stretchFor (r .text)) v) (its-body deck s rows names c l h w t ls here g B st i inner on)
+          ∙ ap (λ (y : P.Stretch). Run.textOut mixed (here .member) (bodyOf deck (here .member)) y v) same ∙ sym (out-is inner deck (here .member) on _ (F.at M n .text) v) ∙ sym (out-listed M (F.at M n .text) v (rowIn part n .role) (role-is eb q)) in
           subst (λ (R : Res Run.Stop (Unit {0})). RanAs deck rows names (here .starts) g B c′ l′ h′ w′ t′ ls′ z R) f o
 
   pub behind-no-text : (b : Bool) → b ≡ isListed (r .role) → b ≡ false → TextBehindIs deck s part rows names c l h w t ls n here g c l h w t ls (Rn.Good g)

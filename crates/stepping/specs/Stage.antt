@@ -5,6 +5,7 @@ use mathlib.Core.Path.{_≡_}
 use mathlib.Core.Bool.{true}
 use mathlib.Core.List.{List}
 use lib.ListN.{length}
+use Rattle.definition.specs.Bytes.{mixed}
 use Rattle.definition.specs.Reading.{readMember}
 use Rattle.definition.specs.World.{World, Res, rowsOf}
 use Rattle.definition.specs.Flow as F
@@ -45,14 +46,14 @@ pub record InMember (deck s rows : List ℕ) (here : Here) (B : World) : Type 0 
   pub whole : bodyIn deck (here .member) ≡ bodyOf deck (here .member)
   pub short : length s < 65536
   pub low : here .member < 32
-  pub entered : rowsOf (here .member) B ≡ readMember (bodyOf deck (here .member)) .rows
+  pub entered : rowsOf (here .member) B ≡ readMember mixed (bodyOf deck (here .member)) .rows
 
 abbrev pub partHere : List ℕ → Here → List ℕ
 partHere rows here = partIn rows (here .starts) (here .member)
 
 -- the definition's machine for member m, with the members `on` below it
 abbrev pub machineOf : Run.Level → List ℕ → ℕ → List Place → F.Machine Run.Stop
-machineOf inner deck m on = memberMachine inner deck m on (readMember (bodyOf deck m))
+machineOf inner deck m on = memberMachine mixed inner deck m on (readMember mixed (bodyOf deck m))
 
 -- where a walk leads in the definition, with the texts on the way
 abbrev pub goes : F.Machine Run.Stop → List F.Frame → Walk → World → Res Run.Stop F.Next

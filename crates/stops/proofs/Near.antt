@@ -11,6 +11,7 @@ use borrow.Author.Tests.{leb-true, leb-false, le-leb, eqb-true}
 use Rattle.definition.specs.declared.Why.{Why}
 use Rattle.definition.specs.declared.Layout.{Layout}
 use Rattle.definition.specs.declared.Layout.the-variants.{Plain as plain, Cards as cards}
+use Rattle.definition.specs.Bytes.{mixed}
 use Rattle.definition.specs.Limits.{runningProcedures, replacementLevels, includeLevels, textBytes, originLineBytes}
 use Rattle.definition.specs.Lists.{part}
 use Rattle.definition.specs.Expressions.{Tree}
@@ -66,29 +67,29 @@ put-out : (e : Event) (g : Pass) (n : ℕ) (w : World) → Near e → Fine w →
 unfolding putOut
 put-out e g n w i h = when-leaves near (leb n (w .linesLeft) && leb (length (bytesIn e)) (w .textLeft)) _ _ (passes near (record { places = (i, h .places) })) (halt near h)
 
-replace-here : (m place : ℕ) → place < 65536 → (t : List ℕ) (q a : ℕ) (x : Activity) → Awake x → (to : List ℕ → ℕ → Pass) (w : World) → Fine w → Keeps (replaceHere m place t q a x to w)
+replace-here : (m place : ℕ) → place < 65536 → (t : List ℕ) (q a : ℕ) (x : Activity) → Awake x → (to : List ℕ → ℕ → Pass) (w : World) → Fine w → Keeps (replaceHere mixed m place t q a x to w)
 unfolding replaceHere
 replace-here m place i t q a x y to w h =
     when-leaves near (leb 1 (w .linesLeft)) _ _
     (bind-leaves near (replacer-leaves near callOut (calls-leaves near runningProcedures []) replacementLevels t q a x (toText (w .textLeft)) 0 w y h) λ r v _ k. passes near (record { places = (i, k .places) }))
     (halt near h)
 
-token-here : (x : Active) → AllAwake x → (m place : ℕ) → place < 65536 → (t : List ℕ) (p q : ℕ) → place + (q - p) ≤ 65536 → (g : List ℕ → ℕ → Pass) (w : World) → Fine w → Keeps (tokenHere x m place t p q g w)
+token-here : (x : Active) → AllAwake x → (m place : ℕ) → place < 65536 → (t : List ℕ) (p q : ℕ) → place + (q - p) ≤ 65536 → (g : List ℕ → ℕ → Pass) (w : World) → Fine w → Keeps (tokenHere mixed x m place t p q g w)
 unfolding copyHere
 token-here notActive y m place i t p q j g w h = bind-any near (put-out (copied m place (part (q - p) p t)) _ _ w (i, omega (arith, j, length-part (q - p) p t)) h) λ _ v k. passes near k
 token-here (active a x) y m place i t p q j g w h = replace-here m place i t q a x y g w h
 
-text-on : (m from : ℕ) (t : List ℕ) → from + length t < 65536 → (f p : ℕ) (w : World) → Fine w → Keeps (textOn m from t f p w)
+text-on : (m from : ℕ) (t : List ℕ) → from + length t < 65536 → (f p : ℕ) (w : World) → Fine w → Keeps (textOn mixed m from t f p w)
 unfolding textOn
 text-on m from t i zero p w h = passes near h
 text-on m from t i (suc f) p w h =
     when-has (Leaves near Any) (leb (length t) p) _ _ (λ _. passes near h) λ e.
     let l : p < length t = leb-false (length t) p e in
-    let z : pieceAt t p .to ≤ length t = pieceAt-past t p l .within in
-    bind-any near (placed-leaves near _ (bind-any near (charge-leaves near h) λ _ v k. token-here (activeIn (pieceAt t p .piece) v) (awake-in (pieceAt t p .piece) v) m (from + p) (omega (arith, l)) t p (pieceAt t p .to) (omega (arith, l, z)) _ v k)) λ q x k.
+    let z : pieceAt mixed t p .to ≤ length t = pieceAt-past t p l .within in
+    bind-any near (placed-leaves near _ (bind-any near (charge-leaves near h) λ _ v k. token-here (activeIn (pieceAt mixed t p .piece) v) (awake-in (pieceAt mixed t p .piece) v) m (from + p) (omega (arith, l)) t p (pieceAt mixed t p .to) (omega (arith, l, z)) _ v k)) λ q x k.
     text-on m from t i f q x k
 
-text-out : (m : ℕ) (s : List ℕ) (x : Stretch) (w : World) → length s < 65536 → Ordered s x → Fine w → Keeps (textOut m s x w)
+text-out : (m : ℕ) (s : List ℕ) (x : Stretch) (w : World) → length s < 65536 → Ordered s x → Fine w → Keeps (textOut mixed m s x w)
 unfolding textOut
 text-out m s x w i o h =
     let n : ℕ = x .to - x .from in
@@ -133,7 +134,7 @@ jump-from (address a) here rs ps n w h = jump-by (denotation a w) here rs ps n w
 jump-from unknown here rs ps n w h = halt near h
 
 -- ---- members of a sound deck
-module _ (d : List ℕ) (sound : isSound d ≡ true) where
+module _ (d : List ℕ) (sound : isSound mixed d ≡ true) where
   abbrev Inners : Inner → Type 0
   Inners inner = (k : ℕ) → k < Deck.count d → (ps : List Place) (w : World) → Fine w → Leaves near (OfEnd Any) (inner k ps w)
 
@@ -154,21 +155,21 @@ module _ (d : List ℕ) (sound : isSound d ≡ true) where
     include-entered unreadable-any inner is k m n i ps w h = halt near h
     include-entered (entered-sound {w = v} g) inner is k m n i ps w h = bind-leaves near (is k i _ v g) λ x y _ j. came-out m x y j
 
-    include-at : (f : Deck.Found) → ((k : ℕ) → f ≡ Deck.line k → k < Deck.count d) → (l : Level) → Levels l → (p m n : ℕ) (ps : List Place) (w : World) → Fine w → Does (includeAt f l d p m n ps w next)
+    include-at : (f : Deck.Found) → ((k : ℕ) → f ≡ Deck.line k → k < Deck.count d) → (l : Level) → Levels l → (p m n : ℕ) (ps : List Place) (w : World) → Fine w → Does (includeAt mixed f l d p m n ps w next)
     include-at Deck.none i l is p m n ps w h = halt near h
     include-at (Deck.line k) i noLevel is p m n ps w h = halt near h
-    include-at (Deck.line k) i (level inner) is p m n ps w h = include-entered (enter-leaves near k (readMember (bodyOf d k)) h) inner is k m n (i k refl) ps w h
+    include-at (Deck.line k) i (level inner) is p m n ps w h = include-entered (enter-leaves near k (readMember mixed (bodyOf d k)) h) inner is k m n (i k refl) ps w h
 
   module _ (l : Level) (is : Levels l) where
-    include-all : (p m n : ℕ) (ps : List Place) (xs : List Deck.Sought) (w : World) → Fine w → Does (includeAll l d p m n ps xs w)
+    include-all : (p m n : ℕ) (ps : List Place) (xs : List Deck.Sought) (w : World) → Fine w → Does (includeAll mixed l d p m n ps xs w)
     unfolding includeAll
     include-all p m n ps [] w h = leaves tt h
-    include-all p m n ps (x ∷ xs) w h = include-at _ (include-all p m n ps xs) (Deck.find x 0 (Deck.lines d)) (find-low d x) l is p m n ps w h
+    include-all p m n ps (x ∷ xs) w h = include-at _ (include-all p m n ps xs) (Deck.find mixed x 0 (Deck.lines d)) (find-low d x) l is p m n ps w h
 
     deed-keeps : (m p : ℕ) {r : Res Why (Unit {0})} → Keeps r → Does (W.placed (Run.stop m p) (Run.deed r))
     deed-keeps m p h = placed-leaves near _ (bind-leaves near h λ _ v _ k. leaves tt k)
 
-    act-as : (s : Statement) (p m n : ℕ) (ps : List Place) (w : World) → Fine w → Does (actAs s l d p m n ps w)
+    act-as : (s : Statement) (p m n : ℕ) (ps : List Place) (w : World) → Fine w → Does (actAs mixed s l d p m n ps w)
     act-as null p m n ps w h = leaves tt h
     act-as (declare ns) p m n ps w h = deed-keeps m p (activate-all rescanned ns w h)
     act-as (procedure ns t) p m n ps w h = leaves tt h
@@ -182,12 +183,12 @@ module _ (d : List ℕ) (sound : isSound d ≡ true) where
     act-as (deactivate ns) p m n ps w h = deed-keeps m p (activate-all inactive ns w h)
     act-as (return x) p m n ps w h = leaves tt h
 
-    source-keeps : (m : ℕ) → m < Deck.count d → (ps : List Place) (w : World) → Fine w → Leaves near (OfEnd Any) (runSource l d m ps (readMember (bodyOf d m)) w)
+    source-keeps : (m : ℕ) → m < Deck.count d → (ps : List Place) (w : World) → Fine w → Leaves near (OfEnd Any) (runSource mixed l d m ps (readMember mixed (bodyOf d m)) w)
     unfolding runSource memberMachine
     source-keeps m i ps w h =
         let b : List ℕ = bodyOf d m in
-        let s : Source = readMember b in
-        let M : Machine Stop = memberMachine l d m ps s in
+        let s : Source = readMember mixed b in
+        let M : Machine Stop = memberMachine mixed l d m ps s in
         let values : (x : Tree) (v : World) → Fine v → Leaves near Any (M .value x v) = λ x v k. evaluate-leaves near callOut (calls-leaves near runningProcedures []) W.everyone x 0 v k in
         let outs : (x : Stretch) (v : World) → Ordered b x → Fine v → Leaves near Any (M .out x v) = λ x v o k. text-out m b x v (body-short d sound m i) o k in
         let acts : (n : ℕ) (v : World) → Fine v → Leaves near (OfDeed Any) (M .act n v) = λ n v k. act-as (rowOf (s .rows) n .statement) _ m n ps v k in
@@ -195,10 +196,10 @@ module _ (d : List ℕ) (sound : isSound d ≡ true) where
         bind-any near (lead-leaves near M (Ordered b) (text-ordered b) (lead-ordered b) values outs acts jumps (s .lead) (member-ordered b) h)
         λ _ v k. runOn-leaves near M (Ordered b) (text-ordered b) (lead-ordered b) values outs acts jumps _ _ [] v k
 
-  member-keeps : (n : ℕ) → Inners (runMember n d)
+  member-keeps : (n : ℕ) → Inners (runMember mixed n d)
   unfolding runMember
   member-keeps zero m i ps w h = source-keeps noLevel tt m i ps w h
-  member-keeps (suc n) m i ps w h = source-keeps (level (runMember n d)) (member-keeps n) m i ps w h
+  member-keeps (suc n) m i ps w h = source-keeps (level (runMember mixed n d)) (member-keeps n) m i ps w h
 
 -- ---- THE LINES of an expansion
 -- a line names a near place, and a stretch ends at one
@@ -243,12 +244,12 @@ result-near (leaves {a = returned v} {w} e h) = lines-near (w .events) (h .place
 result-near (leaves {a = went t} {w} e h) = lines-near (w .events) (h .places)
 result-near (stops h) = tt
 
-main-near : (d : List ℕ) → isSound d ≡ true → {e : Entering} → SoundEntering near e → NearIn (runMain e d)
+main-near : (d : List ℕ) → isSound mixed d ≡ true → {e : Entering} → SoundEntering near e → NearIn (runMain mixed e d)
 main-near d s unreadable-any = tt
 main-near d s (entered-sound {w} h) = result-near (member-keeps d s includeLevels 0 (main-low d s) [] w h)
 
-run-near : (y : Layout) (d : List ℕ) → isSound d ≡ true → (textRoom listRoom steps : ℕ) → NearIn (ranIn y d textRoom listRoom steps)
-run-near y d s textRoom listRoom steps = main-near d s (enter-leaves near 0 (readMember (bodyOf d 0)) (record { places = tt }))
+run-near : (y : Layout) (d : List ℕ) → isSound mixed d ≡ true → (textRoom listRoom steps : ℕ) → NearIn (ranIn y d textRoom listRoom steps)
+run-near y d s textRoom listRoom steps = main-near d s (enter-leaves near 0 (readMember mixed (bodyOf d 0)) (record { places = tt }))
 
 -- ---- as they are told: 65,536 joined columns stand in 924 records
 abbrev Low : List Line → Type 0
@@ -287,7 +288,7 @@ told-low : (y : Layout) (d : List ℕ) (x : Expansion) → NearIn x → Low (tol
 told-low plain d x h = all-low (x .lines) h
 told-low cards d x h = given-lines (sizeIn d) (x .lines) h
 
-pub offsets-low : (y : Layout) (roomy : Bool) (d : List ℕ) (textRoom listRoom steps : ℕ) → Low (expansionOf y roomy d textRoom listRoom steps .lines)
+pub offsets-low : (y : Layout) (roomy : Bool) (d : List ℕ) (textRoom listRoom steps : ℕ) → Low (expansionOf mixed y roomy d textRoom listRoom steps .lines)
 offsets-low y roomy d textRoom listRoom steps =
     let e : List ℕ = ranDeck y d in
     each-way (λ (x : Expansion). Low (x .lines)) y roomy d textRoom listRoom steps (λ _. tt) (λ _ _ _. tt) (λ _ _ _. tt)
@@ -302,22 +303,22 @@ capped-again n = rw (le-leb (capped n) textBytes (capped-most n))
 
 module _ (y : Layout) (roomy : Bool) (d : List ℕ) (textRoom listRoom steps : ℕ) where
   ran-capped : (e : List ℕ) → ranIn y e (capped textRoom) listRoom steps ≡ ranIn y e textRoom listRoom steps
-  ran-capped e = ap (λ (n : ℕ). runMain (enter 0 (readMember (bodyOf e 0)) (W.newWorld y steps n (listRoom / originLineBytes))) e) (capped-again textRoom)
+  ran-capped e = ap (λ (n : ℕ). runMain mixed (enter 0 (readMember mixed (bodyOf e 0)) (W.newWorld y steps n (listRoom / originLineBytes))) e) (capped-again textRoom)
 
-  same-capped : expansionOf y roomy d (capped textRoom) listRoom steps ≡ expansionOf y roomy d textRoom listRoom steps
+  same-capped : expansionOf mixed y roomy d (capped textRoom) listRoom steps ≡ expansionOf mixed y roomy d textRoom listRoom steps
   same-capped =
-      each-way (λ (x : Expansion). expansionOf y roomy d (capped textRoom) listRoom steps ≡ x) y roomy d textRoom listRoom steps
+      each-way (λ (x : Expansion). expansionOf mixed y roomy d (capped textRoom) listRoom steps ≡ x) y roomy d textRoom listRoom steps
       (malformed-is roomy d (capped textRoom) listRoom steps y) (uneven-is roomy d (capped textRoom) listRoom steps y) (short-is roomy d (capped textRoom) listRoom steps y)
       λ s e r. ran-is roomy d (capped textRoom) listRoom steps y s e r ∙ ap (toldAs y (ranDeck y d)) (ran-capped (ranDeck y d))
 
-  pub text-most : length (expansionOf y roomy d textRoom listRoom steps .text) ≤ 4294967295
+  pub text-most : length (expansionOf mixed y roomy d textRoom listRoom steps .text) ≤ 4294967295
   text-most =
-      let e : length (expansionOf y roomy d (capped textRoom) listRoom steps .text) ≡ length (expansionOf y roomy d textRoom listRoom steps .text) = ap (λ (x : Expansion). length (x .text)) same-capped in
+      let e : length (expansionOf mixed y roomy d (capped textRoom) listRoom steps .text) ≡ length (expansionOf mixed y roomy d textRoom listRoom steps .text) = ap (λ (x : Expansion). length (x .text)) same-capped in
       omega (arith, e, fitting y roomy d (capped textRoom) listRoom steps .text, capped-most textRoom)
 
   -- THE LINES ARE SMALL
-  pub lines-small : Small (expansionOf y roomy d textRoom listRoom steps .lines)
-  lines-small = small (expansionOf y roomy d textRoom listRoom steps .lines) (offsets-low y roomy d textRoom listRoom steps) (omega (arith, fitting y roomy d textRoom listRoom steps .agree, text-most))
+  pub lines-small : Small (expansionOf mixed y roomy d textRoom listRoom steps .lines)
+  lines-small = small (expansionOf mixed y roomy d textRoom listRoom steps .lines) (offsets-low y roomy d textRoom listRoom steps) (omega (arith, fitting y roomy d textRoom listRoom steps .agree, text-most))
     where
       small : (ls : List Line) → Low ls → sizes ls ≤ 4294967295 → Small ls
       small [] h k = tt

@@ -16,6 +16,7 @@ use Rattle.definition.specs.declared.Layout.{Layout}
 use Rattle.definition.specs.declared.Layout.the-variants.{Plain as plain, Cards as cards}
 use Rattle.definition.specs.declared.ValueType.{ValueType}
 use Rattle.definition.specs.declared.ValueType.the-variants.{FixedType, CharacterType}
+use Rattle.definition.specs.Bytes.{mixed}
 use Rattle.definition.specs.Steps.{isLeft}
 use Rattle.definition.specs.Limits.{valueLength, unfinishedBytes, runningProcedures, replacementLevels, includeLevels, declaredNames, enteredSentences}
 use Rattle.definition.specs.Fixed as Fixed
@@ -406,11 +407,11 @@ module _ (scan : Scanner) (scans : FairScanner scan) where
     with-list t c noList w = stops tt
     with-list t c (listUpTo xs q) w = choice Fair (eqb (length xs) (length (c .parameters))) _ _ (bind-ends (scan-arguments t (c .parameters) xs u w) λ vs z. up-to q (call-with c vs z)) (stops tt)
 
-    replace-entry : (t : List ℕ) (p : ℕ) (c : Callee) (w : World) → Fair (replaceEntry run scan t p x i u c w)
+    replace-entry : (t : List ℕ) (p : ℕ) (c : Callee) (w : World) → Fair (replaceEntry mixed run scan t p x i u c w)
     unfolding replaceEntry
-    replace-entry t p c w = choice Fair (eqb (length (c .parameters)) 0) _ _ (up-to p (call-with c [] w)) (with-list t c (listAt t p) w)
+    replace-entry t p c w = choice Fair (eqb (length (c .parameters)) 0) _ _ (up-to p (call-with c [] w)) (with-list t c (listAt mixed t p) w)
 
-    replace-as : (d : Denotation) (t : List ℕ) (p a : ℕ) (w : World) → Fair (replaceAs d run scan t p a x i u w)
+    replace-as : (d : Denotation) (t : List ℕ) (p a : ℕ) (w : World) → Fair (replaceAs mixed d run scan t p a x i u w)
     replace-as (variableOf k) t p a w = replace-cell (valueAt a w) p x i u w
     replace-as (entryOf e b) t p a w = bind-ends (ask-ends w (callee-tells b w)) λ c v. replace-entry t p c v
     replace-as (labelAt m r z) t p a w = stops tt
@@ -421,16 +422,16 @@ module _ (replace : Replacer) (replaces : FairReplacer replace) (i : Into) (t : 
   token-ends notActive out p q f k w = choice Fair (fits i u (length out) (q - p)) _ _ (k _ q w) (stops (full-late i))
   token-ends (active a x) out p q f k w = bind-ends (replaces t q a x _ _ w) λ r v. k _ (r .to) v
 
-  scan-on : (f : ℕ) (out : List ℕ) (p : ℕ) (w : World) → Fair (scanOn replace i t u f out p w)
+  scan-on : (f : ℕ) (out : List ℕ) (p : ℕ) (w : World) → Fair (scanOn mixed replace i t u f out p w)
   unfolding scanOn
   scan-on zero out p w = well
-  scan-on (suc f) out p w = choice Fair (leb (length t) p) _ _ well (bind-ends (charge-ends w) λ _ v. token-ends (activeIn (pieceAt t p .piece) v) out p (pieceAt t p .to) _ (scan-on f) v)
+  scan-on (suc f) out p w = choice Fair (leb (length t) p) _ _ well (bind-ends (charge-ends w) λ _ v. token-ends (activeIn (pieceAt mixed t p .piece) v) out p (pieceAt mixed t p .to) _ (scan-on f) v)
 
-replacer-ends : (run : Call) → FairCall run → (n : ℕ) → FairReplacer (replacer run n)
+replacer-ends : (run : Call) → FairCall run → (n : ℕ) → FairReplacer (replacer mixed run n)
 unfolding replacer
 replacer-ends run runs zero t p a x i u w = stops tt
 replacer-ends run runs (suc n) t p a x i u w =
-    replace-as (scanWith (replacer run n)) (λ j l v z. scan-on (replacer run n) (replacer-ends run runs n) j l v (suc (length l)) [] 0 z) run runs x i u (denotation a w) t p a w
+    replace-as (scanWith mixed (replacer mixed run n)) (λ j l v z. scan-on (replacer mixed run n) (replacer-ends run runs n) j l v (suc (length l)) [] 0 z) run runs x i u (denotation a w) t p a w
 
 -- ---- program text: a refusal has a place in the body of its member, at most behind its last byte
 abbrev At : List ℕ → ℕ → ℕ → Type 0
@@ -443,23 +444,23 @@ put-out : (e : Event) (g : Pass) (n : ℕ) (w : World) → Fair (putOut e g n w)
 unfolding putOut
 put-out e g n w = choice Fair (leb n (w .linesLeft) && leb (length (bytesIn e)) (w .textLeft)) _ _ well (stops tt)
 
-replace-here : (m place : ℕ) (t : List ℕ) (q a : ℕ) (x : Activity) (to : List ℕ → ℕ → Pass) (w : World) → Fair (replaceHere m place t q a x to w)
+replace-here : (m place : ℕ) (t : List ℕ) (q a : ℕ) (x : Activity) (to : List ℕ → ℕ → Pass) (w : World) → Fair (replaceHere mixed m place t q a x to w)
 unfolding replaceHere
 replace-here m place t q a x to w = choice Fair (leb 1 (w .linesLeft)) _ _ (bind-ends (replacer-ends callOut call-out replacementLevels t q a x _ 0 w) λ r v. well) (stops tt)
 
-token-here : (x : Active) (m place : ℕ) (t : List ℕ) (p q : ℕ) (g : List ℕ → ℕ → Pass) (w : World) → Fair (tokenHere x m place t p q g w)
+token-here : (x : Active) (m place : ℕ) (t : List ℕ) (p q : ℕ) (g : List ℕ → ℕ → Pass) (w : World) → Fair (tokenHere mixed x m place t p q g w)
 unfolding copyHere
 token-here notActive m place t p q g w = bind-ends (put-out _ _ _ w) λ _ v. well
 token-here (active a x) m place t p q g w = replace-here m place t q a x g w
 
-text-on : (d : List ℕ) (m from : ℕ) (t : List ℕ) → At d m (from + length t) → (f p : ℕ) (w : World) → Ends (Stopped d) (textOn m from t f p w)
+text-on : (d : List ℕ) (m from : ℕ) (t : List ℕ) → At d m (from + length t) → (f p : ℕ) (w : World) → Ends (Stopped d) (textOn mixed m from t f p w)
 unfolding textOn
 text-on d m from t i zero p w = well
 text-on d m from t i (suc f) p w = when-has (Ends (Stopped d)) (leb (length t) p) _ _ (λ _. well) λ e.
-    bind-ends (placed-ends _ (λ y h. (h, (i .0, omega (arith, leb-false (length t) p e, i .1)))) (bind-ends (charge-ends w) λ _ v. token-here (activeIn (pieceAt t p .piece) v) m (from + p) t p (pieceAt t p .to) _ v)) λ q x.
+    bind-ends (placed-ends _ (λ y h. (h, (i .0, omega (arith, leb-false (length t) p e, i .1)))) (bind-ends (charge-ends w) λ _ v. token-here (activeIn (pieceAt mixed t p .piece) v) m (from + p) t p (pieceAt mixed t p .to) _ v)) λ q x.
     text-on d m from t i f q x
 
-text-out : (d : List ℕ) (m : ℕ) (x : Stretch) (w : World) → m < Deck.count d → Ordered (bodyOf d m) x → Ends (Stopped d) (textOut m (bodyOf d m) x w)
+text-out : (d : List ℕ) (m : ℕ) (x : Stretch) (w : World) → m < Deck.count d → Ordered (bodyOf d m) x → Ends (Stopped d) (textOut mixed m (bodyOf d m) x w)
 unfolding textOut
 text-out d m x w i o =
     let n : ℕ = x .to - x .from in
@@ -571,9 +572,9 @@ module _ (b : List ℕ) where
       at-end is-fine = is-entered
       at-end (second-at k) = is-late tt k
 
-  enter-ends : (m : ℕ) (w : World) → Enters (enter m (readMember b) w)
+  enter-ends : (m : ℕ) (w : World) → Enters (enter m (readMember mixed b) w)
   unfolding enter
-  enter-ends m w = entered-as (faultOf m (readMember b) w) (fault-in m (readMember b) w (member-read b)) m (readMember b) w (member-read b .names)
+  enter-ends m w = entered-as (faultOf m (readMember mixed b) w) (fault-in m (readMember mixed b) w (member-read b)) m (readMember mixed b) w (member-read b .names)
 
   -- the place of a row; past the rows it is 0
   row-place : (rs : List Row) (n : ℕ) → AllIn b (places rs) → In b (rowOf rs n .place)
@@ -582,7 +583,7 @@ module _ (b : List ℕ) where
   row-place (r ∷ rs) (suc n) h = row-place rs n (h .1)
 
 -- ---- INCLUDE and members of a sound deck
-pub body-short : (d : List ℕ) → isSound d ≡ true → (k : ℕ) → k < Deck.count d → length (bodyOf d k) < 65536
+pub body-short : (d : List ℕ) → isSound mixed d ≡ true → (k : ℕ) → k < Deck.count d → length (bodyOf d k) < 65536
 body-short d s k i = subst (λ (b : List ℕ). length b < 65536) (lined d s k i .same) (lined d s k i .short)
 
 module _ (d : List ℕ) where
@@ -603,21 +604,21 @@ module _ (d : List ℕ) where
     include-entered k i (is-late {e} {p} h j) inner is m n ps w = stops {e = R.stop k p e} (h, (i, j))
     include-entered k i (is-entered {w = v}) inner is m n ps w = bind-ends (is k i _ v) λ x y. came-out m x y
 
-    include-at : (f : Deck.Found) → ((k : ℕ) → f ≡ Deck.line k → k < Deck.count d) → (l : Level) → FairLevel l → (p m n : ℕ) → At d m p → (ps : List Place) (w : World) → Ends (Stopped d) (includeAt f l d p m n ps w next)
+    include-at : (f : Deck.Found) → ((k : ℕ) → f ≡ Deck.line k → k < Deck.count d) → (l : Level) → FairLevel l → (p m n : ℕ) → At d m p → (ps : List Place) (w : World) → Ends (Stopped d) (includeAt mixed f l d p m n ps w next)
     include-at Deck.none i l is p m n j ps w = stops (tt, j)
     include-at (Deck.line k) i noLevel is p m n j ps w = stops (tt, j)
     include-at (Deck.line k) i (level inner) is p m n j ps w = include-entered k (i k refl) (enter-ends (bodyOf d k) k w) inner is m n ps w
 
   module _ (l : Level) (is : FairLevel l) where
-    include-all : (p m n : ℕ) → At d m p → (ps : List Place) (xs : List Deck.Sought) (w : World) → Ends (Stopped d) (includeAll l d p m n ps xs w)
+    include-all : (p m n : ℕ) → At d m p → (ps : List Place) (xs : List Deck.Sought) (w : World) → Ends (Stopped d) (includeAll mixed l d p m n ps xs w)
     unfolding includeAll
     include-all p m n i ps [] w = well
-    include-all p m n i ps (x ∷ xs) w = include-at _ (include-all p m n i ps xs) (Deck.find x 0 (Deck.lines d)) (find-low d x) l is p m n i ps w
+    include-all p m n i ps (x ∷ xs) w = include-at _ (include-all p m n i ps xs) (Deck.find mixed x 0 (Deck.lines d)) (find-low d x) l is p m n i ps w
 
     deed-ends : (m p : ℕ) {r : Res Why (Unit {0})} → At d m p → Fair r → Ends (Stopped d) (placed (R.stop m p) (R.deed r))
     deed-ends m p i h = placed-ends _ (λ e k. (k, i)) (bind-ends h λ _ v. well)
 
-    act-as : (s : Statement) (p m n : ℕ) → At d m p → (ps : List Place) (w : World) → Ends (Stopped d) (actAs s l d p m n ps w)
+    act-as : (s : Statement) (p m n : ℕ) → At d m p → (ps : List Place) (w : World) → Ends (Stopped d) (actAs mixed s l d p m n ps w)
     act-as null p m n i ps w = well
     act-as (declare ns) p m n i ps w = deed-ends m p i (activate-all rescanned ns w)
     act-as (procedure ns t) p m n i ps w = well
@@ -631,12 +632,12 @@ module _ (d : List ℕ) where
     act-as (deactivate ns) p m n i ps w = deed-ends m p i (activate-all inactive ns w)
     act-as (return x) p m n i ps w = well
 
-    source-ends : (m : ℕ) → m < Deck.count d → (ps : List Place) (w : World) → Ends (Stopped d) (runSource l d m ps (readMember (bodyOf d m)) w)
+    source-ends : (m : ℕ) → m < Deck.count d → (ps : List Place) (w : World) → Ends (Stopped d) (runSource mixed l d m ps (readMember mixed (bodyOf d m)) w)
     unfolding runSource memberMachine
     source-ends m i ps w =
         let b : List ℕ = bodyOf d m in
-        let s : Source = readMember b in
-        let M : Machine Stop = memberMachine l d m ps s in
+        let s : Source = readMember mixed b in
+        let M : Machine Stop = memberMachine mixed l d m ps s in
         let at : (n : ℕ) → At d m (rowOf (s .rows) n .place) = λ n. (i, row-place b (s .rows) n (member-read b .rows)) in
         let faults : (n : ℕ) (e : Why) → Late e → Stopped d (M .fault (rowOf (M .rows) n) e) = λ n e h. (h, at n) in
         let values : (x : Tree) (v : World) → Fair (M .value x v) = λ x v. evaluate-ends callOut call-out W.everyone x 0 v in
@@ -646,10 +647,10 @@ module _ (d : List ℕ) where
         bind-ends (lead-out (Stopped d) M (Ordered b) (text-ordered b) (lead-ordered b) faults values outs acts gotos (s .lead) w (member-ordered b))
         λ _ v. run-on (Stopped d) M (Ordered b) (text-ordered b) (lead-ordered b) faults values outs acts gotos _ _ [] v
 
-  member-ends : (n : ℕ) → FairInner (runMember n d)
+  member-ends : (n : ℕ) → FairInner (runMember mixed n d)
   unfolding runMember
   member-ends zero m i ps w = source-ends noLevel tt m i ps w
-  member-ends (suc n) m i ps w = source-ends (level (runMember n d)) (member-ends n) m i ps w
+  member-ends (suc n) m i ps w = source-ends (level (runMember mixed n d)) (member-ends n) m i ps w
 
 -- ---- THE EXPANSION
 -- not the number of a refusal before the run
@@ -685,7 +686,7 @@ record Known (d : List ℕ) (x : Expansion) : Type 0 where
   number : Later (x .number)
   place : At d (x .member) (x .offset)
 
-module _ (d : List ℕ) (s : isSound d ≡ true) where
+module _ (d : List ℕ) (s : isSound mixed d ≡ true) where
   finished-known : (w : World) → Known d (finished w)
   finished-known w = record { number = zero-later; place = (main-low d s, omega arith) }
 
@@ -695,7 +696,7 @@ module _ (d : List ℕ) (s : isSound d ≡ true) where
   result-known (well {a = went t} {w}) = finished-known w
   result-known (stops {e} h) = record { number = late-number (e .why) (h .0); place = h .1 }
 
-  main-known : {x : Entering} → Enters (bodyOf d 0) x → Known d (runMain x d)
+  main-known : {x : Entering} → Enters (bodyOf d 0) x → Known d (runMain mixed x d)
   main-known (is-late {e} h i) = record { number = late-number e h; place = (main-low d s, i) }
   main-known (is-entered {w}) = result-known (member-ends d includeLevels 0 (main-low d s) [] w)
 
@@ -737,7 +738,7 @@ told-number plain d x = refl
 told-number cards d x = refl
 
 -- the place of what was run for d, as it is told, in d
-told-place : (y : Layout) (d : List ℕ) → isSound d ≡ true → (x : Expansion) → At (ranDeck y d) (x .member) (x .offset) → At d (toldAs y (ranDeck y d) x .member) (toldAs y (ranDeck y d) x .offset)
+told-place : (y : Layout) (d : List ℕ) → isSound mixed d ≡ true → (x : Expansion) → At (ranDeck y d) (x .member) (x .offset) → At d (toldAs y (ranDeck y d) x .member) (toldAs y (ranDeck y d) x .offset)
 told-place plain d s x h = h
 told-place cards d s x h =
     let i : x .member < Deck.count d = omega (arith, h .0, count-joined d s) in
@@ -749,15 +750,15 @@ told-place cards d s x h =
 -- ---- number 1 is given for a malformed deck alone, 20 for the first uneven body of a sound one, and 2 for a sound and even one with a
 -- short working room
 record Numbers (y : Layout) (roomy : Bool) (d : List ℕ) (x : Expansion) : Type 0 where
-  one : x .number ≡ 1 → isSound d ≡ false
-  twenty : x .number ≡ 20 → (isSound d ≡ true) × (unevenIn y d ≡ Deck.line (x .member))
-  two : x .number ≡ 2 → (isSound d ≡ true) × (unevenIn y d ≡ Deck.none) × (roomy ≡ false)
+  one : x .number ≡ 1 → isSound mixed d ≡ false
+  twenty : x .number ≡ 20 → (isSound mixed d ≡ true) × (unevenIn y d ≡ Deck.line (x .member))
+  two : x .number ≡ 2 → (isSound mixed d ≡ true) × (unevenIn y d ≡ Deck.none) × (roomy ≡ false)
 
 module _ (y : Layout) (roomy : Bool) (d : List ℕ) (t l steps : ℕ) where
-  ran-later : isSound d ≡ true → Later (toldAs y (ranDeck y d) (ranIn y (ranDeck y d) t l steps) .number)
+  ran-later : isSound mixed d ≡ true → Later (toldAs y (ranDeck y d) (ranIn y (ranDeck y d) t l steps) .number)
   ran-later s = rw (told-number y (ranDeck y d) (ranIn y (ranDeck y d) t l steps)) (run-known (ranDeck y d) (ran-sound y d s) y t l steps .number)
 
-  numbers : Numbers y roomy d (expansionOf y roomy d t l steps)
+  numbers : Numbers y roomy d (expansionOf mixed y roomy d t l steps)
   numbers =
       each-way (Numbers y roomy d) y roomy d t l steps
       (λ s. record { one = λ _. s; twenty = λ n. absurd (omega (arith, n)); two = λ n. absurd (omega (arith, n)) })
@@ -765,27 +766,27 @@ module _ (y : Layout) (roomy : Bool) (d : List ℕ) (t l steps : ℕ) where
       (λ s e r. record { one = λ n. absurd (omega (arith, n)); twenty = λ n. absurd (omega (arith, n)); two = λ _. (s, e, r) })
       λ s e r. record { one = λ n. absurd (ran-later s .0 n); twenty = λ n. absurd (ran-later s .2 n); two = λ n. absurd (ran-later s .1 n) }
 
-  pub one-malformed : expansionOf y roomy d t l steps .number ≡ 1 → isSound d ≡ false
+  pub one-malformed : expansionOf mixed y roomy d t l steps .number ≡ 1 → isSound mixed d ≡ false
   one-malformed n = numbers .one n
 
-  pub twenty-uneven : expansionOf y roomy d t l steps .number ≡ 20 → (isSound d ≡ true) × (unevenIn y d ≡ Deck.line (expansionOf y roomy d t l steps .member))
+  pub twenty-uneven : expansionOf mixed y roomy d t l steps .number ≡ 20 → (isSound mixed d ≡ true) × (unevenIn y d ≡ Deck.line (expansionOf mixed y roomy d t l steps .member))
   twenty-uneven n = numbers .twenty n
 
-  pub two-short : expansionOf y roomy d t l steps .number ≡ 2 → (isSound d ≡ true) × (unevenIn y d ≡ Deck.none) × (roomy ≡ false)
+  pub two-short : expansionOf mixed y roomy d t l steps .number ≡ 2 → (isSound mixed d ≡ true) × (unevenIn y d ≡ Deck.none) × (roomy ≡ false)
   two-short n = numbers .two n
 
   -- THE PLACE that is told lies in the body as given, at most behind its last byte
-  pub place-within : isSound d ≡ true → (expansionOf y roomy d t l steps .member < Deck.count d) × (expansionOf y roomy d t l steps .offset ≤ length (bodyOf d (expansionOf y roomy d t l steps .member)))
+  pub place-within : isSound mixed d ≡ true → (expansionOf mixed y roomy d t l steps .member < Deck.count d) × (expansionOf mixed y roomy d t l steps .offset ≤ length (bodyOf d (expansionOf mixed y roomy d t l steps .member)))
   place-within s =
       each-way (λ (x : Expansion). At d (x .member) (x .offset)) y roomy d t l steps
       (λ _. (main-low d s, omega arith)) (λ k _ e. (uneven-low y d k e, omega arith)) (λ _ _ _. (main-low d s, omega arith))
       λ _ _ _. told-place y d s (ranIn y (ranDeck y d) t l steps) (run-known (ranDeck y d) (ran-sound y d s) y t l steps .place)
 
-  pub offset-near : expansionOf y roomy d t l steps .offset < 65536
-  offset-near = go (isSound d) refl
+  pub offset-near : expansionOf mixed y roomy d t l steps .offset < 65536
+  offset-near = go (isSound mixed d) refl
     where
-      go : (b : Bool) → isSound d ≡ b → expansionOf y roomy d t l steps .offset < 65536
+      go : (b : Bool) → isSound mixed d ≡ b → expansionOf mixed y roomy d t l steps .offset < 65536
       go false s = rw (malformed-is roomy d t l steps y s) (omega arith)
       go true s =
-          let h : At d (expansionOf y roomy d t l steps .member) (expansionOf y roomy d t l steps .offset) = place-within s in
-          omega (arith, h .1, body-short d s (expansionOf y roomy d t l steps .member) (h .0))
+          let h : At d (expansionOf mixed y roomy d t l steps .member) (expansionOf mixed y roomy d t l steps .offset) = place-within s in
+          omega (arith, h .1, body-short d s (expansionOf mixed y roomy d t l steps .member) (h .0))

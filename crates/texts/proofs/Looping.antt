@@ -8,6 +8,7 @@ use native.Mathlib.Numerals.{add-one}
 use native.Mathlib.Omega.{arith}
 use borrow.Author.Tests.{le-leb, lt-leb, lt-ltb, le-ltb}
 use lib.ListN.{length}
+use Rattle.definition.specs.Bytes.{mixed}
 use Rattle.definition.specs.Lists.{part}
 use Rattle.definition.specs.Events.{blank}
 use Rattle.definition.specs.Program as Program
@@ -37,15 +38,15 @@ use Rattle.texts.proofs.Common.{body-text, body-still, goes-none, goes-
 use Rattle.texts.proofs.Putting.{put-ran}
 
 -- ---- the definition's turns
-turn-some : (m from : ℕ) (t : List ℕ) (f p : ℕ) (v : World) → p < length t → textOn m from t (suc f) p v ≡ bind (turnHere m from t p v) (λ q u. textOn m from t f q u)
+turn-some : (m from : ℕ) (t : List ℕ) (f p : ℕ) (v : World) → p < length t → textOn mixed m from t (suc f) p v ≡ bind (turnHere m from t p v) (λ q u. textOn mixed m from t f q u)
 unfolding textOn turnHere
 turn-some m from t f p v h = rw (lt-leb (length t) p h)
 
-turn-end : (m from : ℕ) (t : List ℕ) (f p : ℕ) (v : World) → length t ≤ p → textOn m from t (suc f) p v ≡ good tt v
+turn-end : (m from : ℕ) (t : List ℕ) (f p : ℕ) (v : World) → length t ≤ p → textOn mixed m from t (suc f) p v ≡ good tt v
 unfolding textOn
 turn-end m from t f p v h = rw (le-leb (length t) p h)
 
-turn-out : (m from : ℕ) (t : List ℕ) (p : ℕ) (v : World) → textOn m from t zero p v ≡ good tt v
+turn-out : (m from : ℕ) (t : List ℕ) (p : ℕ) (v : World) → textOn mixed m from t zero p v ≡ good tt v
 unfolding textOn
 turn-out m from t p v = refl
 
@@ -60,7 +61,7 @@ pub record Along (deck s rows names c₀ l₀ h₀ w₀ : List ℕ) (x : Src) (h
   pub world : World
   pub stage : Onstage deck rows names c l h w t ls (here .starts) g world
   pub goes : Goes B world
-  pub same : textOn (here .member) (x .from) (textOf s w₀ x) turns p (worldIn world c l h (g .meter .used)) ≡ textOn (here .member) (x .from) (textOf s w₀ x) (suc (x .to - x .from)) 0 (worldIn B c₀ l₀ h₀ (g₀ .meter .used))
+  pub same : textOn mixed (here .member) (x .from) (textOf s w₀ x) turns p (worldIn world c l h (g .meter .used)) ≡ textOn mixed (here .member) (x .from) (textOf s w₀ x) (suc (x .to - x .from)) 0 (worldIn B c₀ l₀ h₀ (g₀ .meter .used))
   pub tabled : g .rows ≡ g₀ .rows
   pub named : g .names ≡ g₀ .names
 
@@ -87,7 +88,7 @@ texting-start deck s rows names c l h w t ls x here g size turns e f = record {
     goes = goes-none B;
     same =
         let j : turns ≡ suc (x .to - x .from) = f ∙ sum-fits size 1 (omega (arith, e, li .within, li .short)) ∙ add-one size ∙ ap suc e in
-        ap (λ (k : ℕ). textOn (here .member) (x .from) (textOf s w x) k 0 (worldIn B c l h (g .meter .used))) j;
+        ap (λ (k : ℕ). textOn mixed (here .member) (x .from) (textOf s w x) k 0 (worldIn B c l h (g .meter .used))) j;
     tabled = refl;
     named = refl;
   };
@@ -121,16 +122,16 @@ module _ (deck s rows names c₀ l₀ h₀ w₀ t₀ ls₀ : List ℕ) (x : Src)
       now-is = i .so B st li wk mm
 
       abbrev all : Res Run.Stop (Unit {0})
-      all = textOn (here .member) (x .from) text (suc (x .to - x .from)) 0 (worldIn B c₀ l₀ h₀ (g₀ .meter .used))
+      all = textOn mixed (here .member) (x .from) text (suc (x .to - x .from)) 0 (worldIn B c₀ l₀ h₀ (g₀ .meter .used))
 
       abbrev turn : Res Run.Stop ℕ
       turn = turnHere (here .member) (x .from) text p (worldIn (now-is .world) c l h (g .meter .used))
 
-      turn-is : bind turn (λ q u. textOn (here .member) (x .from) text (turns - 1) q u) ≡ all
+      turn-is : bind turn (λ q u. textOn mixed (here .member) (x .from) text (turns - 1) q u) ≡ all
       turn-is =
           let f : turns ≡ suc (turns - 1) = omega arith in
           sym (turn-some (here .member) (x .from) text (turns - 1) p (worldIn (now-is .world) c l h (g .meter .used)) (omega (arith, text-length s w₀ x)))
-          ∙ ap (λ (k : ℕ). textOn (here .member) (x .from) text k p (worldIn (now-is .world) c l h (g .meter .used))) (sym f) ∙ now-is .same
+          ∙ ap (λ (k : ℕ). textOn mixed (here .member) (x .from) text k p (worldIn (now-is .world) c l h (g .meter .used))) (sym f) ∙ now-is .same
 
       passed : PassedAs deck rows names (here .starts) g (now-is .world) c′ l′ h′ w′ t′ ls′ r turn
       passed = subst (λ (k : List ℕ). PassedAs deck rows names (here .starts) g (now-is .world) c′ l′ h′ w′ t′ ls′ r (turnHere (here .member) (x .from) k p (worldIn (now-is .world) c l h (g .meter .used)))) (body-still s w₀ w x wk)
@@ -139,7 +140,7 @@ module _ (deck s rows names c₀ l₀ h₀ w₀ t₀ ls₀ : List ℕ) (x : Src)
       bad-on : (y : Stop) (k : Progress) → r ≡ Ps.Bad y k → all ≡ bad (stopFor y) (k .meter .used)
       bad-on y k j =
           let z : turn ≡ bad (stopFor y) (k .meter .used) = subst (λ (v : Passed). PassedAs deck rows names (here .starts) g (now-is .world) c′ l′ h′ w′ t′ ls′ v turn) j passed in
-          sym turn-is ∙ ap (λ (v : Res Run.Stop ℕ). bind v (λ q u. textOn (here .member) (x .from) text (turns - 1) q u)) z
+          sym turn-is ∙ ap (λ (v : Res Run.Stop ℕ). bind v (λ q u. textOn mixed (here .member) (x .from) text (turns - 1) q u)) z
 
       good-on : (q : ℕ) (k : Progress) → r ≡ Ps.Good q k → Along deck s rows names c₀ l₀ h₀ w₀ x here g₀ B (turns - 1) q k c′ l′ h′ w′ t′ ls′
       good-on q k j =
@@ -148,7 +149,7 @@ module _ (deck s rows names c₀ l₀ h₀ w₀ t₀ ls₀ : List ℕ) (x : Src)
             world = z .world;
             stage = z .stage;
             goes = goes-on B (now-is .world) (z .world) (now-is .goes) (z .goes);
-            same = sym (ap (λ (v : Res Run.Stop ℕ). bind v (λ q₁ u. textOn (here .member) (x .from) text (turns - 1) q₁ u)) (z .is)) ∙ turn-is;
+            same = sym (ap (λ (v : Res Run.Stop ℕ). bind v (λ q₁ u. textOn mixed (here .member) (x .from) text (turns - 1) q₁ u)) (z .is)) ∙ turn-is;
             tabled = z .tabled ∙ now-is .tabled;
             named = z .named ∙ now-is .named;
           }
@@ -180,26 +181,26 @@ module _ (deck s rows names c l h w t ls : List ℕ) (x : Stretch) (here : Here)
     blank-ran : RanAs deck rows names (here .starts) g B c l h w t₁ ls₁ b put
     blank-ran = put-ran deck rows names c l h w t ls t₁ ls₁ (here .starts) g (here .member) (x .from) (blank (here .member) (x .from)) B st began-at b (length s) (x .from) (rw f₁ at pt) (sym (li .sized)) mm (omega (arith, li .order, li .within, li .short)) (omega arith) (omega arith)
 
-    text-is : textOut (here .member) s (stretchFor x) (worldIn B c l h (g .meter .used)) ≡ bind put (λ _ v. textOn (here .member) (x .from) (part (x .to - x .from) (x .from) s) (suc (x .to - x .from)) 0 v)
+    text-is : textOut mixed (here .member) s (stretchFor x) (worldIn B c l h (g .meter .used)) ≡ bind put (λ _ v. textOn mixed (here .member) (x .from) (part (x .to - x .from) (x .from) s) (suc (x .to - x .from)) 0 v)
     unfolding textOut
     text-is = refl
 
-    refused-on : (y : Stop) (k : Progress) → b ≡ Rn.Bad y k → textOut (here .member) s (stretchFor x) (worldIn B c l h (g .meter .used)) ≡ bad (stopFor y) (k .meter .used)
+    refused-on : (y : Stop) (k : Progress) → b ≡ Rn.Bad y k → textOut mixed (here .member) s (stretchFor x) (worldIn B c l h (g .meter .used)) ≡ bad (stopFor y) (k .meter .used)
     refused-on y k e =
         let z : put ≡ bad (stopFor y) (k .meter .used) = subst (λ (v : Ran). RanAs deck rows names (here .starts) g B c l h w t₁ ls₁ v put) e blank-ran in
-        text-is ∙ ap (λ (v : Res Run.Stop (Unit {0})). bind v (λ _ u. textOn (here .member) (x .from) (part (x .to - x .from) (x .from) s) (suc (x .to - x .from)) 0 u)) z
+        text-is ∙ ap (λ (v : Res Run.Stop (Unit {0})). bind v (λ _ u. textOn mixed (here .member) (x .from) (part (x .to - x .from) (x .from) s) (suc (x .to - x .from)) 0 u)) z
 
     abbrev source : Src
     source = record { «in_work» = false; from = x .from; to = x .to }
 
     begun-on : (k : Progress) (c′ l′ h′ w′ t′ ls′ : List ℕ) (r : Ran) → b ≡ Rn.Good k → TokensAre deck s rows names c l h w t₁ ls₁ source here k c′ l′ h′ w′ t′ ls′ r
-        → RanAs deck rows names (here .starts) g B c′ l′ h′ w′ t′ ls′ r (textOut (here .member) s (stretchFor x) (worldIn B c l h (g .meter .used)))
+        → RanAs deck rows names (here .starts) g B c′ l′ h′ w′ t′ ls′ r (textOut mixed (here .member) s (stretchFor x) (worldIn B c l h (g .meter .used)))
     begun-on k c′ l′ h′ w′ t′ ls′ r e tk =
         let z : After (Unit {0}) deck rows names (here .starts) g B c l h w t₁ ls₁ k tt put = subst (λ (v : Ran). RanAs deck rows names (here .starts) g B c l h w t₁ ls₁ v put) e blank-ran in
-        let a : RanAs deck rows names (here .starts) k (z .world) c′ l′ h′ w′ t′ ls′ r (textOn (here .member) (x .from) (textOf s w source) (suc (x .to - x .from)) 0 (worldIn (z .world) c l h (k .meter .used))) = tk .is (z .world) (z .stage) li refl mm in
-        let j : textOn (here .member) (x .from) (textOf s w source) (suc (x .to - x .from)) 0 (worldIn (z .world) c l h (k .meter .used)) ≡ textOut (here .member) s (stretchFor x) (worldIn B c l h (g .meter .used)) =
-        ap (λ (v : List ℕ). textOn (here .member) (x .from) v (suc (x .to - x .from)) 0 (worldIn (z .world) c l h (k .meter .used))) (body-text s w source refl)
-        ∙ sym (ap (λ (v : Res Run.Stop (Unit {0})). bind v (λ _ u. textOn (here .member) (x .from) (part (x .to - x .from) (x .from) s) (suc (x .to - x .from)) 0 u)) (z .is)) ∙ sym text-is in
+        let a : RanAs deck rows names (here .starts) k (z .world) c′ l′ h′ w′ t′ ls′ r (textOn mixed (here .member) (x .from) (textOf s w source) (suc (x .to - x .from)) 0 (worldIn (z .world) c l h (k .meter .used))) = tk .is (z .world) (z .stage) li refl mm in
+        let j : textOn mixed (here .member) (x .from) (textOf s w source) (suc (x .to - x .from)) 0 (worldIn (z .world) c l h (k .meter .used)) ≡ textOut mixed (here .member) s (stretchFor x) (worldIn B c l h (g .meter .used)) =
+        ap (λ (v : List ℕ). textOn mixed (here .member) (x .from) v (suc (x .to - x .from)) 0 (worldIn (z .world) c l h (k .meter .used))) (body-text s w source refl)
+        ∙ sym (ap (λ (v : Res Run.Stop (Unit {0})). bind v (λ _ u. textOn mixed (here .member) (x .from) (part (x .to - x .from) (x .from) s) (suc (x .to - x .from)) 0 u)) (z .is)) ∙ sym text-is in
         subst (λ (v : Res Run.Stop (Unit {0})). RanAs deck rows names (here .starts) g B c′ l′ h′ w′ t′ ls′ r v) j
         (ran-on deck rows names c′ l′ h′ w′ t′ ls′ (here .starts) g k B (z .world) r _ (z .goes) (z .tabled) (z .named) a)
 
@@ -220,10 +221,10 @@ module _ (deck s rows names c l h w t ls : List ℕ) (x : Stretch) (here : Here)
   lead-none e = record { is = λ B st li mm. record { world = B; stage = st; goes = goes-none B; is = rw (le-ltb (x .from) (x .to) e); tabled = refl; named = refl } }
 
 -- what the machine of a member puts out is this
-pub lead-is : (inner : Level) (d : List ℕ) (m : ℕ) (on : List Place) (q : Program.Source) (x : Program.Stretch) (v : World) → leadOut (memberMachine inner d m on q) x v ≡ leadText m (bodyOf d m) x v
+pub lead-is : (inner : Level) (d : List ℕ) (m : ℕ) (on : List Place) (q : Program.Source) (x : Program.Stretch) (v : World) → leadOut (memberMachine mixed inner d m on q) x v ≡ leadText m (bodyOf d m) x v
 unfolding leadOut memberMachine leadText
 lead-is inner d m on q x v = refl
 
-pub out-is : (inner : Level) (d : List ℕ) (m : ℕ) (on : List Place) (q : Program.Source) (x : Program.Stretch) (v : World) → memberMachine inner d m on q .out x v ≡ textOut m (bodyOf d m) x v
+pub out-is : (inner : Level) (d : List ℕ) (m : ℕ) (on : List Place) (q : Program.Source) (x : Program.Stretch) (v : World) → memberMachine mixed inner d m on q .out x v ≡ textOut mixed m (bodyOf d m) x v
 unfolding memberMachine
 out-is inner d m on q x v = refl

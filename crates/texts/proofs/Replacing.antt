@@ -7,6 +7,7 @@ use Prim.Native.Nat.{ℕ, _+_, _-_, _<_, _≤_}
 use native.Mathlib.Omega.{arith}
 use borrow.Author.Tests.{le-leb, lt-leb}
 use lib.ListN.{length}
+use Rattle.definition.specs.Bytes.{mixed}
 use Rattle.definition.specs.Room.{over}
 use Rattle.definition.specs.Events.{replaced}
 use Rattle.definition.specs.World as W
@@ -54,19 +55,19 @@ module _ (t ls ls′ : List ℕ) (g k : Progress) (m size p : ℕ) (r : Replaced
 abbrev finish : ℕ → ℕ → (List ℕ → ℕ → Pass) → D.Replaced → World → Res Why ℕ
 finish m p z r v = good (r .to) (withEvent (replaced m p (r .bytes)) (z (r .bytes) (r .to)) 1 v)
 
-here-some : (m p : ℕ) (t : List ℕ) (q a : ℕ) (y : W.Activity) (z : List ℕ → ℕ → Pass) (v : World) → 1 ≤ v .linesLeft → replaceHere m p t q a y z v ≡ bind (D.replacer callOut 32 t q a y (D.toText (v .textLeft)) 0 v) (λ r x. finish m p z r x)
+here-some : (m p : ℕ) (t : List ℕ) (q a : ℕ) (y : W.Activity) (z : List ℕ → ℕ → Pass) (v : World) → 1 ≤ v .linesLeft → replaceHere mixed m p t q a y z v ≡ bind (D.replacer mixed callOut 32 t q a y (D.toText (v .textLeft)) 0 v) (λ r x. finish m p z r x)
 unfolding replaceHere
 here-some m p t q a y z v h = rw (le-leb 1 (v .linesLeft) h)
 
-here-none : (m p : ℕ) (t : List ℕ) (q a : ℕ) (y : W.Activity) (z : List ℕ → ℕ → Pass) (v : World) → v .linesLeft < 1 → replaceHere m p t q a y z v ≡ bad RoomFull (v .used)
+here-none : (m p : ℕ) (t : List ℕ) (q a : ℕ) (y : W.Activity) (z : List ℕ → ℕ → Pass) (v : World) → v .linesLeft < 1 → replaceHere mixed m p t q a y z v ≡ bad RoomFull (v .used)
 unfolding replaceHere
 here-none m p t q a y z v h = rw (lt-leb 1 (v .linesLeft) h)
 
 -- as scanning says it
 replacer-is : (sc : Scene) (o : Dest) (n : ℕ) (t : List ℕ) (q a : ℕ) (y : W.Activity) (room : ℕ) (v : World) → sc .running .left ≡ 16 → o .«to_work» ≡ false → o .room ≡ room
-    → replacerIn sc n t q a y (intoOf o) 0 v ≡ D.replacer callOut n t q a y (D.toText room) 0 v
+    → replacerIn sc n t q a y (intoOf o) 0 v ≡ D.replacer mixed callOut n t q a y (D.toText room) 0 v
 unfolding replacerIn intoOf
-replacer-is sc o n t q a y room v e f i = rw f (ap (λ (k : Call). D.replacer k n t q a y (D.toText (o .room)) 0 v) (runs-out sc e) ∙ ap (λ (k : ℕ). D.replacer callOut n t q a y (D.toText k) 0 v) i)
+replacer-is sc o n t q a y room v e f i = rw f (ap (λ (k : Call). D.replacer mixed k n t q a y (D.toText (o .room)) 0 v) (runs-out sc e) ∙ ap (λ (k : ℕ). D.replacer mixed callOut n t q a y (D.toText k) 0 v) i)
 
 module _ (deck s rows names c l h w t ls : List ℕ) (x : Src) (p to a : ℕ) (y : Activity) (here : Here) (g : Progress) (place : ℕ) (pl : place ≡ sumTo greatest (x .from) p) where
   abbrev dest : Dest
@@ -112,9 +113,9 @@ module _ (deck s rows names c l h w t ls : List ℕ) (x : Src) (p to a : ℕ) (y
           aims = record { room = λ _. st .written .fine .text; short = λ _. st .written .fine .most };
         } in
         let gone : Gone B dest 0 w t c′ l′ h′ w′ t′ rr (replacerIn sc 32 (textOf s w x) to a (activityOf y) (intoOf dest) 0 v) = ri .is B stage (body-sourced s w x wk li) (omega (arith, lo, si .names)) on in
-        let e : replacedIn B dest 0 c′ l′ h′ w′ t′ rr ≡ D.replacer callOut 32 (textOf s w x) to a (activityOf y) (D.toText (B .textLeft)) 0 v =
+        let e : replacedIn B dest 0 c′ l′ h′ w′ t′ rr ≡ D.replacer mixed callOut 32 (textOf s w x) to a (activityOf y) (D.toText (B .textLeft)) 0 v =
         gone .is ∙ replacer-is sc dest 32 (textOf s w x) to a (activityOf y) (B .textLeft) v (si .left) refl (sym (st .written .text)) in
         let ra : ReplacementAs rr t′ ls g (here .member) (length s) (x .from + p) ls′ r = subst (λ (k : ℕ). ReplacementAs rr t′ ls g (here .member) (length s) k ls′ r) (place-is li lt) (ro .is) in
         rw (here-some (here .member) (x .from + p) (textOf s w x) to a (activityOf y) z v (omega (arith, some, st .written .lines)))
-        (gone-by c′ l′ h′ w′ t′ ls′ r B st z (here .member) (x .from + p) mm (omega (arith, li .within, li .short)) some (sym (li .sized)) rr (D.replacer callOut 32 (textOf s w x) to a (activityOf y) (D.toText (B .textLeft)) 0 v) e (gone .put) (gone .left) ra);
+        (gone-by c′ l′ h′ w′ t′ ls′ r B st z (here .member) (x .from + p) mm (omega (arith, li .within, li .short)) some (sym (li .sized)) rr (D.replacer mixed callOut 32 (textOf s w x) to a (activityOf y) (D.toText (B .textLeft)) 0 v) e (gone .put) (gone .left) ra);
   }

@@ -6,6 +6,7 @@ use mathlib.Core.List.{List}
 use Prim.Native.Nat.{ℕ, zero, suc, _+_, _-_, _<_, _≤_}
 use native.Mathlib.Omega.{arith}
 use lib.ListN.{length}
+use Rattle.definition.specs.Bytes.{mixed}
 use Rattle.definition.specs.Lists.{part}
 use Rattle.definition.specs.Events.{copied}
 use Rattle.definition.specs.Tokens.{pieceAt}
@@ -93,7 +94,7 @@ module _ (deck s rows names c l h w t ls : List ℕ) (x : Src) (p : ℕ) (here :
     none-is f = rw (charge-none B c l h (g₀ .meter) paid ch (st .shows .limit) f)
 
     abbrev turned : World → Res Why ℕ
-    turned v = tokenHere (D.activeIn (pieceAt text p .piece) v) (here .member) (x .from + p) text p (pieceAt text p .to) (λ k q. passOf (here .member) (x .from + p) (pieceAt text p .piece) v k (x .from + q)) v
+    turned v = tokenHere mixed (D.activeIn (pieceAt mixed text p .piece) v) (here .member) (x .from + p) text p (pieceAt mixed text p .to) (λ k q. passOf (here .member) (x .from + p) (pieceAt mixed text p .piece) v k (x .from + q)) v
 
     paid-is : paid .paid ≡ true → turnHere (here .member) (x .from) text p (worldIn B c l h (g₀ .meter .used)) ≡ placed (stop (here .member) (x .from + p)) (turned (worldIn B c l h (paid .meter .used)))
     unfolding turnHere
@@ -114,14 +115,14 @@ module _ (deck s rows names c l h w t ls : List ℕ) (x : Src) (p : ℕ) (here :
       abbrev world : World
       world = worldIn B c l h (paid .meter .used)
 
-      to-is : y .to ≡ pieceAt text p .to
+      to-is : y .to ≡ pieceAt mixed text p .to
       unfolding textOf
       to-is = ap (λ (z : Piece). z .to) (pi .is (body-within s w x wk li) lt)
 
       names-are : g .names ≡ g₀ .names
       names-are = ap (λ (z : Progress). z .names) gi
 
-      active-at : activeFor act ≡ D.activeIn (pieceAt text p .piece) world
+      active-at : activeFor act ≡ D.activeIn (pieceAt mixed text p .piece) world
       unfolding textOf
       active-at = ah .is world (subst (λ (n : ℕ). Awake deck names n world) (sym names-are) (record { identifiers = st .awake .identifiers; activities = st .awake .activities })) (body-within s w x wk li) lt (pi .is (body-within s w x wk li) lt)
 
@@ -133,9 +134,9 @@ module _ (deck s rows names c l h w t ls : List ℕ) (x : Src) (p : ℕ) (here :
       past-place = let q = pieceAt-past text p (omega (arith, size-is)) in (omega (arith, q .above, to-is), omega (arith, q .within, to-is, size-is))
 
       abbrev pass : List ℕ → ℕ → Pass
-      pass k q = passOf (here .member) (x .from + p) (pieceAt text p .piece) world k (x .from + q)
+      pass k q = passOf (here .member) (x .from + p) (pieceAt mixed text p .piece) world k (x .from + q)
 
-      turn-is : (z : D.Active) → D.activeIn (pieceAt text p .piece) world ≡ z → turnHere (here .member) (x .from) text p (worldIn B c l h (g₀ .meter .used)) ≡ placed (stop (here .member) (x .from + p)) (tokenHere z (here .member) (x .from + p) text p (y .to) pass world)
+      turn-is : (z : D.Active) → D.activeIn (pieceAt mixed text p .piece) world ≡ z → turnHere (here .member) (x .from) text p (worldIn B c l h (g₀ .meter .used)) ≡ placed (stop (here .member) (x .from + p)) (tokenHere mixed z (here .member) (x .from + p) text p (y .to) pass world)
       turn-is z e = paid-is B st f ∙ rw (e, to-is)
 
       end-is : (to : ℕ) → to ≡ sumTo greatest (x .from) (y .to) → to ≡ x .from + y .to
@@ -158,7 +159,7 @@ module _ (deck s rows names c l h w t ls : List ℕ) (x : Src) (p : ℕ) (here :
       copied-on to t′ ls′ b r e i mm pt j =
           let g₁ : Progress = withMeter g₀ (paid .meter) in
           let k : PutIs (copied (here .member) (x .from + p) bytes) (length s) (x .from + y .to) t ls g₁ (here .member) (x .from + p) t′ ls′ b = rw (gi, place-is li lt, end-is to i, bytes-are) at pt in
-          let a : turnHere (here .member) (x .from) text p (worldIn B c l h (g₀ .meter .used)) ≡ placed (stop (here .member) (x .from + p)) (tokenHere D.notActive (here .member) (x .from + p) text p (y .to) pass world) = turn-is D.notActive (sym active-at ∙ ap activeFor e) in
+          let a : turnHere (here .member) (x .from) text p (worldIn B c l h (g₀ .meter .used)) ≡ placed (stop (here .member) (x .from + p)) (tokenHere mixed D.notActive (here .member) (x .from + p) text p (y .to) pass world) = turn-is D.notActive (sym active-at ∙ ap activeFor e) in
           let d : RanAs deck rows names (here .starts) g₁ B c l h w t′ ls′ b (placed (stop (here .member) (x .from + p)) (putOut (copied (here .member) (x .from + p) bytes) (pass bytes (y .to)) (taking (g₀ .layout) (copied (here .member) (x .from + p) bytes) (B .events)) world)) =
           put-ran deck rows names c l h w t ls t′ ls′ (here .starts) g₁ (here .member) (x .from + p) (copied (here .member) (x .from + p) bytes) B (stage-now B st) (pass bytes (y .to)) b (length s) (x .from + y .to) k (sym (li .sized)) mm (omega (arith, past-place .1, li .within, li .short)) (omega (arith, length-part (y .to - p) p text, past-place .0)) (omega (arith, length-part (y .to - p) p text, past-place .1, li .within, li .short)) in
           let n : PassedAs deck rows names (here .starts) g₁ B c l h w t′ ls′ (passFor b (y .to)) (passing (y .to) (placed (stop (here .member) (x .from + p)) (putOut (copied (here .member) (x .from + p) bytes) (pass bytes (y .to)) (taking (g₀ .layout) (copied (here .member) (x .from + p) bytes) (B .events)) world))) =
@@ -171,8 +172,8 @@ module _ (deck s rows names c l h w t ls : List ℕ) (x : Src) (p : ℕ) (here :
       replaced-on a v c′ l′ h′ w′ t′ ls′ r e mm ri =
           let g₁ : Progress = withMeter g₀ (paid .meter) in
           let k : ReplacingIs deck s rows names c l h w t ls x p (y .to) (a .0) v here g₁ c′ l′ h′ w′ t′ ls′ r = rw gi at ri in
-          let i : D.activeIn (pieceAt text p .piece) world ≡ D.active (a .0) (activityOf v) = sym active-at ∙ ap activeFor e in
-          let aw : Awakened world (a .0) (activityOf v) = awakened world (pieceAt text p .piece) (a .0) (activityOf v) i in
+          let i : D.activeIn (pieceAt mixed text p .piece) world ≡ D.active (a .0) (activityOf v) = sym active-at ∙ ap activeFor e in
+          let aw : Awakened world (a .0) (activityOf v) = awakened world (pieceAt mixed text p .piece) (a .0) (activityOf v) i in
           let low : a .0 < g₀ .names = omega (arith, aw .low, ap (λ (z : List W.Identifier). length z) (st .awake .identifiers), ids-length deck names 0 (g₀ .names)) in
           rw (turn-is (D.active (a .0) (activityOf v)) i)
           (passed-meter deck rows names c′ l′ h′ w′ t′ ls′ (here .starts) g₀ B (paid .meter) r _ (k .is B (stage-now B st) li wk lt mm low (on-is v (aw .on)) pass))

@@ -5,6 +5,7 @@ use mathlib.Core.Path.{_≡_}
 use mathlib.Core.List.{List}
 use lib.Dec.{ltb}
 use lib.ListN.{length}
+use Rattle.definition.specs.Bytes.{mixed}
 use Rattle.definition.specs.Choice.{when}
 use Rattle.definition.specs.Room.{over}
 use Rattle.definition.specs.Tokens.{pieceAt}
@@ -66,12 +67,12 @@ pub record ReplacementIs (t ls : List ℕ) (g : Progress) (m size p : ℕ) (r : 
 -- the active name that ends at `to`, whatever its pass
 pub record ReplacingIs (deck s rows names c l h w t ls : List ℕ) (x : Src) (p to a : ℕ) (y : Activity) (here : Here) (g : Progress) (c′ l′ h′ w′ t′ ls′ : List ℕ) (r : Passed) : Type 0 where
   pub is : (B : World) → Onstage deck rows names c l h w t ls (here .starts) g B → Lies deck (here .member) s (x .from) (x .to) → x .«in_work» ≡ false → p < x .to - x .from → here .member < 32 → a < g .names → isOn y ≡ true → (z : List ℕ → ℕ → Pass)
-      → PassedAs deck rows names (here .starts) g B c′ l′ h′ w′ t′ ls′ r (placed (stop (here .member) (x .from + p)) (replaceHere (here .member) (x .from + p) (textOf s w x) to a (activityOf y) z (worldIn B c l h (g .meter .used))))
+      → PassedAs deck rows names (here .starts) g B c′ l′ h′ w′ t′ ls′ r (placed (stop (here .member) (x .from + p)) (replaceHere mixed (here .member) (x .from + p) (textOf s w x) to a (activityOf y) z (worldIn B c l h (g .meter .used))))
 
 -- one turn of the definition's `textOn`
 unfoldable pub turnHere : ℕ → ℕ → List ℕ → ℕ → World → Res Stop ℕ
 turnHere m from t p w = placed (stop m (from + p)) (bind (charge w) λ _ v.
-    tokenHere (activeIn (pieceAt t p .piece) v) m (from + p) t p (pieceAt t p .to) (λ l q. passOf m (from + p) (pieceAt t p .piece) v l (from + q)) v)
+    tokenHere mixed (activeIn (pieceAt mixed t p .piece) v) m (from + p) t p (pieceAt mixed t p .to) (λ l q. passOf m (from + p) (pieceAt mixed t p .piece) v l (from + q)) v)
 
 pub record TokenIs (deck s rows names c l h w t ls : List ℕ) (x : Src) (p : ℕ) (here : Here) (g : Progress) (c′ l′ h′ w′ t′ ls′ : List ℕ) (r : Passed) : Type 0 where
   pub is : (B : World) → Onstage deck rows names c l h w t ls (here .starts) g B → Lies deck (here .member) s (x .from) (x .to) → x .«in_work» ≡ false → p < x .to - x .from → here .member < 32
@@ -80,16 +81,16 @@ pub record TokenIs (deck s rows names c l h w t ls : List ℕ) (x : Src) (p : �
 -- ---- the tokens of a text, one after the other
 pub record TokensAre (deck s rows names c l h w t ls : List ℕ) (x : Src) (here : Here) (g : Progress) (c′ l′ h′ w′ t′ ls′ : List ℕ) (r : Ran) : Type 0 where
   pub is : (B : World) → Onstage deck rows names c l h w t ls (here .starts) g B → Lies deck (here .member) s (x .from) (x .to) → x .«in_work» ≡ false → here .member < 32
-      → RanAs deck rows names (here .starts) g B c′ l′ h′ w′ t′ ls′ r (textOn (here .member) (x .from) (textOf s w x) (suc (x .to - x .from)) 0 (worldIn B c l h (g .meter .used)))
+      → RanAs deck rows names (here .starts) g B c′ l′ h′ w′ t′ ls′ r (textOn mixed (here .member) (x .from) (textOf s w x) (suc (x .to - x .from)) 0 (worldIn B c l h (g .meter .used)))
 
 -- THE TEXT of a stretch of the body, behind one blank
 pub record TextIs (deck s rows names c l h w t ls : List ℕ) (x : Stretch) (here : Here) (g : Progress) (c′ l′ h′ w′ t′ ls′ : List ℕ) (r : Ran) : Type 0 where
   pub is : (B : World) → Onstage deck rows names c l h w t ls (here .starts) g B → Lies deck (here .member) s (x .from) (x .to) → here .member < 32
-      → RanAs deck rows names (here .starts) g B c′ l′ h′ w′ t′ ls′ r (textOut (here .member) s (stretchFor x) (worldIn B c l h (g .meter .used)))
+      → RanAs deck rows names (here .starts) g B c′ l′ h′ w′ t′ ls′ r (textOut mixed (here .member) s (stretchFor x) (worldIn B c l h (g .meter .used)))
 
 -- a leading text: an empty one is none
 unfoldable pub leadText : ℕ → List ℕ → Program.Stretch → World → Res Stop (Unit {0})
-leadText m s x w = when (ltb (x .from) (x .to)) (λ _. textOut m s x w) (λ _. good tt w)
+leadText m s x w = when (ltb (x .from) (x .to)) (λ _. textOut mixed m s x w) (λ _. good tt w)
 
 pub record LeadIs (deck s rows names c l h w t ls : List ℕ) (x : Stretch) (here : Here) (g : Progress) (c′ l′ h′ w′ t′ ls′ : List ℕ) (r : Ran) : Type 0 where
   pub is : (B : World) → Onstage deck rows names c l h w t ls (here .starts) g B → Lies deck (here .member) s (x .from) (x .to) → here .member < 32

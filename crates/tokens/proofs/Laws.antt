@@ -14,7 +14,7 @@ use lib.ListN.{length, getD, drop, drop-of-length-le, List·getD-eq-default}
 use lib.Seq.{drop-cons, getD-drop}
 use Rattle.definition.specs.Choice.{when}
 use Rattle.definition.specs.Lists.{part, all, leading}
-use Rattle.definition.specs.Bytes.{isAlphameric, isBlank}
+use Rattle.definition.specs.Bytes.{mixed, isAlphameric, isBlank}
 use Rattle.definition.proofs.Parts.{part2}
 use Rattle.definition.specs.Tokens as T
 use Rattle.tokens.specs.Answer.{closedFor, stepFor, stepAt, gapFor, constantFor, byteWidth, signSize, isSolid}
@@ -408,7 +408,7 @@ unfolding signSize
 sign-inside s p n h e = size-inside s p n (T.isPair (part 2 p s)) h refl e
 
 -- ---- tokens that touch
-module _ (b : ℕ) (t : Bool) (e : t ≡ isAlphameric b) where
+module _ (b : ℕ) (t : Bool) (e : t ≡ isAlphameric mixed b) where
   pub solid-yes : t ≡ true → true ≡ isSolid b
   unfolding isSolid
   solid-yes f = rw (← e, f)
@@ -417,20 +417,20 @@ module _ (b : ℕ) (t : Bool) (e : t ≡ isAlphameric b) where
   unfolding isSolid
   solid-quote f = rw (← e, f)
 
-touching : (s : List ℕ) (p : ℕ) → T.isTouching s p ≡ (isSolid (getD s (p - 1) 0) && isSolid (getD s p 0))
+touching : (s : List ℕ) (p : ℕ) → T.isTouching mixed s p ≡ (isSolid (getD s (p - 1) 0) && isSolid (getD s p 0))
 unfolding T.isTouching isSolid
 touching s p = refl
 
 module _ (s : List ℕ) (e p : ℕ) where
-  pub touches-apart : (e ≡ p → ⊥) → false ≡ (eqb e p && T.isTouching s p)
+  pub touches-apart : (e ≡ p → ⊥) → false ≡ (eqb e p && T.isTouching mixed s p)
   touches-apart f = rw (ne-eqb e p f)
 
   module _ (q a : ℕ) (t : Bool) (f : e ≡ p) (g : q ≡ p - 1) (h : a ≡ getD s (q + 0) 0) (i : t ≡ isSolid a) where
     first-solid : t ≡ isSolid (getD s (p - 1) 0)
     first-solid = i ∙ ap isSolid (here s q a h ∙ rw g)
 
-    pub touches-second : (b : ℕ) (r : Bool) → t ≡ true → b ≡ getD s (p + 0) 0 → r ≡ isSolid b → r ≡ (eqb e p && T.isTouching s p)
+    pub touches-second : (b : ℕ) (r : Bool) → t ≡ true → b ≡ getD s (p + 0) 0 → r ≡ isSolid b → r ≡ (eqb e p && T.isTouching mixed s p)
     touches-second b r k l m = m ∙ rw (eq-eqb e p f, touching s p, ← first-solid, k, here s p b l)
 
-    pub touches-not : t ≡ false → false ≡ (eqb e p && T.isTouching s p)
+    pub touches-not : t ≡ false → false ≡ (eqb e p && T.isTouching mixed s p)
     touches-not k = rw (eq-eqb e p f, touching s p, ← first-solid, k)

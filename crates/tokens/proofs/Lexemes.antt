@@ -12,7 +12,7 @@ use lib.ListN.{length, getD, drop}
 use Rattle.definition.specs.Choice.{when}
 use Rattle.definition.specs.Text.{bytesOf}
 use Rattle.definition.specs.Lists.{part, all, leading, same}
-use Rattle.definition.specs.Bytes.{classOf, isAlphameric, isDigit}
+use Rattle.definition.specs.Bytes.{mixed, classOf, isAlphameric, isDigit}
 use Rattle.definition.specs.declared.Class.{Class}
 use Rattle.definition.specs.declared.Class.the-variants.{Letter, Digit, Break, Blank, LineFeed, Percent, Quote, Mark, Other}
 use Rattle.definition.proofs.Parts.{length-part}
@@ -27,7 +27,7 @@ use Rattle.tokens.proofs.Laws.{at, inside, here, and-second}
 
 -- ---- constants
 module _ (s : List ℕ) (p : ℕ) where
-  pub constant-open : (x : T.Quoted) (c : Q.Constant) (r : Lexeme) → c ≡ constantFor x → c ≡ Q.the-variants.Open → r ≡ lexOf Wrong p p → r ≡ lexemeFor (T.constantAt s p x)
+  pub constant-open : (x : T.Quoted) (c : Q.Constant) (r : Lexeme) → c ≡ constantFor x → c ≡ Q.the-variants.Open → r ≡ lexOf Wrong p p → r ≡ lexemeFor (T.constantAt mixed s p x)
   unfolding T.constantAt
   constant-open (T.quoted bs q) c r e f g = let z : _≡_ {A = ℕ} 0 1 = cc in absurd (omega arith)
   constant-open T.unquoted c r e f g = g
@@ -37,7 +37,7 @@ module _ (s : List ℕ) (p : ℕ) where
 
   pub constant-bits : (x : T.Quoted) (c : Q.Constant) (q b : ℕ) (bits t : Bool) (r : Lexeme)
       → c ≡ constantFor x → c ≡ Q.the-variants.To q bits → b ≡ getD s (q + 0) 0 → t ≡ (bits && eqb b 66) → t ≡ true → r ≡ lexOf Bits p (q + 1)
-      → r ≡ lexemeFor (T.constantAt s p x)
+      → r ≡ lexemeFor (T.constantAt mixed s p x)
   unfolding T.constantAt
   constant-bits (T.quoted bs n) c q b bits t r e f g h i j =
       let u : q ≡ n = cc in
@@ -47,7 +47,7 @@ module _ (s : List ℕ) (p : ℕ) where
 
   pub constant-string : (x : T.Quoted) (c : Q.Constant) (q b : ℕ) (bits t : Bool) (r : Lexeme)
       → c ≡ constantFor x → c ≡ Q.the-variants.To q bits → b ≡ getD s (q + 0) 0 → t ≡ (bits && eqb b 66) → t ≡ false → r ≡ lexOf String p q
-      → r ≡ lexemeFor (T.constantAt s p x)
+      → r ≡ lexemeFor (T.constantAt mixed s p x)
   unfolding T.constantAt
   constant-string (T.quoted bs n) c q b bits t r e f g h i j =
       let u : q ≡ n = cc in
@@ -63,29 +63,29 @@ bits-inside s q b bits t g h i =
     inside s q (λ z. omega arith)
 
 -- ---- the token at a place, by the class of its first byte
-pub lexeme-end : (s : List ℕ) (e p : ℕ) (r : Lexeme) → length s ≤ p → r ≡ lexOf Nothing p p → r ≡ lexemeFor (T.lexemeAt s e (T.upTo p))
+pub lexeme-end : (s : List ℕ) (e p : ℕ) (r : Lexeme) → length s ≤ p → r ≡ lexOf Nothing p p → r ≡ lexemeFor (T.lexemeAt mixed s e (T.upTo p))
 unfolding T.lexemeAt
 lexeme-end s e p r h i = i ∙ rw (le-leb (length s) p h)
 
-module _ (s : List ℕ) (e p : ℕ) (t : Bool) (h : p < length s) (i : t ≡ (eqb e p && T.isTouching s p)) where
-  pub lexeme-touching : (r : Lexeme) → t ≡ true → r ≡ lexOf Wrong p p → r ≡ lexemeFor (T.lexemeAt s e (T.upTo p))
+module _ (s : List ℕ) (e p : ℕ) (t : Bool) (h : p < length s) (i : t ≡ (eqb e p && T.isTouching mixed s p)) where
+  pub lexeme-touching : (r : Lexeme) → t ≡ true → r ≡ lexOf Wrong p p → r ≡ lexemeFor (T.lexemeAt mixed s e (T.upTo p))
   unfolding T.lexemeAt
   lexeme-touching r f g = g ∙ rw (lt-leb (length s) p h, ← i, f)
 
-  module _ (c : Class) (r : Lexeme) (j : t ≡ false) (k : c ≡ classOf (getD s p 0)) where
-    found : (d : Class) → c ≡ d → T.lexemeOf d s p ≡ T.lexemeAt s e (T.upTo p)
+  module _ (c : Class) (r : Lexeme) (j : t ≡ false) (k : c ≡ classOf mixed (getD s p 0)) where
+    found : (d : Class) → c ≡ d → T.lexemeOf mixed d s p ≡ T.lexemeAt mixed s e (T.upTo p)
     unfolding T.lexemeAt
     found d f = rw (lt-leb (length s) p h, ← i, j, ← k, f)
 
-    pub lexeme-word : (w : ℕ) → c ≡ Letter → w ≡ p + length (leading isAlphameric (drop p s)) → r ≡ lexOf Word p w → r ≡ lexemeFor (T.lexemeAt s e (T.upTo p))
+    pub lexeme-word : (w : ℕ) → c ≡ Letter → w ≡ p + length (leading (isAlphameric mixed) (drop p s)) → r ≡ lexOf Word p w → r ≡ lexemeFor (T.lexemeAt mixed s e (T.upTo p))
     unfolding T.lexemeOf T.runAt
     lexeme-word w f l m = m ∙ ap (lexOf Word p) l ∙ ap lexemeFor (found Letter f)
 
-    pub lexeme-integer : (w : ℕ) → c ≡ Digit → w ≡ p + length (leading isDigit (drop p s)) → r ≡ lexOf Integer p w → r ≡ lexemeFor (T.lexemeAt s e (T.upTo p))
+    pub lexeme-integer : (w : ℕ) → c ≡ Digit → w ≡ p + length (leading isDigit (drop p s)) → r ≡ lexOf Integer p w → r ≡ lexemeFor (T.lexemeAt mixed s e (T.upTo p))
     unfolding T.lexemeOf T.runAt
     lexeme-integer w f l m = m ∙ ap (lexOf Integer p) l ∙ ap lexemeFor (found Digit f)
 
-    pub lexeme-quote : c ≡ Quote → r ≡ lexemeFor (T.constantAt s p (T.quotedAt (drop (p + 1) s) [] (p + 1))) → r ≡ lexemeFor (T.lexemeAt s e (T.upTo p))
+    pub lexeme-quote : c ≡ Quote → r ≡ lexemeFor (T.constantAt mixed s p (T.quotedAt (drop (p + 1) s) [] (p + 1))) → r ≡ lexemeFor (T.lexemeAt mixed s e (T.upTo p))
     unfolding T.lexemeOf
     lexeme-quote f m = m ∙ ap lexemeFor (found Quote f)
 
@@ -93,27 +93,27 @@ module _ (s : List ℕ) (e p : ℕ) (t : Bool) (h : p < length s) (i : t ≡ (eq
     sized true n l = rw l
     sized false n l = rw l
 
-    pub lexeme-mark : (n : ℕ) → c ≡ Mark → n ≡ signSize s p → r ≡ lexOf Sign p (p + n) → r ≡ lexemeFor (T.lexemeAt s e (T.upTo p))
+    pub lexeme-mark : (n : ℕ) → c ≡ Mark → n ≡ signSize s p → r ≡ lexOf Sign p (p + n) → r ≡ lexemeFor (T.lexemeAt mixed s e (T.upTo p))
     unfolding T.lexemeOf T.signAt signSize
     lexeme-mark n f l m = m ∙ sized (T.isPair (part 2 p s)) n l ∙ ap lexemeFor (found Mark f)
 
-    pub lexeme-percent : (n : ℕ) → c ≡ Percent → n ≡ signSize s p → r ≡ lexOf Sign p (p + n) → r ≡ lexemeFor (T.lexemeAt s e (T.upTo p))
+    pub lexeme-percent : (n : ℕ) → c ≡ Percent → n ≡ signSize s p → r ≡ lexOf Sign p (p + n) → r ≡ lexemeFor (T.lexemeAt mixed s e (T.upTo p))
     unfolding T.lexemeOf T.signAt signSize
     lexeme-percent n f l m = m ∙ sized (T.isPair (part 2 p s)) n l ∙ ap lexemeFor (found Percent f)
 
-    pub lexeme-break : c ≡ Break → r ≡ lexOf Wrong p p → r ≡ lexemeFor (T.lexemeAt s e (T.upTo p))
+    pub lexeme-break : c ≡ Break → r ≡ lexOf Wrong p p → r ≡ lexemeFor (T.lexemeAt mixed s e (T.upTo p))
     unfolding T.lexemeOf
     lexeme-break f m = m ∙ ap lexemeFor (found Break f)
 
-    pub lexeme-blank : c ≡ Blank → r ≡ lexOf Wrong p p → r ≡ lexemeFor (T.lexemeAt s e (T.upTo p))
+    pub lexeme-blank : c ≡ Blank → r ≡ lexOf Wrong p p → r ≡ lexemeFor (T.lexemeAt mixed s e (T.upTo p))
     unfolding T.lexemeOf
     lexeme-blank f m = m ∙ ap lexemeFor (found Blank f)
 
-    pub lexeme-feed : c ≡ LineFeed → r ≡ lexOf Wrong p p → r ≡ lexemeFor (T.lexemeAt s e (T.upTo p))
+    pub lexeme-feed : c ≡ LineFeed → r ≡ lexOf Wrong p p → r ≡ lexemeFor (T.lexemeAt mixed s e (T.upTo p))
     unfolding T.lexemeOf
     lexeme-feed f m = m ∙ ap lexemeFor (found LineFeed f)
 
-    pub lexeme-other : c ≡ Other → r ≡ lexOf Wrong p p → r ≡ lexemeFor (T.lexemeAt s e (T.upTo p))
+    pub lexeme-other : c ≡ Other → r ≡ lexOf Wrong p p → r ≡ lexemeFor (T.lexemeAt mixed s e (T.upTo p))
     unfolding T.lexemeOf
     lexeme-other f m = m ∙ ap lexemeFor (found Other f)
 
@@ -126,11 +126,11 @@ told-open : (x : T.Spaces) (p : ℕ) → G.the-variants.Open p ≡ gapFor x → 
 told-open (T.upTo q) p e = let z : _≡_ {A = ℕ} 0 1 = cc in absurd (omega arith)
 told-open (T.openComment q) p e = let z : p ≡ q = cc in ap T.openComment (sym z)
 
-lexed : (s : List ℕ) (e : ℕ) (r : Lexeme) → r ≡ lexemeFor (T.tokenAt s e) → Lexed s e r
+lexed : (s : List ℕ) (e : ℕ) (r : Lexeme) → r ≡ lexemeFor (T.tokenAt mixed s e) → Lexed s e r
 lexed s e r f = record { kind = ap (λ (l : Lexeme). l .kind) f; from = ap (λ (l : Lexeme). l .from) f; to = ap (λ (l : Lexeme). l .to) f }
 
 module _ (s : List ℕ) (e p : ℕ) (g : G.Gap) (r : Lexeme) (h : g ≡ gapFor (T.spaces (length s) s e)) where
-  pub token-next : g ≡ G.the-variants.To p → r ≡ lexemeFor (T.lexemeAt s e (T.upTo p)) → Lexed s e r
+  pub token-next : g ≡ G.the-variants.To p → r ≡ lexemeFor (T.lexemeAt mixed s e (T.upTo p)) → Lexed s e r
   unfolding T.tokenAt
   token-next i j = lexed s e r (j ∙ rw (told-up (T.spaces (length s) s e) p (sym i ∙ h)))
 
@@ -220,7 +220,7 @@ module _ (s : List ℕ) where
   stands-bits p q bs true e = record { is = ap T.bits (sym e) }
   stands-bits p q bs false e = record { is = ap T.string (sym e) }
 
-  stands-constant : (p : ℕ) (x : T.Quoted) → content s p ≡ contentOf x → Stands s (T.constantAt s p x)
+  stands-constant : (p : ℕ) (x : T.Quoted) → content s p ≡ contentOf x → Stands s (T.constantAt mixed s p x)
   unfolding T.constantAt
   stands-constant p T.unquoted e = record { is = refl }
   stands-constant p (T.quoted bs q) e = stands-bits p q bs (all T.isBit bs && eqb (getD s q 0) 66) e
@@ -228,9 +228,9 @@ module _ (s : List ℕ) where
   stands-wrong : (p : ℕ) → Stands s (T.lexeme T.wrong p p)
   stands-wrong p = record { is = refl }
 
-  stands-of : (c : Class) (p : ℕ) → Stands s (T.lexemeOf c s p)
+  stands-of : (c : Class) (p : ℕ) → Stands s (T.lexemeOf mixed c s p)
   unfolding T.lexemeOf T.runAt T.signAt content
-  stands-of Letter p = record { is = ap T.word (run-part isAlphameric p) }
+  stands-of Letter p = record { is = ap T.word (run-part (isAlphameric mixed) p) }
   stands-of Digit p = record { is = ap T.integer (run-part isDigit p) }
   stands-of Quote p = stands-constant p (T.quotedAt (drop (p + 1) s) [] (p + 1)) refl
   stands-of Mark p = stands-pair p (T.isPair (part 2 p s))
@@ -244,23 +244,23 @@ module _ (s : List ℕ) where
   stands-either true x y f g = f
   stands-either false x y f g = g
 
-  stands-at : (e : ℕ) (g : T.Spaces) → Stands s (T.lexemeAt s e g)
+  stands-at : (e : ℕ) (g : T.Spaces) → Stands s (T.lexemeAt mixed s e g)
   unfolding T.lexemeAt
   stands-at e (T.openComment p) = stands-wrong p
   stands-at e (T.upTo p) =
       stands-either (leb (length s) p) (T.lexeme T.nothing p p) _ (record { is = refl })
-      (stands-either (eqb e p && T.isTouching s p) (T.lexeme T.wrong p p) _ (stands-wrong p) (stands-of (classOf (getD s p 0)) p))
+      (stands-either (eqb e p && T.isTouching mixed s p) (T.lexeme T.wrong p p) _ (stands-wrong p) (stands-of (classOf mixed (getD s p 0)) p))
 
 module _ (s : List ℕ) (e : ℕ) (l : Lexeme) (h : Lexed s e l) where
   -- THE TOKEN OF A LEXEME, by its kind, its bytes, and the content of a constant
-  pub token-is : T.tokenAt s e .token ≡ tokenFor (l .kind) (spelling s l) (content s (l .from))
+  pub token-is : T.tokenAt mixed s e .token ≡ tokenFor (l .kind) (spelling s l) (content s (l .from))
   unfolding T.tokenAt spelling
   token-is = rw (h .kind, h .from, h .to) (stands-at s e (T.spaces (length s) s e) .is)
 
-  pub lexeme-is : T.tokenAt s e ≡ T.lexeme (tokenFor (l .kind) (spelling s l) (content s (l .from))) (l .from) (l .to)
+  pub lexeme-is : T.tokenAt mixed s e ≡ T.lexeme (tokenFor (l .kind) (spelling s l) (content s (l .from))) (l .from) (l .to)
   lexeme-is = rw (← token-is, h .from, h .to)
 
-  pub is-word : (W : S.String) (w : List ℕ) → bytesOf W ≡ w → isWordIn s l w ≡ T.isWord W (T.tokenAt s e .token)
+  pub is-word : (W : S.String) (w : List ℕ) → bytesOf W ≡ w → isWordIn s l w ≡ T.isWord W (T.tokenAt mixed s e .token)
   unfolding isWordIn
   is-word W w f = rw (token-is, ← f) (by-kind (l .kind) (spelling s l) (content s (l .from)))
     where
@@ -273,7 +273,7 @@ module _ (s : List ℕ) (e : ℕ) (l : Lexeme) (h : Lexed s e l) where
       by-kind Nothing x y = refl
       by-kind Wrong x y = refl
 
-  pub is-sign : (W : S.String) (w : List ℕ) → bytesOf W ≡ w → isSignIn s l w ≡ T.isSign W (T.tokenAt s e .token)
+  pub is-sign : (W : S.String) (w : List ℕ) → bytesOf W ≡ w → isSignIn s l w ≡ T.isSign W (T.tokenAt mixed s e .token)
   unfolding isSignIn
   is-sign W w f = rw (token-is, ← f) (by-kind (l .kind) (spelling s l) (content s (l .from)))
     where

@@ -10,7 +10,7 @@ use lib.Dec.{eqb, leb}
 use lib.ListN.{length, getD, drop, length-drop}
 use Rattle.definition.specs.Choice.{when}
 use Rattle.definition.specs.Lists.{part, leading}
-use Rattle.definition.specs.Bytes.{classOf, isLetter, isDigit, isBlank, isMark, isAlphameric}
+use Rattle.definition.specs.Bytes.{mixed, classOf, isLetter, isDigit, isBlank, isMark, isAlphameric}
 use Rattle.definition.specs.declared.Class.{Class}
 use Rattle.definition.specs.declared.Class.the-variants.{Letter, Digit, Break, Blank, LineFeed, Percent, Quote, Mark, Other}
 use Rattle.definition.specs.Tokens as T
@@ -43,11 +43,11 @@ and-first : (a b : Bool) → (a && b) ≡ true → a ≡ true
 and-first true b e = refl
 and-first false b e = e
 
-slash : (b : ℕ) → b ≡ 47 → classOf b ≡ Mark
+slash : (b : ℕ) → b ≡ 47 → classOf mixed b ≡ Mark
 unfolding classOf isLetter isDigit isBlank isMark
 slash b e = rw e
 
-commented : (s : List ℕ) (p : ℕ) → T.isComment s p ≡ true → classOf (getD s p 0) ≡ Mark
+commented : (s : List ℕ) (p : ℕ) → T.isComment s p ≡ true → classOf mixed (getD s p 0) ≡ Mark
 unfolding T.isComment
 commented s p e = slash (getD s p 0) (eqb-true (getD s p 0) 47 (and-first (eqb (getD s p 0) 47) (eqb (getD s (p + 1) 0) 42) e))
 
@@ -55,19 +55,19 @@ module _ (s : List ℕ) (p : ℕ) (t : Bool) (r : Piece) (i : t ≡ T.isComment 
   pub piece-comment : (c : C.Closed) → t ≡ true → c ≡ closedFor (T.pastComment s p) → r ≡ closedPiece (length s) c → Cuts s p r
   unfolding T.pieceAt T.pieceOf
   piece-comment c f g h =
-      let e : T.closedCut s (T.pastComment s p) ≡ T.pieceAt s p = rw (commented s p (sym i ∙ f), ← i, f) in
+      let e : T.closedCut s (T.pastComment s p) ≡ T.pieceAt mixed s p = rw (commented s p (sym i ∙ f), ← i, f) in
       record { is = λ _. h ∙ ap (closedPiece (length s)) g ∙ closed-is s (T.pastComment s p) ∙ ap pieceFor e }
 
-  module _ (c : Class) (j : t ≡ false) (k : c ≡ classOf (getD s p 0)) where
-    cutting : (d : Class) → c ≡ d → T.pieceOf d s p ≡ T.pieceAt s p
+  module _ (c : Class) (j : t ≡ false) (k : c ≡ classOf mixed (getD s p 0)) where
+    cutting : (d : Class) → c ≡ d → T.pieceOf mixed d s p ≡ T.pieceAt mixed s p
     unfolding T.pieceAt
     cutting d f = rw (← k, f)
 
-    pub piece-name : (w : ℕ) → c ≡ Letter → w ≡ p + length (leading isAlphameric (drop p s)) → r ≡ cutOf Name w → Cuts s p r
+    pub piece-name : (w : ℕ) → c ≡ Letter → w ≡ p + length (leading (isAlphameric mixed) (drop p s)) → r ≡ cutOf Name w → Cuts s p r
     unfolding T.pieceOf
     piece-name w f g h = record { is = λ _. h ∙ ap (cutOf Name) g ∙ ap pieceFor (cutting Letter f) }
 
-    pub piece-digits : (w : ℕ) → c ≡ Digit → w ≡ p + length (leading isAlphameric (drop p s)) → r ≡ cutOf Plain w → Cuts s p r
+    pub piece-digits : (w : ℕ) → c ≡ Digit → w ≡ p + length (leading (isAlphameric mixed) (drop p s)) → r ≡ cutOf Plain w → Cuts s p r
     unfolding T.pieceOf
     piece-digits w f g h = record { is = λ _. h ∙ ap (cutOf Plain) g ∙ ap pieceFor (cutting Digit f) }
 
@@ -78,7 +78,7 @@ module _ (s : List ℕ) (p : ℕ) (t : Bool) (r : Piece) (i : t ≡ T.isComment 
     pub piece-mark : c ≡ Mark → r ≡ cutOf Plain (p + 1) → Cuts s p r
     unfolding T.pieceOf
     piece-mark f h =
-        let e : T.cut T.plain (p + 1) ≡ T.pieceOf Mark s p = rw (← i, j) in
+        let e : T.cut T.plain (p + 1) ≡ T.pieceOf mixed Mark s p = rw (← i, j) in
         record { is = λ _. h ∙ ap pieceFor (e ∙ cutting Mark f) }
 
     pub piece-percent : c ≡ Percent → r ≡ cutOf Plain (p + 1) → Cuts s p r
@@ -117,10 +117,10 @@ module _ (s : List ℕ) (p : ℕ) where
   stands-mark true x = stands-closed x
   stands-mark false x = stands-plain (p + 1)
 
-  stands-of : (c : Class) → Stands s p (T.pieceOf c s p)
+  stands-of : (c : Class) → Stands s p (T.pieceOf mixed c s p)
   unfolding T.pieceOf
-  stands-of Letter = record { is = ap T.name (run-part s isAlphameric p) }
-  stands-of Digit = stands-plain (p + length (leading isAlphameric (drop p s)))
+  stands-of Letter = record { is = ap T.name (run-part s (isAlphameric mixed) p) }
+  stands-of Digit = stands-plain (p + length (leading (isAlphameric mixed) (drop p s)))
   stands-of Quote = stands-closed (T.quoteEnd (drop (p + 1) s) (p + 1))
   stands-of Mark = stands-mark (T.isComment s p) (T.pastComment s p)
   stands-of Percent = stands-plain (p + 1)
@@ -130,9 +130,9 @@ module _ (s : List ℕ) (p : ℕ) where
   stands-of Other = stands-plain (p + 1)
 
   -- THE PIECE AT A PLACE, by its kind, its bytes and its end
-  pub piece-is : (r : Piece) → Cuts s p r → p < length s → T.pieceAt s p ≡ T.cut (pieceOf (r .kind) (part (r .to - p) p s)) (r .to)
+  pub piece-is : (r : Piece) → Cuts s p r → p < length s → T.pieceAt mixed s p ≡ T.cut (pieceOf (r .kind) (part (r .to - p) p s)) (r .to)
   unfolding T.pieceAt
-  piece-is r f h = rw (f .is h) (ap (λ (x : T.Piece). T.cut x (T.pieceAt s p .to)) (stands-of (classOf (getD s p 0)) .is))
+  piece-is r f h = rw (f .is h) (ap (λ (x : T.Piece). T.cut x (T.pieceAt mixed s p .to)) (stands-of (classOf mixed (getD s p 0)) .is))
 
 -- ---- a piece that is closed ends past its place
 module _ (s : List ℕ) (p : ℕ) (h : p < length s) where
@@ -145,10 +145,10 @@ module _ (s : List ℕ) (p : ℕ) (h : p < length s) where
   comment-or-mark true x f e = closed-further x f e
   comment-or-mark false x f e = omega arith
 
-  piece-further-of : (c : Class) → classOf (getD s p 0) ≡ c → isUnclosed (pieceKind (T.pieceOf c s p .piece)) ≡ false → p < T.pieceOf c s p .to
+  piece-further-of : (c : Class) → classOf mixed (getD s p 0) ≡ c → isUnclosed (pieceKind (T.pieceOf mixed c s p .piece)) ≡ false → p < T.pieceOf mixed c s p .to
   unfolding T.pieceOf
-  piece-further-of Letter e f = run-past s p h isAlphameric (sym (is-alphameric (getD s p 0) 1 (sym (ap codeOf e))))
-  piece-further-of Digit e f = run-past s p h isAlphameric (sym (is-alphameric (getD s p 0) 2 (sym (ap codeOf e))))
+  piece-further-of Letter e f = run-past s p h (isAlphameric mixed) (sym (is-alphameric (getD s p 0) 1 (sym (ap codeOf e))))
+  piece-further-of Digit e f = run-past s p h (isAlphameric mixed) (sym (is-alphameric (getD s p 0) 2 (sym (ap codeOf e))))
   piece-further-of Quote e f = closed-further (T.quoteEnd (drop (p + 1) s) (p + 1)) (λ q g. let z : p + 1 < q = quote-further (drop (p + 1) s) (p + 1) q g in omega arith) f
   piece-further-of Mark e f =
       comment-or-mark (T.isComment s p) (T.pastComment s p) (λ q g. let z : p + 2 < q = comment-further false (drop (p + 2) s) (p + 2) q g in omega arith) f
@@ -158,9 +158,9 @@ module _ (s : List ℕ) (p : ℕ) (h : p < length s) where
   piece-further-of LineFeed e f = omega arith
   piece-further-of Other e f = omega arith
 
-  pub piece-further : isUnclosed (pieceKind (T.pieceAt s p .piece)) ≡ false → p < T.pieceAt s p .to
+  pub piece-further : isUnclosed (pieceKind (T.pieceAt mixed s p .piece)) ≡ false → p < T.pieceAt mixed s p .to
   unfolding T.pieceAt
-  piece-further f = piece-further-of (classOf (getD s p 0)) refl f
+  piece-further f = piece-further-of (classOf mixed (getD s p 0)) refl f
 
 -- ---- the end of a text
 on-open : (x : T.Piece) (p q : ℕ) (f : ℕ → T.TextEnd) → isUnclosed (pieceKind x) ≡ true → T.openAt p ≡ T.textOn x p q f
@@ -173,7 +173,7 @@ on-more (T.name w) p q f e = refl
 on-more T.plain p q f e = refl
 on-more T.unclosed p q f e = let z : _≡_ {A = ℕ} 0 1 = cc in absurd (omega arith)
 
-text-past : (n : ℕ) (s : List ℕ) (p : ℕ) → length s ≤ p → T.atEnd ≡ T.textEnd n s p
+text-past : (n : ℕ) (s : List ℕ) (p : ℕ) → length s ≤ p → T.atEnd ≡ T.textEnd mixed n s p
 unfolding T.textEnd
 text-past zero s p h = refl
 text-past (suc n) s p h = rw (le-leb (length s) p h)
@@ -182,45 +182,45 @@ text-past (suc n) s p h = rw (le-leb (length s) p h)
 pub record Texting (s : List ℕ) (p i : ℕ) : Type 0 where
   pub turns : ℕ
   pub enough : length s < i + turns
-  pub is : T.textEnd turns s i ≡ T.textEnd (suc (length s)) s p
+  pub is : T.textEnd mixed turns s i ≡ T.textEnd mixed (suc (length s)) s p
 
 pub texting-start : (s : List ℕ) (p : ℕ) → Texting s p p
 texting-start s p = record { turns = suc (length s); enough = omega arith; is = refl }
 
 module _ (s : List ℕ) (p i : ℕ) (k : Texting s p i) where
-  pub texting-end : length s ≤ i → E.the-variants.AtEnd ≡ endingFor (T.textEnd (suc (length s)) s p)
+  pub texting-end : length s ≤ i → E.the-variants.AtEnd ≡ endingFor (T.textEnd mixed (suc (length s)) s p)
   texting-end h = ap endingFor (text-past (k .turns) s i h ∙ k .is)
 
   module _ (h : i < length s) where
     turn : (n : ℕ) → k .turns ≡ suc n
-        → when (eqb (getD s i 0) 37) (λ _. T.percentAt i) (λ _. T.textOn (T.pieceAt s i .piece) i (T.pieceAt s i .to) (T.textEnd n s)) ≡ T.textEnd (suc (length s)) s p
+        → when (eqb (getD s i 0) 37) (λ _. T.percentAt i) (λ _. T.textOn (T.pieceAt mixed s i .piece) i (T.pieceAt mixed s i .to) (T.textEnd mixed n s)) ≡ T.textEnd mixed (suc (length s)) s p
     unfolding T.textEnd
     turn n e = rw (e, lt-leb (length s) i h) at (k .is)
 
     left : k .turns ≡ suc (k .turns - 1)
     left = omega (arith, k .enough)
 
-    pub texting-percent : getD s i 0 ≡ 37 → E.the-variants.Percent i ≡ endingFor (T.textEnd (suc (length s)) s p)
+    pub texting-percent : getD s i 0 ≡ 37 → E.the-variants.Percent i ≡ endingFor (T.textEnd mixed (suc (length s)) s p)
     texting-percent e = ap endingFor (rw (eq-eqb (getD s i 0) 37 e) at (turn (k .turns - 1) left))
 
     module _ (e : getD s i 0 ≡ 37 → ⊥) (r : Piece) (t : Bool) (f : Cuts s i r) (g : t ≡ isUnclosed (r .kind)) where
-      goes : T.textOn (T.pieceAt s i .piece) i (T.pieceAt s i .to) (T.textEnd (k .turns - 1) s) ≡ T.textEnd (suc (length s)) s p
+      goes : T.textOn (T.pieceAt mixed s i .piece) i (T.pieceAt mixed s i .to) (T.textEnd mixed (k .turns - 1) s) ≡ T.textEnd mixed (suc (length s)) s p
       goes = rw (ne-eqb (getD s i 0) 37 e) at (turn (k .turns - 1) left)
 
-      open-is : t ≡ isUnclosed (pieceKind (T.pieceAt s i .piece))
+      open-is : t ≡ isUnclosed (pieceKind (T.pieceAt mixed s i .piece))
       open-is = g ∙ ap (λ (x : Piece). isUnclosed (x .kind)) (f .is h)
 
-      pub texting-open : t ≡ true → E.the-variants.OpenAt i ≡ endingFor (T.textEnd (suc (length s)) s p)
-      texting-open j = ap endingFor (on-open (T.pieceAt s i .piece) i (T.pieceAt s i .to) (T.textEnd (k .turns - 1) s) (sym open-is ∙ j) ∙ goes)
+      pub texting-open : t ≡ true → E.the-variants.OpenAt i ≡ endingFor (T.textEnd mixed (suc (length s)) s p)
+      texting-open j = ap endingFor (on-open (T.pieceAt mixed s i .piece) i (T.pieceAt mixed s i .to) (T.textEnd mixed (k .turns - 1) s) (sym open-is ∙ j) ∙ goes)
 
       pub texting-further : t ≡ false → i < r .to
-      texting-further j = let z : r .to ≡ T.pieceAt s i .to = ap (λ (x : Piece). x .to) (f .is h) in omega (arith, piece-further s i h (sym open-is ∙ j))
+      texting-further j = let z : r .to ≡ T.pieceAt mixed s i .to = ap (λ (x : Piece). x .to) (f .is h) in omega (arith, piece-further s i h (sym open-is ∙ j))
 
       pub texting-more : t ≡ false → Texting s p (r .to)
       texting-more j = record {
         turns = k .turns - 1;
         enough = omega (arith, k .enough, texting-further j);
-        is = rw (ap (λ (x : Piece). x .to) (f .is h)) (on-more (T.pieceAt s i .piece) i (T.pieceAt s i .to) (T.textEnd (k .turns - 1) s) (sym open-is ∙ j) ∙ goes);
+        is = rw (ap (λ (x : Piece). x .to) (f .is h)) (on-more (T.pieceAt mixed s i .piece) i (T.pieceAt mixed s i .to) (T.textEnd mixed (k .turns - 1) s) (sym open-is ∙ j) ∙ goes);
       }
 
 -- ---- where pieces and the ends of texts lie
@@ -248,10 +248,10 @@ module _ (s : List ℕ) (p : ℕ) (h : p < length s) where
   mark-inside true x f = closed-inside x (f refl)
   mark-inside false x f = omega arith
 
-  piece-inside-of : (c : Class) → T.pieceOf c s p .to ≤ length s
+  piece-inside-of : (c : Class) → T.pieceOf mixed c s p .to ≤ length s
   unfolding T.pieceOf
-  piece-inside-of Letter = run-inside s p h isAlphameric
-  piece-inside-of Digit = run-inside s p h isAlphameric
+  piece-inside-of Letter = run-inside s p h (isAlphameric mixed)
+  piece-inside-of Digit = run-inside s p h (isAlphameric mixed)
   piece-inside-of Quote = closed-inside (T.quoteEnd (drop (p + 1) s) (p + 1)) (λ q e. omega (arith, quote-within (drop (p + 1) s) (p + 1) q e, length-drop (p + 1) s))
   piece-inside-of Mark =
       mark-inside (T.isComment s p) (T.pastComment s p)
@@ -262,9 +262,9 @@ module _ (s : List ℕ) (p : ℕ) (h : p < length s) where
   piece-inside-of LineFeed = omega arith
   piece-inside-of Other = omega arith
 
-  pub piece-inside : T.pieceAt s p .to ≤ length s
+  pub piece-inside : T.pieceAt mixed s p .to ≤ length s
   unfolding T.pieceAt
-  piece-inside = piece-inside-of (classOf (getD s p 0))
+  piece-inside = piece-inside-of (classOf mixed (getD s p 0))
 
 -- the `%` that ends a text that begins at p
 pub record Percents (s : List ℕ) (p q : ℕ) : Type 0 where
@@ -287,8 +287,8 @@ module _ (s : List ℕ) (p q : ℕ) (f : ℕ → T.TextEnd) (rest : (r : ℕ) �
       record { low = omega arith; inside = rw (← z) (leb-false (length s) p i); is = rw (← z) (eqb-true (getD s p 0) 37 j) }
   percent-next false false i j h g = percent-on (isUnclosed (pieceKind (x .piece))) refl (h (leb-false (length s) p i)) g
 
-pub percent-there : (n : ℕ) (s : List ℕ) (p q : ℕ) → T.textEnd n s p ≡ T.percentAt q → Percents s p q
+pub percent-there : (n : ℕ) (s : List ℕ) (p q : ℕ) → T.textEnd mixed n s p ≡ T.percentAt q → Percents s p q
 unfolding T.textEnd
 percent-there zero s p q e = let z : _≡_ {A = ℕ} 0 1 = cc in absurd (omega arith)
 percent-there (suc n) s p q e =
-    percent-next s p q (T.textEnd n s) (λ r. percent-there n s r q) (T.pieceAt s p) (leb (length s) p) (eqb (getD s p 0) 37) refl refl (piece-further s p) e
+    percent-next s p q (T.textEnd mixed n s) (λ r. percent-there n s r q) (T.pieceAt mixed s p) (leb (length s) p) (eqb (getD s p 0) 37) refl refl (piece-further s p) e

@@ -10,7 +10,7 @@ use lib.Dec.{eqb, leb}
 use lib.ListN.{length, getD, drop, length-drop}
 use Rattle.definition.specs.Choice.{when}
 use Rattle.definition.specs.Lists.{part, all, leading}
-use Rattle.definition.specs.Bytes.{classOf, isLetter, isDigit, isBlank, isMark, isAlphameric}
+use Rattle.definition.specs.Bytes.{mixed, classOf, isLetter, isDigit, isBlank, isMark, isAlphameric}
 use Rattle.definition.specs.declared.Class.{Class}
 use Rattle.definition.specs.declared.Class.the-variants.{Letter, Digit, Break, Blank, LineFeed, Percent, Quote, Mark, Other}
 use Rattle.definition.specs.Tokens as T
@@ -68,9 +68,9 @@ digit-first false false false false false false true m e = absurd (omega arith)
 digit-first false false false false false false false true e = absurd (omega arith)
 digit-first false false false false false false false false e = absurd (omega arith)
 
-digit-class : (b : ℕ) → classOf b ≡ Digit → isDigit b ≡ true
+digit-class : (b : ℕ) → classOf mixed b ≡ Digit → isDigit b ≡ true
 unfolding classOf
-digit-class b e = digit-first (isLetter b) (isDigit b) (eqb b 95) (isBlank b) (eqb b 10) (eqb b 37) (eqb b 39) (isMark b) (ap codeOf e)
+digit-class b e = digit-first (isLetter mixed b) (isDigit b) (eqb b 95) (isBlank b) (eqb b 10) (eqb b 37) (eqb b 39) (isMark b) (ap codeOf e)
 
 -- ---- constants
 record Ends (p n q : ℕ) : Type 0 where
@@ -120,7 +120,7 @@ module _ (s : List ℕ) (p : ℕ) where
   lies-bits true bs q f g h = record { low = omega arith; past = λ _. omega arith; inside = λ _. omega (arith, h refl) }
   lies-bits false bs q f g h = record { low = omega arith; past = λ _. f; inside = λ _. g }
 
-  lies-constant : (x : T.Quoted) → ((bs : List ℕ) (q : ℕ) → x ≡ T.quoted bs q → Ends (p + 1) (length s - (p + 1)) q) → p < length s → Lies s p (T.constantAt s p x)
+  lies-constant : (x : T.Quoted) → ((bs : List ℕ) (q : ℕ) → x ≡ T.quoted bs q → Ends (p + 1) (length s - (p + 1)) q) → p < length s → Lies s p (T.constantAt mixed s p x)
   unfolding T.constantAt
   lies-constant T.unquoted f h = lies-wrong
   lies-constant (T.quoted bs q) f h =
@@ -129,12 +129,12 @@ module _ (s : List ℕ) (p : ℕ) where
       (λ g. inside s q (λ z. omega (arith, z, eqb-true (getD s q 0) 66 (and-second (all T.isBit bs) (eqb (getD s q 0) 66) (sym g)))))
 
   module _ (h : p < length s) where
-    lies-of : (c : Class) → classOf (getD s p 0) ≡ c → Lies s p (T.lexemeOf c s p)
+    lies-of : (c : Class) → classOf mixed (getD s p 0) ≡ c → Lies s p (T.lexemeOf mixed c s p)
     unfolding T.lexemeOf T.runAt T.signAt signSize
     lies-of Letter e = record {
       low = omega arith;
-      past = λ _. run-past s p h isAlphameric (sym (is-alphameric (getD s p 0) 1 (sym (ap codeOf e))));
-      inside = λ _. run-inside s p h isAlphameric;
+      past = λ _. run-past s p h (isAlphameric mixed) (sym (is-alphameric (getD s p 0) 1 (sym (ap codeOf e))));
+      inside = λ _. run-inside s p h (isAlphameric mixed);
     }
     lies-of Digit e = record {
       low = omega arith;
@@ -162,15 +162,15 @@ module _ (s : List ℕ) (p : ℕ) where
 lies-later : (s : List ℕ) (e p : ℕ) (x : T.Lexeme) → e ≤ p → Lies s p x → Lies s e x
 lies-later s e p x h l = record { low = omega (arith, l .low); past = l .past; inside = l .inside }
 
-lies-at : (s : List ℕ) (e : ℕ) (g : T.Spaces) → e ≤ reached g → Lies s e (T.lexemeAt s e g)
+lies-at : (s : List ℕ) (e : ℕ) (g : T.Spaces) → e ≤ reached g → Lies s e (T.lexemeAt mixed s e g)
 unfolding T.lexemeAt reached
 lies-at s e (T.openComment p) h = lies-later s e p (T.lexeme T.wrong p p) h (lies-wrong s p)
 lies-at s e (T.upTo p) h =
     lies-later s e p _ h
     (lies-or-end s p (leb (length s) p) _ refl
-    (λ k. lies-either s p (eqb e p && T.isTouching s p) (T.lexeme T.wrong p p) _ (lies-wrong s p) (lies-of s p k (classOf (getD s p 0)) refl)))
+    (λ k. lies-either s p (eqb e p && T.isTouching mixed s p) (T.lexeme T.wrong p p) _ (lies-wrong s p) (lies-of s p k (classOf mixed (getD s p 0)) refl)))
 
-lies : (s : List ℕ) (e : ℕ) → Lies s e (T.tokenAt s e)
+lies : (s : List ℕ) (e : ℕ) → Lies s e (T.tokenAt mixed s e)
 unfolding T.tokenAt
 lies s e = lies-at s e (T.spaces (length s) s e) (spaces-low (length s) s e)
 

@@ -9,7 +9,7 @@ use lib.ListN.{length, getD, drop}
 use Rattle.definition.specs.Choice.{when}
 use Rattle.definition.specs.Lists.{part, all, same}
 use Rattle.definition.specs.Room.{over}
-use Rattle.definition.specs.Bytes.{isAlphameric}
+use Rattle.definition.specs.Bytes.{mixed, isAlphameric}
 use Rattle.definition.specs.Tokens as T
 use Rattle.tokens.specs.declared.Kind.{Kind}
 use Rattle.tokens.specs.declared.Kind.the-variants.{Word, Integer, String, Bits, Sign, Nothing, Wrong}
@@ -61,7 +61,7 @@ unfoldable pub signSize : List ℕ → ℕ → ℕ
 signSize s p = cond (T.isPair (part 2 p s)) 2 1
 
 unfoldable pub isSolid : ℕ → Bool
-isSolid b = isAlphameric b || eqb b (code "'")
+isSolid b = isAlphameric mixed b || eqb b (code "'")
 
 abbrev pub kindOf : T.Token → Kind
 kindOf (T.word x) = Word
@@ -81,9 +81,9 @@ lexemeFor x = lexOf (kindOf (x .token)) (x .from) (x .to)
 
 -- the lexeme of the first token after the place e
 pub record Lexed (s : List ℕ) (e : ℕ) (r : Lexeme) : Type 0 where
-  pub kind : r .kind ≡ kindOf (T.tokenAt s e .token)
-  pub from : r .from ≡ T.tokenAt s e .from
-  pub to : r .to ≡ T.tokenAt s e .to
+  pub kind : r .kind ≡ kindOf (T.tokenAt mixed s e .token)
+  pub from : r .from ≡ T.tokenAt mixed s e .from
+  pub to : r .to ≡ T.tokenAt mixed s e .to
 
 -- ---- what a lexeme says of the bytes
 -- the bytes of a lexeme
@@ -172,7 +172,7 @@ pieceOf K.the-variants.Unclosed w = T.unclosed
 
 -- the piece at a place inside the text
 pub record Cuts (s : List ℕ) (p : ℕ) (r : Piece) : Type 0 where
-  pub is : p < length s → r ≡ pieceFor (T.pieceAt s p)
+  pub is : p < length s → r ≡ pieceFor (T.pieceAt mixed s p)
 
 abbrev pub isUnclosed : PieceKind → Bool
 isUnclosed K.the-variants.Name = false

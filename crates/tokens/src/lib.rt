@@ -8,7 +8,7 @@ ghost use Prim.Native.Nat.{suc, _+_, _-_};
 ghost use lib.Dec.{eqb};
 ghost use lib.ListN.{length, drop};
 ghost use Rattle.definition.specs.Lists.{leading, same};
-ghost use Rattle.definition.specs.Bytes.{isAlphameric, isDigit};
+ghost use Rattle.definition.specs.Bytes.{mixed, isAlphameric, isDigit};
 ghost use Rattle.definition.specs.Tokens as T;
 ghost use Rattle.tokens.specs.Answer.{closedFor, stepFor, stepAt, gapFor, constantFor, byteWidth, signSize, isSolid, lexOf, lexemeFor, Lexed, spelling, isWordKind, isSignKind, isWordIn, isSignIn, content, Unquoted, cutOf, closedPiece, Cuts, isUnclosed, endingFor};
 use chars::class;
@@ -201,7 +201,7 @@ fn constant_end(s: &[u8], from: usize) -> Constant
 
 // The place past the letters, digits and `_` at a place.
 fn word_end(s: &[u8], p: usize) -> usize
-    ensures { λ r. ⌜ r ≡ p + length (leading isAlphameric (drop p (now (s .entry)))) ⌝ }
+    ensures { λ r. ⌜ r ≡ p + length (leading (isAlphameric mixed) (drop p (now (s .entry)))) ⌝ }
 {
     let mut i = p;
     while i < s.len() {
@@ -285,7 +285,7 @@ fn place_before(p: usize) -> usize
 
 // Whether the token before, which ends at e, touches one that begins at p.
 fn touches(s: &[u8], e: usize, p: usize) -> bool
-    ensures { λ r. ⌜ r ≡ (eqb e p && T.isTouching (now (s .entry)) p) ⌝ }
+    ensures { λ r. ⌜ r ≡ (eqb e p && T.isTouching mixed (now (s .entry)) p) ⌝ }
 {
     if e == p {
         if is_solid(byte(s, place_before(p), 0)) {
@@ -303,7 +303,7 @@ fn lex(kind: Kind, from: usize, to: usize) -> Lexeme
 
 // The constant whose first quote stands at p and whose bytes begin at `from`.
 fn constant_at(s: &[u8], p: usize, from: usize) -> Lexeme
-    ensures { λ r. ⌜ r ≡ lexemeFor (T.constantAt (now (s .entry)) p (T.quotedAt (drop from (now (s .entry))) [] from)) ⌝ }
+    ensures { λ r. ⌜ r ≡ lexemeFor (T.constantAt mixed (now (s .entry)) p (T.quotedAt (drop from (now (s .entry))) [] from)) ⌝ }
 {
     let c = constant_end(s, from);
     match c {
@@ -319,7 +319,7 @@ fn constant_at(s: &[u8], p: usize, from: usize) -> Lexeme
 
 // The token at p, where the spaces after the one before it end.
 fn lexeme_at(s: &[u8], e: usize, p: usize) -> Lexeme
-    ensures { λ r. ⌜ r ≡ lexemeFor (T.lexemeAt (now (s .entry)) e (T.upTo p)) ⌝ }
+    ensures { λ r. ⌜ r ≡ lexemeFor (T.lexemeAt mixed (now (s .entry)) e (T.upTo p)) ⌝ }
 {
     if s.len() <= p {
         return lex(Kind::Nothing, p, p);
@@ -533,7 +533,7 @@ fn is_unclosed(k: PieceKind) -> bool
 
 // Where a text that begins at a place ends.
 pub fn text_end(s: &[u8], p: usize) -> Ending
-    ensures { λ r. ⌜ r ≡ endingFor (T.textEnd (suc (length (now (s .entry)))) (now (s .entry)) p) ⌝ }
+    ensures { λ r. ⌜ r ≡ endingFor (T.textEnd mixed (suc (length (now (s .entry)))) (now (s .entry)) p) ⌝ }
 {
     let mut i = p;
     while i < s.len() {

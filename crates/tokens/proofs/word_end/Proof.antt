@@ -7,11 +7,11 @@ use Rattle.tokens.proofs.word_end.Lts as lts
 use Rattle.chars.proofs.is_alphameric.Reads as is-alphameric-reads
 use lib.ListN.{length}
 use Prim.Native.Nat.{_-_}
-use Rattle.definition.specs.Bytes.{isAlphameric}
+use Rattle.definition.specs.Bytes.{mixed, isAlphameric}
 use Rattle.tokens.proofs.Laws.{Passing, passing-start, passing-more, passing-stop, passing-end}
 
 abbrev Inv-loop : tie.InvT-loop
-Inv-loop s p i₀ i = Passing s p isAlphameric i
+Inv-loop s p i₀ i = Passing s p (isAlphameric mixed) i
 
 abbrev μ-loop : tie.MeasureT-loop
 μ-loop s p i₀ i = length s - i
