@@ -1,99 +1,44 @@
--- The table's rule at each byte, and what the numbers of the classes tell.
+-- Comparing by folded bytes, and tests.
 -- Assumes nothing.
 use mathlib.Core.Path.{_≡_, refl, sym, _∙_, ap}
-use mathlib.Core.Bool.{Bool, true, false, cond, _||_}
+use mathlib.Core.Bool.{Bool, true, false, _||_}
 use mathlib.Core.List.{List, [], _∷_}
-use Prim.Native.Nat.{ℕ, zero, suc, _+_, _<_}
-use native.Mathlib.Nat.{add-zero, zero-add, add-suc, suc-add, le-of-suc-le-suc, not-suc-le-zero}
+use Prim.Native.Nat.{ℕ, _+_, _<_, _≤_}
 use borrow.Author.Needs.{needs}
 use borrow.Author.Tests.{lt-ltb, le-ltb, le-leb, lt-leb, eq-eqb, ne-eqb}
-use lib.Dec.{leb, eqb}
 use lib.ListN.{getD}
-use Rattle.definition.specs.declared.Class.{Class}
-use Rattle.definition.specs.declared.Class.the-variants.{Letter, Digit, Break, Blank, LineFeed, Percent, Quote, Mark, Other}
-use Rattle.definition.specs.Bytes.{mixed, classOf, isLetter, isDigit, isAlphameric, isBlank, isMark}
-use Rattle.chars.specs.Code.{codeOf, fromCode}
+use Rattle.definition.specs.Bytes.{mixed, capital, folded}
+use Rattle.definition.specs.Lists.{part, same}
+use Rattle.definition.proofs.Folded.{folded-at, folded-part}
+use Rattle.rooms.proofs.Laws.{Comparing, comparing-more, comparing-differ, comparing-done}
 
--- the list of a function's values at n numbers from i on, and its value at each place
-abbrev pub tab : (ℕ → ℕ) → ℕ → ℕ → List ℕ
-tab f i zero = []
-tab f i (suc n) = f i ∷ tab f (suc i) n
+-- ---- comparing, of folded bytes
+module _ (a : List ℕ) (i : ℕ) (b : List ℕ) (k n j : ℕ) where
+  pub spelling-more : Comparing (folded mixed a) i b k n j → (x z y : ℕ) → j < n → x ≡ getD a (i + j) 0 → z ≡ capital mixed x → y ≡ getD b (k + j) 0 → z ≡ y → Comparing (folded mixed a) i b k n (j + 1)
+  spelling-more c x z y h p e q f = comparing-more (folded mixed a) i b k n j c z y h (e ∙ ap (capital mixed) p ∙ sym (folded-at mixed a (i + j))) q f
 
-from : (f : ℕ → ℕ) (i n k : ℕ) → k < n → getD (tab f i n) k 0 ≡ f (i + k)
-from f i zero k h = absurd (not-suc-le-zero h)
-from f i (suc n) zero h = rw add-zero
-from f i (suc n) (suc k) h = from f (suc i) n k (le-of-suc-le-suc h) ∙ ap f (suc-add i k ∙ sym (add-suc i k))
+  pub spelling-differ : Comparing (folded mixed a) i b k n j → (x z y : ℕ) → j < n → x ≡ getD a (i + j) 0 → z ≡ capital mixed x → y ≡ getD b (k + j) 0 → (z ≡ y → ⊥) → false ≡ same (folded mixed (part n i a)) (part n k b)
+  spelling-differ c x z y h p e q f =
+      rw (folded-part mixed n i a) (comparing-differ (folded mixed a) i b k n j c z y h (e ∙ ap (capital mixed) p ∙ sym (folded-at mixed a (i + j))) q f)
 
-pub tab-at : (f : ℕ → ℕ) (n k : ℕ) → k < n → getD (tab f 0 n) k 0 ≡ f k
-tab-at f n k h = from f 0 n k h ∙ ap f (zero-add k)
+  pub spelling-done : Comparing (folded mixed a) i b k n j → n ≤ j → true ≡ same (folded mixed (part n i a)) (part n k b)
+  spelling-done c h = rw (folded-part mixed n i a) (comparing-done (folded mixed a) i b k n j c h)
 
--- the number of a byte's class
-unfoldable pub codeAt : ℕ → ℕ
-codeAt b = codeOf (classOf mixed b)
+module _ (a : List ℕ) (i : ℕ) (b : List ℕ) (k n j : ℕ) (c : Comparing (folded mixed a) i (folded mixed b) k n j) where
+  pub naming-more : (x z y v : ℕ) → j < n → x ≡ getD a (i + j) 0 → z ≡ capital mixed x → y ≡ getD b (k + j) 0 → v ≡ capital mixed y → z ≡ v → Comparing (folded mixed a) i (folded mixed b) k n (j + 1)
+  naming-more x z y v h p e q g f = spelling-more a i (folded mixed b) k n j c x z v h p e (g ∙ ap (capital mixed) q ∙ sym (folded-at mixed b (k + j))) f
 
-back : (c : Class) → fromCode (codeOf c) ≡ c
-back Other = refl
-back Letter = refl
-back Digit = refl
-back Break = refl
-back Blank = refl
-back LineFeed = refl
-back Percent = refl
-back Quote = refl
-back Mark = refl
+  pub naming-differ : (x z y v : ℕ) → j < n → x ≡ getD a (i + j) 0 → z ≡ capital mixed x → y ≡ getD b (k + j) 0 → v ≡ capital mixed y → (z ≡ v → ⊥) → false ≡ same (folded mixed (part n i a)) (folded mixed (part n k b))
+  naming-differ x z y v h p e q g f =
+      rw (folded-part mixed n k b) (spelling-differ a i (folded mixed b) k n j c x z v h p e (g ∙ ap (capital mixed) q ∙ sym (folded-at mixed b (k + j))) f)
 
--- a number that is read off the table tells the class
-pub from-code : (c : Class) (k n : ℕ) → k ≡ codeOf c → k ≡ n → fromCode n ≡ c
-from-code c k n e t = ap fromCode (sym t ∙ e) ∙ back c
+  pub naming-done : n ≤ j → true ≡ same (folded mixed (part n i a)) (folded mixed (part n k b))
+  naming-done h = rw (folded-part mixed n k b) (spelling-done a i (folded mixed b) k n j c h)
 
--- a number that is none of 1 to 8 is that of `Other`
-pub from-rest : (c : Class) (k : ℕ) → k ≡ codeOf c → (k ≡ 1 → ⊥) → (k ≡ 2 → ⊥) → (k ≡ 3 → ⊥) → (k ≡ 4 → ⊥) → (k ≡ 5 → ⊥) → (k ≡ 6 → ⊥) → (k ≡ 7 → ⊥) → (k ≡ 8 → ⊥) → Other ≡ c
-from-rest Other k e n1 n2 n3 n4 n5 n6 n7 n8 = refl
-from-rest Letter k e n1 n2 n3 n4 n5 n6 n7 n8 = absurd (n1 e)
-from-rest Digit k e n1 n2 n3 n4 n5 n6 n7 n8 = absurd (n2 e)
-from-rest Break k e n1 n2 n3 n4 n5 n6 n7 n8 = absurd (n3 e)
-from-rest Blank k e n1 n2 n3 n4 n5 n6 n7 n8 = absurd (n4 e)
-from-rest LineFeed k e n1 n2 n3 n4 n5 n6 n7 n8 = absurd (n5 e)
-from-rest Percent k e n1 n2 n3 n4 n5 n6 n7 n8 = absurd (n6 e)
-from-rest Quote k e n1 n2 n3 n4 n5 n6 n7 n8 = absurd (n7 e)
-from-rest Mark k e n1 n2 n3 n4 n5 n6 n7 n8 = absurd (n8 e)
-
--- by the tests of `classOf`, in their order
-chain : Bool → Bool → Bool → Bool → Bool → Bool → Bool → Bool → Class
-chain l d u k f p q m =
-    cond l Letter (cond d Digit (cond u Break (cond k Blank (cond f LineFeed (cond p Percent (cond q Quote (cond m Mark Other)))))))
-
-letter : (l d u k f p q m : Bool) → eqb (codeOf (chain l d u k f p q m)) 1 ≡ l
-unfolding chain
-letter true d u k f p q m = refl
-letter false true u k f p q m = refl
-letter false false true k f p q m = refl
-letter false false false true f p q m = refl
-letter false false false false true p q m = refl
-letter false false false false false true q m = refl
-letter false false false false false false true m = refl
-letter false false false false false false false true = refl
-letter false false false false false false false false = refl
-
-pub is-letter : (b k : ℕ) → k ≡ codeOf (classOf mixed b) → eqb k 1 ≡ isLetter mixed b
-unfolding classOf chain
-is-letter b k e = rw e (letter (isLetter mixed b) (isDigit b) (eqb b 95) (isBlank b) (eqb b 10) (eqb b 37) (eqb b 39) (isMark b))
-
-alphameric : (l d u k f p q m : Bool) → cond (eqb (codeOf (chain l d u k f p q m)) 0) false (leb (codeOf (chain l d u k f p q m)) 3) ≡ (l || d || u)
-unfolding chain
-alphameric true d u k f p q m = refl
-alphameric false true u k f p q m = refl
-alphameric false false true k f p q m = refl
-alphameric false false false true f p q m = refl
-alphameric false false false false true p q m = refl
-alphameric false false false false false true q m = refl
-alphameric false false false false false false true m = refl
-alphameric false false false false false false false true = refl
-alphameric false false false false false false false false = refl
-
-pub is-alphameric : (b k : ℕ) → k ≡ codeOf (classOf mixed b) → cond (eqb k 0) false (leb k 3) ≡ isAlphameric mixed b
-unfolding classOf isAlphameric chain
-is-alphameric b k e = rw e (alphameric (isLetter mixed b) (isDigit b) (eqb b 95) (isBlank b) (eqb b 10) (eqb b 37) (eqb b 39) (isMark b))
+-- ---- tests
+pub or-none : (b : Bool) → b ≡ (b || false)
+or-none true = refl
+or-none false = refl
 
 -- what a function that only tests its argument is proved by
 pub ruleset tests = (needs, lt-ltb, le-ltb, le-leb, lt-leb, eq-eqb, ne-eqb)

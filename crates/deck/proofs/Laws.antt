@@ -13,9 +13,10 @@ use borrow.Author.Tests.{eq-eqb, ne-eqb, le-leb, lt-leb}
 use lib.Dec.{eqb, leb}
 use lib.ListN.{length, getD, replicate}
 use Rattle.definition.specs.Lists.{part, number, all, past, same}
-use Rattle.definition.specs.Bytes.{mixed, isLetter, isAlphameric, isBlank}
+use Rattle.definition.specs.Bytes.{mixed, isLetter, isAlphameric, isBlank, folded}
 use Rattle.definition.specs.Deck as D
-use Rattle.definition.specs.Deck.{Line, first, hasLibraries, count, libraryLength, linePlace, lineAt, linesFrom, lines, isMemberName, areNamed, isRepeated, areDistinct, isPadded, isCalled, find, follow, isSound, contents}
+use Rattle.definition.specs.Deck.{Line, first, hasLibraries, count, libraryLength, linePlace, lineAt, linesFrom, lines, isMemberName, areNamed, isRepeated, isOne, areDistinct, isPadded, isCalled, find, follow, isSound, contents}
+use Rattle.definition.proofs.Folded.{folded-part, blank-folded}
 use Rattle.definition.proofs.Joined.{padded-none, length-lines}
 use Rattle.definition.proofs.Parts.{part-first, length-part, same-length}
 use Rattle.member.specs.Body.{bodyBytes}
@@ -261,26 +262,36 @@ length-padded (suc m) at s xs = let h : m ≤ length (part m (suc at) s ++ xs) =
 
 -- of a name that is spelled elsewhere, padded with blanks at a place
 module _ (d : List ℕ) (at from len : ℕ) where
-  pub too-long : 8 < len → false ≡ isPadded mixed (part len from d) (part 8 at d)
-  unfolding isPadded
-  too-long h =
+  long : 8 < len → false ≡ same (part 8 at d) (part len from d ++ replicate (8 - length (part len from d)) 32)
+  long h =
       same-length (part 8 at d) (part len from d ++ replicate (8 - length (part len from d)) 32)
       λ e. omega (arith, e, length-padded len from d (replicate (8 - length (part len from d)) 32), length-part 8 at d)
 
-  padded : len ≤ 8 → isPadded mixed (part len from d) (part 8 at d) ≡ (same (part len at d) (part len from d) && all isBlank (part (8 - len) (at + len) d))
-  unfolding isPadded
-  padded h =
+  blanks : len ≤ 8 → same (part 8 at d) (part len from d ++ replicate (8 - length (part len from d)) 32) ≡ (same (part len at d) (part len from d) && all isBlank (part (8 - len) (at + len) d))
+  blanks h =
       let e : len + (8 - len) ≡ 8 = omega arith in
       let g : part 8 at d ≡ part len at d ++ part (8 - len) (at + len) d = rw e at (part-add len (8 - len) at d) in
       rw (g, length-part len from d)
       (same-append (part len at d) (part len from d) (part (8 - len) (at + len) d) (replicate (8 - len) 32) (length-part len at d ∙ sym (length-part len from d))
       ∙ rw (blank-same (8 - len) (at + len) d))
 
-  module _ (t : Bool) (h : len ≤ 8) (f : t ≡ same (part len at d) (part len from d)) where
-    pub padded-as : (r : Bool) → t ≡ true → r ≡ all isBlank (part (8 - len) (at + len) d) → r ≡ isPadded mixed (part len from d) (part 8 at d)
+module _ (d : List ℕ) (at from len : ℕ) where
+  pub too-long : 8 < len → false ≡ isPadded mixed (folded mixed (part len from d)) (part 8 at d)
+  unfolding isPadded
+  too-long h = rw (folded-part mixed len from d, folded-part mixed 8 at d) (long (folded mixed d) at from len h)
+
+  padded : len ≤ 8 → isPadded mixed (folded mixed (part len from d)) (part 8 at d) ≡ (same (folded mixed (part len at d)) (folded mixed (part len from d)) && all isBlank (part (8 - len) (at + len) d))
+  unfolding isPadded
+  padded h =
+      rw (folded-part mixed 8 at d, folded-part mixed len at d, folded-part mixed len from d)
+      (blanks (folded mixed d) at from len h
+      ∙ rw (← folded-part mixed (8 - len) (at + len) d, blank-folded (part (8 - len) (at + len) d)))
+
+  module _ (t : Bool) (h : len ≤ 8) (f : t ≡ same (folded mixed (part len at d)) (folded mixed (part len from d))) where
+    pub padded-as : (r : Bool) → t ≡ true → r ≡ all isBlank (part (8 - len) (at + len) d) → r ≡ isPadded mixed (folded mixed (part len from d)) (part 8 at d)
     padded-as r g q = q ∙ rw (padded h, ← f, g)
 
-    pub padded-not : t ≡ false → false ≡ isPadded mixed (part len from d) (part 8 at d)
+    pub padded-not : t ≡ false → false ≡ isPadded mixed (folded mixed (part len from d)) (part 8 at d)
     padded-not g = rw (padded h, ← f, g)
 
 module _ (d : List ℕ) (k : ℕ) (w : List ℕ) (b : Bool) (lib : b ≡ hasLibraries d) where
@@ -327,13 +338,18 @@ module _ (d : List ℕ) (x : D.Sought) (n k : ℕ) (s : Finding d x n k) where
 
 -- ---- no names twice
 -- the names of a line stand one behind the other
-pub alike : (d : List ℕ) (j k p q n : ℕ) (r : Bool) → p ≡ linePlace d j → q ≡ linePlace d k → n ≡ libraryLength d → r ≡ same (part (n + 8) p d) (part (n + 8) q d)
-    → r ≡ (same (lineAt d j .library) (lineAt d k .library) && same (lineAt d j .name) (lineAt d k .name))
+pub alike : (d : List ℕ) (j k p q n : ℕ) (r : Bool) → p ≡ linePlace d j → q ≡ linePlace d k → n ≡ libraryLength d → r ≡ same (folded mixed (part (n + 8) p d)) (folded mixed (part (n + 8) q d))
+    → r ≡ (isOne mixed (lineAt d j .library) (lineAt d k .library) && isOne mixed (lineAt d j .name) (lineAt d k .name))
 unfolding lineAt
 alike d j k p q n r e f g h =
-    h
-    ∙ rw (part-add n 8 p d, part-add n 8 q d)
-    (same-append (part n p d) (part n q d) (part 8 (p + n) d) (part 8 (q + n) d) (length-part n p d ∙ sym (length-part n q d)) ∙ rw (e, f, g))
+    let D : List ℕ = folded mixed d in
+    let both : same (part (n + 8) p D) (part (n + 8) q D) ≡ (same (part n p D) (part n q D) && same (part 8 (p + n) D) (part 8 (q + n) D)) =
+        rw (part-add n 8 p D, part-add n 8 q D) (same-append (part n p D) (part n q D) (part 8 (p + n) D) (part 8 (q + n) D) (length-part n p D ∙ sym (length-part n q D)))
+    in
+    let back : (same (part n p D) (part n q D) && same (part 8 (p + n) D) (part 8 (q + n) D)) ≡ (isOne mixed (part n p d) (part n q d) && isOne mixed (part 8 (p + n) d) (part 8 (q + n) d)) =
+        rw (folded-part mixed n p d, folded-part mixed n q d, folded-part mixed 8 (p + n) d, folded-part mixed 8 (q + n) d)
+    in
+    h ∙ rw (folded-part mixed (n + 8) p d, folded-part mixed (n + 8) q d) (both ∙ back ∙ rw (e, f, g))
 
 pub record Repeating (d : List ℕ) (k i n j : ℕ) : Type 0 where
   pub is : isRepeated mixed (lineAt d k) (linesFrom d j (n - j)) ≡ isRepeated mixed (lineAt d k) (linesFrom d i (n - i))
@@ -342,7 +358,7 @@ pub repeating-start : (d : List ℕ) (k i n : ℕ) → Repeating d k i n i
 repeating-start d k i n = record { is = refl }
 
 module _ (d : List ℕ) (k i n j : ℕ) (s : Repeating d k i n j) where
-  module _ (h : j < n) (t : Bool) (e : t ≡ (same (lineAt d j .library) (lineAt d k .library) && same (lineAt d j .name) (lineAt d k .name))) where
+  module _ (h : j < n) (t : Bool) (e : t ≡ (isOne mixed (lineAt d j .library) (lineAt d k .library) && isOne mixed (lineAt d j .name) (lineAt d k .name))) where
     pub repeating-more : t ≡ false → Repeating d k i n (j + 1)
     unfolding isRepeated
     repeating-more f = record { is = rw (lines-next d n j h, ← e, f) at (s .is) }

@@ -3,7 +3,7 @@ use Prim.Native.Nat.{ℕ}
 use mathlib.Core.List.{List}
 use mathlib.Core.Bool.{Bool, true, cond, _&&_}
 use lib.ListN.{length}
-use Rattle.definition.specs.Bytes.{mixed}
+use Rattle.definition.specs.Bytes.{mixed, folded}
 use Rattle.definition.specs.Lists.{part}
 use Rattle.definition.specs.Deck as D
 use Rattle.member.specs.Body.{bodyBytes}
@@ -33,9 +33,9 @@ foundFor (D.line k) = Line k
 unfoldable pub isNamed : List ℕ → ℕ → Bool
 isNamed d k = cond (D.hasLibraries d) (D.isMemberName mixed (D.lineAt d k .library)) true && D.isMemberName mixed (D.lineAt d k .name)
 
--- the names that are spelled in the deck
+-- the names that are spelled in the deck, as names are compared
 abbrev pub spelled : List ℕ → Spelled → List ℕ
-spelled d w = part (w .len) (w .from) d
+spelled d w = folded mixed (part (w .len) (w .from) d)
 
 unfoldable pub soughtIn : List ℕ → Sought → D.Sought
 soughtIn d (Bare w) = D.bare (spelled d w)

@@ -4,19 +4,19 @@ ghost use mathlib.Core.Path.{_≡_};
 ghost use mathlib.Core.Bool.{_&&_};
 ghost use Prim.Native.Nat.{_+_, _-_, _*_, _≤_};
 ghost use lib.ListN.{length};
-ghost use Rattle.definition.specs.Lists.{part, all, same};
+ghost use Rattle.definition.specs.Lists.{part, all};
 ghost use Rattle.definition.specs.Bytes.{mixed, isBlank};
-ghost use Rattle.definition.specs.Deck.{hasLibraries, libraryLength, linePlace, lineAt, linesFrom, isMemberName, areNamed, isRepeated, areDistinct, isPadded, isCalled, follow};
+ghost use Rattle.definition.specs.Deck.{hasLibraries, libraryLength, linePlace, lineAt, linesFrom, isMemberName, areNamed, isOne, isRepeated, areDistinct, isPadded, isCalled, follow};
 ghost use Rattle.definition.specs.Deck as D;
-ghost use Rattle.deck.specs.Answer.{answerFor, foundFor, refusalOf, bodyIn, isNamed, soughtIn};
+ghost use Rattle.deck.specs.Answer.{answerFor, foundFor, refusalOf, bodyIn, isNamed, spelled, soughtIn};
 ghost use Rattle.deck.specs.Word.{Word};
 use chars::is_alphameric;
 use chars::is_letter;
+use chars::is_one_name;
 use member::body_of;
 use rooms::byte;
 use rooms::get_u16;
 use rooms::get_u32;
-use rooms::is_same;
 
 // A sound deck, by the number of its lines.
 pub struct Deck {
@@ -178,13 +178,13 @@ fn are_named(d: &[u8], n: u16) -> bool
 
 // Whether the name at a place is the one that is spelled elsewhere, padded with blanks.
 fn is_padded(d: &[u8], at: usize, w: Spelled) -> bool
-    ensures { λ r. ⌜ r ≡ isPadded mixed (part (w .len) (w .from) (now (d .entry))) (part 8 at (now (d .entry))) ⌝ }
+    ensures { λ r. ⌜ r ≡ isPadded mixed (spelled (now (d .entry)) w) (part 8 at (now (d .entry))) ⌝ }
 {
     let len = w.len;
     if Deck::NAME < len {
         return false;
     }
-    if is_same(d, at, d, w.from, len) {
+    if is_one_name(d, at, d, w.from, len) {
         return is_blank_part(d, at, len, Deck::NAME);
     }
     false
@@ -192,7 +192,7 @@ fn is_padded(d: &[u8], at: usize, w: Spelled) -> bool
 
 // Whether line k is in the library that is spelled elsewhere.
 fn is_in_library(d: &[u8], k: u16, w: Spelled) -> bool
-    ensures { λ r. ⌜ r ≡ isPadded mixed (part (w .len) (w .from) (now (d .entry))) (lineAt (now (d .entry)) k .library) ⌝ }
+    ensures { λ r. ⌜ r ≡ isPadded mixed (spelled (now (d .entry)) w) (lineAt (now (d .entry)) k .library) ⌝ }
 {
     if has_libraries(d) {
         return is_padded(d, line_place(d, k), w);
@@ -232,9 +232,9 @@ pub fn find(d: &[u8], x: Sought) -> Found
 
 // Whether line j has the names of line k.
 fn is_alike(d: &[u8], j: u16, k: u16) -> bool
-    ensures { λ r. ⌜ r ≡ (same (lineAt (now (d .entry)) j .library) (lineAt (now (d .entry)) k .library) && same (lineAt (now (d .entry)) j .name) (lineAt (now (d .entry)) k .name)) ⌝ }
+    ensures { λ r. ⌜ r ≡ (isOne mixed (lineAt (now (d .entry)) j .library) (lineAt (now (d .entry)) k .library) && isOne mixed (lineAt (now (d .entry)) j .name) (lineAt (now (d .entry)) k .name)) ⌝ }
 {
-    is_same(
+    is_one_name(
         d,
         line_place(d, j),
         d,

@@ -13,6 +13,7 @@ pub mod Thrift
 pub mod Layouts
 pub mod Ranges
 pub mod Fits
+pub mod Folded
 pub mod Follows
 pub mod FollowsRun
 pub mod Texts

@@ -22,7 +22,7 @@ isSmall mixed b = leb (code "a") b && leb b (code "z")
 
 -- "Letters are A to Z, `$ @ #`"
 unfoldable pub isLetter : Letters → ℕ → Bool
-isLetter α b = leb (code "A") b && leb b (code "Z") || among b (bytesOf "$@#") || isSmall α b
+isLetter α b = leb (code "A") b && leb b (code "Z") || isSmall α b || among b (bytesOf "$@#")
 
 -- 02, C-15: "names equal but for case are one name": a name is read with each small letter as its capital, which stands
 -- 32 before it

@@ -10,6 +10,7 @@ use native.Mathlib.Numerals.{add-one}
 use borrow.Author.Tests.{le-leb, lt-leb, lt-ltb, le-ltb, eqb-true, eqb-false}
 use lib.Dec.{eqb}
 use lib.ListN.{length, getD, set}
+use Rattle.definition.specs.Bytes.{mixed, folded}
 use Rattle.definition.specs.Choice.{when}
 use Rattle.definition.specs.Lists.{part}
 use Rattle.definition.specs.Room.{over}
@@ -321,31 +322,31 @@ address-low w k b c [] e = let z : _≡_ {A = ℕ} 0 1 = cc in absurd (omega ari
 address-low w k b c (i ∷ is) e = hit w k b c is (W.isIdentifier w k i) e (address-low w k (suc b) c is)
 
 module _ (d s t : List ℕ) (x : Tally) (p : Spelling) (o : Owner) (h : Declarable d s t x p) (n : ℕ) (hn : n ≡ p .to - p .from)
-    (f : Found) (hf : f ≡ foundFor (W.addressIn (part n (p .from) s) (ownerOf o) 0 (identifiersFrom d t 0 (x .names)))) where
-  looked : f ≡ foundFor (W.addressIn (part (p .to - p .from) (p .from) s) (ownerOf o) 0 (identifiersFrom d t 0 (x .names)))
+    (f : Found) (hf : f ≡ foundFor (W.addressIn (folded mixed (part n (p .from) s)) (ownerOf o) 0 (identifiersFrom d t 0 (x .names)))) where
+  looked : f ≡ foundFor (W.addressIn (folded mixed (part (p .to - p .from) (p .from) s)) (ownerOf o) 0 (identifiersFrom d t 0 (x .names)))
   looked = rw hn at hf
 
   pub declare-joining : (a : Address) → f ≡ Known a → Joining t x (a .0)
   declare-joining a e = record {
     roomy = h .roomy;
-    known = omega (arith, address-low (part (p .to - p .from) (p .from) s) (ownerOf o) 0 (a .0) (identifiersFrom d t 0 (x .names)) (known-is (W.addressIn (part (p .to - p .from) (p .from) s) (ownerOf o) 0 (identifiersFrom d t 0 (x .names))) a (sym looked ∙ e)), identifiers-length d t (x .names));
+    known = omega (arith, address-low (folded mixed (part (p .to - p .from) (p .from) s)) (ownerOf o) 0 (a .0) (identifiersFrom d t 0 (x .names)) (known-is (W.addressIn (folded mixed (part (p .to - p .from) (p .from) s)) (ownerOf o) 0 (identifiersFrom d t 0 (x .names))) a (sym looked ∙ e)), identifiers-length d t (x .names));
   }
 
-  spelled-there : spelled d (identifierIn (x .base) p) ≡ part (p .to - p .from) (p .from) s
+  spelled-there : spelled d (identifierIn (x .base) p) ≡ folded mixed (part (p .to - p .from) (p .from) s)
   spelled-there =
       let l : p .from < p .to = h .spelled .low in
       let i : x .base + p .to ≤ 65536 = h .spelled .inside in
       let a : p .from % 65536 ≡ p .from = mod-eq-of-lt (omega arith) in
       let b : (x .base + p .from) % 65536 ≡ x .base + p .from = mod-eq-of-lt (omega arith) in
       let c : (p .to - p .from) % 65536 ≡ p .to - p .from = mod-eq-of-lt (h .spelled .short) in
-      rw (a, b, c) (h .spelled .same)
+      rw (a, b, c) (ap (folded mixed) (h .spelled .same))
 
   module _ (g : Meaning) (e : Denotation) (he : e ≡ newDenotation (x .member) g) (u : List ℕ) (y : Tally) where
     pub declare-known : (a : Address) → f ≡ Known a → JoinedAt t x (a .0) (p .from) e u y
         → Entered d t x (bookOne (identifierAt s p o) (denotationOf (newDenotation (x .member) g)) (p .from)) u y
     unfolding bookOne bookOf
     declare-known a k j = record {
-      book = rw he at (j .book d) ∙ sym (ap (λ (z : W.Address). bookAt z (identifierAt s p o) (denotationOf (newDenotation (x .member) g)) (p .from) (bookOf d t x)) (known-is (W.addressIn (part (p .to - p .from) (p .from) s) (ownerOf o) 0 (identifiersFrom d t 0 (x .names))) a (sym looked ∙ k)));
+      book = rw he at (j .book d) ∙ sym (ap (λ (z : W.Address). bookAt z (identifierAt s p o) (denotationOf (newDenotation (x .member) g)) (p .from) (bookOf d t x)) (known-is (W.addressIn (folded mixed (part (p .to - p .from) (p .from) s)) (ownerOf o) 0 (identifiersFrom d t 0 (x .names))) a (sym looked ∙ k)));
       roomy = j .roomy;
       member = j .member;
       base = j .base;
@@ -355,7 +356,7 @@ module _ (d s t : List ℕ) (x : Tally) (p : Spelling) (o : Owner) (h : Declarab
         → Entered d t x (bookOne (identifierAt s p o) (denotationOf (newDenotation (x .member) g)) (p .from)) u y
     unfolding bookOne bookOf
     declare-unknown k j = record {
-      book = rw (he, spelled-there) at (j .book d) ∙ sym (ap (λ (z : W.Address). bookAt z (identifierAt s p o) (denotationOf (newDenotation (x .member) g)) (p .from) (bookOf d t x)) (unknown-is (W.addressIn (part (p .to - p .from) (p .from) s) (ownerOf o) 0 (identifiersFrom d t 0 (x .names))) (sym looked ∙ k)));
+      book = rw (he, spelled-there) at (j .book d) ∙ sym (ap (λ (z : W.Address). bookAt z (identifierAt s p o) (denotationOf (newDenotation (x .member) g)) (p .from) (bookOf d t x)) (unknown-is (W.addressIn (folded mixed (part (p .to - p .from) (p .from) s)) (ownerOf o) 0 (identifiersFrom d t 0 (x .names))) (sym looked ∙ k)));
       roomy = j .roomy;
       member = j .member;
       base = j .base;
@@ -378,7 +379,7 @@ module _ (t : List ℕ) (x : Tally) (a p : ℕ) (e : Denotation) (o : Name) (h :
   joins-set v f u w = record { is = λ r. joined-set t x a p e r o h j k v f u w }
 
 module _ (d s t : List ℕ) (x : Tally) (p : Spelling) (o : Owner) (n : ℕ) (hn : n ≡ p .to - p .from)
-    (f : Found) (hf : f ≡ foundFor (W.addressIn (part n (p .from) s) (ownerOf o) 0 (identifiersFrom d t 0 (x .names)))) (g : Meaning) (e : Denotation) (he : e ≡ newDenotation (x .member) g) (u : List ℕ) (y : Tally) where
+    (f : Found) (hf : f ≡ foundFor (W.addressIn (folded mixed (part n (p .from) s)) (ownerOf o) 0 (identifiersFrom d t 0 (x .names)))) (g : Meaning) (e : Denotation) (he : e ≡ newDenotation (x .member) g) (u : List ℕ) (y : Tally) where
   pub declares-known : (a : Address) → f ≡ Known a → JoinedIf t x (a .0) (p .from) e u y → EnteredIf d s t x p (bookOne (identifierAt s p o) (denotationOf (newDenotation (x .member) g)) (p .from)) u y
   declares-known a k j = record { is = λ h. declare-known d s t x p o h n hn f hf g e he u y a k (j .is (declare-joining d s t x p o h n hn f hf a k)) }
 

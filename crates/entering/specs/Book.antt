@@ -6,6 +6,7 @@ use mathlib.Core.List.{List, [], _∷_, _++_}
 use mathlib.Core.Path.{_≡_}
 use lib.Dec.{leb, ltb}
 use lib.ListN.{length, getD, set}
+use Rattle.definition.specs.Bytes.{mixed, folded}
 use Rattle.definition.specs.Lists.{part}
 use Rattle.definition.specs.Limits.{declaredNames}
 use Rattle.definition.specs.Program as P
@@ -173,7 +174,7 @@ pub record Spelled (d s : List ℕ) (base : ℕ) (x : Spelling) : Type 0 where
   pub same : part (x .to - x .from) (base + x .from) d ≡ part (x .to - x .from) (x .from) s
 
 abbrev pub identifierAt : List ℕ → Spelling → Owner → W.Identifier
-identifierAt s x o = record { spelling = part (x .to - x .from) (x .from) s; owner = ownerOf o }
+identifierAt s x o = record { spelling = folded mixed (part (x .to - x .from) (x .from) s); owner = ownerOf o }
 
 pub record Declarable (d s t : List ℕ) (x : Tally) (p : Spelling) : Type 0 where
   pub roomy : Roomy t x

@@ -10,11 +10,13 @@ use native.Mathlib.Omega.{arith}
 use borrow.Author.Tests.{ltb-true, ltb-false, eq-eqb, ne-eqb, eqb-false}
 use lib.Dec.{eqb, ltb, lit<}
 use lib.ListN.{length, getD, length-append}
+use Rattle.definition.specs.Bytes.{mixed, folded}
 use Rattle.definition.specs.Lists.{part, same}
 use Rattle.definition.specs.World as W
 use Rattle.definition.specs.World.{sameOwner, isIdentifier, addressIn}
 use Rattle.definition.specs.Room.{over}
 use Rattle.definition.proofs.Rooms.{over-next-at, getD-over-at, getD-over-low, getD-over-high}
+use Rattle.definition.proofs.Folded.{length-folded}
 use Rattle.definition.proofs.Parts.{length-part, same-length}
 use Rattle.types.proofs.Laws.{type-back}
 use Rattle.names.specs.declared.Identifier.{Identifier}
@@ -50,17 +52,17 @@ same-procedures a b p q r e f g = g ∙ rw (e, f)
 
 -- ---- whether a record is that of an identifier
 module _ (d : List ℕ) (x : Name) (s : List ℕ) (from n : ℕ) (o : Owner) where
-  pub other-length : (x .identifier .1 ≡ n → ⊥) → false ≡ isIdentifier (part n from s) (ownerOf o) (identifierOf d x)
+  pub other-length : (x .identifier .1 ≡ n → ⊥) → false ≡ isIdentifier (folded mixed (part n from s)) (ownerOf o) (identifierOf d x)
   other-length h =
-      let z : false ≡ same (spelled d (x .identifier)) (part n from s) =
-      same-length (spelled d (x .identifier)) (part n from s) (λ e. h (sym (length-part (x .identifier .1) (x .identifier .0) d) ∙ e ∙ length-part n from s)) in
+      let z : false ≡ same (spelled d (x .identifier)) (folded mixed (part n from s)) =
+      same-length (spelled d (x .identifier)) (folded mixed (part n from s)) (λ e. h (sym (length-folded mixed (part (x .identifier .1) (x .identifier .0) d) ∙ length-part (x .identifier .1) (x .identifier .0) d) ∙ e ∙ length-folded mixed (part n from s) ∙ length-part n from s)) in
       rw (← z)
 
-  module _ (g : Bool) (e : x .identifier .1 ≡ n) (f : g ≡ same (part n (x .identifier .0) d) (part n from s)) where
-    pub same-spelling : g ≡ true → (r : Bool) → r ≡ sameOwner (ownerOf (x .owner)) (ownerOf o) → r ≡ isIdentifier (part n from s) (ownerOf o) (identifierOf d x)
+  module _ (g : Bool) (e : x .identifier .1 ≡ n) (f : g ≡ same (folded mixed (part n (x .identifier .0) d)) (folded mixed (part n from s))) where
+    pub same-spelling : g ≡ true → (r : Bool) → r ≡ sameOwner (ownerOf (x .owner)) (ownerOf o) → r ≡ isIdentifier (folded mixed (part n from s)) (ownerOf o) (identifierOf d x)
     same-spelling y r q = q ∙ rw (e, ← f, y)
 
-    pub other-spelling : g ≡ false → false ≡ isIdentifier (part n from s) (ownerOf o) (identifierOf d x)
+    pub other-spelling : g ≡ false → false ≡ isIdentifier (folded mixed (part n from s)) (ownerOf o) (identifierOf d x)
     other-spelling y = rw (e, ← f, y)
 
 -- ---- the length that stands in a record
@@ -75,11 +77,11 @@ module _ (t : List ℕ) (a at m n : ℕ) (p : at ≡ 16 * a) (q : m ≡ getD t (
 
 -- ---- whether the record of an address is that of an identifier
 module _ (d t s : List ℕ) (a from n : ℕ) (o : Owner) where
-  pub is-there : (x : Name) (g : Bool) → x ≡ nameIn t a → g ≡ isIdentifier (part n from s) (ownerOf o) (identifierOf d x)
-      → g ≡ isIdentifier (part n from s) (ownerOf o) (identifierOf d (nameIn t a))
+  pub is-there : (x : Name) (g : Bool) → x ≡ nameIn t a → g ≡ isIdentifier (folded mixed (part n from s)) (ownerOf o) (identifierOf d x)
+      → g ≡ isIdentifier (folded mixed (part n from s)) (ownerOf o) (identifierOf d (nameIn t a))
   is-there x g e f = rw (← e) f
 
-  pub not-there : (b : Bool) → b ≡ eqb (nameIn t a .identifier .1) n → b ≡ false → false ≡ isIdentifier (part n from s) (ownerOf o) (identifierOf d (nameIn t a))
+  pub not-there : (b : Bool) → b ≡ eqb (nameIn t a .identifier .1) n → b ≡ false → false ≡ isIdentifier (folded mixed (part n from s)) (ownerOf o) (identifierOf d (nameIn t a))
   not-there b e f = other-length d (nameIn t a) s from n o (eqb-false (nameIn t a .identifier .1) n (sym e ∙ f))
 
 -- ---- the search: what is left to look at decides

@@ -4,6 +4,7 @@ use mathlib.Core.Bool.{Bool, cond, _&&_}
 use mathlib.Core.List.{List, [], _∷_, _++_}
 use lib.Dec.{eqb}
 use lib.ListN.{getD}
+use Rattle.definition.specs.Bytes.{mixed, folded}
 use Rattle.definition.specs.Lists.{part}
 use Rattle.definition.specs.World as W
 use Rattle.types.specs.Kept.{typeNumber, typeIn}
@@ -41,9 +42,9 @@ activityOf Inactive = W.inactive
 activityOf Rescanned = W.rescanned
 activityOf CopiedOnly = W.copiedOnly
 
--- the bytes of the deck d that spell an identifier
+-- an identifier as the bytes of the deck d spell it, folded
 abbrev pub spelled : List ℕ → Identifier → List ℕ
-spelled d i = part (i .1) (i .0) d
+spelled d i = folded mixed (part (i .1) (i .0) d)
 
 abbrev pub identifierOf : List ℕ → Name → W.Identifier
 identifierOf d x = record { spelling = spelled d (x .identifier); owner = ownerOf (x .owner) }

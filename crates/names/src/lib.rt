@@ -5,13 +5,14 @@ ghost use mathlib.Core.Path.{_≡_};
 ghost use mathlib.Core.List.{_∷_, []};
 ghost use Prim.Native.Nat.{_+_, _*_, _-_, _≤_};
 ghost use lib.Dec.{eqb};
+ghost use Rattle.definition.specs.Bytes.{mixed, folded};
 ghost use Rattle.definition.specs.Lists.{part};
 ghost use Rattle.definition.specs.Room.{over};
 ghost use Rattle.definition.specs.World.{sameOwner, isIdentifier, addressIn, orGlobal, everyone};
 ghost use Rattle.names.specs.Table as T;
 ghost use Rattle.names.specs.Table.{ownerOf, foundFor, identifierOf, identifiersFrom, nameIn};
+use chars::is_one_name;
 use definition::ValueType;
-use rooms::is_same;
 use rooms::number16;
 use rooms::put_number16;
 use types::type_in;
@@ -190,13 +191,13 @@ pub fn name_at(names: &[u16], a: Address) -> Name
 
 // Whether a record is that of the identifier that n bytes of s spell, in a scope.
 fn is_named(deck: &[u8], x: Name, s: &[u8], from: usize, n: usize, owner: Owner) -> bool
-    ensures { λ r. ⌜ r ≡ isIdentifier (part n from (now (s .entry))) (ownerOf owner) (identifierOf (now (deck .entry)) x) ⌝ }
+    ensures { λ r. ⌜ r ≡ isIdentifier (folded mixed (part n from (now (s .entry)))) (ownerOf owner) (identifierOf (now (deck .entry)) x) ⌝ }
 {
     let own = x.identifier;
     if own.1 as usize != n {
         return false;
     }
-    if is_same(deck, own.0 as usize, s, from, n) {
+    if is_one_name(deck, own.0 as usize, s, from, n) {
         let o = x.owner;
         return same_owner(o, owner);
     }
@@ -224,7 +225,7 @@ fn is_at(
     n: usize,
     owner: Owner,
 ) -> bool
-    ensures { λ r. ⌜ r ≡ isIdentifier (part n from (now (s .entry))) (ownerOf owner) (identifierOf (now (deck .entry)) (nameIn (now (names .entry)) (a .0))) ⌝ }
+    ensures { λ r. ⌜ r ≡ isIdentifier (folded mixed (part n from (now (s .entry)))) (ownerOf owner) (identifierOf (now (deck .entry)) (nameIn (now (names .entry)) (a .0))) ⌝ }
 {
     if has_length(names, a, n) {
         return is_named(deck, name_at(names, a), s, from, n, owner);
@@ -242,7 +243,7 @@ pub fn find(
     len: usize,
     owner: Owner,
 ) -> Found
-    ensures { λ r. ⌜ r ≡ foundFor (addressIn (part len from (now (s .entry))) (ownerOf owner) 0 (identifiersFrom (now (deck .entry)) (now (names .entry)) 0 n)) ⌝ }
+    ensures { λ r. ⌜ r ≡ foundFor (addressIn (folded mixed (part len from (now (s .entry)))) (ownerOf owner) 0 (identifiersFrom (now (deck .entry)) (now (names .entry)) 0 n)) ⌝ }
 {
     let mut a = 0;
     while a < n {
@@ -264,7 +265,7 @@ pub fn seen_from(
     len: usize,
     owner: Owner,
 ) -> Found
-    ensures { λ r. ⌜ r ≡ foundFor (T.seenIn (now (deck .entry)) (now (names .entry)) n (part len from (now (s .entry))) (ownerOf owner)) ⌝ }
+    ensures { λ r. ⌜ r ≡ foundFor (T.seenIn (now (deck .entry)) (now (names .entry)) n (folded mixed (part len from (now (s .entry)))) (ownerOf owner)) ⌝ }
 {
     let own = find(deck, names, n, s, from, len, owner);
     match own {

@@ -4,9 +4,9 @@ use Rattle.deck.proofs.is_alike.Statement.{statement}
 use Rattle.deck.proofs.is_alike.Tie as tie
 use Rattle.deck.proofs.is_alike.Reads as reads
 use Rattle.deck.proofs.is_alike.Lts as lts
+use Rattle.chars.proofs.is_one_name.Reads as is-one-name-reads
 use Rattle.deck.proofs.library_length.Reads as library-length-reads
 use Rattle.deck.proofs.line_place.Reads as line-place-reads
-use Rattle.rooms.proofs.is_same.Reads as is-same-reads
 use Rattle.deck.proofs.Laws.{names-fit, alike}
 
 line-place-requires : tie.Need-line-place-requires
@@ -18,11 +18,11 @@ line-place-requires-2 c κs = search needs
 library-length-requires : tie.Need-library-length-requires
 library-length-requires c κs = search needs
 
-add-is-same : tie.Need-add-is-same
-add-is-same c = search names-fit
+add-is-one-name : tie.Need-add-is-one-name
+add-is-one-name c = search names-fit
 
-is-same-requires : tie.Need-is-same-requires
-is-same-requires c κs = search needs
+is-one-name-requires : tie.Need-is-one-name-requires
+is-one-name-requires c κs = search needs
 
 returns : tie.Need-returns
 returns c = search alike
@@ -34,6 +34,6 @@ is-alike-spec =
     line-place-requires
     line-place-requires-2
     library-length-requires
-    add-is-same
-    is-same-requires
+    add-is-one-name
+    is-one-name-requires
     returns)

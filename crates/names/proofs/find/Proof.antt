@@ -8,12 +8,13 @@ use Rattle.names.proofs.is_at.Reads as is-at-reads
 use Prim.Native.Nat.{_-_}
 use denote.Ref.{now}
 use mathlib.Core.Path.{refl}
+use Rattle.definition.specs.Bytes.{mixed, folded}
 use Rattle.definition.specs.Lists.{part}
 use Rattle.names.specs.Table.{ownerOf, nameIn}
 use Rattle.names.proofs.Laws.{Searching, search-start, search-more, search-here, search-none}
 
 abbrev Inv-loop : tie.InvT-loop
-Inv-loop deck names n s from len owner a₀ a = Searching deck names (part len from s) (ownerOf owner) n a
+Inv-loop deck names n s from len owner a₀ a = Searching deck names (folded mixed (part len from s)) (ownerOf owner) n a
 
 abbrev μ-loop : tie.MeasureT-loop
 μ-loop deck names n s from len owner a₀ a = n - a

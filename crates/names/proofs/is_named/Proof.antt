@@ -4,8 +4,8 @@ use Rattle.names.proofs.is_named.Statement.{statement}
 use Rattle.names.proofs.is_named.Tie as tie
 use Rattle.names.proofs.is_named.Reads as reads
 use Rattle.names.proofs.is_named.Lts as lts
+use Rattle.chars.proofs.is_one_name.Reads as is-one-name-reads
 use Rattle.names.proofs.same_owner.Reads as same-owner-reads
-use Rattle.rooms.proofs.is_same.Reads as is-same-reads
 use denote.Ref.{now}
 use Rattle.names.proofs.Laws.{other-length, same-spelling, other-spelling}
 
@@ -15,20 +15,20 @@ cast-if1 c = search needs
 returns : tie.Need-returns
 returns c = other-length (now (c .before .before .before .before .before .args .deck)) (c .before .before .before .before .before .args .x) (now (c .before .before .before .before .before .args .s)) (c .before .before .before .before .before .args .from) (c .before .before .before .before .before .args .n) (c .before .before .before .before .before .args .owner) (c .if1 .taken)
 
-cast-is-same : tie.Need-cast-is-same
-cast-is-same c = search needs
+cast-is-one-name : tie.Need-cast-is-one-name
+cast-is-one-name c = search needs
 
-is-same-requires : tie.Need-is-same-requires
-is-same-requires c κs = search needs
+is-one-name-requires : tie.Need-is-one-name-requires
+is-one-name-requires c κs = search needs
 
 same-owner-requires : tie.Need-same-owner-requires
 same-owner-requires c κs = search needs
 
 returns-2 : tie.Need-returns-2
-returns-2 c = same-spelling (now (c .before .before .before .before .before .before .before .before .before .args .deck)) (c .before .before .before .before .before .before .before .before .before .args .x) (now (c .before .before .before .before .before .before .before .before .before .args .s)) (c .before .before .before .before .before .before .before .before .before .args .from) (c .before .before .before .before .before .before .before .before .before .args .n) (c .before .before .before .before .before .before .before .before .before .args .owner) (c .before .before .is-same .result) (c .before .before .before .before .if1 .left) (c .before .before .is-same .ensures) (c .before .if2 .taken) (c .same-owner .result) (c .same-owner .ensures)
+returns-2 c = same-spelling (now (c .before .before .before .before .before .before .before .before .before .args .deck)) (c .before .before .before .before .before .before .before .before .before .args .x) (now (c .before .before .before .before .before .before .before .before .before .args .s)) (c .before .before .before .before .before .before .before .before .before .args .from) (c .before .before .before .before .before .before .before .before .before .args .n) (c .before .before .before .before .before .before .before .before .before .args .owner) (c .before .before .is-one-name .result) (c .before .before .before .before .if1 .left) (c .before .before .is-one-name .ensures) (c .before .if2 .taken) (c .same-owner .result) (c .same-owner .ensures)
 
 returns-3 : tie.Need-returns-3
-returns-3 c = other-spelling (now (c .before .before .before .before .before .before .before .before .args .deck)) (c .before .before .before .before .before .before .before .before .args .x) (now (c .before .before .before .before .before .before .before .before .args .s)) (c .before .before .before .before .before .before .before .before .args .from) (c .before .before .before .before .before .before .before .before .args .n) (c .before .before .before .before .before .before .before .before .args .owner) (c .before .is-same .result) (c .before .before .before .if1 .left) (c .before .is-same .ensures) (c .if2 .left)
+returns-3 c = other-spelling (now (c .before .before .before .before .before .before .before .before .args .deck)) (c .before .before .before .before .before .before .before .before .args .x) (now (c .before .before .before .before .before .before .before .before .args .s)) (c .before .before .before .before .before .before .before .before .args .from) (c .before .before .before .before .before .before .before .before .args .n) (c .before .before .before .before .before .before .before .before .args .owner) (c .before .is-one-name .result) (c .before .before .before .if1 .left) (c .before .is-one-name .ensures) (c .if2 .left)
 
 pub is-named-spec : {M : Type 1} → statement M
 is-named-spec =
@@ -36,8 +36,8 @@ is-named-spec =
     (tie.spec
     cast-if1
     returns
-    cast-is-same
-    is-same-requires
+    cast-is-one-name
+    is-one-name-requires
     same-owner-requires
     returns-2
     returns-3)

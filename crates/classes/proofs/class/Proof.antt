@@ -1,12 +1,12 @@
 -- Each number that the table gives tells the class that it stands for.
 use borrow.Author.Needs.{needs}
-use Rattle.chars.proofs.class.Statement.{statement}
-use Rattle.chars.proofs.class.Tie as tie
-use Rattle.chars.proofs.class.Reads as reads
-use Rattle.chars.proofs.class.Lts as lts
-use Rattle.chars.proofs.code.Reads as code-reads
+use Rattle.classes.proofs.class.Statement.{statement}
+use Rattle.classes.proofs.class.Tie as tie
+use Rattle.classes.proofs.class.Reads as reads
+use Rattle.classes.proofs.class.Lts as lts
+use Rattle.classes.proofs.code.Reads as code-reads
 use Rattle.definition.specs.Bytes.{mixed, classOf}
-use Rattle.chars.proofs.Laws.{from-code, from-rest}
+use Rattle.classes.proofs.Laws.{from-code, from-rest}
 
 code-requires : tie.Need-code-requires
 code-requires c κs = search needs
