@@ -9,7 +9,7 @@ use mathlib.Core.Path.{_≡_, refl, sym, ap, subst, _∙_}
 use lib.Dec.{leb, eqb}
 use lib.ListN.{length, getD, length-append, List·getD-append}
 use borrow.Author.Tests.{leb-true, leb-false, le-leb, eqb-true, eq-eqb}
-use Rattle.definition.specs.Bytes.{mixed, folded}
+use Rattle.definition.specs.Bytes.{Letters, mixed, folded}
 use Rattle.definition.specs.Limits.{deckBytes, deckLines}
 use Rattle.definition.specs.Lists.{part, number, bytes}
 use Rattle.definition.specs.Deck.{Line, first, hasLibraries, count, libraryLength, linePlace, lineAt, linesFrom, lines, areNamed, isRepeated, areDistinct, Sought, bare, inLibrary, isPadded, isCalled, none, line, find, follow, isSound}
@@ -80,10 +80,13 @@ columns-part (suc n) at q size d h =
     λ i. x i ++ y i
 
 -- ---- a line without a library is in none
-pub padded-none : (w : List ℕ) → isPadded mixed w [] ≡ false
+pub padded-nowhere : (α : Letters) (w : List ℕ) → isPadded α w [] ≡ false
 unfolding isPadded folded
-padded-none [] = refl
-padded-none (x ∷ w) = refl
+padded-nowhere α [] = refl
+padded-nowhere α (x ∷ w) = refl
+
+pub padded-none : (w : List ℕ) → isPadded mixed w [] ≡ false
+padded-none w = padded-nowhere mixed w
 
 -- ---- where the lines of a layout stand; decks with the same first number have the same layout
 pub place-first : (d : List ℕ) → linePlace d 0 ≡ 2

@@ -9,7 +9,7 @@ use lib.ListN.{length}
 use Rattle.definition.specs.Text.{bytesOf}
 use Rattle.definition.specs.Lists.{bytes}
 use Rattle.definition.specs.Limits.{programText, programList, programSteps}
-use Rattle.definition.specs.Bytes.{isLetter as Bytes·isLetter, isDigit as Bytes·isDigit, isAlphameric as Bytes·isAlphameric, isBlank as Bytes·isBlank, isMark as Bytes·isMark, classOf as Bytes·classOf}
+use Rattle.definition.specs.Bytes.{isSmall as Bytes·isSmall, capital as Bytes·capital, folded as Bytes·folded, isLetter as Bytes·isLetter, isDigit as Bytes·isDigit, isAlphameric as Bytes·isAlphameric, isBlank as Bytes·isBlank, isMark as Bytes·isMark, classOf as Bytes·classOf}
 use Rattle.definition.specs.Calls.{isRunning as Calls·isRunning, bodyMachine as Calls·bodyMachine, bodyRun as Calls·bodyRun, calls as Calls·calls}
 use Rattle.definition.specs.Deck.{hasLibraries as Deck·hasLibraries, count as Deck·count, libraryLength as Deck·libraryLength, linePlace as Deck·linePlace, isRepeated as Deck·isRepeated, isPadded as Deck·isPadded, lineAt as Deck·lineAt, linesFrom as Deck·linesFrom, isMemberName as Deck·isMemberName, areNamed as Deck·areNamed, isCalled as Deck·isCalled, find as Deck·find, areDistinct as Deck·areDistinct, follow as Deck·follow, isSound as Deck·isSound, contents as Deck·contents, bodyByte as Deck·bodyByte}
 use Rattle.definition.specs.Evaluate.{isSubstr as Evaluate·isSubstr, meant as Evaluate·meant, parameters as Evaluate·parameters, callee as Evaluate·callee, count as Evaluate·count, put as Evaluate·put, plainName as Evaluate·plainName, listedName as Evaluate·listedName, evaluate as Evaluate·evaluate, arguments as Evaluate·arguments}
