@@ -264,7 +264,7 @@ word-real w nothing e = absurd (false≢true e)
 word-real w wrong e = absurd (false≢true e)
 
 -- a name is a word, and ends where it does
-name-has : (P : Named → Type 0) (t : Token) (from to : ℕ) → (Real t → (w : List ℕ) → P (record { spelling = w; place = from; to = to })) → Reads P (nameOf t from to)
+pub name-has : (P : Named → Type 0) (t : Token) (from to : ℕ) → (Real t → (w : List ℕ) → P (record { spelling = w; place = from; to = to })) → Reads P (nameOf t from to)
 name-has P (word w) from to h = cond-has (Reads P) (leb (length w) nameLength) _ _ (λ _. reads (h tt w)) λ _. refuses
 name-has P (integer w) from to h = refuses
 name-has P (string w) from to h = refuses

@@ -8,6 +8,8 @@ pub mod Views
 pub mod Pieces
 pub mod Refused
 pub mod Ends
+pub mod Alike
+pub mod AlikeMembers
 pub mod Keeping
 pub mod Members
 pub mod Thrift
