@@ -11,3 +11,4 @@ pub mod Tied
 pub mod Rejoined
 pub mod Edges
 pub mod Bodies
+pub mod Bare
