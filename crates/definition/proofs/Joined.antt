@@ -111,7 +111,7 @@ place-up d k zero = rw add-zero (omega arith)
 place-up d k (suc n) = let e : suc k + n ≡ k + suc n = omega arith in omega (arith, place-next d k, place-up d (suc k) n, ap (linePlace d) e)
 
 -- ---- the contents of the joined deck, whose next body begins at a place
-abbrev contentsFrom : ℕ → List Line → List Line
+abbrev pub contentsFrom : ℕ → List Line → List Line
 contentsFrom at [] = []
 contentsFrom at (l ∷ ls) = record { library = l .library; name = l .name; offset = at; size = joinedSize l } ∷ contentsFrom (at + joinedSize l) ls
 
@@ -342,7 +342,7 @@ module _ (d : List ℕ) (sound : isSound mixed d ≡ true) where
   unfolding count
   count-joined = rw (layout-joined, first-joined)
 
-  contents-joined : lines (joined d) ≡ contentsFrom (linePlace d (count d)) (lines d)
+  pub contents-joined : lines (joined d) ≡ contentsFrom (linePlace d (count d)) (lines d)
   unfolding joined
   contents-joined =
       rw (count-joined)

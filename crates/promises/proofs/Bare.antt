@@ -34,7 +34,7 @@ pub record Clear (s : List ℕ) (p : ℕ) : Type 0 where
   pub before : p < length s → isSmall mixed (getD s (p - 1) 0) ≡ false
 
 -- ---- one byte on
-not-true : (x : Bool) → not x ≡ true → x ≡ false
+pub not-true : (x : Bool) → not x ≡ true → x ≡ false
 not-true true h = absurd (false≢true h)
 not-true false h = refl
 
@@ -182,11 +182,11 @@ quoted-clear s (b ∷ c ∷ l) bs p e h =
 
 -- ---- a byte that is no small letter is to 01 what it is to C-15
 module _ (b : ℕ) (n : isSmall mixed b ≡ false) where
-  letter-same : isLetter capitals b ≡ isLetter mixed b
+  pub letter-same : isLetter capitals b ≡ isLetter mixed b
   unfolding isLetter isSmall
   letter-same = rw n
 
-  alphameric-same : isAlphameric capitals b ≡ isAlphameric mixed b
+  pub alphameric-same : isAlphameric capitals b ≡ isAlphameric mixed b
   unfolding isAlphameric
   alphameric-same = rw letter-same
 
@@ -194,7 +194,7 @@ module _ (b : ℕ) (n : isSmall mixed b ≡ false) where
   unfolding classOf
   class-same = rw letter-same
 
-  capital-same : capital mixed b ≡ b
+  pub capital-same : capital mixed b ≡ b
   unfolding capital
   capital-same = rw n
 

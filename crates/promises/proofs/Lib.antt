@@ -12,3 +12,4 @@ pub mod Rejoined
 pub mod Edges
 pub mod Bodies
 pub mod Bare
+pub mod BareNames
