@@ -13,3 +13,4 @@ pub mod Edges
 pub mod Bodies
 pub mod Bare
 pub mod BareNames
+pub mod LowerCase
