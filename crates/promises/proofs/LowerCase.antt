@@ -19,6 +19,7 @@ use Rattle.definition.specs.Limits.{includeLevels, valueLength, unfinishedBytes
 use Rattle.definition.specs.Lists.{part, leading}
 use Rattle.definition.specs.Tokens.{Cut, pieceAt}
 use Rattle.definition.specs.Deck as Deck
+use Rattle.definition.specs.Deck.{isSound}
 use Rattle.definition.specs.Cards.{uneven, joined}
 use Rattle.definition.specs.Expressions.{Tree}
 use Rattle.definition.specs.Program.{Stretch, Statement, null, declare, procedure, assign, conditional, group, iterated, goto, include, activate, deactivate, return, Row, Source}
@@ -36,7 +37,7 @@ use Rattle.definition.specs.Run.{Stop, stop, bodyOf, putOut, copyHere, replaceH
 use Rattle.definition.specs.Expansion.{Expansion, refusal, result, runMain, worldFor, told, expansion, runCards, cardsIn, expansionOf}
 use Rattle.definition.proofs.Choices.{when-both, when-by, when-has}
 use Rattle.definition.proofs.Keeping.{and-left}
-use Rattle.definition.proofs.Follows.{none-extra, Follows, goes, halts, lacks, Same, same, lead-follows, runOn-follows}
+use Rattle.definition.proofs.Follows.{none-extra, Follows, bind-follows, goes, halts, lacks, Same, same, lead-follows, runOn-follows}
 use Rattle.definition.proofs.Joined.{sound-parts, sound-joined, length-lines}
 use Rattle.definition.proofs.Texts.{TextOf, first, behind, leading as leadingIn, text-has}
 use Rattle.promises.specs.LowerCase.{isBare, areBare, BareSources, scanBut, replacerBut, replaceHereBut, tokenHereBut, textOnBut, textOutBut, machineBut, runSourceBut, runBut, mainBut, KeepsCase}
@@ -201,3 +202,134 @@ module _ (α : Letters) where
   out-kept : (m : ℕ) (s : List ℕ) (x : Stretch) (w : World) → BareText s x → Kept BarAt Any (textOutBut m s x w) (textOut α m s x w)
   unfolding textOutBut textOut
   out-kept m s x w h = bind-kept _ _ (itself (placed (stop m (x .from)) (putOut (blank m (x .from)) (began m x) 1 w))) λ _ v _. text-kept m (x .from) _ _ 0 v (at-start (part (x .to - x .from) (x .from) s) h)
+
+-- ---- beside the run in step that `Follows` has, whose second world is the first with nothing more
+abbrev Follows₀ : {E A : Type 0} → (E → Type 0) → Res E A → Res E A → Type 0
+Follows₀ Z r s = Follows 0 0 none-extra [] Never even Same Z r s
+
+to-step : {E A : Type 0} {Z : E → Type 0} {r s : Res E A} → Kept Z Any r s → Follows₀ Z r s
+to-step {Z} (well {a} {w} _) = subst (λ (v : World). Follows₀ Z (good a w) (good a v)) (sym (same-world w)) goes
+to-step ill = halts same
+to-step (barred b) = lacks b
+
+from-step : {E A : Type 0} {Z : E → Type 0} {r s : Res E A} → Follows₀ Z r s → Kept Z Any r s
+from-step {Z} (goes {x} {w}) = subst (λ (v : World). Kept Z Any (good x w) (good x v)) (same-world w) (well tt)
+from-step (halts same) = ill
+from-step (lacks b) = barred b
+
+in-step : {E A : Type 0} {Z : E → Type 0} {r : Res E A} (f : World → Res E A) (w : World) → Kept Z Any r (f w) → Follows₀ Z r (f (G₀ w))
+in-step {Z} {r} f w h = subst (λ (v : World). Follows₀ Z r (f v)) (same-world w) (to-step h)
+
+-- ---- members of a deck
+same-source : (α : Letters) (s : List ℕ) → isBare s ≡ true → readMember α s ≡ readMember mixed s
+same-source mixed s h = refl
+same-source capitals s h = sym (member-same s h .equal)
+
+bare-texts : (s : List ℕ) → isBare s ≡ true → (x : Stretch) → TextOf (readMember mixed s) x → BareText s x
+bare-texts s h x k = text-has (member-same s h) (subst (λ (y : Source). TextOf y x) (member-same s h .equal) k)
+
+same-find : (α : Letters) (x : Deck.Sought) (ls : List Deck.Line) → areBare ls ≡ true → Deck.find α x 0 ls ≡ Deck.find mixed x 0 ls
+same-find mixed x ls h = refl
+same-find capitals x ls h = find-same x 0 ls h
+
+module _ (α : Letters) (d : List ℕ) (names : areBare (Deck.lines d) ≡ true) (sources : BareSources d) where
+  abbrev K : {A : Type 0} → Res Stop A → Res Stop A → Type 0
+  K r s = Kept BarAt Any r s
+
+  abbrev Inners : Inner → Inner → Type 0
+  Inners i j = (k : ℕ) → k < Deck.count d → (ps : List Place) (w : World) → K (i k ps w) (j k ps w)
+
+  abbrev Levels : Level → Level → Type 0
+  Levels noLevel noLevel = Unit {0}
+  Levels noLevel (level j) = ⊥
+  Levels (level i) noLevel = ⊥
+  Levels (level i) (level j) = Inners i j
+
+  module _ (f g : World → Res Stop Deed) (h : (w : World) → K (f w) (g w)) where
+    came-out : (m : ℕ) (x : End) (w : World) → K (cameOut m x w f) (cameOut m x w g)
+    came-out m ran w = h w
+    came-out m (returned v) w = h w
+    came-out m (went t) w = well tt
+
+    entered-kept : (x : Entering) (i j : Inner) (k : ℕ) → ((ps : List Place) (w : World) → K (i k ps w) (j k ps w)) → (m n : ℕ) (ps : List Place) (w : World) → K (includeEntered x i k m n ps w f) (includeEntered x j k m n ps w g)
+    entered-kept (unreadable e p) i j k is m n ps w = ill
+    entered-kept (entered v) i j k is m n ps w = bind-kept _ _ (is (record { member = m; row = n } ∷ ps) v) λ x y _. came-out m x y
+
+    include-at : (x : Deck.Found) → ((k : ℕ) → x ≡ Deck.line k → k < Deck.count d) → (l r : Level) → Levels l r → (p m n : ℕ) (ps : List Place) (w : World) → K (includeAt mixed x l d p m n ps w f) (includeAt α x r d p m n ps w g)
+    include-at Deck.none i l r z p m n ps w = ill
+    include-at (Deck.line k) i noLevel noLevel z p m n ps w = ill
+    include-at (Deck.line k) i noLevel (level y) z p m n ps w = absurd z
+    include-at (Deck.line k) i (level x) noLevel z p m n ps w = absurd z
+    include-at (Deck.line k) i (level x) (level y) z p m n ps w =
+        rw (same-source α (bodyOf d k) (sources k (i k refl))) (entered-kept (enter k (readMember mixed (bodyOf d k)) w) x y k (z k (i k refl)) m n ps w)
+
+  found : (x : Deck.Sought) (k : ℕ) → Deck.find mixed x 0 (Deck.lines d) ≡ Deck.line k → k < Deck.count d
+  found x k z = omega (arith, find-range x 0 (Deck.lines d) k z, length-lines d 0 (Deck.count d))
+
+  include-all : (l r : Level) → Levels l r → (p m n : ℕ) (ps : List Place) (xs : List Deck.Sought) (w : World) → K (includeAll mixed l d p m n ps xs w) (includeAll α r d p m n ps xs w)
+  unfolding includeAll
+  include-all l r h p m n ps [] w = well tt
+  include-all l r h p m n ps (x ∷ xs) w = rw (same-find α x (Deck.lines d) names) (include-at _ _ (include-all l r h p m n ps xs) (Deck.find mixed x 0 (Deck.lines d)) (found x) l r h p m n ps w)
+
+  act-kept : (s : Statement) (l r : Level) → Levels l r → (p m n : ℕ) (ps : List Place) (w : World) → K (actAs mixed s l d p m n ps w) (actAs α s r d p m n ps w)
+  act-kept null l r h p m n ps w = well tt
+  act-kept (declare ns) l r h p m n ps w = itself _
+  act-kept (procedure ns t) l r h p m n ps w = well tt
+  act-kept (assign t x) l r h p m n ps w = well tt
+  act-kept (conditional x) l r h p m n ps w = well tt
+  act-kept group l r h p m n ps w = well tt
+  act-kept (iterated t x bs) l r h p m n ps w = well tt
+  act-kept (goto t) l r h p m n ps w = well tt
+  act-kept (include ns) l r h p m n ps w = include-all l r h p m n ps ns w
+  act-kept (activate xs) l r h p m n ps w = itself _
+  act-kept (deactivate ns) l r h p m n ps w = itself _
+  act-kept (return x) l r h p m n ps w = well tt
+
+  source-kept : (l r : Level) → Levels l r → (m : ℕ) (ps : List Place) (s : Source) → ((x : Stretch) → TextOf s x → BareText (bodyOf d m) x) → (w : World) → K (runSourceBut l d m ps s w) (runSource α r d m ps s w)
+  unfolding runSourceBut machineBut memberMachine runSource
+  source-kept l r h m ps s bare w =
+      let M : Machine Stop = machineBut l d m ps s in
+      let N : Machine Stop = memberMachine α r d m ps s in
+      let values : (x : Tree) (v : World) → Follows₀ Never (M .value x v) (N .value x (G₀ v)) = λ x v. in-step (N .value x) v (itself (N .value x v)) in
+      let outs : (x : Stretch) → TextOf s x → (v : World) → Follows₀ BarAt (M .out x v) (N .out x (G₀ v)) = λ x k v. in-step (N .out x) v (out-kept α m (bodyOf d m) x v (bare x k)) in
+      let acts : (n : ℕ) (v : World) → Follows₀ BarAt (M .act n v) (N .act n (G₀ v)) = λ n v. in-step (N .act n) v (act-kept (rowOf (s .rows) n .statement) l r h (rowOf (s .rows) n .place) m n ps v) in
+      let gotos : (n : ℕ) (t : List ℕ) (v : World) → Follows₀ BarAt (M .jump n t v) (N .jump n t (G₀ v)) = λ n t v. in-step (N .jump n t) v (itself (N .jump n t v)) in
+      subst (λ (v : World). K (runSourceBut l d m ps s w) (runSource α r d m ps s v)) (sym (same-world w)) (from-step (bind-follows 0 0 none-extra [] Never even _ _
+      (lead-follows 0 0 none-extra [] Never even M (N .fault) (N .value) (N .out) (N .act) (N .jump) (λ x e. same) (λ x e z. absurd z) values (TextOf s) behind leadingIn outs acts gotos (s .lead) first w)
+      λ _ v. runOn-follows 0 0 none-extra [] Never even M (N .fault) (N .value) (N .out) (N .act) (N .jump) (λ x e. same) (λ x e z. absurd z) values (TextOf s) behind leadingIn outs acts gotos (firstOf (s .first)) [] v))
+
+  run-kept : (n : ℕ) → Inners (runBut n d) (runMember α n d)
+  unfolding runBut runMember
+  run-kept zero m i ps w = rw (same-source α (bodyOf d m) (sources m i)) (source-kept noLevel noLevel tt m ps (readMember mixed (bodyOf d m)) (bare-texts (bodyOf d m) (sources m i)) w)
+  run-kept (suc n) m i ps w = rw (same-source α (bodyOf d m) (sources m i)) (source-kept (level (runBut n d)) (level (runMember α n d)) (run-kept n) m ps (readMember mixed (bodyOf d m)) (bare-texts (bodyOf d m) (sources m i)) w)
+
+  -- ---- the main program
+  result-kept : {r s : Res Stop End} → K r s → (result r .number ≡ 1 → ⊥) → result s ≡ result r
+  result-kept (well _) n = refl
+  result-kept ill n = refl
+  result-kept (barred b) n = absurd (n (ap numberOf b))
+
+  main-kept : 0 < Deck.count d → (x : Entering) → (mainBut x d .number ≡ 1 → ⊥) → runMain α x d ≡ mainBut x d
+  main-kept i (unreadable e p) n = refl
+  main-kept i (entered w) n = result-kept (run-kept includeLevels 0 i [] w) n
+
+  ran-kept : 0 < Deck.count d → (w : World) → (mainBut (enter 0 (readMember mixed (bodyOf d 0)) w) d .number ≡ 1 → ⊥) → runMain α (enter 0 (readMember α (bodyOf d 0)) w) d ≡ mainBut (enter 0 (readMember mixed (bodyOf d 0)) w) d
+  ran-kept i w n = rw (same-source α (bodyOf d 0) (sources 0 i)) (main-kept i (enter 0 (readMember mixed (bodyOf d 0)) w) n)
+
+-- the runs with both letters
+runs-same : (d : List ℕ) → isSound mixed d ≡ true → areBare (Deck.lines d) ≡ true → BareSources d → (w : World) → (mainBut (enter 0 (readMember mixed (bodyOf d 0)) w) d .number ≡ 1 → ⊥) → runMain mixed (enter 0 (readMember mixed (bodyOf d 0)) w) d ≡ runMain capitals (enter 0 (readMember capitals (bodyOf d 0)) w) d
+runs-same d s names sources w n =
+    let i : 0 < Deck.count d = omega (arith, sound-parts d s .some) in
+    ran-kept mixed d names sources i w n ∙ sym (ran-kept capitals d names sources i w n)
+
+-- KEEPS ITS ANSWER, TEXT AND LIST
+pub keeps-case : KeepsCase
+unfolding expansionOf expansion
+keeps-case plain roomy d t l s names sources values = rw (sound-same d names) (
+    when-by _≡_ (isSound mixed d) _ _ _ _ (λ e. when-both _≡_ roomy _ _ _ _ (runs-same d e names sources (worldFor plain t l s) values) refl) λ _. refl)
+keeps-case cards roomy d t l s names sources values = rw (sound-same d names) (
+    when-by _≡_ (isSound mixed d) _ _ _ _ (λ e. go (uneven 0 (Deck.lines d)) (ap (told (joined d)) (runs-same (joined d) (sound-joined d e) (joined-bare d e names) sources (worldFor cards t l s) values))) λ _. refl)
+  where
+    go : (x : Deck.Found) → runCards mixed (joined d) t l s ≡ runCards capitals (joined d) t l s → cardsIn mixed x roomy d t l s ≡ cardsIn capitals x roomy d t l s
+    go (Deck.line k) h = refl
+    go Deck.none h = when-both _≡_ roomy _ _ _ _ h refl
