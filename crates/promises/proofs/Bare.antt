@@ -6,19 +6,19 @@ use Prim.Native.Char.{code}
 use native.Mathlib.Nat.{add-zero}
 use native.Mathlib.Numerals.{add-one}
 use native.Mathlib.Omega.{arith}
-use mathlib.Core.Bool.{Bool, true, false, cond, not, _&&_, _||_, and-false, false≢true}
+use mathlib.Core.Bool.{Bool, true, false, cond, not, _&&_, and-false, false≢true}
 use mathlib.Core.List.{List, [], _∷_, _++_}
-use mathlib.Core.Path.{_≡_, refl, sym, ap, subst, _∙_}
+use mathlib.Core.Path.{_≡_, refl, sym, ap, _∙_}
 use lib.Dec.{leb, eqb}
 use lib.ListN.{length, getD, drop, length-drop, drop-of-length-le, List·getD-eq-default}
 use lib.Seq.{drop-cons}
 use borrow.Author.Tests.{leb-true, leb-false, eqb-true, ne-eqb}
 use Rattle.definition.specs.declared.Class.{Class}
 use Rattle.definition.specs.declared.Class.the-variants.{Letter, Digit, Break, Blank, LineFeed, Percent, Quote, Mark, Other}
-use Rattle.definition.specs.Bytes.{Letters, capitals, mixed, isSmall, isLetter, capital, folded, isDigit, isAlphameric, isBlank, isMark, classOf}
+use Rattle.definition.specs.Bytes.{capitals, mixed, isSmall, isLetter, capital, folded, isDigit, isAlphameric, isBlank, isMark, classOf}
 use Rattle.definition.specs.Choice.{when}
 use Rattle.definition.specs.Lists.{part, all, leading}
-use Rattle.definition.specs.Tokens.{Closed, closedAt, neverClosed, commentEnd, quoteEnd, isComment, pastComment, Lexeme, lexeme, word, integer, nothing, wrong, Spaces, upTo, openComment, afterComment, isSpace, spaces, Quoted, quoted, unquoted, quotedAt, isBit, constantAt, isPair, signAt, runAt, lexemeOf, isTouching, lexemeAt, tokenAt, Piece, name, plain, unclosed, Cut, cut, closedCut, pieceOf, pieceAt, TextEnd, textOn, textEnd}
+use Rattle.definition.specs.Tokens.{Closed, closedAt, neverClosed, commentEnd, quoteEnd, isComment, pastComment, Lexeme, lexeme, nothing, wrong, Spaces, upTo, openComment, afterComment, isSpace, spaces, Quoted, quoted, unquoted, quotedAt, isBit, constantAt, isPair, signAt, runAt, lexemeOf, isTouching, lexemeAt, tokenAt, Piece, name, plain, unclosed, Cut, cut, closedCut, pieceOf, pieceAt, TextEnd, textOn, textEnd}
 use Rattle.definition.specs.Program.{Stretch}
 use Rattle.definition.specs.Reading.{readMember}
 use Rattle.definition.proofs.Choices.{when-both, when-by, when-has, cond-has}

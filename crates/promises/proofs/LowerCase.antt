@@ -3,18 +3,16 @@
 use Prim.Native.Nat.{ℕ, zero, suc, _+_, _-_, _<_}
 use Prim.Native.Char.{code}
 use native.Mathlib.Omega.{arith}
-use mathlib.Core.Bool.{Bool, true, false, cond, _&&_}
-use mathlib.Core.List.{List, [], _∷_, _++_}
+use mathlib.Core.Bool.{true, false, _&&_}
+use mathlib.Core.List.{List, [], _∷_}
 use mathlib.Core.Path.{_≡_, refl, sym, ap, subst, _∙_}
 use lib.Dec.{leb, eqb}
 use lib.ListN.{length, getD, drop}
-use Rattle.definition.specs.declared.Layout.{Layout}
 use Rattle.definition.specs.declared.Layout.the-variants.{Plain as plain, Cards as cards}
 use Rattle.definition.specs.declared.Why.{Why}
 use Rattle.definition.specs.declared.Why.the-variants.{MalformedDeck as malformedDeck}
 use Rattle.definition.specs.Refusal.{numberOf}
 use Rattle.definition.specs.Bytes.{Letters, capitals, mixed, isBlank}
-use Rattle.definition.specs.Choice.{when}
 use Rattle.definition.specs.Limits.{includeLevels, valueLength, unfinishedBytes, replacementLevels}
 use Rattle.definition.specs.Lists.{part, leading}
 use Rattle.definition.specs.Tokens.{Cut, pieceAt}
@@ -22,7 +20,7 @@ use Rattle.definition.specs.Deck as Deck
 use Rattle.definition.specs.Deck.{isSound}
 use Rattle.definition.specs.Cards.{uneven, joined}
 use Rattle.definition.specs.Expressions.{Tree}
-use Rattle.definition.specs.Program.{Stretch, Statement, null, declare, procedure, assign, conditional, group, iterated, goto, include, activate, deactivate, return, Row, Source}
+use Rattle.definition.specs.Program.{Stretch, Statement, null, declare, procedure, assign, conditional, group, iterated, goto, include, activate, deactivate, return, Source}
 use Rattle.definition.specs.Reading.{readMember}
 use Rattle.definition.specs.Events.{blank}
 use Rattle.definition.specs.Values.{Value, characters, toCharacters, convert, sizeOf}
@@ -30,11 +28,11 @@ use Rattle.definition.specs.World as W
 use Rattle.definition.specs.World.{Denotation, variableOf, entryOf, labelAt, builtinName, Cell, Activity, inactive, rescanned, copiedOnly, Pass, began, World, Res, good, bad, bind, placed, ask, charge, denotation, valueAt, rowOf}
 use Rattle.definition.specs.Evaluate.{Parameter, Callee, callee, put}
 use Rattle.definition.specs.Names.{Entering, entered, unreadable, enter}
-use Rattle.definition.specs.Flow.{Deed, End, ran, returned, went, Machine, leadOut, runOn}
+use Rattle.definition.specs.Flow.{Deed, End, ran, returned, went, Machine}
 use Rattle.definition.specs.Calls.{Place, callOut, firstOf}
-use Rattle.definition.specs.Scan.{Into, toWork, fits, after, waiting, Scanner, outcome, Argument, Arguments, listUpTo, noList, cutOn, listAt, scanArguments, Replaced, Replacer, upTo, callWith, withList, replaceEntry, replaceCell, replaceAs, Active, notActive, active, activeIn, copyToken, token, scanOn, scanWith, replacer}
-use Rattle.definition.specs.Run.{Stop, stop, bodyOf, putOut, copyHere, replaceHere, tokenHere, passOf, textOn, textOut, Inner, Level, noLevel, level, cameOut, includeEntered, includeAt, includeAll, actAs, memberMachine, runSource, runMember}
-use Rattle.definition.specs.Expansion.{Expansion, refusal, result, runMain, worldFor, told, expansion, runCards, cardsIn, expansionOf}
+use Rattle.definition.specs.Scan.{Into, toWork, fits, after, waiting, Scanner, outcome, Argument, Arguments, listUpTo, noList, cutOn, listAt, scanArguments, Replaced, Replacer, upTo, callWith, withList, replaceEntry, replaceCell, replaceAs, Active, notActive, active, activeIn, token, scanOn, scanWith, replacer}
+use Rattle.definition.specs.Run.{Stop, stop, bodyOf, putOut, copyHere, replaceHere, tokenHere, textOn, textOut, Inner, Level, noLevel, level, cameOut, includeEntered, includeAt, includeAll, actAs, memberMachine, runSource, runMember}
+use Rattle.definition.specs.Expansion.{result, runMain, worldFor, told, expansion, runCards, cardsIn, expansionOf}
 use Rattle.definition.proofs.Choices.{when-both, when-by, when-has}
 use Rattle.definition.proofs.Keeping.{and-left}
 use Rattle.definition.proofs.Follows.{none-extra, Follows, bind-follows, goes, halts, lacks, Same, same, lead-follows, runOn-follows}
@@ -98,12 +96,12 @@ module _ (α : Letters) where
   cut-on zero t d from xs p h = no-list
   cut-on (suc f) t d from xs p h =
       let b : ℕ = getD t p 0 in
-      rw (same-piece α t p h .0) (when-both (Lists t) (leb (length t) p) _ _ _ _ no-list
+      when-both (Lists t) (leb (length t) p) _ _ _ _ no-list
       (when-by (Lists t) (eqb b (code "(")) _ _ _ _ (λ e. cut-on f t (suc d) from xs (p + 1) (mark-on (code "(") t p refl refl e h))
       λ _. when-by (Lists t) (eqb b (code ")") && eqb d 0) _ _ _ _ (λ e. lists (mark-on (code ")") t p refl refl (and-left (eqb b (code ")")) (eqb d 0) e) h))
       λ _. when-by (Lists t) (eqb b (code ")")) _ _ _ _ (λ e. cut-on f t (d - 1) from xs (p + 1) (mark-on (code ")") t p refl refl e h))
       λ _. when-by (Lists t) (eqb b (code ",") && eqb d 0) _ _ _ _ (λ e. cut-on f t d (p + 1) _ (p + 1) (mark-on (code ",") t p refl refl (and-left (eqb b (code ",")) (eqb d 0) e) h))
-      λ _. cut-on f t d from xs (pieceAt mixed t p .to) (same-piece α t p h .1)))
+      λ _. rw (same-piece α t p h .0) (cut-on f t d from xs (pieceAt mixed t p .to) (same-piece α t p h .1)))
 
   list-at : (t : List ℕ) (p : ℕ) → Clear t p → Lists t (listAt mixed t p) (listAt α t p)
   unfolding listAt

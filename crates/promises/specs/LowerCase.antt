@@ -1,10 +1,10 @@
 -- 02, C-15: "A deck without lower-case letters outside strings and comments, in its member names, sources and values, keeps
 -- its answer, text and list": those of the expansion with 01's letters. 'Values' are the texts that a run scans by
--- themselves. Whether one of them has such a letter is asked of a run that is the definition's but for one thing: where it
--- is to scan such a text, it ends at a bar.
+-- themselves: values, and arguments, which are parts of such a text or of a source. Whether one of them has such a letter is
+-- asked of a run that is the definition's but for one thing: where it is to scan such a text, it ends at a bar.
 use Prim.Native.Nat.{ℕ, zero, suc, _+_, _-_, _<_}
 use Prim.Native.Char.{code}
-use mathlib.Core.Bool.{Bool, true, false, cond, not, _&&_, _||_}
+use mathlib.Core.Bool.{Bool, true, false, cond, not, _&&_}
 use mathlib.Core.List.{List, [], _∷_}
 use mathlib.Core.Path.{_≡_}
 use lib.Dec.{leb, eqb}
