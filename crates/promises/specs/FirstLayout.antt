@@ -1,6 +1,6 @@
--- 02, C-14, and what stays: a deck of 01's layout is looked at as 01 says, and INCLUDE is read as 01 says but for a `(`
--- behind a name. Nothing else of the definition knows of layouts or libraries: a run looks at a deck through `isSound`,
--- `lines`, `lineAt`, `count` and `find` alone.
+-- 02, C-14, and what stays, with 01's letters: a deck of 01's layout is looked at as 01 says, and INCLUDE is read as 01 says
+-- but for a `(` behind a name. (What C-15's letters leave as it was is in LowerCase.) Nothing else of the definition knows of
+-- layouts or libraries: a run looks at a deck through `isSound`, `lines`, `lineAt`, `count` and `find` alone.
 use Prim.Native.Nat.{ℕ, zero, suc, _+_, _*_, _≤_}
 use mathlib.Core.Bool.{Bool, true, false, cond, _&&_, not}
 use mathlib.Core.List.{List, [], _∷_, _++_}
