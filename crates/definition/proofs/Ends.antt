@@ -86,7 +86,7 @@ quote-in [] p = tt
 quote-in (b ∷ l) p = closed-step (eqb b (code "'")) (length l) p (quoteEnd l (p + 1)) (quote-in l (p + 1))
 
 -- the same in a source
-abbrev ClosedPast : List ℕ → ℕ → Closed → Type 0
+abbrev pub ClosedPast : List ℕ → ℕ → Closed → Type 0
 ClosedPast s p (closedAt q) = Past s p q
 ClosedPast s p neverClosed = Unit {0}
 
@@ -94,7 +94,7 @@ closed-past : (s : List ℕ) (p : ℕ) (c : Closed) → ClosedIn p (p + length (
 closed-past s p (closedAt q) h = record { above = h .0; within = omega (arith, h .0, h .1, length-drop p s) }
 closed-past s p neverClosed h = tt
 
-comment-past : (s : List ℕ) (p : ℕ) → ClosedPast s (p + 2) (pastComment s p)
+pub comment-past : (s : List ℕ) (p : ℕ) → ClosedPast s (p + 2) (pastComment s p)
 comment-past s p = closed-past s (p + 2) (pastComment s p) (comment-in false (drop (p + 2) s) (p + 2))
 
 quote-past : (s : List ℕ) (p : ℕ) → ClosedPast s p (quoteEnd (drop p s) p)
@@ -264,7 +264,7 @@ word-real w nothing e = absurd (false≢true e)
 word-real w wrong e = absurd (false≢true e)
 
 -- a name is a word, and ends where it does
-name-has : (P : Named → Type 0) (t : Token) (from to : ℕ) → (Real t → (w : List ℕ) → P (record { spelling = w; place = from; to = to })) → Reads P (nameOf t from to)
+pub name-has : (P : Named → Type 0) (t : Token) (from to : ℕ) → (Real t → (w : List ℕ) → P (record { spelling = w; place = from; to = to })) → Reads P (nameOf t from to)
 name-has P (word w) from to h = cond-has (Reads P) (leb (length w) nameLength) _ _ (λ _. reads (h tt w)) λ _. refuses
 name-has P (integer w) from to h = refuses
 name-has P (string w) from to h = refuses

@@ -213,11 +213,12 @@ module _ (a b : ℕ) (c : Extra) (gs : List Pass) (Short : Why → Type 0) (spar
         arguments-follows none = λ ws u w. goes
         arguments-follows (more x y) = more-follows x y (evaluate-follows x) (arguments-follows y)
 
-  -- ---- rows, in two machines that differ in what they do, where what they do follows
+  -- ---- rows, in two machines that differ in what they do, where what they do follows; of texts it is asked of those of the rows
   module _ {E F : Type 0} {Alike : E → F → Type 0} {Lacks : E → Type 0} (M : Machine E) (fault : Row → Why → F) (value : Tree → World → Res Why Value) (out : Stretch → World → Res F (Unit {0})) (act : ℕ → World → Res F Deed) (jump : ℕ → List ℕ → World → Res F Jump)
       (faults : (r : Row) (e : Why) → Alike (M .fault r e) (fault r e)) (shorts : (r : Row) (e : Why) → Short e → Lacks (M .fault r e))
       (values : (x : Tree) (w : World) → Fol (M .value x w) (value x (grow w)))
-      (outs : (s : Stretch) (w : World) → Follows Alike Lacks (M .out s w) (out s (grow w)))
+      (Text : Stretch → Type 0) (texts : (n : ℕ) → Text (rowOf (M .rows) n .text)) (leads : (n : ℕ) → Text (rowOf (M .rows) n .lead))
+      (outs : (s : Stretch) → Text s → (w : World) → Follows Alike Lacks (M .out s w) (out s (grow w)))
       (acts : (n : ℕ) (w : World) → Follows Alike Lacks (M .act n w) (act n (grow w)))
       (gotos : (n : ℕ) (t : List ℕ) (w : World) → Follows Alike Lacks (M .jump n t w) (jump n t (grow w))) where
     abbrev N : Machine F
@@ -252,7 +253,7 @@ module _ (a b : ℕ) (c : Extra) (gs : List Pass) (Short : Why → Type 0) (spar
       up-follows (row g) w = ups g w
 
       behind-as : (r : Role) (n : ℕ) (w : World) → Ties (behindAs M r n fs up w) (behindAs N r n fs down (grow w))
-      behind-as listed n w = bind-follows _ _ (outs (rowOf (M .rows) n .text) w) λ _ v. next-follows (rowOf (M .rows) n .next) (rowOf (M .rows) n .parent) v
+      behind-as listed n w = bind-follows _ _ (outs (rowOf (M .rows) n .text) (texts n) w) λ _ v. next-follows (rowOf (M .rows) n .next) (rowOf (M .rows) n .parent) v
       behind-as thenPart n w = up-follows (rowOf (M .rows) n .parent) w
       behind-as elsePart n w = up-follows (rowOf (M .rows) n .parent) w
 
@@ -261,9 +262,9 @@ module _ (a b : ℕ) (c : Extra) (gs : List Pass) (Short : Why → Type 0) (spar
     behind-follows fs zero n w = goes
     behind-follows fs (suc f) n w = behind-as fs _ _ (behind-follows fs f) (rowOf (M .rows) n .role) n w
 
-    pub lead-follows : (s : Stretch) (w : World) → Ties (leadOut M s w) (leadOut N s (grow w))
+    pub lead-follows : (s : Stretch) → Text s → (w : World) → Ties (leadOut M s w) (leadOut N s (grow w))
     unfolding leadOut
-    lead-follows s w = when-follows (ltb (s .from) (s .to)) _ _ _ _ (outs s w) goes
+    lead-follows s t w = when-follows (ltb (s .from) (s .to)) _ _ _ _ (outs s t w) goes
 
     end-of : (fs : List Frame) (g : ℕ) (w : World) → Ties (endOf M fs g w) (endOf N fs g (grow w))
     end-of fs g w = end-follows (rowOf (M .rows) g .statement) g fs _ _ (behind-follows fs (suc g) g w) w
@@ -274,7 +275,7 @@ module _ (a b : ℕ) (c : Extra) (gs : List Pass) (Short : Why → Type 0) (spar
 
     pub into-follows : (fs : List Frame) (g : ℕ) (w : World) → Ties (into M fs g w) (into N fs g (grow w))
     unfolding into
-    into-follows fs g w = bind-follows _ _ (lead-follows (rowOf (M .rows) g .lead) w) λ _ v. first-follows (rowOf (M .rows) g .child) g fs v
+    into-follows fs g w = bind-follows _ _ (lead-follows (rowOf (M .rows) g .lead) (leads g) w) λ _ v. first-follows (rowOf (M .rows) g .child) g fs v
 
     -- ---- statements
     in-row : {A : Type 0} (n : ℕ) {r s : Res Why A} → Fol r s → Ties (inRow M n r) (inRow N n s)
@@ -482,7 +483,7 @@ module _ (a b : ℕ) (c : Extra) (gs : List Pass) (Short : Why → Type 0) (spar
   body-follows run runs m r u w =
       let M : Machine Why = bodyMachine run m r u (rowsOf m w) in
       value-follows (runOn-follows M (λ x e. e) (M .value) (M .out) (M .act) (M .jump) (λ x e. same) (λ x e h. h)
-      (λ x v. evaluate-follows run runs (W.procedureAt m r) x u v) (λ s v. goes)
+      (λ x v. evaluate-follows run runs (W.procedureAt m r) x u v) (λ _. Unit {0}) (λ _. tt) (λ _. tt) (λ s _ v. goes)
       (λ n v. act-follows (rowOf (rowsOf m w) n .statement) _ u _ (λ x z. evaluate-follows run runs (W.procedureAt m r) x u z) v)
       (λ n t v. jump-in (addressOf t (W.procedureAt m r) v) t (rowsOf m w) n v)
       (firstOf (rowOf (rowsOf m w) r .child)) [] w)

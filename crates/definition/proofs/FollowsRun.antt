@@ -277,8 +277,8 @@ module _ (a b : ℕ) (c : Extra) (gs : List Pass) (Short : Why → Type 0) (spar
         let M : Machine Stop = acting act (memberMachine mixed i d m ps s) in
         let N : Machine Stop = memberMachine mixed i d m ps s in
         bind-follows a b c gs Short spare _ _
-        (lead-follows a b c gs Short spare M (N .fault) (N .value) (N .out) (N .act) (N .jump) (λ x e. same) (λ x e k. k) (λ x v. evaluate-follows a b c gs Short spare callOut (calls-follows a b c gs Short spare runningProcedures []) W.everyone x 0 v) (λ x v. text-out m (bodyOf d m) x v) h (λ n t v. at-place m (rowOf (s .rows) n .place) (jump-from (addressOf t W.everyone v) m (s .rows) ps n v)) (s .lead) w)
-        λ _ v. runOn-follows a b c gs Short spare M (N .fault) (N .value) (N .out) (N .act) (N .jump) (λ x e. same) (λ x e k. k) (λ x v. evaluate-follows a b c gs Short spare callOut (calls-follows a b c gs Short spare runningProcedures []) W.everyone x 0 v) (λ x v. text-out m (bodyOf d m) x v) h (λ n t v. at-place m (rowOf (s .rows) n .place) (jump-from (addressOf t W.everyone v) m (s .rows) ps n v)) (firstOf (s .first)) [] v
+        (lead-follows a b c gs Short spare M (N .fault) (N .value) (N .out) (N .act) (N .jump) (λ x e. same) (λ x e k. k) (λ x v. evaluate-follows a b c gs Short spare callOut (calls-follows a b c gs Short spare runningProcedures []) W.everyone x 0 v) (λ _. Unit {0}) (λ _. tt) (λ _. tt) (λ x _ v. text-out m (bodyOf d m) x v) h (λ n t v. at-place m (rowOf (s .rows) n .place) (jump-from (addressOf t W.everyone v) m (s .rows) ps n v)) (s .lead) tt w)
+        λ _ v. runOn-follows a b c gs Short spare M (N .fault) (N .value) (N .out) (N .act) (N .jump) (λ x e. same) (λ x e k. k) (λ x v. evaluate-follows a b c gs Short spare callOut (calls-follows a b c gs Short spare runningProcedures []) W.everyone x 0 v) (λ _. Unit {0}) (λ _. tt) (λ _. tt) (λ x _ v. text-out m (bodyOf d m) x v) h (λ n t v. at-place m (rowOf (s .rows) n .place) (jump-from (addressOf t W.everyone v) m (s .rows) ps n v)) (firstOf (s .first)) [] v
 
     -- ---- THE RUN in a world with more left
     abbrev Levels : Level → Type 0

@@ -9,7 +9,7 @@ use mathlib.Core.Path.{_≡_, refl, sym, ap, subst, _∙_}
 use lib.Dec.{leb, eqb}
 use lib.ListN.{length, getD, length-append, List·getD-append}
 use borrow.Author.Tests.{leb-true, leb-false, le-leb, eqb-true, eq-eqb}
-use Rattle.definition.specs.Bytes.{mixed, folded}
+use Rattle.definition.specs.Bytes.{Letters, mixed, folded}
 use Rattle.definition.specs.Limits.{deckBytes, deckLines}
 use Rattle.definition.specs.Lists.{part, number, bytes}
 use Rattle.definition.specs.Deck.{Line, first, hasLibraries, count, libraryLength, linePlace, lineAt, linesFrom, lines, areNamed, isRepeated, areDistinct, Sought, bare, inLibrary, isPadded, isCalled, none, line, find, follow, isSound}
@@ -80,10 +80,13 @@ columns-part (suc n) at q size d h =
     λ i. x i ++ y i
 
 -- ---- a line without a library is in none
-pub padded-none : (w : List ℕ) → isPadded mixed w [] ≡ false
+pub padded-nowhere : (α : Letters) (w : List ℕ) → isPadded α w [] ≡ false
 unfolding isPadded folded
-padded-none [] = refl
-padded-none (x ∷ w) = refl
+padded-nowhere α [] = refl
+padded-nowhere α (x ∷ w) = refl
+
+pub padded-none : (w : List ℕ) → isPadded mixed w [] ≡ false
+padded-none w = padded-nowhere mixed w
 
 -- ---- where the lines of a layout stand; decks with the same first number have the same layout
 pub place-first : (d : List ℕ) → linePlace d 0 ≡ 2
@@ -108,7 +111,7 @@ place-up d k zero = rw add-zero (omega arith)
 place-up d k (suc n) = let e : suc k + n ≡ k + suc n = omega arith in omega (arith, place-next d k, place-up d (suc k) n, ap (linePlace d) e)
 
 -- ---- the contents of the joined deck, whose next body begins at a place
-abbrev contentsFrom : ℕ → List Line → List Line
+abbrev pub contentsFrom : ℕ → List Line → List Line
 contentsFrom at [] = []
 contentsFrom at (l ∷ ls) = record { library = l .library; name = l .name; offset = at; size = joinedSize l } ∷ contentsFrom (at + joinedSize l) ls
 
@@ -339,7 +342,7 @@ module _ (d : List ℕ) (sound : isSound mixed d ≡ true) where
   unfolding count
   count-joined = rw (layout-joined, first-joined)
 
-  contents-joined : lines (joined d) ≡ contentsFrom (linePlace d (count d)) (lines d)
+  pub contents-joined : lines (joined d) ≡ contentsFrom (linePlace d (count d)) (lines d)
   unfolding joined
   contents-joined =
       rw (count-joined)

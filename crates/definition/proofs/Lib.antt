@@ -2,11 +2,14 @@
 pub mod Rooms
 pub mod Parts
 pub mod Choices
+pub mod Letters
 pub mod Expanding
 pub mod Views
 pub mod Pieces
 pub mod Refused
 pub mod Ends
+pub mod Alike
+pub mod AlikeMembers
 pub mod Keeping
 pub mod Members
 pub mod Thrift

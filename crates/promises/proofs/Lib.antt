@@ -11,3 +11,6 @@ pub mod Tied
 pub mod Rejoined
 pub mod Edges
 pub mod Bodies
+pub mod Bare
+pub mod BareNames
+pub mod LowerCase

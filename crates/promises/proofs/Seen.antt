@@ -1,15 +1,18 @@
--- The passes of one small program, and whether two others include a member, by computing: the promises speak of something.
+-- The passes of one small program, whether two others include a member, and whether two more scan a value with a small letter, by
+-- computing: the promises speak of something.
 -- Assumes nothing.
 use Prim.Native.Nat.{ℕ, _+_}
 use Prim.Native.String.{String}
+use native.Mathlib.Omega.{arith}
 use mathlib.Core.Path.{_≡_, refl}
-use mathlib.Core.Bool.{true}
+use mathlib.Core.Bool.{true, false}
 use mathlib.Core.List.{List, [], _∷_, _++_, reverse, map}
 use lib.ListN.{length}
+use Rattle.definition.specs.declared.Layout.the-variants.{Plain as plain}
 use Rattle.definition.specs.Text.{bytesOf}
 use Rattle.definition.specs.Lists.{bytes}
 use Rattle.definition.specs.Limits.{programText, programList, programSteps}
-use Rattle.definition.specs.Bytes.{isLetter as Bytes·isLetter, isDigit as Bytes·isDigit, isAlphameric as Bytes·isAlphameric, isBlank as Bytes·isBlank, isMark as Bytes·isMark, classOf as Bytes·classOf}
+use Rattle.definition.specs.Bytes.{isSmall as Bytes·isSmall, capital as Bytes·capital, folded as Bytes·folded, isLetter as Bytes·isLetter, isDigit as Bytes·isDigit, isAlphameric as Bytes·isAlphameric, isBlank as Bytes·isBlank, isMark as Bytes·isMark, classOf as Bytes·classOf}
 use Rattle.definition.specs.Calls.{isRunning as Calls·isRunning, bodyMachine as Calls·bodyMachine, bodyRun as Calls·bodyRun, calls as Calls·calls}
 use Rattle.definition.specs.Deck.{hasLibraries as Deck·hasLibraries, count as Deck·count, libraryLength as Deck·libraryLength, linePlace as Deck·linePlace, isRepeated as Deck·isRepeated, isPadded as Deck·isPadded, lineAt as Deck·lineAt, linesFrom as Deck·linesFrom, isMemberName as Deck·isMemberName, areNamed as Deck·areNamed, isCalled as Deck·isCalled, find as Deck·find, areDistinct as Deck·areDistinct, follow as Deck·follow, isSound as Deck·isSound, contents as Deck·contents, bodyByte as Deck·bodyByte}
 use Rattle.definition.specs.Evaluate.{isSubstr as Evaluate·isSubstr, meant as Evaluate·meant, parameters as Evaluate·parameters, callee as Evaluate·callee, count as Evaluate·count, put as Evaluate·put, plainName as Evaluate·plainName, listedName as Evaluate·listedName, evaluate as Evaluate·evaluate, arguments as Evaluate·arguments}
@@ -31,6 +34,7 @@ use Rattle.definition.specs.Values.{decimalOn as Values·decimalOn, fixedText a
 use Rattle.definition.specs.World.{charge as World·charge, addressIn as World·addressIn, seenFrom as World·seenFrom, rowsIn as World·rowsIn}
 use Rattle.definition.specs.World.{Pass, began, passed, Activity, inactive, rescanned, copiedOnly}
 use Rattle.promises.specs.Unread.{includeAllBut, machineBut, runSourceBut, runBut, NeverIncluded}
+use Rattle.promises.specs.LowerCase.{isBareFrom as LowerCase·isBareFrom, replacerBut as LowerCase·replacerBut, replaceHereBut as LowerCase·replaceHereBut, textOnBut as LowerCase·textOnBut, textOutBut as LowerCase·textOutBut, machineBut as LowerCase·machineBut, runSourceBut as LowerCase·runSourceBut, runBut as LowerCase·runBut, isBare, BareValues}
 use Rattle.promises.specs.Passes.{passing, activityOf, Asks}
 
 -- a pass in numbers: 0 and the place of a blank; else 1 or 2 for what was not active or was, the place, where the scan went
@@ -77,3 +81,14 @@ included h = h tt
 pub not-included : NeverIncluded 1 (deckOf "%IF 0 %THEN %INCLUDE M;M" "X") programText programList programSteps
 unfolding Bytes·isSmall Bytes·capital Bytes·folded Bytes·isLetter Bytes·isDigit Bytes·isAlphameric Bytes·isBlank Bytes·isMark Bytes·classOf Cards·takes Calls·isRunning Calls·bodyMachine Calls·bodyRun Calls·calls Deck·hasLibraries Deck·count Deck·libraryLength Deck·linePlace Deck·isRepeated Deck·isPadded Deck·lineAt Deck·linesFrom Deck·isMemberName Deck·areNamed Deck·isCalled Deck·find Deck·areDistinct Deck·follow Deck·isSound Deck·contents Deck·bodyByte Evaluate·isSubstr Evaluate·meant Evaluate·parameters Evaluate·callee Evaluate·count Evaluate·put Evaluate·plainName Evaluate·listedName Evaluate·evaluate Evaluate·arguments Events·textOf Events·goesOn Events·linesOf Events·listBytes expansion Expansion·textRoomAfter Expansion·listRoomAfter Expressions·comparison Expressions·infixOf Expressions·prefixOf Expressions·expectSign Expressions·expectWord Expressions·nameAt Expressions·arguments Expressions·referenceAt Expressions·primitive Expressions·operand Expressions·chain Expressions·levels Expressions·expression Fixed·inRange Fixed·ranged Fixed·sum Fixed·difference Fixed·product Fixed·negative Fixed·quotient Flow·isOnce Flow·behindOn Flow·leadOut Flow·into Flow·assigned Flow·truth Flow·number Flow·bounds Flow·stepped Flow·statement Flow·turn Flow·runOn Program·isIterated Flow·groupsFrom Flow·isIn Flow·areIn Flow·mayGo Names·isListed Names·declareAll Names·namesPast Names·sentencesPast Names·faultOf Names·enter Reading·depth Reading·change Reading·addRow Reading·isDecided Reading·elseWord Reading·elseAt Reading·complete Reading·labelsFrom Reading·taken Reading·doAt Reading·common Reading·inList Reading·byWord Reading·endName Reading·isFull Reading·isEnd Reading·clauseFrom Reading·innerAt Reading·deepEnough Reading·turn Reading·readOn Reading·readMember Run·bodyOf Run·putOut Run·copyHere Run·replaceHere Run·textOn Run·textOut Run·activateAll Run·activations Run·jumpAway Run·jumpLabel Run·includeAll Run·memberMachine Run·runSource Run·runMember Scan·activeName Scan·cutOn Scan·listAt Scan·scanArguments Scan·callWith Scan·replaceEntry Scan·scanOn Scan·replacer Statements·ended Statements·assignment Statements·thenWord Statements·ifClause Statements·boundAt Statements·doBounds Statements·doClause Statements·gotoClause Statements·listOf Statements·includeClause Statements·deactivateClause Statements·activateClause Statements·returnClause Statements·namesAt Statements·attribute Statements·declareNames Statements·declareNext Statements·declareFrom Statements·returnsType Statements·procedureHead Statements·procedureClause Steps·isLeft Steps·usedAfter Tokens·commentEnd Tokens·quoteEnd Tokens·isComment Tokens·isSpace Tokens·spaces Tokens·quotedAt Tokens·isBit Tokens·constantAt Tokens·isPair Tokens·signAt Tokens·runAt Tokens·lexemeOf Tokens·isTouching Tokens·lexemeAt Tokens·tokenAt Tokens·pieceOf Tokens·pieceAt Tokens·textEnd Values·decimalOn Values·fixedText Values·written Values·constant Values·numberIn Values·toFixed Values·toCharacters Values·binary Values·toBits Values·convert Values·anyOne Values·holds Values·limited Values·unfinished Values·bitwise Values·inverted Values·orderOf Values·bytesOrder Values·numbersOrder Values·compared Values·comparing Values·arithmetic Values·logical Values·joined Values·infixed Values·prefixed Values·cutOut Values·substr World·charge World·addressIn World·seenFrom World·rowsIn includeAllBut machineBut runSourceBut runBut
 not-included h = h
+
+-- strings and comments, one that stays open too; behind them and behind a `/` alone a small letter stands outside
+pub outside : (isBare (bytesOf "A 'b''c'/*/d*/ //*e**/ 'f") ≡ true) × (isBare (bytesOf "/**/a") ≡ false) × (isBare (bytesOf "''a") ≡ false) × (isBare (bytesOf "/a") ≡ false)
+unfolding LowerCase·isBareFrom Bytes·isSmall
+outside = (refl, refl, refl, refl)
+
+-- a value with a small letter comes to the bar, though the sources have none outside strings; small letters that stand in strings
+-- and comments of the text and of the value do not
+pub scanned : (BareValues plain (deckOf "%DCL A CHAR;%A='a';A" "X") programText programList programSteps → ⊥) × BareValues plain (deckOf "%DCL A CHAR;%A='B''a''/*a*/';A/*a*/'a'" "X") programText programList programSteps
+unfolding Bytes·isSmall Bytes·capital Bytes·folded Bytes·isLetter Bytes·isDigit Bytes·isAlphameric Bytes·isBlank Bytes·isMark Bytes·classOf Cards·takes Calls·isRunning Calls·bodyMachine Calls·bodyRun Calls·calls Deck·hasLibraries Deck·count Deck·libraryLength Deck·linePlace Deck·isRepeated Deck·isPadded Deck·lineAt Deck·linesFrom Deck·isMemberName Deck·areNamed Deck·isCalled Deck·find Deck·areDistinct Deck·follow Deck·isSound Deck·contents Deck·bodyByte Evaluate·isSubstr Evaluate·meant Evaluate·parameters Evaluate·callee Evaluate·count Evaluate·put Evaluate·plainName Evaluate·listedName Evaluate·evaluate Evaluate·arguments Events·textOf Events·goesOn Events·linesOf Events·listBytes expansion Expansion·textRoomAfter Expansion·listRoomAfter Expressions·comparison Expressions·infixOf Expressions·prefixOf Expressions·expectSign Expressions·expectWord Expressions·nameAt Expressions·arguments Expressions·referenceAt Expressions·primitive Expressions·operand Expressions·chain Expressions·levels Expressions·expression Fixed·inRange Fixed·ranged Fixed·sum Fixed·difference Fixed·product Fixed·negative Fixed·quotient Flow·isOnce Flow·behindOn Flow·leadOut Flow·into Flow·assigned Flow·truth Flow·number Flow·bounds Flow·stepped Flow·statement Flow·turn Flow·runOn Program·isIterated Flow·groupsFrom Flow·isIn Flow·areIn Flow·mayGo Names·isListed Names·declareAll Names·namesPast Names·sentencesPast Names·faultOf Names·enter Reading·depth Reading·change Reading·addRow Reading·isDecided Reading·elseWord Reading·elseAt Reading·complete Reading·labelsFrom Reading·taken Reading·doAt Reading·common Reading·inList Reading·byWord Reading·endName Reading·isFull Reading·isEnd Reading·clauseFrom Reading·innerAt Reading·deepEnough Reading·turn Reading·readOn Reading·readMember Run·bodyOf Run·putOut Run·copyHere Run·replaceHere Run·textOn Run·textOut Run·activateAll Run·activations Run·jumpAway Run·jumpLabel Run·includeAll Run·memberMachine Run·runSource Run·runMember Scan·activeName Scan·cutOn Scan·listAt Scan·scanArguments Scan·callWith Scan·replaceEntry Scan·scanOn Scan·replacer Statements·ended Statements·assignment Statements·thenWord Statements·ifClause Statements·boundAt Statements·doBounds Statements·doClause Statements·gotoClause Statements·listOf Statements·includeClause Statements·deactivateClause Statements·activateClause Statements·returnClause Statements·namesAt Statements·attribute Statements·declareNames Statements·declareNext Statements·declareFrom Statements·returnsType Statements·procedureHead Statements·procedureClause Steps·isLeft Steps·usedAfter Tokens·commentEnd Tokens·quoteEnd Tokens·isComment Tokens·isSpace Tokens·spaces Tokens·quotedAt Tokens·isBit Tokens·constantAt Tokens·isPair Tokens·signAt Tokens·runAt Tokens·lexemeOf Tokens·isTouching Tokens·lexemeAt Tokens·tokenAt Tokens·pieceOf Tokens·pieceAt Tokens·textEnd Values·decimalOn Values·fixedText Values·written Values·constant Values·numberIn Values·toFixed Values·toCharacters Values·binary Values·toBits Values·convert Values·anyOne Values·holds Values·limited Values·unfinished Values·bitwise Values·inverted Values·orderOf Values·bytesOrder Values·numbersOrder Values·compared Values·comparing Values·arithmetic Values·logical Values·joined Values·infixed Values·prefixed Values·cutOut Values·substr World·charge World·addressIn World·seenFrom World·rowsIn LowerCase·isBareFrom LowerCase·replacerBut LowerCase·replaceHereBut LowerCase·textOnBut LowerCase·textOutBut LowerCase·machineBut LowerCase·runSourceBut LowerCase·runBut
+scanned = (λ h. h refl, λ h. omega (arith, h))

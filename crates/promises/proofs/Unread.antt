@@ -34,13 +34,13 @@ use Rattle.promises.specs.Unread.{Halt, halted, barred, InnerBut, LevelB
 use Rattle.definition.proofs.Joined.{length-lines}
 use Rattle.promises.proofs.Deck.{find-range, lines-same, sound-same, body-same}
 
-abbrev Never : Why → Type 0
+abbrev pub Never : Why → Type 0
 Never e = ⊥
 
-abbrev even : Spare 0 0 none-extra Never
+abbrev pub even : Spare 0 0 none-extra Never
 even = no-more refl refl refl
 
-abbrev G₀ : World → World
+abbrev pub G₀ : World → World
 G₀ = G 0 0 none-extra [] Never even
 
 -- the first run halts as the second does, in a member below n, or at the bar
@@ -150,12 +150,12 @@ module _ (k : ℕ) (d e : List ℕ) (contents : Deck.lines e ≡ Deck.lines d) (
       let N : Machine Stop = memberMachine mixed r e m ps s in
       let calls : FollowingCall 0 0 none-extra [] Never even callOut = calls-follows 0 0 none-extra [] Never even runningProcedures [] in
       let values : (x : Tree) (v : World) → Fol 0 0 none-extra [] Never even (M .value x v) (N .value x (G₀ v)) = λ x v. evaluate-follows 0 0 none-extra [] Never even callOut calls everyone x 0 v in
-      let outs : (x : Stretch) (v : World) → T₀ (M .out x v) (N .out x (G₀ v)) = λ x v. subst (λ (t : List ℕ). T₀ (placed halted (textOut mixed m t x v)) (textOut mixed m (bodyOf e m) x (G₀ v))) (sym (bodies m i n)) (lifted (Deck.count d) m i (out-in m (bodyOf e m) x v) (text-out 0 0 none-extra [] Never even m (bodyOf e m) x v)) in
+      let outs : (x : Stretch) → Unit {0} → (v : World) → T₀ (M .out x v) (N .out x (G₀ v)) = λ x _ v. subst (λ (t : List ℕ). T₀ (placed halted (textOut mixed m t x v)) (textOut mixed m (bodyOf e m) x (G₀ v))) (sym (bodies m i n)) (lifted (Deck.count d) m i (out-in m (bodyOf e m) x v) (text-out 0 0 none-extra [] Never even m (bodyOf e m) x v)) in
       let acts : (q : ℕ) (v : World) → T₀ (M .act q v) (N .act q (G₀ v)) = λ q v. act-but (rowOf (s .rows) q .statement) l r h (rowOf (s .rows) q .place) m q i ps v in
       let gotos : (q : ℕ) (t : List ℕ) (v : World) → T₀ (M .jump q t v) (N .jump q t (G₀ v)) = λ q t v. here m (rowOf (s .rows) q .place) i (jump-from 0 0 none-extra [] Never even (addressOf t everyone v) m (s .rows) ps q v) in
       bind-follows 0 0 none-extra [] Never even _ _
-      (lead-follows 0 0 none-extra [] Never even M (N .fault) (N .value) (N .out) (N .act) (N .jump) (λ x z. alike i) (λ x z y. absurd y) values outs acts gotos (s .lead) w)
-      λ _ v. runOn-follows 0 0 none-extra [] Never even M (N .fault) (N .value) (N .out) (N .act) (N .jump) (λ x z. alike i) (λ x z y. absurd y) values outs acts gotos (firstOf (s .first)) [] v
+      (lead-follows 0 0 none-extra [] Never even M (N .fault) (N .value) (N .out) (N .act) (N .jump) (λ x z. alike i) (λ x z y. absurd y) values (λ _. Unit {0}) (λ _. tt) (λ _. tt) outs acts gotos (s .lead) tt w)
+      λ _ v. runOn-follows 0 0 none-extra [] Never even M (N .fault) (N .value) (N .out) (N .act) (N .jump) (λ x z. alike i) (λ x z y. absurd y) values (λ _. Unit {0}) (λ _. tt) (λ _. tt) outs acts gotos (firstOf (s .first)) [] v
 
   run-but : (n : ℕ) → Inners (runBut k n d) (runMember mixed n e)
   unfolding runBut runMember
@@ -196,7 +196,7 @@ module _ (k : ℕ) (d e : List ℕ) (contents : Deck.lines e ≡ Deck.lines d) (
   main-listed i j (enters {w}) h = result-listed j (run-but includeLevels 0 j (λ z. absurd (omega arith)) [] w) h
 
 -- a world with nothing more is the same
-same-world : (w : World) → w ≡ G₀ w
+pub same-world : (w : World) → w ≡ G₀ w
 same-world w =
     let p : w .limit ≡ w .limit + 0 = sym (add-zero (w .limit)) in
     let q : w .textLeft ≡ w .textLeft + 0 = sym (add-zero (w .textLeft)) in

@@ -6,3 +6,4 @@ pub mod Unread
 pub mod Ghost
 pub mod Cards
 pub mod FirstLayout
+pub mod LowerCase
