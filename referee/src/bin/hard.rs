@@ -3,6 +3,8 @@
 //! `hard --names` prints for each deck its name and the number of its answer; `hard NAME` writes that deck as a
 //! record with the rooms and steps of the program.
 
+#[path = "hard/case.rs"]
+mod case;
 #[path = "hard/stack.rs"]
 mod stack;
 
@@ -237,9 +239,7 @@ fn main() -> ExitCode {
 fn print_names() -> io::Result<()> {
     let mut output = io::stdout().lock();
     let names = plain_decks().chain(card_decks());
-    let more = LIBRARY_DECKS
-        .iter()
-        .map(|(name, number, ..)| (name, number));
+    let more = library_decks().map(|(name, number, ..)| (name, number));
     for (name, number) in names.map(|(name, number, _)| (name, number)).chain(more) {
         writeln!(output, "{name} {number}")?;
     }
@@ -247,11 +247,16 @@ fn print_names() -> io::Result<()> {
 }
 
 fn plain_decks() -> impl Iterator<Item = &'static Deck> {
-    DECKS.iter().chain(stack::DECKS)
+    DECKS.iter().chain(stack::DECKS).chain(case::DECKS)
 }
 
 fn card_decks() -> impl Iterator<Item = &'static Deck> {
-    CARD_DECKS.iter().chain(stack::CARD_DECKS)
+    let own = CARD_DECKS.iter();
+    own.chain(stack::CARD_DECKS).chain(case::CARD_DECKS)
+}
+
+fn library_decks() -> impl Iterator<Item = &'static LibraryDeck> {
+    LIBRARY_DECKS.iter().chain(case::LIBRARY_DECKS)
 }
 
 /// The deck of this name, and how its bodies are laid out.
@@ -263,7 +268,7 @@ fn deck_named(wanted: &str) -> Option<(Layout, Vec<u8>)> {
     if let Some((_, _, bodies)) = card_decks().find(is_wanted) {
         return Some((Layout::Cards, cards_of(&bodies())));
     }
-    let (_, _, layout, lines) = LIBRARY_DECKS.iter().find(|(name, ..)| *name == wanted)?;
+    let (_, _, layout, lines) = library_decks().find(|(name, ..)| *name == wanted)?;
     Some((*layout, library_deck_of(*layout, &lines())))
 }
 
