@@ -4,7 +4,7 @@ use super::damage::split;
 use super::programs::Bodies;
 use super::random::Random;
 
-/// More than half of the decks get names and words in any case, and some of them strings too: what a value has is scanned.
+/// More than half of the decks get names and words in any case, and some of them strings too: values are scanned.
 pub fn perhaps(random: &mut Random, bodies: &mut Bodies) {
     let strings = match random.weighted(&[45, 35, 20]) {
         0 => return,
