@@ -1,8 +1,13 @@
 //! Classes of bytes, and slices that cannot fail.
 
-/// "Letters are A to Z, `$ @ #`; lower case is no letter."
+/// "Letters are A to Z, `$ @ #`", and a to z since "Lower-case letters become letters" (request C-15).
 pub fn is_letter(byte: u8) -> bool {
-    byte.is_ascii_uppercase() || matches!(byte, b'$' | b'@' | b'#')
+    byte.is_ascii_alphabetic() || matches!(byte, b'$' | b'@' | b'#')
+}
+
+/// How a name is kept: "names equal but for case are one name".
+pub fn folded(name: &[u8]) -> Vec<u8> {
+    name.to_ascii_uppercase()
 }
 
 /// Letters, digits and `_`: what may follow in an identifier or a digit run.

@@ -2,7 +2,7 @@
 
 use std::collections::HashSet;
 
-use crate::bytes::{is_identifier, slice};
+use crate::bytes::{folded, is_identifier, slice};
 
 /// One member of the deck: its names without the padding, and its body. In a
 /// deck of the first layout it stands in no library.
@@ -68,9 +68,11 @@ pub fn open(deck: &[u8]) -> Option<Vec<Member<'_>>> {
     whole.then_some(members)
 }
 
-/// "Names are distinct", those of the second layout "as pairs".
+/// "Names are distinct", those of the second layout "as pairs"; names equal but
+/// for case are not (reading 9 of the requests).
 fn are_distinct(members: &[Member]) -> bool {
-    let pairs: HashSet<_> = members.iter().map(|one| (one.library, one.name)).collect();
+    let pair = |one: &Member| (one.library.map(folded), folded(one.name));
+    let pairs: HashSet<_> = members.iter().map(pair).collect();
     pairs.len() == members.len()
 }
 

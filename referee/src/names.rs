@@ -3,6 +3,7 @@
 use std::collections::{HashMap, HashSet};
 use std::rc::Rc;
 
+use crate::bytes::folded;
 use crate::tree::{Active, Declaration, Declared, Name, Path, Procedure, Reading, Type};
 use crate::values::Value;
 
@@ -120,9 +121,9 @@ impl Names {
         self.global.get_mut(name)
     }
 
-    /// A name of global scope.
-    pub fn find_global(&self, name: &[u8]) -> Option<&Denotation> {
-        self.global.get(name)
+    /// A name of global scope, in whatever case a text has it.
+    pub fn find_global(&self, written: &[u8]) -> Option<&Denotation> {
+        self.global.get(&*folded(written))
     }
 
     pub fn body(&self, body: usize) -> Option<&Body> {

@@ -1,6 +1,6 @@
 //! Tokens: those of statements, and those of a scan.
 
-use crate::bytes::{byte_at, find, is_alphameric, is_letter, skip, slice};
+use crate::bytes::{byte_at, find, folded, is_alphameric, is_letter, skip, slice};
 
 /// The delimiters of a statement (000, 3.1.1), with `%`.
 #[derive(Clone, Copy, Debug, PartialEq, Eq)]
@@ -61,9 +61,9 @@ impl Token {
         slice(body, self.start, self.end)
     }
 
-    /// Whether it is just this word.
+    /// Whether it is just this word, in any case.
     pub fn is_word(&self, body: &[u8], word: &[u8]) -> bool {
-        self.kind == Kind::Word && self.bytes(body) == word
+        self.kind == Kind::Word && folded(self.bytes(body)) == word
     }
 
     fn is_delimiter(&self) -> bool {
@@ -154,7 +154,7 @@ fn string_at(body: &[u8], start: usize) -> (Kind, usize) {
                 let digits = slice(body, start + 1, at);
                 let binary = digits.iter().all(|digit| matches!(digit, b'0' | b'1'));
                 // Reading 3: bits whatever follows the B.
-                return if binary && next == Some(b'B') {
+                return if binary && matches!(next, Some(b'B' | b'b')) {
                     (Kind::Bits, at + 2)
                 } else {
                     (Kind::Characters, at + 1)

@@ -2,7 +2,7 @@
 
 use std::rc::Rc;
 
-/// An identifier of a statement, at most 31 bytes.
+/// An identifier of a statement, at most 31 bytes, with its case folded.
 pub type Name = Rc<[u8]>;
 
 /// Where a labelled statement stands: an index for each block and alternative

@@ -3,7 +3,7 @@
 use referee::cases::{folder, load, Case};
 use referee::stack::with_large_stack;
 
-const CASES: usize = 3_344;
+const CASES: usize = 4_101;
 
 /// The name of the case, what is expected and what the referee says.
 fn failure(case: &Case) -> Option<String> {

@@ -155,6 +155,35 @@ fn about_one_deck_of_three_has_libraries() {
     assert!((900..1_300).contains(&count), "{count} of 3000");
 }
 
+/// Whether a name of the contents has a letter in lower case.
+fn has_lower_case(record: &Record) -> bool {
+    let width = match record.deck[..] {
+        [1..=32, 0, ..] => 16,
+        [1..=32, 1, ..] => 24,
+        _ => return false,
+    };
+    let count = usize::from(record.deck[0]);
+    let mut lines = record.deck[2..].chunks(width).take(count);
+    lines.any(|line| {
+        let names = line.iter().take(width - 8);
+        names.copied().any(|byte| byte.is_ascii_lowercase())
+    })
+}
+
+#[test]
+fn many_decks_are_in_mixed_case_and_as_many_of_them_finish() {
+    let (mut mixed, mut finished) = (0, 0);
+    for number in 0..3_000 {
+        let record = record(SEED, number);
+        if has_lower_case(&record) {
+            mixed += 1;
+            finished += usize::from(record.expand().number == 0);
+        }
+    }
+    assert!((1_200..1_600).contains(&mixed), "{mixed} of 3000");
+    assert!(finished * 4 > mixed, "{finished} of {mixed} finish");
+}
+
 #[test]
 fn decks_keep_within_their_bounds() {
     for number in 0..5_000 {

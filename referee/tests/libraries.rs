@@ -172,7 +172,7 @@ fn a_wrong_form_is_3_at_the_first_token_that_cannot_follow() {
         ("L(1)", 11),
         ("L('A')", 11),
         ("L(%A)", 11),
-        ("L(a)", 11),
+        ("L(`)", 11),
         ("L(,A)", 11),
         ("L,(A)", 11),
         ("L(A", 12),
@@ -357,7 +357,7 @@ fn first_numbers() {
 fn names_of_contents() {
     let main = ("L", "MAIN", "");
     for library in [
-        " ", " L", "L K", "1L", "_L", "l", "Ll", "L-", "L\0", "\0", "\u{7f}",
+        " ", " L", "L K", "1L", "_L", "`", "L{", "L-", "L\0", "\0", "\u{7f}",
     ] {
         is_malformed(&deck(&[main, (library, "A", "")]));
         is_malformed(&deck(&[(library, "MAIN", ""), main]));

@@ -3,6 +3,8 @@
 //! `hard --names` prints for each deck its name and the number of its answer; `hard NAME` writes that deck as a
 //! record with the rooms and steps of the program.
 
+#[path = "hard/case.rs"]
+mod case;
 #[path = "hard/stack.rs"]
 mod stack;
 
@@ -59,7 +61,7 @@ const DECKS: &[Deck] = &[
     ("names-257", 4, || names(257)),
     ("names-far", 0, names_far),
     ("value-512", 0, || value("")),
-    ("value-513", 16, || value("%R=R||'x';")),
+    ("value-513", 16, || value("%R=R||'.';")),
     ("goto-1000000", 18, goto_loop),
     ("goto-far", 18, goto_far),
     ("goto-out-of-16-groups", 18, goto_out),
@@ -118,9 +120,9 @@ const DECKS: &[Deck] = &[
     ("text-of-names", 0, text_of_names),
     ("text-of-numbers", 0, || text_of_numbers(3)),
     ("text-of-numbers-past", 17, || text_of_numbers(4)),
-    ("deck-65536", 0, || vec!["x".repeat(65_536 - 18)]),
-    ("deck-65537", 1, || vec!["x".repeat(65_537 - 18)]),
-    ("deck-131072", 1, || vec!["x".repeat(131_072 - 18)]),
+    ("deck-65536", 0, || vec![".".repeat(65_536 - 18)]),
+    ("deck-65537", 1, || vec![".".repeat(65_537 - 18)]),
+    ("deck-131072", 1, || vec![".".repeat(131_072 - 18)]),
 ];
 
 /// The most source that a deck of one member holds: 818 records.
@@ -142,7 +144,7 @@ const CARD_DECKS: &[Deck] = &[
         vec![format!("%IF 1 %THEN %;{}A", " /*%*/".repeat(9_000))]
     }),
     ("cards-text-of-names", 0, || {
-        vec![format!("%DCL V CHAR;%V='v';{}", "V+".repeat(2_000))]
+        vec![format!("%DCL V CHAR;%V='.';{}", "V+".repeat(2_000))]
     }),
     ("cards-list-room-full", 0, || list_room("")),
     ("cards-list-room-past", 17, || list_room(&comment_of(100))),
@@ -237,9 +239,7 @@ fn main() -> ExitCode {
 fn print_names() -> io::Result<()> {
     let mut output = io::stdout().lock();
     let names = plain_decks().chain(card_decks());
-    let more = LIBRARY_DECKS
-        .iter()
-        .map(|(name, number, ..)| (name, number));
+    let more = library_decks().map(|(name, number, ..)| (name, number));
     for (name, number) in names.map(|(name, number, _)| (name, number)).chain(more) {
         writeln!(output, "{name} {number}")?;
     }
@@ -247,11 +247,16 @@ fn print_names() -> io::Result<()> {
 }
 
 fn plain_decks() -> impl Iterator<Item = &'static Deck> {
-    DECKS.iter().chain(stack::DECKS)
+    DECKS.iter().chain(stack::DECKS).chain(case::DECKS)
 }
 
 fn card_decks() -> impl Iterator<Item = &'static Deck> {
-    CARD_DECKS.iter().chain(stack::CARD_DECKS)
+    let own = CARD_DECKS.iter();
+    own.chain(stack::CARD_DECKS).chain(case::CARD_DECKS)
+}
+
+fn library_decks() -> impl Iterator<Item = &'static LibraryDeck> {
+    LIBRARY_DECKS.iter().chain(case::LIBRARY_DECKS)
 }
 
 /// The deck of this name, and how its bodies are laid out.
@@ -263,7 +268,7 @@ fn deck_named(wanted: &str) -> Option<(Layout, Vec<u8>)> {
     if let Some((_, _, bodies)) = card_decks().find(is_wanted) {
         return Some((Layout::Cards, cards_of(&bodies())));
     }
-    let (_, _, layout, lines) = LIBRARY_DECKS.iter().find(|(name, ..)| *name == wanted)?;
+    let (_, _, layout, lines) = library_decks().find(|(name, ..)| *name == wanted)?;
     Some((*layout, library_deck_of(*layout, &lines())))
 }
 
@@ -456,7 +461,7 @@ fn all_at_once(last: &str) -> Bodies {
         numbered("V", 31),
         numbered("P", 16)
     );
-    main += &format!("%W='{}';", "w".repeat(512));
+    main += &format!("%W='{}';", ".".repeat(512));
     for number in 1..31 {
         main += &format!("%V{number}='V{}';", number + 1);
     }
@@ -499,7 +504,7 @@ fn names(count: usize) -> Bodies {
     let mut main = format!(
         "%DCL ({}) CHAR;%V1='{}';",
         numbered("V", count),
-        "v".repeat(512)
+        ".".repeat(512)
     );
     for number in 2..=count {
         main += &format!("%V{number}=V{};", number - 1);
@@ -523,8 +528,8 @@ fn names_far() -> Bodies {
 /// A value doubled up to 512 bytes, compared, cut, scanned, and then something more.
 fn value(more: &str) -> Bodies {
     let double = "%R=R||R;".repeat(9);
-    let same = "%IF (R=R)&(SUBSTR(R,1,511)||'x'=R)&^(R<R) %THEN %S=R;";
-    vec![format!("%DCL (R,S) CHAR;%R='x';{double}{same}{more}R S")]
+    let same = "%IF (R=R)&(SUBSTR(R,1,511)||'.'=R)&^(R<R) %THEN %S=R;";
+    vec![format!("%DCL (R,S) CHAR;%R='.';{double}{same}{more}R S")]
 }
 
 /// The part that a GOTO leaves gives no blank, so nothing but the steps ends it.
@@ -628,7 +633,7 @@ fn waiting(before: &str) -> Bodies {
     let mut main = format!(
         "%DCL V CHAR;%V='{}';%P:PROC({parameters},N)RETURNS(FIXED);\
          DCL ({parameters}) CHAR,N FIXED;RETURN(N+1);%END;",
-        "v".repeat(512)
+        ".".repeat(512)
     );
     let open = format!("P({}", "V,".repeat(8)).repeat(16);
     main += &format!("%DCL R CHAR;%R={before}{open}1{};R", ")".repeat(16));
@@ -637,7 +642,7 @@ fn waiting(before: &str) -> Bodies {
 
 /// 16 procedures that call the next while 8 values of 512 bytes wait in each.
 fn waiting_in_procedures(last: &str) -> Bodies {
-    let mut main = format!("%DCL (R,W) CHAR;%W='{}';", "w".repeat(512));
+    let mut main = format!("%DCL (R,W) CHAR;%W='{}';", ".".repeat(512));
     for number in 1..=16 {
         let inside = match number {
             16 => last.to_string(),
@@ -653,8 +658,8 @@ fn waiting_in_procedures(last: &str) -> Bodies {
 fn waiting_in_text(count: usize) -> Bodies {
     let parameters = numbered("A", count + 1);
     let main = format!(
-        "%DCL V CHAR;%V='{}';%P:PROC({parameters})RETURNS(CHAR);DCL ({parameters}) CHAR;RETURN('p');%END;%ACT P;",
-        "v".repeat(512)
+        "%DCL V CHAR;%V='{}';%P:PROC({parameters})RETURNS(CHAR);DCL ({parameters}) CHAR;RETURN('.');%END;%ACT P;",
+        ".".repeat(512)
     );
     let open = format!("P({}", "V,".repeat(count)).repeat(16);
     vec![format!("{main}{open}{}", ")".repeat(16))]
@@ -664,8 +669,8 @@ fn waiting_in_text(count: usize) -> Bodies {
 /// bytes.
 fn waiting_in_substr(last: usize) -> Bodies {
     let parameters = numbered("A", 128);
-    let mut main = format!("%DCL (R,V,W) CHAR;%V='{}';", "v".repeat(512));
-    main += &format!("%W='{}';", "w".repeat(last));
+    let mut main = format!("%DCL (R,V,W) CHAR;%V='{}';", ".".repeat(512));
+    main += &format!("%W='{}';", ".".repeat(last));
     main +=
         &format!("%P:PROC({parameters})RETURNS(FIXED);DCL ({parameters}) CHAR;RETURN(A128);%END;");
     main += "%Q:PROC(A)RETURNS(FIXED);DCL A CHAR;RETURN(2);%END;";
@@ -680,7 +685,7 @@ fn givers() -> String {
     };
     let procedures =
         procedure("E", "CHAR", "A") + &procedure("Q", "FIXED", "2") + &procedure("Z", "CHAR", "''");
-    format!("{procedures}%DCL V CHAR;%V='{}';", "v".repeat(512))
+    format!("{procedures}%DCL V CHAR;%V='{}';", ".".repeat(512))
 }
 
 /// Whatever uses a value up gives its place back, else the room is full after some passes.
@@ -705,7 +710,7 @@ fn waiting_given_back_in_text() -> Bodies {
 
 /// 2 blanks, 127 times 512 bytes and one, and so many bytes more.
 fn text_room(more: usize) -> Bodies {
-    let value = "v".repeat(512);
+    let value = ".".repeat(512);
     vec![format!(
         "%DCL V CHAR;%V='{value}';{}{}",
         "V+".repeat(127),
@@ -726,7 +731,7 @@ fn text_of_numbers(more: usize) -> Bodies {
 
 /// 2 blanks and 2,047 times two lines.
 fn list_room(more: &str) -> Bodies {
-    vec![format!("%DCL V CHAR;%V='v';{}{more}", "V+".repeat(2_047))]
+    vec![format!("%DCL V CHAR;%V='.';{}{more}", "V+".repeat(2_047))]
 }
 
 /// Names that are none of the 256 that are declared, but for their ends.
@@ -876,7 +881,7 @@ fn far_parentheses() -> Vec<Shelved> {
 fn filled_up(size: usize) -> Vec<Shelved> {
     let mut lines = one_name(32);
     let rest: usize = lines.iter().map(|line| line.2.len()).sum();
-    lines[31].2.push_str(&"x".repeat(size - 2 - 24 * 32 - rest));
+    lines[31].2.push_str(&".".repeat(size - 2 - 24 * 32 - rest));
     lines
 }
 
@@ -884,9 +889,9 @@ fn filled_up(size: usize) -> Vec<Shelved> {
 fn records_of(records: usize) -> Vec<Shelved> {
     let mut lines = one_name(32);
     for (_, _, body) in lines.iter_mut().skip(1) {
-        *body = "x".repeat(71);
+        *body = ".".repeat(71);
     }
     let others = 30 + lines[0].2.len().div_ceil(71);
-    lines[31].2 = "x".repeat(71 * (records - others));
+    lines[31].2 = ".".repeat(71 * (records - others));
     lines
 }

@@ -16,7 +16,7 @@ const SEQUENCE_BYTES: usize = 8;
 type Margins = (u8, [u8; SEQUENCE_BYTES]);
 
 /// What would change an expansion if it were looked at.
-const TELLING: &[u8] = b"%%%''//**;:=()ABX019_ \n\x00\xFF";
+const TELLING: &[u8] = b"%%%''//**;:=()ABXabx019_ \n\x00\xFF";
 
 /// A plain deck becomes one of cards, and one in twelve is damaged then. A malformed one stays as it is, and now and then
 /// another: its bodies are no records.

@@ -2,6 +2,7 @@
 
 use super::programs::Bodies;
 use super::random::Random;
+use super::shake::recase;
 use crate::cards::{Body, Layout};
 use crate::deck::{self, Member};
 
@@ -71,14 +72,14 @@ pub fn damage(random: &mut Random, deck: &mut Vec<u8>) {
     };
     let line = 2 + width * random.below(count);
     let names = width - 8;
-    match random.below(13) {
+    match random.below(14) {
         0 => set(deck, random.below(2), random.byte()),
         1 => {
             let first = FIRST[random.below(FIRST.len())];
             put(deck, 0, &first.to_le_bytes());
         }
         2 => {
-            let bytes = b" A9_a%$\n\x00";
+            let bytes = b" A9_az`{%$\n\x00\xE1";
             let byte = bytes[random.below(bytes.len())];
             set(deck, line + random.below(names), byte);
         }
@@ -95,6 +96,7 @@ pub fn damage(random: &mut Random, deck: &mut Vec<u8>) {
         9 => put(deck, line + 8 * random.below(names / 8), b"        "),
         10 => deck.truncate(random.below(2 + width * count + 1)),
         11 => mistake_width(deck, width, count),
+        12 => copy_in_another_case(random, deck, line, names),
         _ => set(deck, line + random.below(width), random.byte()),
     }
 }
@@ -112,6 +114,14 @@ fn mistake_width(deck: &mut [u8], width: usize, count: usize) {
 fn copy(deck: &mut [u8], from: usize, to: usize, count: usize) {
     let bytes = deck.get(from..from + count).unwrap_or(&[]).to_vec();
     put(deck, to, &bytes);
+}
+
+/// The names of the first line stand in another too, in some case.
+fn copy_in_another_case(random: &mut Random, deck: &mut [u8], line: usize, names: usize) {
+    copy(deck, 2, line, names);
+    if let Some(copied) = deck.get_mut(line..line + names) {
+        recase(random, copied);
+    }
 }
 
 fn put(deck: &mut [u8], at: usize, bytes: &[u8]) {

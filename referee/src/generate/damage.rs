@@ -74,7 +74,7 @@ pub fn splice(random: &mut Random, one: &[u8], other: &[u8]) -> Vec<u8> {
 
 /// Changes, adds or drops single bytes.
 pub fn damage_bytes(random: &mut Random, body: &mut Vec<u8>) {
-    const TELLING: &[u8] = b"%;:=()'/*,+-|&^<> \nABEX019_$a\x00\xFF";
+    const TELLING: &[u8] = b"%;:=()'/*,+-|&^<> \nABEX019_$abz`{\x00\xE1\xFF";
     for _ in 0..random.between(1, 4) {
         let at = random.below(body.len());
         let byte = if random.percent(80) {

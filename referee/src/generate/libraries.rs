@@ -4,7 +4,7 @@ use super::damage::{damage_tokens, split};
 use super::programs::Bodies;
 use super::random::Random;
 use super::world::any_name;
-use crate::bytes::{find, is_identifier};
+use crate::bytes::{find, folded, is_identifier};
 
 /// A third of the decks get libraries; in a few others INCLUDE names pairs that no line meets.
 pub fn perhaps(random: &mut Random, bodies: &mut Bodies) {
@@ -112,7 +112,7 @@ pub fn write_pairs(random: &mut Random, bodies: &mut Bodies) {
         .zip(bodies.names.iter().cloned())
         .collect();
     for body in &mut bodies.bodies {
-        if find(body, 0, b"INCLUDE").is_some() {
+        if find(&folded(body), 0, b"INCLUDE").is_some() {
             *body = with_pairs(random, body, &lines);
         }
     }
@@ -132,7 +132,7 @@ fn with_pairs(random: &mut Random, body: &[u8], lines: &[Line]) -> Vec<u8> {
             continue;
         }
         let space = token.starts_with(b"/*") || matches!(&token[..], b" " | b"\n" | b",");
-        listing = token == b"INCLUDE" || listing && (word || space);
+        listing = token.eq_ignore_ascii_case(b"INCLUDE") || listing && (word || space);
         written.extend(token);
     }
     written
@@ -140,7 +140,10 @@ fn with_pairs(random: &mut Random, body: &[u8], lines: &[Line]) -> Vec<u8> {
 
 /// The pair of a line with this name, or another one, perhaps with spaces, or broken.
 fn pair(random: &mut Random, name: &[u8], lines: &[Line]) -> Vec<u8> {
-    let known: Vec<&Line> = lines.iter().filter(|line| line.1 == name).collect();
+    let known = lines
+        .iter()
+        .filter(|line| line.1.eq_ignore_ascii_case(name));
+    let known: Vec<&Line> = known.collect();
     let right = random.pick(&known).map(|line| line.0.clone());
     let any = random.pick(lines).map(|line| line.0.clone());
     let any = any.unwrap_or_default();
@@ -198,6 +201,8 @@ const KNOWN: &[&[u8]] = &[
     b"INCLUDE(INCLUDE)",
     b"LIBRARY8(MEMBER_8)",
     b"MEMBER_8",
+    b"L(a)",
+    b"l(A)",
 ];
 
 /// Items that meet none, or the main program.
@@ -241,8 +246,8 @@ const WRONG: &[&[u8]] = &[
     b"L(1)",
     b"1(A)",
     b"L('A')",
-    b"L(a)",
-    b"l(A)",
+    b"L(`)",
+    b"\xECL(A)",
     b"L(A)=1",
     b"L(A):",
     b"=L(A)",

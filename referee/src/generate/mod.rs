@@ -16,6 +16,7 @@ mod pages;
 mod pairs;
 mod programs;
 mod random;
+mod shake;
 mod statements;
 mod texts;
 mod world;
@@ -178,9 +179,10 @@ fn on_cards(mut deck: Bodies) -> Vec<u8> {
     contents::assemble(&deck)
 }
 
-/// Bodies put together, with libraries or without.
+/// Bodies put together, with libraries or without, in upper case or in any.
 fn assembled(random: &mut Random, mut bodies: Bodies) -> Vec<u8> {
     libraries::perhaps(random, &mut bodies);
+    shake::perhaps(random, &mut bodies);
     contents::assemble(&bodies)
 }
 

@@ -9,6 +9,7 @@ use super::damage;
 use super::libraries;
 use super::programs::Bodies;
 use super::random::Random;
+use super::shake;
 use super::{small, AMPLE, MOST_STEPS};
 use crate::bytes::is_identifier;
 use crate::cards::Layout;
@@ -38,6 +39,7 @@ pub fn mutated(random: &mut Random) -> Record {
                 mutate(random, &mut bodies);
             }
             libraries::perhaps(random, &mut bodies);
+            shake::perhaps(random, &mut bodies);
             if record.layout == Layout::Cards {
                 cards::lay_out(random, &mut bodies);
             }

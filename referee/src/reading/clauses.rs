@@ -5,6 +5,7 @@ use std::rc::Rc;
 
 use super::sentences::Inside;
 use super::{Label, Reader};
+use crate::bytes::folded;
 use crate::refusal::{syntax, Read};
 use crate::tokens::{Kind, Mark};
 use crate::tree::{
@@ -82,8 +83,8 @@ impl Reader<'_, '_> {
     /// "A name after END must be a label of what it ends, else 3."
     fn end_name(&mut self, labels: &[Label]) -> Read<()> {
         let token = self.take();
-        let name = token.bytes(self.body);
-        if labels.iter().any(|label| &*label.name == name) {
+        let name = folded(token.bytes(self.body));
+        if labels.iter().any(|label| *label.name == *name) {
             return Ok(());
         }
         syntax(token.start)

@@ -7,7 +7,7 @@ mod sentences;
 use std::collections::HashSet;
 use std::rc::Rc;
 
-use crate::bytes::byte_at;
+use crate::bytes::{byte_at, folded};
 use crate::refusal::{past_limit, syntax, Read};
 use crate::tokens::{first_token, scan_token, token_after, Kind, Mark, ScanKind, Token};
 use crate::tree::{Declaration, Declared, Name, Procedure, Reading, Text};
@@ -162,7 +162,7 @@ impl Reader<'_, '_> {
         syntax(self.peek().start)
     }
 
-    /// An identifier; over 31 bytes it is 4 (reading 11).
+    /// An identifier, folded; over 31 bytes it is 4 (reading 11).
     fn name(&mut self) -> Read<Label> {
         let token = self.peek();
         if token.kind != Kind::Word {
@@ -174,7 +174,7 @@ impl Reader<'_, '_> {
         }
         self.take();
         Ok(Label {
-            name: Rc::from(bytes),
+            name: Rc::from(folded(bytes)),
             at: token.start,
         })
     }

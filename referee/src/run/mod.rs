@@ -7,12 +7,13 @@ mod scan;
 
 use std::rc::Rc;
 
+use crate::bytes::folded;
 use crate::meter::{Meter, Waiting};
 use crate::names::{Denotation, Home, Names};
 use crate::output::{Output, Rooms};
 use crate::reading::{count_again, read, Entered};
 use crate::refusal::{Outcome, Place, Refusal};
-use crate::tree::{Included, Path, Reading};
+use crate::tree::{Included, Name, Path, Reading};
 use crate::values::Value;
 use crate::Joined;
 
@@ -141,11 +142,15 @@ impl<'d> Run<'d> {
     /// "A bare member name means the first line with that member name, library
     /// ignored." A pair meets the line that has both, in a deck without libraries none.
     fn line_of(&self, item: &Included) -> Option<usize> {
-        let meant = |source: &Source| match &item.library {
-            None => true,
-            Some(library) => source.member.library == Some(&**library),
+        let in_library = |source: &Source, wanted: &Name| {
+            let library = source.member.library;
+            library.is_some_and(|library| *folded(library) == **wanted)
         };
-        let found = |source: &Source| source.member.name == &*item.member && meant(source);
+        let found = |source: &Source| {
+            let wanted = item.library.as_ref();
+            *folded(source.member.name) == *item.member
+                && wanted.is_none_or(|wanted| in_library(source, wanted))
+        };
         self.sources.iter().position(found)
     }
 
