@@ -1,6 +1,7 @@
 """The command says 0 if the whole text is written, and for nothing else."""
 import json
 import os
+import re
 import signal
 import time
 import unittest
@@ -379,6 +380,14 @@ class Into(Through):
         self.clone.put('answer', house.REFUSAL)
         self.assertEqual(self.into('--json')[0], 1)
         self.assertEqual(json.loads(self.out())['place'], {'member': 1, 'offset': 17, 'line': 1, 'column': 18})
+
+
+class Version(unittest.TestCase):
+    def test_everywhere_the_same(self):
+        for path, line in (('CHANGELOG.md', r'## (\S+)'), ('bindings/rust/Cargo.toml', r'version = "(\S+)\.0"')):
+            with open(os.path.join(house.ROOT, path), encoding='utf-8') as file:
+                found = re.search(f'^{line}$', file.read(), re.MULTILINE)
+            self.assertEqual(found and found[1], VERSION, path)
 
 
 class Usage(Through):
