@@ -57,8 +57,8 @@ def statement_at(source, at):
 
 
 def makes_bits(token, before):
-    """Whether a token is the B of a bit string."""
-    return token.word == b'B' and before.kind == 'string' and before.at + len(before.content) == token.at
+    """Whether a token is the B of a bit string; no name can follow a string."""
+    return token.word == b'B' and before.kind == 'string'
 
 
 def names_in(tokens):

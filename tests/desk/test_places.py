@@ -56,7 +56,7 @@ class Links(unittest.TestCase):
         self.assertEqual(includers(deck, 4), [4])
 
     def test_through_members_in_another_case(self):
-        deck = read_deck(house.deck_of(MAIN=b'%include a;\n%INCLUDE b;\n%INCLUDE X;', A=b'%Include C;', b=b'', c=b''), False)
+        deck = read_deck(house.deck_of(MAIN=b'%include a;\n%INCLUDE b;\n%INCLUDE X;', A=b'%Include c;', b=b'', C=b''), False)
         self.assertEqual([includers(deck, member) for member in (1, 2, 3)], [[1], [2], [1]])
 
     def test_a_name_means_the_first_and_a_pair_its_own(self):
@@ -69,7 +69,7 @@ class Links(unittest.TestCase):
 
     def test_pairs_in_another_case(self):
         deck = read_deck(house.deck_of_libraries(('X', 'MAIN', b'%INCLUDE m;\n%INCLUDE b(M);\n%INCLUDE B(m);'),
-                                                 ('A', 'M', b''), ('B', 'M', b'')), False)
+                                                 ('A', 'm', b''), ('b', 'M', b'')), False)
         self.assertEqual([includers(deck, member) for member in (1, 2)], [[1], [2, 3]])
 
     def test_no_pair_in_a_deck_without_libraries(self):
