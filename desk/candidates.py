@@ -15,7 +15,6 @@ SLIPS = {
     b'!': 'or is |, and the not sign is ^',
 }
 STRING = re.compile(rb"'(?:[^']|'')*'")
-LOWER = b'abcdefghijklmnopqrstuvwxyz'
 
 # tokens that are tried, and what they are called
 TOKENS = [(b';', '`;`'), (b',', '`,`'), (b'(', '`(`'), (b')', '`)`'), (b'=', '`=`'), (b':', '`:`'), (b'+', 'an operator'),
@@ -33,8 +32,6 @@ def slip(source, at):
     here = source[at:at + 1]
     if here in SLIPS:
         return SLIPS[here]
-    if here and here in LOWER:
-        return 'lower-case letters are no letters in a statement'
     if here == b"'" and not STRING.match(source, at):
         return 'the string that begins here is not closed'
     if source[at:at + 2] == b'/*' and b'*/' not in source[at + 2:]:

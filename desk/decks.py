@@ -1,8 +1,10 @@
-"""Decks: made of members, and read (01, "The deck", and C-14)."""
+"""Decks: made of members, and read (01, "The deck", C-14 and C-15)."""
 import collections
 import functools
 import re
 import struct
+
+from desk.names import ALPHAMERIC, LETTER, key_of
 
 BYTES = 65_536
 MEMBERS = 32
@@ -12,7 +14,7 @@ LINE = struct.Struct('<8sII')
 LONG_LINE = struct.Struct('<8s8sII')
 LIBRARIES = 256
 NAME = 8
-IDENTIFIER = re.compile(rb'[A-Z$@#][A-Z0-9$@#_]{0,7}')
+IDENTIFIER = re.compile(LETTER + ALPHAMERIC + rb'{0,7}')
 
 # a record of card images, and its columns that have source
 RECORD = 80
@@ -27,6 +29,10 @@ class Member(collections.namedtuple('Member', 'library name body')):
     def shown(self):
         """What people call it."""
         return b'%s(%s)' % (self.library, self.name) if self.library else self.name
+
+    @property
+    def key(self):
+        return key_of(self.library, self.name)
 
 
 class Deck(collections.namedtuple('Deck', 'content members is_cards paths', defaults=[()])):
@@ -66,8 +72,8 @@ def read_deck(content, is_cards):
         at += length
     if at != len(content) or at > BYTES:
         raise Unsound(f'it has {len(content)} bytes, and its contents speak of {at}')
-    if len({one.shown for one in members}) != count:
-        raise Unsound('a name is there twice')
+    if len({one.key for one in members}) != count:
+        raise Unsound('a name is there twice, perhaps in another case')
     return Deck(content, members, is_cards)
 
 

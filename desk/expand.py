@@ -20,8 +20,9 @@ USAGE = ('usage: plidesk expand [-c] [-I [LIBRARY=]DIR].. [-L LIBRARY] [-o FILE 
 
 HELP = USAGE + '''
 Expands the percent statements of MAIN.pli. The other files are members that it can INCLUDE.
-A member is called NAME, or else what stands before the first dot of its file's name, in capitals;
-an argument with a / before its first = is a path alone, and - is standard input, called MAIN.
+A member is called NAME, or else what stands before the first dot of its file's name; names that
+differ in case alone are one. An argument with a / before its first = is a path alone, and - is
+standard input, called MAIN.
 'LIBRARY(NAME)=MEMBER.pli' puts a member into a library: %INCLUDE LIBRARY(NAME); means that member,
 %INCLUDE NAME; the first one called NAME.
 

@@ -32,7 +32,7 @@ def name_of_file(path):
     """What a member is called whose file has this path."""
     if path == STANDARD_INPUT:
         return b'MAIN'
-    return os.fsencode(os.path.basename(path)).partition(b'.')[0].upper()
+    return os.fsencode(os.path.basename(path)).partition(b'.')[0]
 
 
 def wanted(argument):

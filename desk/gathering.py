@@ -6,6 +6,7 @@ from desk.decks import BYTES, IDENTIFIER, MEMBERS, Member, columns, make_deck, s
 from desk.errors import Stop
 from desk.files import STANDARD_INPUT, Wanted, name_of_file, read_file, wanted
 from desk.includes import links_of
+from desk.names import folded, key_of
 
 # a folder with members, and its library, perhaps empty
 Folder = collections.namedtuple('Folder', 'library path')
@@ -39,22 +40,25 @@ def shelf_of(library, folders):
 # ---- finding
 
 def found_in(folder, name, suffix):
-    """The path of the member of a name in a folder, or None. Of several files the one with the suffix is meant."""
+    """The path of the member of a name in a folder, or None. Of several files the one with the suffix is meant. Case does
+    not choose among files: in another place the same member may be written otherwise."""
     try:
         named = sorted(file for file in os.listdir(folder.path)
-                       if not file.endswith('~') and name_of_file(file) == name
+                       if not file.endswith('~') and folded(name_of_file(file)) == folded(name)
                        and os.path.isfile(os.path.join(folder.path, file)))
     except OSError as error:
         raise Stop(f'{folder.path}: {error.strerror}') from None
-    alike = [file for file in named if os.path.splitext(file)[1] == suffix]
-    if len(named) > 1 and len(alike) != 1:
-        raise Stop(f'{folder.path}: {" and ".join(named)} would both be {name.decode()}; name the one that is meant')
-    return os.path.join(folder.path, (alike or named)[0]) if named else None
+    alike = [file for file in named if os.path.splitext(file)[1].lower() == suffix.lower()] or named
+    if len(alike) > 1:
+        differ = 'differ in case alone and ' if len(set(map(str.lower, alike))) == 1 else ''
+        raise Stop(f'{folder.path}: {" and ".join(alike)} {differ}would both be {name.decode()}; '
+                   'name the one that is meant')
+    return os.path.join(folder.path, alike[0]) if alike else None
 
 
 def is_searched(folder, library, standing):
     """Whether members of a library, or of any if it is empty, are sought in a folder."""
-    return not library or (folder.library or standing) == library
+    return not library or folded(folder.library or standing) == folded(library)
 
 
 class Gathering:
@@ -69,7 +73,7 @@ class Gathering:
                               or any(folder.library for folder in shelf.folders))
         self.named = [self.read(want) for want in wants]
         self.check_names(wants)
-        self.found = {}    # by number of the folder and name
+        self.found = {}    # by number of the folder and name, folded
 
     def read(self, want):
         library = want.library or self.standing if self.has_libraries else b''
@@ -78,14 +82,15 @@ class Gathering:
     def check_names(self, wants):
         if [want.path for want in wants].count(STANDARD_INPUT) > 1:
             raise Stop('standard input can be one member alone')
-        seen = set()
+        seen = {}
         for want, file in zip(wants, self.named):
-            if file[:2] in seen:
-                raise Stop(f'{want.argument}: an earlier member has that name')
-            seen.add(file[:2])
+            earlier = seen.setdefault(key_of(file.library, file.name), file)
+            if earlier is not file:
+                case = '' if earlier[:2] == file[:2] else ' but for case'
+                raise Stop(f'{want.argument}: an earlier member has that name{case}')
 
     def is_named(self, library, name):
-        return any(file.name == name and library in (b'', file.library) for file in self.named)
+        return any(key_of(library and file.library, file.name) == key_of(library, name) for file in self.named)
 
     def find(self, library, name):
         """The file in the folders that an INCLUDE statement means, if it is not among the named ones and is new."""
@@ -95,10 +100,11 @@ class Gathering:
         for number, folder in enumerate(self.shelf.folders):
             path = found_in(folder, name, suffix) if is_searched(folder, library, self.standing) else None
             if path:
-                if (number, name) in self.found:
+                key = number, folded(name)
+                if key in self.found:
                     return None
-                self.found[number, name] = self.read(Wanted(folder.library, name, path, path))
-                return self.found[number, name]
+                self.found[key] = self.read(Wanted(folder.library, name_of_file(path), path, path))
+                return self.found[key]
         return None
 
     def follow(self):

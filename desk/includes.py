@@ -3,15 +3,22 @@ import collections
 import re
 
 from desk.decks import FIRST, LAST
+from desk.names import ALPHAMERIC, LETTER, folded, key_of
 
 # a blank or line feed, or a comment, perhaps open
 SPACE = re.compile(rb'(?:[ \n]|/\*.*?(?:\*/|\Z))*', re.DOTALL)
-WORD = re.compile(rb'[A-Z$@#][A-Z0-9$@#_]*|')
+WORD = re.compile(LETTER + ALPHAMERIC + rb'*|')
 # what stands before a `%` outside strings and comments
 PASSED = re.compile(rb"(?:[^%'/]+|'[^']*(?:'|\Z)|/\*.*?(?:\*/|\Z)|/)*", re.DOTALL)
 
-# member and place of an INCLUDE statement, and library, perhaps empty, and name of a member that it lists
-Link = collections.namedtuple('Link', 'member place library name')
+
+class Link(collections.namedtuple('Link', 'member place library name')):
+    """Member and place of an INCLUDE statement, and library, perhaps empty, and name of a member that it lists."""
+    __slots__ = ()
+
+    @property
+    def key(self):
+        return key_of(self.library, self.name)
 
 
 def behind_word(source, at):
@@ -42,7 +49,7 @@ def behind_item(source, at):
 def included(source, at):
     """The members that the statement behind a `%` includes, and the place behind what was read."""
     word, at = behind_labels(source, at)
-    if word != b'INCLUDE' or source.startswith(b'=', at):    # before `=` it is a variable
+    if folded(word) != b'INCLUDE' or source.startswith(b'=', at):    # before `=` it is a variable
         return [], at
     item, at = behind_item(source, at)
     items = [item]
@@ -64,11 +71,11 @@ def links_of(member, source):
 
 
 def numbers_of(deck):
-    """The number of the member that is meant by a library and a name: a name alone means the first member of that name."""
+    """The number of the member that is meant by a key: a name alone means the first member of that name."""
     numbers = {}
     for number, one in enumerate(deck.members):
-        numbers.setdefault((b'', one.name), number)
-        numbers.setdefault((one.library, one.name), number)
+        numbers.setdefault(key_of(b'', one.name), number)
+        numbers.setdefault(one.key, number)
     return numbers
 
 
@@ -78,7 +85,7 @@ def leading_to(member, links, meant):
     more = {member}
     while more:
         leads |= more
-        more = {link.member for link in links if meant.get(link[2:]) in leads} - leads
+        more = {link.member for link in links if meant.get(link.key) in leads} - leads
     return leads
 
 
@@ -87,7 +94,7 @@ def including(deck, member):
     meant = numbers_of(deck)
     links = [link for number in range(len(deck.members)) for link in links_of(number, deck.source(number))]
     leads = leading_to(member, links, meant)
-    return sorted({link.place for link in links if link.member == 0 and meant.get(link[2:]) in leads})
+    return sorted({link.place for link in links if link.member == 0 and meant.get(link.key) in leads})
 
 
 def includers(deck, member):

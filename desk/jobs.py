@@ -5,6 +5,7 @@ import shlex
 
 from desk.errors import Stop
 from desk.files import STANDARD_INPUT, split_argument
+from desk.names import folded
 
 # what a program is called in the sheet and in OUT, the main program and its members as arguments, and whether it is cards
 Job = collections.namedtuple('Job', 'name arguments is_cards')
@@ -73,7 +74,8 @@ def check_names(jobs):
         raise Stop('there is no program')
     seen = {}
     for job in jobs:
-        if not job.name or job.name in seen:
-            other = f' and {seen[job.name].arguments[0]}' if job.name else ''
-            raise Stop(f'{job.arguments[0]}{other}: each program needs a name of its own in the sheet')
-        seen[job.name] = job
+        earlier = seen.setdefault(folded(os.fsencode(job.name)), job)
+        if not job.name or earlier is not job:
+            other = f' and {earlier.arguments[0]}' if job.name else ''
+            case = '' if earlier.name == job.name else f'; {job.name} and {earlier.name} differ in case alone'
+            raise Stop(f'{job.arguments[0]}{other}: each program needs a name of its own in the sheet{case}')

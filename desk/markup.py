@@ -5,6 +5,7 @@ import json
 
 from desk.decks import FIRST, LAST, RECORD
 from desk.includes import WORD, including
+from desk.names import folded
 from desk.places import spot
 from desk.reading import in_source
 from desk.words import MEANINGS, PLACELESS
@@ -162,12 +163,12 @@ def place_of(deck, member, offset):
 
 
 def groups_of(parts):
-    """The replaced parts by name, in the order of their first place."""
+    """The replaced parts by name, in the order of their first place; the name as it is written there."""
     groups = {}
     for part in parts:
         if part.kind == 'V':
-            groups.setdefault(part.name, []).append(part)
-    return groups
+            groups.setdefault(folded(part.name), []).append(part)
+    return {group[0].name: group for group in groups.values()}
 
 
 def text_lines(parts, text):

@@ -100,8 +100,10 @@ function show(element, place, within) {
   if (rect.left < frame.left + 50 || rect.right > frame.right - 50) { pane.scrollLeft = Math.max(0, left - frame.width / 3); }
   if (frame.bottom < 0 || frame.top > window.innerHeight) { pane.scrollIntoView({block: 'nearest'}); }
 }
+// Names that are equal but for case are one.
 function markNames(name) {
-  data.parts.forEach((part, number) => { if (part[0] === 'V' && part[4] === name) { mark(document.getElementById('t' + number), 'same'); } });
+  const folded = name.toUpperCase();
+  data.parts.forEach((part, number) => { if (part[0] === 'V' && part[4].toUpperCase() === folded) { mark(document.getElementById('t' + number), 'same'); } });
 }
 
 // ---- going to and fro

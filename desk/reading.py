@@ -5,9 +5,11 @@ import collections
 import re
 
 from desk.decks import FIRST, LAST, RECORD
+from desk.names import ALPHAMERIC, LETTER, folded
 
 TOKEN = re.compile(rb"[ \n]+|(?P<comment>/\*.*?(?:\*/|\Z))|(?P<string>'(?:[^']|'')*(?:'|\Z))"
-                   rb"|(?P<name>[A-Z$@#][A-Z0-9$@#_]*)|(?P<number>[0-9]+)|(?P<other>.)", re.DOTALL)
+                   rb"|(?P<name>" + LETTER + ALPHAMERIC + rb"*)|(?P<number>[0-9]" + ALPHAMERIC + rb"*)|(?P<other>.)",
+                   re.DOTALL)
 DECLARING = (b'DECLARE', b'DCL')
 PROCEDURES = (b'PROCEDURE', b'PROC')
 KEYWORDS = frozenset(b'''ACTIVATE ACT DEACTIVATE DEACT DECLARE DCL DO TO BY END ELSE THEN IF GOTO GO INCLUDE PROCEDURE PROC
@@ -15,7 +17,15 @@ RETURN RETURNS FIXED CHARACTER CHAR ENTRY BUILTIN RESCAN NORESCAN SUBSTR BIT'''.
 # behind what a target of an assignment can stand
 BEFORE_TARGET = (b'%', b';', b':', b'THEN', b'ELSE', b'DO')
 
-Token = collections.namedtuple('Token', 'kind content at')
+
+class Token(collections.namedtuple('Token', 'kind content at')):
+    """A token as it is written, and its place."""
+    __slots__ = ()
+
+    @property
+    def word(self):
+        """What it is compared by."""
+        return folded(self.content)
 
 
 def tokens_of(source):
@@ -46,41 +56,54 @@ def statement_at(source, at):
     return tokens[first:last]
 
 
+def makes_bits(token, before):
+    """Whether a token is the B of a bit string; no name can follow a string."""
+    return token.word == b'B' and before.kind == 'string'
+
+
 def names_in(tokens):
-    """The names among tokens that are no keywords, each once."""
-    return list(dict.fromkeys(token.content for token in tokens if token.kind == 'name' and token.content not in KEYWORDS))
+    """The names among tokens that are no keywords, each once, as it is written first."""
+    names = {}
+    for before, token in zip([Token('', b'', 0), *tokens], tokens):
+        if token.kind == 'name' and token.word not in KEYWORDS and not makes_bits(token, before):
+            names.setdefault(token.word, token.content)
+    return list(names.values())
 
 
 class Known:
-    """What the members of a deck say of names."""
+    """What the members of a deck say of names, which are folded here."""
 
     def __init__(self, deck):
-        self.declared = set()
+        self.declared = {}       # with the name as it is written first
         self.given = set()       # a value
         self.parameters = {}     # of procedures
         for number in range(len(deck.members)):
             self.read(tokens_of(deck.source(number)))
 
+    def declare(self, names):
+        for name in names:
+            self.declared.setdefault(folded(name), name)
+
     def read(self, tokens):
-        contents = [token.content for token in tokens]
+        words = [token.word for token in tokens]
         for at, token in enumerate(tokens):
-            before, behind = contents[at - 1] if at else b'', contents[at + 1:at + 2]
-            if token.content in DECLARING:
-                self.declared |= set(names_in(tokens[at:at + distance(contents[at:], b';')]))
+            before, behind = words[at - 1] if at else b'', words[at + 1:at + 2]
+            if token.word in DECLARING:
+                self.declare(names_in(tokens[at:at + distance(words[at:], b';')]))
             elif token.kind == 'name' and behind == [b':']:
                 self.read_label(token.content, tokens[at + 2:])
             elif token.kind == 'name' and behind == [b'='] and before in BEFORE_TARGET:
-                self.given.add(token.content)
+                self.given.add(token.word)
 
     def read_label(self, label, tokens):
-        self.declared.add(label)
-        contents = [token.content for token in tokens]
-        if contents[:1] and contents[0] in PROCEDURES:
-            has_list = contents[1:2] == [b'(']
-            listed = names_in(tokens[1:distance(contents, b')')]) if has_list else []
-            self.parameters[label] = listed
-            self.given |= set(listed)
+        self.declare([label])
+        words = [token.word for token in tokens]
+        if words[:1] and words[0] in PROCEDURES:
+            has_list = words[1:2] == [b'(']
+            listed = names_in(tokens[1:distance(words, b')')]) if has_list else []
+            self.parameters[folded(label)] = listed
+            self.given |= set(map(folded, listed))
 
 
-def distance(contents, wanted):
-    return contents.index(wanted) if wanted in contents else len(contents)
+def distance(words, wanted):
+    return words.index(wanted) if wanted in words else len(words)

@@ -4,6 +4,7 @@ import difflib
 from desk.asking import LIST, ORIGIN, STEPS, TEXT
 from desk.candidates import what_could_stand
 from desk.includes import included, numbers_of
+from desk.names import folded, key_of
 from desk.reading import Known, in_source, names_in, statement_at, token_at, tokens_of
 
 NAME_LENGTH = 31
@@ -62,10 +63,11 @@ def unknown(case):
     known = Known(case.deck)
     hints = []
     for name in case.names:
-        if name not in known.declared:
-            alike = difflib.get_close_matches(called([name]), [called([one]) for one in known.declared], 1)
+        if folded(name) not in known.declared:
+            written = {called([word]): one for word, one in known.declared.items()}
+            alike = difflib.get_close_matches(called([folded(name)]), written, 1)
             hints.append(f'{called([name])} is declared in no member of this deck'
-                         + (f'; is {alike[0]} meant?' if alike else ''))
+                         + (f'; is {called([written[alike[0]]])} meant?' if alike else ''))
     return hints or ['each name here is declared somewhere, but not as what is wanted, not before this runs or not for this '
                      'procedure; a parameter must be declared in its procedure, FIXED or CHARACTER']
 
@@ -73,7 +75,8 @@ def unknown(case):
 def valueless(case):
     """7: the names that are given no value."""
     known = Known(case.deck)
-    never = [name for name in case.names if name in known.declared - known.given - set(known.parameters)]
+    valued = known.given | set(known.parameters)
+    never = [name for name in case.names if folded(name) in known.declared.keys() - valued]
     if never:
         return [f'{called(never)} is given a value nowhere in this deck']
     return [f'when this runs one of them has no value yet: {called(case.names)}'] if case.names else []
@@ -102,14 +105,15 @@ def zero(case):
 def miscounted(case):
     """11: how many arguments there should be."""
     known = Known(case.deck)
-    counts = [f'{called([name])} has {len(known.parameters[name])}' for name in case.names if name in known.parameters]
+    counts = [f'{called([name])} has {len(known.parameters[folded(name)])}'
+              for name in case.names if folded(name) in known.parameters]
     return [f'parameters: {", ".join(counts)}'] if counts else []
 
 
 def not_found(case):
     """14: the member that was sought, and where."""
     meant = numbers_of(case.deck)
-    sought = [item for item in included(case.source, case.at + 1)[0] if item not in meant]
+    sought = [item for item in included(case.source, case.at + 1)[0] if key_of(*item) not in meant]
     folders = ', '.join(folder.path for folder in case.shelf.folders)
     where = f'among the files that are named and in {folders}' if folders else 'among the files that are named'
     hints = []
@@ -125,7 +129,7 @@ def not_found(case):
 
 def too_deep(case):
     """15: which levels."""
-    if any(token.content == b'INCLUDE' for token in case.statement):
+    if any(token.word == b'INCLUDE' for token in case.statement):
         return ['members can include each other 8 levels deep; does one include itself?']
     if case.is_statement:
         return ['16 procedures can run at once, and replacements go 32 levels deep']

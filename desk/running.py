@@ -1,6 +1,7 @@
 """Running programs: signals that end the command, children that end with it, the emulator, what a program wrote."""
 import contextlib
 import os
+import select
 import shutil
 import signal
 import subprocess
@@ -11,6 +12,8 @@ from desk.standard import write_all
 STOPPING = (signal.SIGHUP, signal.SIGINT, signal.SIGTERM)
 # how long a build may take to end after it was asked to
 PATIENCE = 10
+# how long a signal may wait for what reads a pipe, in milliseconds
+HEARD = 200
 
 
 # ---- signals
@@ -109,10 +112,25 @@ def in_memory(content):
         yield file
 
 
+def read_up_to(pipe, most):
+    """What comes through a pipe, but no more than so many bytes. No read waits for them: a signal that comes just before a
+    read would be heard only behind it."""
+    poll = select.poll()
+    poll.register(pipe, select.POLLIN)
+    content = bytearray()
+    while len(content) < most:
+        if poll.poll(HEARD):
+            part = os.read(pipe.fileno(), most - len(content))
+            if not part:
+                break
+            content += part
+    return bytes(content)
+
+
 def output_of(name, words, most, **how):
     """What a program writes to its standard output; Stop unless it ends with status 0 and has written no more than most."""
     with started(words, stdout=subprocess.PIPE, **how) as child, child.stdout as pipe:
-        output = pipe.read(most + 1)
+        output = read_up_to(pipe, most + 1)
         if len(output) > most:
             raise Stop(f'{name} writes more than {most} bytes, and no answer has so many')
         status = child.wait()

@@ -5,6 +5,7 @@ import json
 import os
 
 from desk.errors import Stop
+from desk.names import folded
 from desk.version import VERSION
 
 FINISHED, REFUSED, NOT_RUN = 'finished', 'refused', 'not run'
@@ -24,7 +25,7 @@ def totals_of(rows):
 # ---- since an earlier sheet
 
 def read_sheet(path):
-    """An earlier sheet, by its path or that of its folder."""
+    """The rows of an earlier sheet, by its path or that of its folder, and when it was made."""
     if os.path.isdir(path):
         path = os.path.join(path, FILES[0])
     if os.path.basename(path) == FILES[0] and not os.path.exists(path):    # a shift was begun that would replace it
@@ -32,32 +33,44 @@ def read_sheet(path):
     try:
         with open(path, encoding='utf-8') as file:
             sheet = json.load(file)
-        return {row['program']: row for row in sheet['programs']}, sheet['ended']
+        return {key_of_row(row): row for row in sheet['programs']}, sheet['ended']
     except OSError as error:
         raise Stop(f'--since {path}: {error.strerror}') from None
     except (ValueError, KeyError, TypeError):
         raise Stop(f'--since {path}: it is no release sheet as JSON') from None
 
 
+def key_of_row(row):
+    """What the row of a program is looked up by."""
+    return folded(os.fsencode(row['program']))
+
+
+def has_sources_of(row, before):
+    """Whether two rows have the same deck, or files of the same content: case of their names alone is no change."""
+    digests = [[one['sha256'] for one in each['sources']] for each in (row, before)]
+    return row['deck_sha256'] == before['deck_sha256'] or digests[0] == digests[1]
+
+
 def change(row, before):
     """What is new in a row since the one of an earlier sheet, or None."""
     if before is None:
         return 'new'
-    is_same_deck = row['deck_sha256'] == before['deck_sha256']
-    sources = 'the same sources' if is_same_deck else 'changed sources'
+    is_same = has_sources_of(row, before)
+    sources = 'the same sources' if is_same else 'changed sources'
     if (row['verdict'], row['number']) != (before['verdict'], before['number']):
         was = before['verdict'] + (f' with {before["number"]}' if before['verdict'] == REFUSED else '')
         return f'was {was}; {sources}'
     if row['text_sha256'] != before['text_sha256']:
         return f'the text changed; {sources}'
-    return 'the same' if is_same_deck else 'the same text; changed sources'
+    return 'the same' if is_same else 'the same text; changed sources'
 
 
 def compare(rows, earlier):
     """Enters what changed into the rows; returns the programs that are no longer there."""
     for row in rows:
-        row['change'] = change(row, earlier.get(row['program']))
-    return sorted(earlier.keys() - {row['program'] for row in rows})
+        row['change'] = change(row, earlier.get(key_of_row(row)))
+    gone = earlier.keys() - set(map(key_of_row, rows))
+    return sorted(earlier[key]['program'] for key in gone)
 
 
 # ---- forms

@@ -20,7 +20,7 @@ struct muharegoden_member {
 /*
  * Writes the deck of members, the first the main program, and returns its size; 0, and nothing of use is written, if
  * there are not 1 to 32 of them, a name is longer than 8 bytes, or the deck has no place in the room. Whether the names
- * are identifiers and distinct is for the expander to say: it refuses the deck with 1 if not.
+ * are identifiers, and distinct whatever their case, is for the expander to say: it refuses the deck with 1 if not.
  */
 size_t muharegoden_pack(const struct muharegoden_member *members, size_t count, uint8_t *deck, size_t room);
 

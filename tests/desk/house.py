@@ -73,11 +73,11 @@ def deck_of_libraries(*members):
 
 MAIN = b'%INCLUDE M;\n/* a line that is copied */'
 M = b'%DECLARE N FIXED;%N=3+4; X=N;'
-DECK = deck_of(MAIN=MAIN, M=M)
+DECK = deck_of(main=MAIN, m=M)
 TEXT = b'   X=       7; \n/* a line that is copied */'
 LIST = b'B 1 17 1\nB 1 24 1\nC 1 24 3\nV 1 27 8\nC 1 28 1\nB 0 11 1\nC 0 11 28\n'
 ANSWER = b'0 0 0 18 %d 7\n' % len(TEXT) + LIST + TEXT + b'\n'
-NAMED = LIST.replace(b' 0 ', b' MAIN ').replace(b' 1 ', b' M ')
+NAMED = LIST.replace(b' 0 ', b' main ').replace(b' 1 ', b' m ')
 REFUSAL = b'10 1 17 3 0 0\n\n'
 
 CRATES = '''# lowest layer first

@@ -1,6 +1,7 @@
 """The command says 0 if the whole text is written, and for nothing else."""
 import json
 import os
+import re
 import signal
 import time
 import unittest
@@ -50,7 +51,7 @@ class Output(Through):
 
     def test_list_with_libraries(self):
         said = self.expands('-L', 'A', '--list')
-        self.assertEqual(said, house.NAMED.replace(b' MAIN ', b' A(MAIN) ').replace(b' M ', b' A(M) '))
+        self.assertEqual(said, house.NAMED.replace(b' main ', b' A(main) ').replace(b' m ', b' A(m) '))
 
     def test_full_device(self):
         with open('/dev/full', 'wb') as full:
@@ -247,9 +248,21 @@ class Files(Through):
         self.assertEqual(self.clone.asked(), house.DECK)
 
     def test_libraries(self):
-        self.expands('-L', 'COIL')
-        self.assertEqual(self.clone.asked(), house.deck_of_libraries(('COIL', 'MAIN', house.MAIN), ('COIL', 'M', house.M)))
-        self.fails('plidesk: -L coil: the library is no identifier of at most 8 bytes\n', '-L', 'coil')
+        for library in ('COIL', 'Coil'):
+            self.expands('-L', library)
+            self.assertEqual(self.clone.asked(),
+                             house.deck_of_libraries((library, 'main', house.MAIN), (library, 'm', house.M)))
+        self.fails('plidesk: -L 1: the library is no identifier of at most 8 bytes\n', '-L', '1')
+
+    def test_case(self):
+        """Names go into the deck as they are written, also that of a member that is included in another case."""
+        self.clone.put('Folder/m.pli', house.M)
+        self.expands('-I', 'Lib=' + self.clone.path('Folder'), 'Main=' + self.clone.path('main.pli'), files=[])
+        self.assertEqual(self.clone.asked(), house.deck_of_libraries(('MAIN', 'Main', house.MAIN), ('Lib', 'm', house.M)))
+        self.fails('an earlier member has that name but for case\n', 'M=' + self.clone.path('main.pli'))
+        self.clone.put('Folder/M.pli', house.M)
+        self.fails('Folder: M.pli and m.pli differ in case alone and would both be M; name the one that is meant\n',
+                   '-I', self.clone.path('Folder'), files=['main.pli'])
 
     def test_folders(self):
         """Members are found in the folders; what nobody includes is left out."""
@@ -258,13 +271,13 @@ class Files(Through):
         self.expands('-I', self.clone.path('folder'), files=['main.pli'])
         self.assertEqual(self.clone.asked(), house.DECK)
         self.expands('-I', 'LIB=' + self.clone.path('folder'), files=['main.pli'])
-        self.assertEqual(self.clone.asked(), house.deck_of_libraries(('MAIN', 'MAIN', house.MAIN), ('LIB', 'M', house.M)))
+        self.assertEqual(self.clone.asked(), house.deck_of_libraries(('MAIN', 'main', house.MAIN), ('LIB', 'm', house.M)))
         self.fails('there is no folder', '-I', self.clone.path('nowhere'))
 
     def test_standard_input(self):
         with open(self.clone.path('main.pli'), 'rb') as file:
             self.expands('-', files=['m.pli'], stdin=file)
-        self.assertEqual(self.clone.asked(), house.DECK)
+        self.assertEqual(self.clone.asked(), house.deck_of(MAIN=house.MAIN, m=house.M))
         self.fails('standard input can be one member alone', '-', 'X=-', stdin=-3)
 
     def test_no_file(self):
@@ -363,10 +376,18 @@ class Into(Through):
         self.assertEqual((told['number'], told['steps'], told['text'].encode()), (0, 18, house.TEXT))
         self.assertEqual(told['list'][3],
                          {'member': 1, 'offset': 27, 'line': 1, 'column': 28, 'kind': 'replaced', 'length': 8})
-        self.assertEqual([one['name'] for one in told['members']], ['MAIN', 'M'])
+        self.assertEqual([one['name'] for one in told['members']], ['main', 'm'])
         self.clone.put('answer', house.REFUSAL)
         self.assertEqual(self.into('--json')[0], 1)
         self.assertEqual(json.loads(self.out())['place'], {'member': 1, 'offset': 17, 'line': 1, 'column': 18})
+
+
+class Version(unittest.TestCase):
+    def test_everywhere_the_same(self):
+        for path, line in (('CHANGELOG.md', r'## (\S+)'), ('bindings/rust/Cargo.toml', r'version = "(\S+)\.0"')):
+            with open(os.path.join(house.ROOT, path), encoding='utf-8') as file:
+                found = re.search(f'^{line}$', file.read(), re.MULTILINE)
+            self.assertEqual(found and found[1], VERSION, path)
 
 
 class Usage(Through):

@@ -1,4 +1,4 @@
-"""Decks are read and made as 01 and C-14 say."""
+"""Decks are read and made as 01, C-14 and C-15 say."""
 import unittest
 
 import house
@@ -12,7 +12,7 @@ class Reading(unittest.TestCase):
 
     def test_members(self):
         deck = decks.read_deck(house.DECK, False)
-        self.assertEqual(deck.members, [(b'', b'MAIN', house.MAIN), (b'', b'M', house.M)])
+        self.assertEqual(deck.members, [(b'', b'main', house.MAIN), (b'', b'm', house.M)])
 
     def test_cut_at_every_byte(self):
         for end in range(len(house.DECK)):
@@ -22,9 +22,16 @@ class Reading(unittest.TestCase):
         self.refuses(house.DECK + b' ')
 
     def test_names(self):
-        for name in ('', '1A', 'a', 'A B'):
+        for name in ('', '1A', '`', '{', '_A', 'A B', 'a b', '\xe4'):
             self.refuses(house.deck_of(**{name: b'X'}))
+        for name in ('a', 'z', 'Az$@#_09'):
+            self.assertEqual(decks.read_deck(house.deck_of(**{name: b'X'}), False).members[0].name, name.encode())
         self.refuses(house.deck_of(A=b'X', B=b'Y').replace(b'B       ', b'A       '))
+
+    def test_names_that_differ_in_case_alone(self):
+        self.refuses(house.deck_of(MAIN=b'', Limits=b'X', LIMITS=b'Y'))
+        self.refuses(house.deck_of(az=b'', AZ=b''))
+        self.assertTrue(decks.read_deck(house.deck_of(**{'A@': b'', 'a$': b''}), False))
 
     def test_counts(self):
         members = {f'M{number}': b'' for number in range(33)}
@@ -55,10 +62,16 @@ class Libraries(Reading):
         self.refuses(self.CONTENT + b' ')
 
     def test_names(self):
-        for name in ('', '1A', 'a', 'A B'):
+        for name in ('', '1A', '`', '{', '_A', 'A B', 'a b', '\xe4'):
             self.refuses(house.deck_of_libraries((name, 'A', b'X')))
             self.refuses(house.deck_of_libraries(('A', name, b'X')))
+        self.assertEqual(decks.read_deck(house.deck_of_libraries(('a', 'z', b'X')), False).members[0].shown, b'a(z)')
         self.refuses(house.deck_of_libraries(('A', 'M', b'X'), ('B', 'M', b''), ('A', 'M', b'Y')))
+
+    def test_names_that_differ_in_case_alone(self):
+        for library, name in (('a', 'M'), ('A', 'm'), ('a', 'm')):
+            self.refuses(house.deck_of_libraries(('A', 'M', b'X'), ('B', 'M', b''), (library, name, b'Y')))
+        self.assertTrue(decks.read_deck(house.deck_of_libraries(('A', 'm', b''), ('b', 'M', b''), ('B', 'a', b'')), False))
 
     def test_counts(self):
         members = [(f'L{number}', 'M', b'') for number in range(33)]
@@ -87,6 +100,7 @@ class Making(unittest.TestCase):
 
     def test_unsound(self):
         for members in ([], [decks.Member(b'', b'A', bytes(65_536))], 2 * [decks.Member(b'L', b'A', b'')],
+                        [decks.Member(b'', b'A', b''), decks.Member(b'', b'a', b'')],
                         [decks.Member(b'', b'A', b''), decks.Member(b'L', b'A', b'')]):
             with self.assertRaises(decks.Unsound):
                 decks.make_deck(members, False)

@@ -70,6 +70,14 @@ def largest():
     return deck, Answer(0, 0, 0, 9, text, origins)
 
 
+def in_three_cases():
+    """A deck and an answer in which a name is replaced in three spellings."""
+    deck = make_deck([Member(b'', b'MAIN', b'low B LOW Low')], False)
+    origins = [Origin(b'V', 0, 0, 1), Origin(b'C', 0, 3, 1), Origin(b'V', 0, 4, 1), Origin(b'C', 0, 5, 1),
+               Origin(b'V', 0, 6, 1), Origin(b'C', 0, 9, 1), Origin(b'V', 0, 10, 1)]
+    return deck, Answer(0, 0, 0, 1, b'5 7 5 5', origins)
+
+
 def example_words():
     """The words that run an expander without building one."""
     if other_program():
@@ -112,7 +120,14 @@ class Markup(unittest.TestCase):
         deck = make_deck([Member(b'', b'MAIN', b'A $B_1x(2)A')], False)
         answer = Answer(0, 0, 0, 1, b'123', [Origin(b'V', 0, 0, 1), Origin(b'V', 0, 2, 1), Origin(b'V', 0, 10, 1)])
         self.assertEqual([(name, len(group)) for name, group in groups_of(parts_of(deck, answer)).items()],
-                         [(b'A', 2), (b'$B_1', 1)])
+                         [(b'A', 2), (b'$B_1x', 1)])
+
+    def test_names_in_another_case(self):
+        """One name, in the spelling that is met first; each place has its own."""
+        parts = parts_of(*in_three_cases())
+        self.assertEqual([part.name for part in parts if part.kind == 'V'], [b'low', b'B', b'LOW', b'Low'])
+        self.assertEqual([(name, [part.offset for part in group]) for name, group in groups_of(parts).items()],
+                         [(b'low', [0, 6, 10]), (b'B', [4])])
 
     def test_name_over_a_record_edge(self):
         body = b' '.ljust(LAST - 2) + b'LO' + b'00000010' + b' WER'.ljust(RECORD)
@@ -215,8 +230,8 @@ class InBrowser(unittest.TestCase):
     def test_keyboard(self):
         self.program()
         self.value('text.focus()')
-        self.assertEqual(self.readout(), 'inserted blank before m.pli:1:18 in M')
-        for key, words in (('ArrowRight', 'inserted blank before m.pli:1:25'), (']', 'N at m.pli:1:28 in M = “       7”'),
+        self.assertEqual(self.readout(), 'inserted blank before m.pli:1:18 in m')
+        for key, words in (('ArrowRight', 'inserted blank before m.pli:1:25'), (']', 'N at m.pli:1:28 in m = “       7”'),
                            ('End', 'copied from main.pli:1:12'),
                            ('ArrowDown', 'copied from main.pli:2:'), ('ArrowUp', ''),
                            ('Home', 'inserted blank before m.pli:1:18')):
@@ -235,7 +250,7 @@ class InBrowser(unittest.TestCase):
         self.assertEqual(self.value('document.activeElement.id'), 'wanted')
         self.browser.write('copied')
         self.browser.press('Enter')
-        self.assertEqual(self.readout(), 'copied from main.pli:2:19 in MAIN  (1 of 1)')
+        self.assertEqual(self.readout(), 'copied from main.pli:2:19 in main  (1 of 1)')
         self.value('wanted.value = "nothing"')
         self.browser.press('Enter')
         self.assertIn('is neither in the text nor in the sources', self.readout())
@@ -251,6 +266,14 @@ class InBrowser(unittest.TestCase):
         self.value('document.querySelector(".names a").click()')
         self.assertEqual(self.value('document.activeElement.id'), 'source1')
         self.assertEqual(self.value('document.querySelectorAll(".same").length'), 1)
+
+    def test_names_in_another_case(self):
+        self.open(*in_three_cases())
+        self.assertEqual(self.value('Array.from(document.querySelectorAll(".names tbody th"), one => one.textContent)'),
+                         ['low', 'B'])
+        self.value('document.querySelector(".names tbody th").click()')
+        self.assertEqual(self.value('Array.from(document.querySelectorAll(".same"), one => one.id)'), ['t0', 't4', 't6'])
+        self.assertEqual(self.value('told(4)'), 'LOW at MAIN:1:7 in MAIN = “5”')
 
     def test_empty_value(self):
         deck = make_deck([Member(b'', b'MAIN', b'A B')], False)

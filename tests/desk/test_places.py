@@ -31,6 +31,12 @@ class Links(unittest.TestCase):
             self.assertEqual(self.names(source), [b'M'], source)
         self.assertEqual(self.names(b'%INCLUDE A , B;\n%INCLUDE C'), [b'A', b'B', b'C'])
 
+    def test_in_any_case(self):
+        """The keyword is found in any case, and a name stays as it is written."""
+        for source in (b'%include mIx;', b'%Include mIx;', b'x %l:/*%*/K :\niNCLUDE/**/mIx'):
+            self.assertEqual(self.names(source), [b'mIx'], source)
+        self.assertEqual(self.pairs(b'%include a, Lib(m_1z) , B;'), [(b'', b'a'), (b'Lib', b'm_1z'), (b'', b'B')])
+
     def test_libraries(self):
         for source in (b'%INCLUDE L(M);', b'%INCLUDE/**/L ( M\n) ;', b'%K:INCLUDE L(/*)*/M/**/);'):
             self.assertEqual(self.pairs(source), [(b'L', b'M')], source)
@@ -39,6 +45,7 @@ class Links(unittest.TestCase):
 
     def test_passed_over(self):
         for source in (b"'%INCLUDE M;'", b'/*%INCLUDE M;*/', b'%INCLUDE = M;', b'INCLUDE M;', b'%INCLUDES M;', b'%',
+                       b'%include = M;', b'%INCLUDEs M;', b'%xINCLUDE M;',
                        b"'%INCLUDE M", b'/*/%INCLUDE M'):
             self.assertEqual(self.names(source), [], source)
 
@@ -48,6 +55,9 @@ class Links(unittest.TestCase):
         self.assertEqual(includers(deck, 3), [1, 3])
         self.assertEqual(includers(deck, 4), [4])
 
+    def test_through_members_in_another_case(self):
+        deck = read_deck(house.deck_of(MAIN=b'%include a;\n%INCLUDE b;\n%INCLUDE X;', A=b'%Include c;', b=b'', C=b''), False)
+        self.assertEqual([includers(deck, member) for member in (1, 2, 3)], [[1], [2], [1]])
 
     def test_a_name_means_the_first_and_a_pair_its_own(self):
         deck = read_deck(house.deck_of_libraries(
@@ -56,6 +66,11 @@ class Links(unittest.TestCase):
         self.assertEqual(includers(deck, 1), [1, 4, 5])
         self.assertEqual(includers(deck, 2), [2])
         self.assertEqual(includers(deck, 3), [5])
+
+    def test_pairs_in_another_case(self):
+        deck = read_deck(house.deck_of_libraries(('X', 'MAIN', b'%INCLUDE m;\n%INCLUDE b(M);\n%INCLUDE B(m);'),
+                                                 ('A', 'm', b''), ('b', 'M', b'')), False)
+        self.assertEqual([includers(deck, member) for member in (1, 2)], [[1], [2, 3]])
 
     def test_no_pair_in_a_deck_without_libraries(self):
         deck = read_deck(house.deck_of(MAIN=b'%INCLUDE A(M);\n%INCLUDE M(A);', M=b''), False)

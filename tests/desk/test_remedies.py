@@ -30,6 +30,23 @@ class Hints(unittest.TestCase):
                          ['when this runs one of them has no value yet: LOW'])
         self.assertIn('a parameter must be declared', self.hints(6, 27, main.replace(b'LOOW', b'HIGH'))[0])
 
+    def test_names_in_another_case(self):
+        """Names and keywords are met in any case, and told as they are written: what is missing where it stands, what is
+        meant where it is declared."""
+        main = b'%declare (Low, High) fixed;%LOW = looW + 1; low'
+        self.assertEqual(self.hints(6, 27, main), ['looW is declared in no member of this deck; is Low meant?'])
+        self.assertEqual(self.hints(7, 27, main.replace(b'looW', b'hIGH')), ['hIGH is given a value nowhere in this deck'])
+        self.assertEqual(self.hints(7, 27, main.replace(b'looW', b'low')),
+                         ['when this runs one of them has no value yet: LOW'])
+        self.assertIn('each name here is declared', self.hints(6, 27, main.replace(b'looW', b'hIGH'))[0])
+
+    def test_bit_string(self):
+        """B behind a string is no name; elsewhere it is."""
+        for mark in (b'B', b'b'):
+            self.assertEqual(self.hints(6, 17, b"%DCL A CHARACTER;%A='101'" + mark + b' & X;'),
+                             ['X is declared in no member of this deck'])
+        self.assertEqual(self.hints(6, 17, b"%DCL A CHARACTER;%A='101' || b;"), ['b is declared in no member of this deck'])
+
     def test_name_on_cards(self):
         body = b' %DECLARE A FIXED;'.ljust(72) + b'00000010' + b' %A = B;'.ljust(80)
         self.assertEqual(self.hints(6, 81, body, is_cards=True), ['B is declared in no member of this deck'])
@@ -37,6 +54,8 @@ class Hints(unittest.TestCase):
     def test_arguments(self):
         main = b'%DECLARE A ENTRY;%A: PROC(X, Y) RETURNS(FIXED); DCL (X, Y) FIXED; RETURN(1); %END; A(1)'
         self.assertEqual(self.hints(11, main.rindex(b'A('), main), ['parameters: A has 2'])
+        main = b'%Declare Abc entry;%aBC: proc(X, y) returns(fixed); dcl (x, Y) fixed; return(1); %end; abc(1)'
+        self.assertEqual(self.hints(11, main.rindex(b'abc('), main), ['parameters: abc has 2'])
 
     def test_divisor(self):
         for statement, words in ((b'%A=4/(B-(C+1))+2;', '(B - (C + 1)) is 0; test it with %IF before'),
@@ -54,16 +73,28 @@ class Hints(unittest.TestCase):
         self.assertEqual(self.hints(14, 0, b'%INCLUDE LIMITS;', shelf=shelf), [sought + ' and in a, b'])
         self.assertIn('no member has a library', self.hints(14, 0, b'%INCLUDE L(M);', b'')[1])
 
+    def test_member_in_another_case(self):
+        """What is there in another case is not what was sought; what is not is told as it is written."""
+        self.assertEqual(self.hints(14, 0, b'%include m, n, Limits;', b'', b'')[0],
+                         'Limits was sought among the files that are named')
+        self.assertEqual(self.hints(14, 0, b'%Include Coil(m);', b'')[0],
+                         'Coil(m) was sought among the files that are named')
+
     def test_limits(self):
         self.assertEqual(self.hints(4, 1, b'%' + b'A' * 32 + b'=1;'),
                          ['a name has at most 31 characters, and this one has 32'])
         self.assertIn('16 parentheses', self.hints(4, 3, b'%A=((1));')[0])
         self.assertIn('1024 sentences', self.hints(4, 0, b'%A=1;')[0])
+        self.assertEqual(self.hints(4, 1, b'%' + b'aB' * 16 + b'=1;'),
+                         ['a name has at most 31 characters, and this one has 32'])
         self.assertIn('include itself', self.hints(15, 0, b'%INCLUDE MAIN;')[0])
+        self.assertIn('include itself', self.hints(15, 0, b'%include main;')[0])
         self.assertIn('value of A', self.hints(15, 1, b' A')[0])
+        self.assertIn('value of aB', self.hints(15, 1, b' aB')[0])
         self.assertIn('65536 bytes and its list for 4096 lines', self.hints(17, 0, b'A')[0])
         self.assertIn('1000000 steps', self.hints(18, 0, b'A')[0])
         self.assertIn('X: declare it once', self.hints(5, 12, b'%DECLARE (X,X) FIXED;')[0])
+        self.assertIn('xY: declare it once', self.hints(5, 13, b'%declare (Xy,xY) fixed;')[0])
 
     def test_every_case_has_a_hint(self):
         with mock.patch.object(candidates, 'answers_to', lambda decks, *_: [Answer(0, 0, 0, 0, b'', [])] * len(decks)):
@@ -78,9 +109,16 @@ class Reading(unittest.TestCase):
     def test_known(self):
         known = Known(read_deck(house.deck_of(MAIN=b"%DCL (A, B) FIXED, C CHAR; 'D' /*E*/ %A=1;%DO B=1 TO 2;%L:;%END;"
                                               b'%P: PROCEDURE(Q) RETURNS(FIXED); IF A=2 THEN Q=3; %END;'), False))
-        self.assertEqual(known.declared, {b'A', b'B', b'C', b'L', b'P'})
+        self.assertEqual(known.declared, {name: name for name in (b'A', b'B', b'C', b'L', b'P')})
         self.assertEqual(known.given, {b'A', b'B', b'Q'})
         self.assertEqual(known.parameters, {b'P': [b'Q']})
+
+    def test_known_in_any_case(self):
+        known = Known(read_deck(house.deck_of(MAIN=b"%dcl (a, Bc) Fixed, C char;%A=1;%do bC=1 To 2;%l:;%End;"
+                                              b'%p: Procedure(q) returns(fixed); if a=2 then C=3; else Q=4; %end;'), False))
+        self.assertEqual(known.declared, {b'A': b'a', b'BC': b'Bc', b'C': b'C', b'L': b'l', b'P': b'p'})
+        self.assertEqual(known.given, {b'A', b'BC', b'C', b'Q'})
+        self.assertEqual(known.parameters, {b'P': [b'q']})
 
     def test_statement(self):
         self.assertEqual([one.content for one in statement_at(b'X %A = 1; Y', 2)], [b'%', b'A', b'=', b'1'])
@@ -94,10 +132,10 @@ class Reading(unittest.TestCase):
 
 class Slips(unittest.TestCase):
     def test_slips(self):
-        for source, words in ((b'%A=\t1;', 'tab'), (b'%A=\r1;', 'CR'), (b'%A="1";', 'string'), (b'%A=b;', 'lower-case'),
-                              (b"%A='1;", 'not closed'), (b'%A=/*1;', 'not closed')):
+        for source, words in ((b'%A=\t1;', 'tab'), (b'%A=\r1;', 'CR'), (b'%A="1";', 'string'), (b"%A='1;", 'not closed'),
+                              (b'%A=/*1;', 'not closed')):
             self.assertIn(words, candidates.slip(source, 3))
-        for source in (b'%A=1', b"%A='1';", b"%A='''';", b'%A=/**/;'):
+        for source in (b'%A=1', b"%A='1';", b"%A='''';", b'%A=/**/;', b'%A=b;', b'%A=z;'):
             self.assertEqual(candidates.slip(source, 3), '')
         self.assertEqual(candidates.slip(b'%A=1', 4), '')
 

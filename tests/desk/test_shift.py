@@ -55,7 +55,7 @@ class Rows(Shift):
         with open(self.clone.path('out/a.text'), 'rb') as file:
             self.assertEqual(file.read(), b' ONE\n')
         with open(self.clone.path('out/a.list'), 'rb') as file:
-            self.assertEqual(file.read(), b'B A 0 1\nC A 0 3\n')
+            self.assertEqual(file.read(), b'B a 0 1\nC a 0 3\n')
         self.assertEqual((rows['a']['verdict'], rows['a']['steps'], rows['a']['bytes'], rows['a']['lines']),
                          ('finished', 1, 4, 2))
         with open(self.clone.path('out/sheet.txt'), 'rb') as file:
@@ -99,7 +99,14 @@ class Rows(Shift):
         self.put(a='ONE')
         status, _, said = self.clone.run('-o', self.clone.path('out'), command='shift', files=['jobs', 'jobs/a.pli'])
         self.assertEqual(status, 2)
-        self.assertIn(b'each program needs a name of its own', said)
+        self.assertTrue(said.endswith(b'each program needs a name of its own in the sheet\n'), said)
+
+    def test_two_that_differ_in_case_alone(self):
+        self.put(a='ONE', A='TWO')
+        status, wrote, said = self.clone.run('-o', self.clone.path('out'), command='shift', files=['jobs'])
+        self.assertEqual((status, wrote), (2, b''))
+        self.assertIn(b'jobs/a.pli and ' + os.fsencode(self.clone.path('jobs/A.pli')) + b': each program needs a name of '
+                      b'its own in the sheet; a and A differ in case alone\n', said)
 
     def test_warnings(self):
         self.put(a='ONE\r\n')
@@ -112,6 +119,15 @@ class Rows(Shift):
         self.clone.put('lib/m.pli', 'M')
         _, rows = self.shift('-I', self.clone.path('lib'))
         self.assertEqual([os.path.basename(one['path']) for one in rows['a']['sources']], ['a.pli', 'm.pli'])
+
+    def test_members_that_differ_in_case_alone(self):
+        """It is told in the row of the program that includes one of them, and the others run."""
+        self.put(a='%include m;', b='TWO')
+        self.clone.put('lib/m.pli', 'M')
+        self.clone.put('lib/M.pli', 'M')
+        status, rows = self.shift('-I', self.clone.path('lib'))
+        self.assertEqual((status, rows['a']['verdict'], rows['b']['verdict']), (2, 'not run', 'finished'))
+        self.assertIn('M.pli and m.pli differ in case alone and would both be m', rows['a']['words'])
 
 
 class Later(Shift):
@@ -138,6 +154,27 @@ class Later(Shift):
             'new': 'new', 'back': 'was refused with 10; changed sources'})
         self.assertEqual(self.sheet()['gone'], ['gone'])
         self.assertIn(b'no longer there: gone', self.wrote)
+
+    def test_since_names_were_in_another_case(self):
+        """Neither a program nor its sources are other ones because names are written otherwise."""
+        self.put(a='1', b='%INCLUDE C;', c='3')
+        jobs = [self.clone.path(f'jobs/{name}.pli') for name in 'abc']
+        self.clone.put('early.jobs', f'A={jobs[0]}\nB={jobs[1]} C={jobs[2]}\nGone={jobs[0]}')
+        self.clone.put('late.jobs', f'{jobs[0]}\n{jobs[1]} {jobs[2]}')
+        self.shift('@' + self.clone.path('early.jobs'), jobs=[])
+        early = {row['program']: row['deck_sha256'] for row in self.sheet()['programs']}
+        _, rows = self.shift('--since', self.clone.path('out'), '@' + self.clone.path('late.jobs'), jobs=[])
+        self.assertNotEqual([rows['a']['deck_sha256'], rows['b']['deck_sha256']], [early['A'], early['B']])
+        self.assertEqual({name: row['change'] for name, row in rows.items()}, {'a': 'the same', 'b': 'the same'})
+        self.assertEqual(self.sheet()['gone'], ['Gone'])
+
+    def test_since_other_sources_of_one_length(self):
+        self.put(a='1', b='%INCLUDE C;', c='3')
+        self.clone.put('night.jobs', f'{self.clone.path("jobs/b.pli")} {self.clone.path("jobs/c.pli")}')
+        self.shift('@' + self.clone.path('night.jobs'), jobs=[])
+        self.put(c='4')
+        _, rows = self.shift('--since', self.clone.path('out'), '@' + self.clone.path('night.jobs'), jobs=[])
+        self.assertEqual(rows['b']['change'], 'the same text; changed sources')
 
     def test_since_what_is_no_sheet(self):
         self.put(a='1')

@@ -26,6 +26,12 @@ class Trace(unittest.TestCase):
                          'step 4           MAIN:1:7: a blank\nstep 5           MAIN:1:8: a line feed\n'
                          'step 6           MAIN:2:1: /* C */\n')
 
+    def test_tokens_of_text(self):
+        """Lower-case letters and what goes on with them are one token (C-15)."""
+        deck = read_deck(house.deck_of(MAIN=b"xA 1a_B 'b'c%inclUDE m; x"), False)
+        for offset, token in ((0, b'xA'), (3, b'1a_B'), (8, b"'b'"), (11, b'c'), (12, b'%inclUDE m')):
+            self.assertEqual(trace.what_stands(deck, 0, offset), token)
+
     def test_in_several_runs(self):
         with mock.patch.object(trace, 'RUNS', 2):
             self.assertEqual(self.shown(6).count('step'), 5)

@@ -41,8 +41,8 @@ impl fmt::Display for NoDeck {
 
 impl std::error::Error for NoDeck {}
 
-/// The deck of members, the first the main program. Whether names are identifiers and distinct is for the expander to say:
-/// it refuses the deck with 1 if not.
+/// The deck of members, the first the main program. Whether names are identifiers, and distinct whatever their case, is
+/// for the expander to say: it refuses the deck with 1 if not.
 ///
 /// # Errors
 /// Where the members have no place in a deck.

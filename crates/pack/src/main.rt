@@ -1,9 +1,10 @@
 // Packs member files into a deck (01, "The deck") and writes it to standard output.
 //
 // Each argument is a member, the first the main program: NAME=path, LIBRARY(NAME)=path, or a path alone, whose base name
-// up to its first dot, in capitals, is the name. Where an argument names a library, each line of the deck has one: its
-// own, or else the one behind -L, which stands before the members, or else MAIN. Where no deck can be made, one line on
-// standard error says why and nothing is written.
+// up to its first dot is the name. Names go into the deck in the case in which they are written; names that are equal but
+// for case are one (C-15). Where an argument names a library, each line of the deck has one: its own, or else the one
+// behind -L, which stands before the members, or else MAIN. Where no deck can be made, one line on standard error says why
+// and nothing is written.
 // Parts: refusals, names, files, the deck.
 ghost use Prim.Native.Nat.{_≤_};
 ghost use lib.ListN.{length};
@@ -159,17 +160,6 @@ fn name_of(arg: &[u8], path: usize) -> Spelled {
     }
 }
 
-// A lower-case letter as a capital; any other byte as it is.
-fn capital(b: u8) -> u8 {
-    if b < b'a' {
-        return b;
-    }
-    if b'z' < b {
-        return b;
-    }
-    b - 32
-}
-
 // Byte j of a name of n bytes at a place, which blanks follow.
 fn padded(arg: &[u8], at: usize, n: usize, j: usize) -> u8 {
     if j < n {
@@ -182,16 +172,6 @@ fn put_name(deck: &mut [u8], line: usize, arg: &[u8], at: usize, n: usize) {
     let mut j = 0;
     while j < Deck::NAME {
         put_byte(deck, line, j, padded(arg, at, n, j));
-        j += 1;
-    }
-}
-
-// Makes the letters of a line's name capitals.
-fn put_capitals(deck: &mut [u8], line: usize) {
-    let mut j = 0;
-    while j < Deck::NAME {
-        let b = byte(deck, line, j);
-        put_byte(deck, line, j, capital(b));
         j += 1;
     }
 }
@@ -219,14 +199,10 @@ fn is_identifier(s: &[u8], at: usize, n: usize) -> bool {
     false
 }
 
-// Puts the member's name of an argument at a place, and answers its length. A written name stays as it is.
+// Puts the member's name of an argument at a place, and answers its length.
 fn write_name(deck: &mut [u8], at: usize, arg: &[u8], path: usize) -> usize {
     let name = name_of(arg, path);
     put_name(deck, at, arg, name.from, name.len);
-    if 0 < path {
-        return name.len;
-    }
-    put_capitals(deck, at);
     name.len
 }
 
@@ -282,6 +258,28 @@ fn names_of(deck: &[u8], k: u16) -> Sought {
     Sought::Bare(name)
 }
 
+// Whether the names at two places are the same byte for byte.
+fn is_same_name(deck: &[u8], i: usize, j: usize) -> bool {
+    is_same(deck, i, deck, j, Deck::NAME)
+}
+
+// Whether two lines have their names in the same case too.
+fn is_written_alike(deck: &[u8], j: u16, k: u16) -> bool {
+    if is_same_name(deck, line_place(deck, j), line_place(deck, k)) {
+        return is_same_name(deck, name_place(deck, j), name_place(deck, k));
+    }
+    false
+}
+
+// Says that line j, which stands before line k, has its names.
+fn refuse_repeated(deck: &[u8], j: u16, k: u16, arg: &[u8]) {
+    if is_written_alike(deck, j, k) {
+        refuse(arg, b"an earlier member has that name");
+        return;
+    }
+    refuse(arg, b"an earlier member has that name but for case");
+}
+
 // Whether no line before line k has its names. The first number says how many lines `find` looks at.
 fn is_new(deck: &mut [u8], k: u16, arg: &[u8]) -> bool {
     if k == 0 {
@@ -291,8 +289,8 @@ fn is_new(deck: &mut [u8], k: u16, arg: &[u8]) -> bool {
     put_first(deck, k, has_libraries(deck));
     let earlier = deck::find(deck, names);
     match earlier {
-        Found::Line(_) => {
-            refuse(arg, b"an earlier member has that name");
+        Found::Line(j) => {
+            refuse_repeated(deck, j, k, arg);
             false
         }
         Found::Nothing => true,
