@@ -15,6 +15,7 @@ ghost use Rattle.names.specs.Table.{ownerOf};
 ghost use Rattle.callees.specs.Shown.{namesWorld};
 ghost use Rattle.callees.specs.Answer.{meantFor, onOf, StartedIs, ParameterIs, CountedIs, CalleeOf, heldNumber, HeldWith, heldAt, FixedHeld, HeldIs, VariableIs, ValueStored, AllStored};
 ghost use Rattle.callees.specs.declared.Meant.the-variants.{TheSubstr, NoSuch};
+use chars::spells;
 use deck::body;
 use definition::ValueType;
 use definition::Why;
@@ -33,7 +34,6 @@ use operators::Given;
 use operators::Value;
 use operators::above;
 use operators::size_of;
-use rooms::is_same;
 use rows::Starts;
 use rows::part_of;
 use rows::row_at;
@@ -59,10 +59,10 @@ pub enum Meant {
 }
 
 fn is_substr(s: &[u8], from: usize, n: usize) -> bool
-    ensures { λ r. ⌜ r ≡ E.isSubstr (part n from (now (s .entry))) ⌝ }
+    ensures { λ r. ⌜ r ≡ E.isSubstr (folded mixed (part n from (now (s .entry)))) ⌝ }
 {
     if n == 6 {
-        return is_same(s, from, b"SUBSTR", 0, 6);
+        return spells(s, from, b"SUBSTR", 0, 6);
     }
     false
 }

@@ -299,7 +299,7 @@ module _ (d : List ℕ) (k : ℕ) (w : List ℕ) (b : Bool) (lib : b ≡ hasLibr
   in-library p r h e f = f ∙ ap (isPadded mixed w) (library-is d k p (sym lib ∙ h) e)
 
   pub in-none : b ≡ false → false ≡ isPadded mixed w (lineAt d k .library)
-  in-none h = sym (ap (isPadded mixed w) (library-none d k (sym lib ∙ h)) ∙ padded-none w)
+  in-none h = sym (ap (isPadded mixed w) (library-none d k (sym lib ∙ h)) ∙ padded-none mixed w)
 
 module _ (d : List ℕ) (k : ℕ) (x : Sought) where
   pub called-bare : (w : Spelled) (p : ℕ) (r : Bool) → x ≡ S.Bare w → p ≡ linePlace d k + libraryLength d → r ≡ isPadded mixed (A.spelled d w) (part 8 p d) → r ≡ isCalled mixed (A.soughtIn d x) (lineAt d k)
@@ -344,10 +344,10 @@ unfolding lineAt
 alike d j k p q n r e f g h =
     let D : List ℕ = folded mixed d in
     let both : same (part (n + 8) p D) (part (n + 8) q D) ≡ (same (part n p D) (part n q D) && same (part 8 (p + n) D) (part 8 (q + n) D)) =
-        rw (part-add n 8 p D, part-add n 8 q D) (same-append (part n p D) (part n q D) (part 8 (p + n) D) (part 8 (q + n) D) (length-part n p D ∙ sym (length-part n q D)))
+    rw (part-add n 8 p D, part-add n 8 q D) (same-append (part n p D) (part n q D) (part 8 (p + n) D) (part 8 (q + n) D) (length-part n p D ∙ sym (length-part n q D)))
     in
     let back : (same (part n p D) (part n q D) && same (part 8 (p + n) D) (part 8 (q + n) D)) ≡ (isOne mixed (part n p d) (part n q d) && isOne mixed (part 8 (p + n) d) (part 8 (q + n) d)) =
-        rw (folded-part mixed n p d, folded-part mixed n q d, folded-part mixed 8 (p + n) d, folded-part mixed 8 (q + n) d)
+    rw (folded-part mixed n p d, folded-part mixed n q d, folded-part mixed 8 (p + n) d, folded-part mixed 8 (q + n) d)
     in
     h ∙ rw (folded-part mixed (n + 8) p d, folded-part mixed (n + 8) q d) (both ∙ back ∙ rw (e, f, g))
 

@@ -33,6 +33,12 @@ unfolding folded
 length-folded α [] = refl
 length-folded α (b ∷ l) = ap suc (length-folded α l)
 
+-- 01's letters fold nothing
+pub folded-capitals : (l : List ℕ) → folded capitals l ≡ l
+unfolding folded capital isSmall
+folded-capitals [] = refl
+folded-capitals (b ∷ l) = ap (λ (t : List ℕ). b ∷ t) (folded-capitals l)
+
 pub small-over : (b : ℕ) → isSmall mixed b ≡ true → 97 ≤ b
 unfolding isSmall
 small-over b h = leb-true 97 b (and-left (leb 97 b) (leb b 122) h)

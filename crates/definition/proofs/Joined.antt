@@ -80,13 +80,10 @@ columns-part (suc n) at q size d h =
     λ i. x i ++ y i
 
 -- ---- a line without a library is in none
-pub padded-nowhere : (α : Letters) (w : List ℕ) → isPadded α w [] ≡ false
+pub padded-none : (α : Letters) (w : List ℕ) → isPadded α w [] ≡ false
 unfolding isPadded folded
-padded-nowhere α [] = refl
-padded-nowhere α (x ∷ w) = refl
-
-pub padded-none : (w : List ℕ) → isPadded mixed w [] ≡ false
-padded-none w = padded-nowhere mixed w
+padded-none α [] = refl
+padded-none α (x ∷ w) = refl
 
 -- ---- where the lines of a layout stand; decks with the same first number have the same layout
 pub place-first : (d : List ℕ) → linePlace d 0 ≡ 2

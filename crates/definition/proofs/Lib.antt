@@ -2,7 +2,6 @@
 pub mod Rooms
 pub mod Parts
 pub mod Choices
-pub mod Letters
 pub mod Expanding
 pub mod Views
 pub mod Pieces

@@ -17,6 +17,7 @@ ghost use Rattle.expressions.specs.Check.{expectFor};
 ghost use Rattle.entering.specs.Book as B;
 ghost use Rattle.statements.specs.Clauses as C;
 ghost use Rattle.openings.specs.Open as T;
+use chars::is_one_name;
 use definition::Why;
 use entering::Mark;
 use entering::Meaning;
@@ -24,7 +25,6 @@ use expressions::Expected;
 use expressions::NamedAt;
 use expressions::name_at;
 use names::Owner;
-use rooms::is_same;
 use rows::Link;
 use rows::Role;
 use rows::Statement;
@@ -371,11 +371,11 @@ pub fn labels_at(s: &[u8], from: usize) -> Labels
 }
 
 fn is_spelled_alike(s: &[u8], t: Lexeme, from: usize, to: usize) -> bool
-    ensures { λ r. ⌜ r ≡ same (spelling (now (s .entry)) t) (part (to - from) from (now (s .entry))) ⌝ }
+    ensures { λ r. ⌜ r ≡ same (spelling (now (s .entry)) t) (folded mixed (part (to - from) from (now (s .entry)))) ⌝ }
 {
     let n = less(to, from);
     if width(t) == n {
-        return is_same(s, t.from, s, from, n);
+        return is_one_name(s, t.from, s, from, n);
     }
     false
 }

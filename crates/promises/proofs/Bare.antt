@@ -23,7 +23,7 @@ use Rattle.definition.specs.Program.{Stretch}
 use Rattle.definition.specs.Reading.{readMember}
 use Rattle.definition.proofs.Choices.{when-both, when-by, when-has, cond-has}
 use Rattle.definition.proofs.Keeping.{and-left, and-right}
-use Rattle.definition.proofs.Letters.{folded-capitals}
+use Rattle.definition.proofs.Folded.{folded-capitals}
 use Rattle.definition.proofs.AlikeMembers.{EndsAlike, at-percent, at-end as at-end-of, at-open, SameMember, member-alike}
 use Rattle.definition.proofs.Ends.{ClosedPast, comment-past}
 use Rattle.promises.specs.LowerCase.{Stand, outside, behindSlash, inString, inComment, behindStar, begun, next, isOutside, isBareFrom, isBare}

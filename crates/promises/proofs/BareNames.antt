@@ -10,7 +10,7 @@ use Rattle.definition.specs.Lists.{past}
 use Rattle.definition.specs.Deck.{Line, lines, linePlace, hasLibraries, count, isMemberName, areNamed, isRepeated, areDistinct, Sought, bare, inLibrary, isPadded, isCalled, find, isSound}
 use Rattle.definition.specs.Cards.{joined, joinedSize}
 use Rattle.definition.proofs.Keeping.{and-left, and-right}
-use Rattle.definition.proofs.Letters.{folded-capitals}
+use Rattle.definition.proofs.Folded.{folded-capitals}
 use Rattle.definition.proofs.Joined.{contentsFrom, contents-joined}
 use Rattle.promises.specs.LowerCase.{hasNone, areBare}
 use Rattle.promises.proofs.Bare.{not-true, letter-same, alphameric-same, capital-same}

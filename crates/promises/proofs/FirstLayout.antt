@@ -11,8 +11,8 @@ use lib.ListN.{length}
 use Rattle.definition.specs.declared.Why.the-variants.{Syntax as syntax}
 use Rattle.definition.specs.Bytes.{capitals}
 use Rattle.definition.specs.Choice.{when}
-use Rattle.definition.proofs.Letters.{folded-capitals}
-use Rattle.definition.proofs.Joined.{padded-nowhere}
+use Rattle.definition.proofs.Folded.{folded-capitals}
+use Rattle.definition.proofs.Joined.{padded-none}
 use Rattle.definition.proofs.Keeping.{and-left}
 use Rattle.definition.specs.Lists.{part, number, same}
 use Rattle.definition.specs.Tokens as Tk
@@ -88,7 +88,7 @@ module _ (d : List ℕ) (few : F.count d ≤ 256) where
   library-unmet : (l w : List ℕ) (k i n : ℕ) → Deck.find capitals (inLibrary l w) k (F.linesFrom d i n) ≡ none
   unfolding Deck.find Deck.isCalled F.linesFrom F.lineAt
   library-unmet l w k i zero = refl
-  library-unmet l w k i (suc n) = rw (padded-nowhere capitals l, library-unmet l w (suc k) (suc i) n)
+  library-unmet l w k i (suc n) = rw (padded-none capitals l, library-unmet l w (suc k) (suc i) n)
 
 pub deck-stays : F.DeckStays
 deck-stays d few = record {

@@ -14,6 +14,7 @@ ghost use Rattle.tokens.specs.Answer.{isWordIn};
 ghost use Rattle.rows.specs.declared.Statement.the-variants as S;
 ghost use Rattle.entering.specs.Book.{bookAll, meaningOf};
 ghost use Rattle.statements.specs.Clauses as C;
+use chars::is_one_name;
 use definition::ValueType;
 use definition::Why;
 use entering::Meaning;
@@ -29,7 +30,6 @@ use expressions::expect_sign;
 use expressions::expect_word;
 use expressions::name_at;
 use names::Owner;
-use rooms::is_same;
 use rows::Statement;
 use tokens::Lexeme;
 use tokens::is_sign;
@@ -601,7 +601,7 @@ fn is_spelled_as(s: &[u8], t: Lexeme, x: Spelling) -> bool
 {
     let n = length_of(x);
     if width(t) == n {
-        return is_same(s, t.from, s, x.from, n);
+        return is_one_name(s, t.from, s, x.from, n);
     }
     false
 }

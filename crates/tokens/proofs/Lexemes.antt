@@ -12,12 +12,13 @@ use lib.ListN.{length, getD, drop}
 use Rattle.definition.specs.Choice.{when}
 use Rattle.definition.specs.Text.{bytesOf}
 use Rattle.definition.specs.Lists.{part, all, leading, same}
-use Rattle.definition.specs.Bytes.{mixed, classOf, isAlphameric, isDigit}
+use Rattle.definition.specs.Bytes.{mixed, classOf, isAlphameric, isDigit, isSmall, capital, folded}
 use Rattle.definition.specs.declared.Class.{Class}
 use Rattle.definition.specs.declared.Class.the-variants.{Letter, Digit, Break, Blank, LineFeed, Percent, Quote, Mark, Other}
+use Rattle.definition.proofs.Folded.{length-folded}
 use Rattle.definition.proofs.Parts.{length-part}
 use Rattle.definition.specs.Tokens as T
-use Rattle.tokens.specs.Answer.{gapFor, constantFor, signSize, kindOf, lexOf, lexemeFor, Lexed, spelling, isWordKind, isSignKind, isWordIn, isSignIn, contentOf, content, tokenFor}
+use Rattle.tokens.specs.Answer.{gapFor, constantFor, signSize, kindOf, lexOf, lexemeFor, Lexed, written, spelling, isWordKind, isSignKind, isWordIn, isSignIn, contentOf, content, tokenFor}
 use Rattle.tokens.specs.declared.Kind.{Kind}
 use Rattle.tokens.specs.declared.Kind.the-variants.{Word, Integer, String, Bits, Sign, Nothing, Wrong}
 use Rattle.tokens.specs.declared.Lexeme.{Lexeme}
@@ -32,35 +33,35 @@ module _ (s : List ℕ) (p : ℕ) where
   constant-open (T.quoted bs q) c r e f g = let z : _≡_ {A = ℕ} 0 1 = cc in absurd (omega arith)
   constant-open T.unquoted c r e f g = g
 
-  chosen : (bs : List ℕ) (q n b : ℕ) (bits t : Bool) → n ≡ q → bits ≡ all T.isBit bs → b ≡ getD s (n + 0) 0 → t ≡ (bits && eqb b 66) → t ≡ (all T.isBit bs && eqb (getD s q 0) 66)
-  chosen bs q n b bits t e f g h = h ∙ rw (f, here s n b g, e)
+  chosen : (bs : List ℕ) (q n b y : ℕ) (bits t : Bool) → n ≡ q → bits ≡ all T.isBit bs → b ≡ getD s (n + 0) 0 → y ≡ capital mixed b → t ≡ (bits && eqb y 66) → t ≡ (all T.isBit bs && eqb (capital mixed (getD s q 0)) 66)
+  chosen bs q n b y bits t e f g c h = h ∙ rw (f, c, here s n b g, e)
 
-  pub constant-bits : (x : T.Quoted) (c : Q.Constant) (q b : ℕ) (bits t : Bool) (r : Lexeme)
-      → c ≡ constantFor x → c ≡ Q.the-variants.To q bits → b ≡ getD s (q + 0) 0 → t ≡ (bits && eqb b 66) → t ≡ true → r ≡ lexOf Bits p (q + 1)
+  pub constant-bits : (x : T.Quoted) (c : Q.Constant) (q b y : ℕ) (bits t : Bool) (r : Lexeme)
+      → c ≡ constantFor x → c ≡ Q.the-variants.To q bits → b ≡ getD s (q + 0) 0 → y ≡ capital mixed b → t ≡ (bits && eqb y 66) → t ≡ true → r ≡ lexOf Bits p (q + 1)
       → r ≡ lexemeFor (T.constantAt mixed s p x)
   unfolding T.constantAt
-  constant-bits (T.quoted bs n) c q b bits t r e f g h i j =
+  constant-bits (T.quoted bs n) c q b y bits t r e f g k h i j =
       let u : q ≡ n = cc in
       let v : bits ≡ all T.isBit bs = cc in
-      j ∙ rw (← chosen bs n q b bits t u v g h, i, u)
-  constant-bits T.unquoted c q b bits t r e f g h i j = let z : _≡_ {A = ℕ} 0 1 = cc in absurd (omega arith)
+      j ∙ rw (← chosen bs n q b y bits t u v g k h, i, u)
+  constant-bits T.unquoted c q b y bits t r e f g k h i j = let z : _≡_ {A = ℕ} 0 1 = cc in absurd (omega arith)
 
-  pub constant-string : (x : T.Quoted) (c : Q.Constant) (q b : ℕ) (bits t : Bool) (r : Lexeme)
-      → c ≡ constantFor x → c ≡ Q.the-variants.To q bits → b ≡ getD s (q + 0) 0 → t ≡ (bits && eqb b 66) → t ≡ false → r ≡ lexOf String p q
+  pub constant-string : (x : T.Quoted) (c : Q.Constant) (q b y : ℕ) (bits t : Bool) (r : Lexeme)
+      → c ≡ constantFor x → c ≡ Q.the-variants.To q bits → b ≡ getD s (q + 0) 0 → y ≡ capital mixed b → t ≡ (bits && eqb y 66) → t ≡ false → r ≡ lexOf String p q
       → r ≡ lexemeFor (T.constantAt mixed s p x)
   unfolding T.constantAt
-  constant-string (T.quoted bs n) c q b bits t r e f g h i j =
+  constant-string (T.quoted bs n) c q b y bits t r e f g k h i j =
       let u : q ≡ n = cc in
       let v : bits ≡ all T.isBit bs = cc in
-      j ∙ rw (← chosen bs n q b bits t u v g h, i, u)
-  constant-string T.unquoted c q b bits t r e f g h i j = let z : _≡_ {A = ℕ} 0 1 = cc in absurd (omega arith)
+      j ∙ rw (← chosen bs n q b y bits t u v g k h, i, u)
+  constant-string T.unquoted c q b y bits t r e f g k h i j = let z : _≡_ {A = ℕ} 0 1 = cc in absurd (omega arith)
 
 -- the `B` of a bit string lies inside
-pub bits-inside : (s : List ℕ) (q b : ℕ) (bits t : Bool) → b ≡ getD s (q + 0) 0 → t ≡ (bits && eqb b 66) → t ≡ true → q < length s
-bits-inside s q b bits t g h i =
-    let e : b ≡ 66 = eqb-true b 66 (and-second bits (eqb b 66) (sym i ∙ h)) in
-    let f : b ≡ getD s q 0 = here s q b g in
-    inside s q (λ z. omega arith)
+pub bits-inside : (s : List ℕ) (q b y : ℕ) (bits t : Bool) → b ≡ getD s (q + 0) 0 → y ≡ capital mixed b → t ≡ (bits && eqb y 66) → t ≡ true → q < length s
+unfolding capital isSmall
+bits-inside s q b y bits t g c h i =
+    let e : y ≡ 66 = eqb-true y 66 (and-second bits (eqb y 66) (sym i ∙ h)) in
+    inside s q (λ z. let f : b ≡ 0 = here s q b g ∙ z in let k : y ≡ 0 = c ∙ ap (capital mixed) f in omega arith)
 
 -- ---- the token at a place, by the class of its first byte
 pub lexeme-end : (s : List ℕ) (e p : ℕ) (r : Lexeme) → length s ≤ p → r ≡ lexOf Nothing p p → r ≡ lexemeFor (T.lexemeAt mixed s e (T.upTo p))
@@ -158,15 +159,27 @@ same-length (x ∷ xs) [] h = refl
 same-length (x ∷ xs) (y ∷ ys) h = and-no (eqb x y) (same xs ys) (same-length xs ys (λ e. h (ap suc e)))
 
 module _ (s : List ℕ) (l : Lexeme) (w : List ℕ) (n : ℕ) (e : n ≡ l .to - l .from) where
-  pub spelled-same : (t : Bool) → n ≡ length w → t ≡ same (part n (l .from) s) (part n 0 w) → t ≡ same (spelling s l) w
-  unfolding spelling
+  pub written-same : (t : Bool) → n ≡ length w → t ≡ same (part n (l .from) s) (part n 0 w) → t ≡ same (written s l) w
+  unfolding written
+  written-same t f g =
+      let h : part n 0 w ≡ w = rw f (part-all w) in
+      g ∙ rw (h, e)
+
+  pub spelled-same : (t : Bool) → n ≡ length w → t ≡ same (folded mixed (part n (l .from) s)) (part n 0 w) → t ≡ same (spelling s l) w
+  unfolding written
   spelled-same t f g =
       let h : part n 0 w ≡ w = rw f (part-all w) in
       g ∙ rw (h, e)
 
+  pub written-not : (n ≡ length w → ⊥) → false ≡ same (written s l) w
+  unfolding written
+  written-not f = same-length (part (l .to - l .from) (l .from) s) w (λ g. f (e ∙ sym (length-part (l .to - l .from) (l .from) s) ∙ g))
+
   pub spelled-not : (n ≡ length w → ⊥) → false ≡ same (spelling s l) w
-  unfolding spelling
-  spelled-not f = same-length (part (l .to - l .from) (l .from) s) w (λ g. f (e ∙ sym (length-part (l .to - l .from) (l .from) s) ∙ g))
+  unfolding written
+  spelled-not f =
+      let p : List ℕ = part (l .to - l .from) (l .from) s in
+      same-length (folded mixed p) w (λ g. f (e ∙ sym (length-folded mixed p ∙ length-part (l .to - l .from) (l .from) s) ∙ g))
 
 module _ (s : List ℕ) (l : Lexeme) (w : List ℕ) (t : Bool) where
   pub word-kind : (r : Bool) → t ≡ isWordKind (l .kind) → t ≡ true → r ≡ same (spelling s l) w → r ≡ isWordIn s l w
@@ -177,7 +190,7 @@ module _ (s : List ℕ) (l : Lexeme) (w : List ℕ) (t : Bool) where
   unfolding isWordIn
   word-other e f = rw (← e, f)
 
-  pub sign-kind : (r : Bool) → t ≡ isSignKind (l .kind) → t ≡ true → r ≡ same (spelling s l) w → r ≡ isSignIn s l w
+  pub sign-kind : (r : Bool) → t ≡ isSignKind (l .kind) → t ≡ true → r ≡ same (written s l) w → r ≡ isSignIn s l w
   unfolding isSignIn
   sign-kind r e f g = g ∙ rw (← e, f)
 
@@ -223,14 +236,14 @@ module _ (s : List ℕ) where
   stands-constant : (p : ℕ) (x : T.Quoted) → content s p ≡ contentOf x → Stands s (T.constantAt mixed s p x)
   unfolding T.constantAt
   stands-constant p T.unquoted e = record { is = refl }
-  stands-constant p (T.quoted bs q) e = stands-bits p q bs (all T.isBit bs && eqb (getD s q 0) 66) e
+  stands-constant p (T.quoted bs q) e = stands-bits p q bs (all T.isBit bs && eqb (capital mixed (getD s q 0)) 66) e
 
   stands-wrong : (p : ℕ) → Stands s (T.lexeme T.wrong p p)
   stands-wrong p = record { is = refl }
 
   stands-of : (c : Class) (p : ℕ) → Stands s (T.lexemeOf mixed c s p)
   unfolding T.lexemeOf T.runAt T.signAt content
-  stands-of Letter p = record { is = ap T.word (run-part (isAlphameric mixed) p) }
+  stands-of Letter p = record { is = ap (λ (w : List ℕ). T.word (folded mixed w)) (run-part (isAlphameric mixed) p) }
   stands-of Digit p = record { is = ap T.integer (run-part isDigit p) }
   stands-of Quote p = stands-constant p (T.quotedAt (drop (p + 1) s) [] (p + 1)) refl
   stands-of Mark p = stands-pair p (T.isPair (part 2 p s))
@@ -253,18 +266,18 @@ module _ (s : List ℕ) where
 
 module _ (s : List ℕ) (e : ℕ) (l : Lexeme) (h : Lexed s e l) where
   -- THE TOKEN OF A LEXEME, by its kind, its bytes, and the content of a constant
-  pub token-is : T.tokenAt mixed s e .token ≡ tokenFor (l .kind) (spelling s l) (content s (l .from))
-  unfolding T.tokenAt spelling
+  pub token-is : T.tokenAt mixed s e .token ≡ tokenFor (l .kind) (written s l) (content s (l .from))
+  unfolding T.tokenAt written
   token-is = rw (h .kind, h .from, h .to) (stands-at s e (T.spaces (length s) s e) .is)
 
-  pub lexeme-is : T.tokenAt mixed s e ≡ T.lexeme (tokenFor (l .kind) (spelling s l) (content s (l .from))) (l .from) (l .to)
+  pub lexeme-is : T.tokenAt mixed s e ≡ T.lexeme (tokenFor (l .kind) (written s l) (content s (l .from))) (l .from) (l .to)
   lexeme-is = rw (← token-is, h .from, h .to)
 
   pub is-word : (W : S.String) (w : List ℕ) → bytesOf W ≡ w → isWordIn s l w ≡ T.isWord W (T.tokenAt mixed s e .token)
   unfolding isWordIn
-  is-word W w f = rw (token-is, ← f) (by-kind (l .kind) (spelling s l) (content s (l .from)))
+  is-word W w f = rw (token-is, ← f) (by-kind (l .kind) (written s l) (content s (l .from)))
     where
-      by-kind : (k : Kind) (x y : List ℕ) → (isWordKind k && same x (bytesOf W)) ≡ T.isWord W (tokenFor k x y)
+      by-kind : (k : Kind) (x y : List ℕ) → (isWordKind k && same (folded mixed x) (bytesOf W)) ≡ T.isWord W (tokenFor k x y)
       by-kind Word x y = refl
       by-kind Integer x y = refl
       by-kind String x y = refl
@@ -275,7 +288,7 @@ module _ (s : List ℕ) (e : ℕ) (l : Lexeme) (h : Lexed s e l) where
 
   pub is-sign : (W : S.String) (w : List ℕ) → bytesOf W ≡ w → isSignIn s l w ≡ T.isSign W (T.tokenAt mixed s e .token)
   unfolding isSignIn
-  is-sign W w f = rw (token-is, ← f) (by-kind (l .kind) (spelling s l) (content s (l .from)))
+  is-sign W w f = rw (token-is, ← f) (by-kind (l .kind) (written s l) (content s (l .from)))
     where
       by-kind : (k : Kind) (x y : List ℕ) → (isSignKind k && same x (bytesOf W)) ≡ T.isSign W (tokenFor k x y)
       by-kind Word x y = refl

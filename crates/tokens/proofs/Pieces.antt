@@ -10,12 +10,10 @@ use lib.Dec.{eqb, leb}
 use lib.ListN.{length, getD, drop, length-drop}
 use Rattle.definition.specs.Choice.{when}
 use Rattle.definition.specs.Lists.{part, leading}
-use Rattle.definition.specs.Bytes.{mixed, classOf, isLetter, isDigit, isBlank, isMark, isAlphameric}
+use Rattle.definition.specs.Bytes.{mixed, classOf, isLetter, isDigit, isBlank, isMark, isAlphameric, isSmall, folded}
 use Rattle.definition.specs.declared.Class.{Class}
 use Rattle.definition.specs.declared.Class.the-variants.{Letter, Digit, Break, Blank, LineFeed, Percent, Quote, Mark, Other}
 use Rattle.definition.specs.Tokens as T
-use Rattle.chars.specs.Code.{codeOf}
-use Rattle.chars.proofs.Laws.{is-alphameric}
 use Rattle.tokens.specs.Answer.{closedFor, pieceKind, cutOf, pieceFor, closedPiece, pieceOf, Cuts, isUnclosed, endingFor}
 use Rattle.tokens.specs.declared.Closed as C
 use Rattle.tokens.specs.declared.PieceKind.the-variants.{Name, Plain, Unclosed}
@@ -23,7 +21,7 @@ use Rattle.tokens.specs.declared.Piece.{Piece}
 use Rattle.tokens.specs.declared.Ending as E
 use Rattle.tokens.proofs.Laws.{comment-inside, comment-further, quote-further}
 use Rattle.tokens.proofs.Lexemes.{run-part}
-use Rattle.tokens.proofs.Reach.{run-past, run-inside}
+use Rattle.tokens.proofs.Reach.{run-past, run-inside, letter-goes-on, digit-goes-on}
 
 pub closed-at : (n q : ℕ) (c : C.Closed) (r : Piece) → c ≡ C.the-variants.At q → r ≡ cutOf Plain q → r ≡ closedPiece n c
 closed-at n q c r e f = f ∙ rw e
@@ -44,7 +42,7 @@ and-first true b e = refl
 and-first false b e = e
 
 slash : (b : ℕ) → b ≡ 47 → classOf mixed b ≡ Mark
-unfolding classOf isLetter isDigit isBlank isMark
+unfolding classOf isLetter isSmall isDigit isBlank isMark
 slash b e = rw e
 
 commented : (s : List ℕ) (p : ℕ) → T.isComment s p ≡ true → classOf mixed (getD s p 0) ≡ Mark
@@ -119,7 +117,7 @@ module _ (s : List ℕ) (p : ℕ) where
 
   stands-of : (c : Class) → Stands s p (T.pieceOf mixed c s p)
   unfolding T.pieceOf
-  stands-of Letter = record { is = ap T.name (run-part s (isAlphameric mixed) p) }
+  stands-of Letter = record { is = ap (λ (w : List ℕ). T.name (folded mixed w)) (run-part s (isAlphameric mixed) p) }
   stands-of Digit = stands-plain (p + length (leading (isAlphameric mixed) (drop p s)))
   stands-of Quote = stands-closed (T.quoteEnd (drop (p + 1) s) (p + 1))
   stands-of Mark = stands-mark (T.isComment s p) (T.pastComment s p)
@@ -147,8 +145,8 @@ module _ (s : List ℕ) (p : ℕ) (h : p < length s) where
 
   piece-further-of : (c : Class) → classOf mixed (getD s p 0) ≡ c → isUnclosed (pieceKind (T.pieceOf mixed c s p .piece)) ≡ false → p < T.pieceOf mixed c s p .to
   unfolding T.pieceOf
-  piece-further-of Letter e f = run-past s p h (isAlphameric mixed) (sym (is-alphameric (getD s p 0) 1 (sym (ap codeOf e))))
-  piece-further-of Digit e f = run-past s p h (isAlphameric mixed) (sym (is-alphameric (getD s p 0) 2 (sym (ap codeOf e))))
+  piece-further-of Letter e f = run-past s p h (isAlphameric mixed) (letter-goes-on (getD s p 0) e)
+  piece-further-of Digit e f = run-past s p h (isAlphameric mixed) (digit-goes-on (getD s p 0) e)
   piece-further-of Quote e f = closed-further (T.quoteEnd (drop (p + 1) s) (p + 1)) (λ q g. let z : p + 1 < q = quote-further (drop (p + 1) s) (p + 1) q g in omega arith) f
   piece-further-of Mark e f =
       comment-or-mark (T.isComment s p) (T.pastComment s p) (λ q g. let z : p + 2 < q = comment-further false (drop (p + 2) s) (p + 2) q g in omega arith) f

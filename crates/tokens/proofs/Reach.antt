@@ -1,7 +1,7 @@
 -- Where tokens lie: a token begins no earlier than it is looked for, has a byte, and ends within the source.
 -- Assumes nothing.
 use mathlib.Core.Path.{_≡_, refl, sym, ap, _∙_}
-use mathlib.Core.Bool.{Bool, true, false, cond, _&&_}
+use mathlib.Core.Bool.{Bool, true, false, cond, _&&_, _||_}
 use mathlib.Core.List.{List, [], _∷_, _++_}
 use Prim.Native.Nat.{ℕ, zero, suc, _+_, _-_, _<_, _≤_}
 use native.Mathlib.Omega.{arith}
@@ -10,12 +10,10 @@ use lib.Dec.{eqb, leb}
 use lib.ListN.{length, getD, drop, length-drop}
 use Rattle.definition.specs.Choice.{when}
 use Rattle.definition.specs.Lists.{part, all, leading}
-use Rattle.definition.specs.Bytes.{mixed, classOf, isLetter, isDigit, isBlank, isMark, isAlphameric}
+use Rattle.definition.specs.Bytes.{mixed, classOf, isLetter, isDigit, isBlank, isMark, isAlphameric, isSmall, capital}
 use Rattle.definition.specs.declared.Class.{Class}
 use Rattle.definition.specs.declared.Class.the-variants.{Letter, Digit, Break, Blank, LineFeed, Percent, Quote, Mark, Other}
 use Rattle.definition.specs.Tokens as T
-use Rattle.chars.specs.Code.{codeOf}
-use Rattle.chars.proofs.Laws.{is-alphameric}
 use Rattle.tokens.specs.Answer.{stepAt, signSize, kindOf, isToken, Lexed}
 use Rattle.tokens.specs.declared.Lexeme.{Lexeme}
 use Rattle.tokens.specs.declared.Step as P
@@ -56,8 +54,20 @@ module _ (s : List ℕ) (p : ℕ) (h : p < length s) (test : ℕ → Bool) where
   pub run-inside : p + length (leading test (drop p s)) ≤ length s
   run-inside = omega (arith, leading-short test (drop p s), length-drop p s)
 
-digit-first : (l d u k f p q m : Bool)
-    → codeOf (cond l Letter (cond d Digit (cond u Break (cond k Blank (cond f LineFeed (cond p Percent (cond q Quote (cond m Mark Other)))))))) ≡ 2 → d ≡ true
+-- ---- what the class of a byte tells
+tag : Class → ℕ
+tag Letter = 1
+tag Digit = 2
+tag Break = 0
+tag Blank = 0
+tag LineFeed = 0
+tag Percent = 0
+tag Quote = 0
+tag Mark = 0
+tag Other = 0
+
+digit-first : (l d u k f p q m : Bool) → tag (cond l Letter (cond d Digit (cond u Break (cond k Blank (cond f LineFeed (cond p Percent (cond q Quote (cond m Mark Other)))))))) ≡ 2 → d ≡ true
+unfolding tag
 digit-first true d u k f p q m e = absurd (omega arith)
 digit-first false true u k f p q m e = refl
 digit-first false false true k f p q m e = absurd (omega arith)
@@ -69,8 +79,28 @@ digit-first false false false false false false false true e = absurd (omega ari
 digit-first false false false false false false false false e = absurd (omega arith)
 
 digit-class : (b : ℕ) → classOf mixed b ≡ Digit → isDigit b ≡ true
-unfolding classOf
-digit-class b e = digit-first (isLetter mixed b) (isDigit b) (eqb b 95) (isBlank b) (eqb b 10) (eqb b 37) (eqb b 39) (isMark b) (ap codeOf e)
+unfolding classOf tag
+digit-class b e = digit-first (isLetter mixed b) (isDigit b) (eqb b 95) (isBlank b) (eqb b 10) (eqb b 37) (eqb b 39) (isMark b) (ap tag e)
+
+named-first : (l d u k f p q m : Bool) → 0 < tag (cond l Letter (cond d Digit (cond u Break (cond k Blank (cond f LineFeed (cond p Percent (cond q Quote (cond m Mark Other)))))))) → (l || d || u) ≡ true
+unfolding tag
+named-first true d u k f p q m e = refl
+named-first false true u k f p q m e = refl
+named-first false false true k f p q m e = refl
+named-first false false false true f p q m e = absurd (omega arith)
+named-first false false false false true p q m e = absurd (omega arith)
+named-first false false false false false true q m e = absurd (omega arith)
+named-first false false false false false false true m e = absurd (omega arith)
+named-first false false false false false false false true e = absurd (omega arith)
+named-first false false false false false false false false e = absurd (omega arith)
+
+pub letter-goes-on : (b : ℕ) → classOf mixed b ≡ Letter → isAlphameric mixed b ≡ true
+unfolding classOf isAlphameric tag
+letter-goes-on b e = named-first (isLetter mixed b) (isDigit b) (eqb b 95) (isBlank b) (eqb b 10) (eqb b 37) (eqb b 39) (isMark b) (omega (arith, ap tag e))
+
+pub digit-goes-on : (b : ℕ) → classOf mixed b ≡ Digit → isAlphameric mixed b ≡ true
+unfolding classOf isAlphameric tag
+digit-goes-on b e = named-first (isLetter mixed b) (isDigit b) (eqb b 95) (isBlank b) (eqb b 10) (eqb b 37) (eqb b 39) (isMark b) (omega (arith, ap tag e))
 
 -- ---- constants
 record Ends (p n q : ℕ) : Type 0 where
@@ -121,19 +151,19 @@ module _ (s : List ℕ) (p : ℕ) where
   lies-bits false bs q f g h = record { low = omega arith; past = λ _. f; inside = λ _. g }
 
   lies-constant : (x : T.Quoted) → ((bs : List ℕ) (q : ℕ) → x ≡ T.quoted bs q → Ends (p + 1) (length s - (p + 1)) q) → p < length s → Lies s p (T.constantAt mixed s p x)
-  unfolding T.constantAt
+  unfolding T.constantAt capital isSmall
   lies-constant T.unquoted f h = lies-wrong
   lies-constant (T.quoted bs q) f h =
       let e : Ends (p + 1) (length s - (p + 1)) q = f bs q refl in
-      lies-bits (all T.isBit bs && eqb (getD s q 0) 66) bs q (omega (arith, e .past)) (omega (arith, e .low))
-      (λ g. inside s q (λ z. omega (arith, z, eqb-true (getD s q 0) 66 (and-second (all T.isBit bs) (eqb (getD s q 0) 66) (sym g)))))
+      lies-bits (all T.isBit bs && eqb (capital mixed (getD s q 0)) 66) bs q (omega (arith, e .past)) (omega (arith, e .low))
+      (λ g. inside s q (λ z. omega (arith, ap (capital mixed) z, eqb-true (capital mixed (getD s q 0)) 66 (and-second (all T.isBit bs) (eqb (capital mixed (getD s q 0)) 66) (sym g)))))
 
   module _ (h : p < length s) where
     lies-of : (c : Class) → classOf mixed (getD s p 0) ≡ c → Lies s p (T.lexemeOf mixed c s p)
     unfolding T.lexemeOf T.runAt T.signAt signSize
     lies-of Letter e = record {
       low = omega arith;
-      past = λ _. run-past s p h (isAlphameric mixed) (sym (is-alphameric (getD s p 0) 1 (sym (ap codeOf e))));
+      past = λ _. run-past s p h (isAlphameric mixed) (letter-goes-on (getD s p 0) e);
       inside = λ _. run-inside s p h (isAlphameric mixed);
     }
     lies-of Digit e = record {

@@ -9,7 +9,7 @@ use lib.ListN.{length, getD, drop}
 use Rattle.definition.specs.Choice.{when}
 use Rattle.definition.specs.Lists.{part, all, same}
 use Rattle.definition.specs.Room.{over}
-use Rattle.definition.specs.Bytes.{mixed, isAlphameric}
+use Rattle.definition.specs.Bytes.{mixed, isAlphameric, folded}
 use Rattle.definition.specs.Tokens as T
 use Rattle.tokens.specs.declared.Kind.{Kind}
 use Rattle.tokens.specs.declared.Kind.the-variants.{Word, Integer, String, Bits, Sign, Nothing, Wrong}
@@ -87,8 +87,12 @@ pub record Lexed (s : List ℕ) (e : ℕ) (r : Lexeme) : Type 0 where
 
 -- ---- what a lexeme says of the bytes
 -- the bytes of a lexeme
-unfoldable pub spelling : List ℕ → Lexeme → List ℕ
-spelling s l = part (l .to - l .from) (l .from) s
+unfoldable pub written : List ℕ → Lexeme → List ℕ
+written s l = part (l .to - l .from) (l .from) s
+
+-- and of a word, as it is compared
+abbrev pub spelling : List ℕ → Lexeme → List ℕ
+spelling s l = folded mixed (written s l)
 
 abbrev pub isWordKind : Kind → Bool
 isWordKind Word = true
@@ -122,7 +126,7 @@ unfoldable pub isWordIn : List ℕ → Lexeme → List ℕ → Bool
 isWordIn s l w = isWordKind (l .kind) && same (spelling s l) w
 
 unfoldable pub isSignIn : List ℕ → Lexeme → List ℕ → Bool
-isSignIn s l w = isSignKind (l .kind) && same (spelling s l) w
+isSignIn s l w = isSignKind (l .kind) && same (written s l) w
 
 -- the bytes of a constant; none where it stays open
 abbrev pub contentOf : T.Quoted → List ℕ
@@ -138,9 +142,9 @@ pub record Unquoted (s : List ℕ) (p : ℕ) (room : List ℕ) (at : ℕ) (room�
   pub is : room′ ≡ over room at (content s p)
   pub size : r ≡ length (content s p)
 
--- the token of a kind with a spelling and a content
+-- the token of a kind with its bytes and a content
 abbrev pub tokenFor : Kind → List ℕ → List ℕ → T.Token
-tokenFor Word w bs = T.word w
+tokenFor Word w bs = T.word (folded mixed w)
 tokenFor Integer w bs = T.integer w
 tokenFor String w bs = T.string bs
 tokenFor Bits w bs = T.bits bs
@@ -164,9 +168,9 @@ abbrev pub closedPiece : ℕ → Closed → Piece
 closedPiece n (C.the-variants.At q) = cutOf K.the-variants.Plain q
 closedPiece n C.the-variants.Open = cutOf K.the-variants.Unclosed n
 
--- the piece of a kind with a spelling
+-- the piece of a kind with its bytes
 abbrev pub pieceOf : PieceKind → List ℕ → T.Piece
-pieceOf K.the-variants.Name w = T.name w
+pieceOf K.the-variants.Name w = T.name (folded mixed w)
 pieceOf K.the-variants.Plain w = T.plain
 pieceOf K.the-variants.Unclosed w = T.unclosed
 

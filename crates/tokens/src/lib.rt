@@ -10,10 +10,12 @@ ghost use lib.ListN.{length, drop};
 ghost use Rattle.definition.specs.Lists.{leading, same};
 ghost use Rattle.definition.specs.Bytes.{mixed, isAlphameric, isDigit};
 ghost use Rattle.definition.specs.Tokens as T;
-ghost use Rattle.tokens.specs.Answer.{closedFor, stepFor, stepAt, gapFor, constantFor, byteWidth, signSize, isSolid, lexOf, lexemeFor, Lexed, spelling, isWordKind, isSignKind, isWordIn, isSignIn, content, Unquoted, cutOf, closedPiece, Cuts, isUnclosed, endingFor};
+ghost use Rattle.tokens.specs.Answer.{closedFor, stepFor, stepAt, gapFor, constantFor, byteWidth, signSize, isSolid, lexOf, lexemeFor, Lexed, written, spelling, isWordKind, isSignKind, isWordIn, isSignIn, content, Unquoted, cutOf, closedPiece, Cuts, isUnclosed, endingFor};
+use chars::capital;
 use chars::is_alphameric;
 use chars::is_bit;
 use chars::is_digit;
+use chars::spells;
 use classes::class;
 use definition::Class;
 use rooms::byte;
@@ -308,7 +310,7 @@ fn constant_at(s: &[u8], p: usize, from: usize) -> Lexeme
     let c = constant_end(s, from);
     match c {
         Constant::To(q, bits) => {
-            if both(bits, byte(s, q, 0) == b'B') {
+            if both(bits, capital(byte(s, q, 0)) == b'B') {
                 return lex(Kind::Bits, p, q + 1);
             }
             lex(Kind::String, p, q)
@@ -360,12 +362,23 @@ pub fn width(t: Lexeme) -> usize
 }
 
 // Whether a lexeme has just the bytes of w.
+fn is_written(s: &[u8], l: Lexeme, w: &[u8]) -> bool
+    ensures { λ r. ⌜ r ≡ same (written (now (s .entry)) l) (now (w .entry)) ⌝ }
+{
+    let n = width(l);
+    if n == w.len() {
+        return is_same(s, l.from, w, 0, n);
+    }
+    false
+}
+
+// The same but for the case of the lexeme.
 fn is_spelled(s: &[u8], l: Lexeme, w: &[u8]) -> bool
     ensures { λ r. ⌜ r ≡ same (spelling (now (s .entry)) l) (now (w .entry)) ⌝ }
 {
     let n = width(l);
     if n == w.len() {
-        return is_same(s, l.from, w, 0, n);
+        return spells(s, l.from, w, 0, n);
     }
     false
 }
@@ -415,7 +428,7 @@ pub fn is_sign(s: &[u8], l: Lexeme, w: &[u8]) -> bool
 {
     let kind = l.kind;
     if is_sign_kind(kind) {
-        return is_spelled(s, l, w);
+        return is_written(s, l, w);
     }
     false
 }

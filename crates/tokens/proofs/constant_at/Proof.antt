@@ -4,6 +4,7 @@ use Rattle.tokens.proofs.constant_at.Statement.{statement}
 use Rattle.tokens.proofs.constant_at.Tie as tie
 use Rattle.tokens.proofs.constant_at.Reads as reads
 use Rattle.tokens.proofs.constant_at.Lts as lts
+use Rattle.chars.proofs.capital.Reads as capital-reads
 use Rattle.rooms.proofs.byte.Reads as byte-reads
 use Rattle.tokens.proofs.both.Reads as both-reads
 use Rattle.tokens.proofs.constant_end.Reads as constant-end-reads
@@ -21,11 +22,14 @@ enum-known-c c = search needs
 byte-requires : tie.Need-byte-requires
 byte-requires c κs = search needs
 
+capital-requires : tie.Need-capital-requires
+capital-requires c κs = search needs
+
 both-requires : tie.Need-both-requires
 both-requires c κs = search needs
 
 add-lex : tie.Need-add-lex
-add-lex c = omega (arith, bits-inside (now (c .before .before .before .before .before .before .before .before .args .s)) (c .before .before .before .before .c .given .0 .0) (c .before .before .byte .result) (c .before .before .before .before .c .given .0 .1 .0) (c .before .both .result) (c .before .before .byte .ensures) (c .before .both .ensures) (c .if1 .taken))
+add-lex c = omega (arith, bits-inside (now (c .before .before .before .before .before .before .before .before .before .args .s)) (c .before .before .before .before .before .c .given .0 .0) (c .before .before .before .byte .result) (c .before .before .capital .result) (c .before .before .before .before .before .c .given .0 .1 .0) (c .before .both .result) (c .before .before .before .byte .ensures) (c .before .before .capital .ensures) (c .before .both .ensures) (c .if1 .taken))
 
 lex-requires : tie.Need-lex-requires
 lex-requires c κs = search needs
@@ -55,6 +59,7 @@ constant-at-spec =
     constant-end-requires
     enum-known-c
     byte-requires
+    capital-requires
     both-requires
     add-lex
     lex-requires

@@ -4,7 +4,7 @@ use Rattle.tokens.proofs.lexeme_at.Statement.{statement}
 use Rattle.tokens.proofs.lexeme_at.Tie as tie
 use Rattle.tokens.proofs.lexeme_at.Reads as reads
 use Rattle.tokens.proofs.lexeme_at.Lts as lts
-use Rattle.chars.proofs.class.Reads as class-reads
+use Rattle.classes.proofs.class.Reads as class-reads
 use Rattle.tokens.proofs.constant_at.Reads as constant-at-reads
 use Rattle.tokens.proofs.digits_end.Reads as digits-end-reads
 use Rattle.tokens.proofs.lex.Reads as lex-reads

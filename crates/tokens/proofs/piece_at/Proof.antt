@@ -4,7 +4,7 @@ use Rattle.tokens.proofs.piece_at.Statement.{statement}
 use Rattle.tokens.proofs.piece_at.Tie as tie
 use Rattle.tokens.proofs.piece_at.Reads as reads
 use Rattle.tokens.proofs.piece_at.Lts as lts
-use Rattle.chars.proofs.class.Reads as class-reads
+use Rattle.classes.proofs.class.Reads as class-reads
 use Rattle.tokens.proofs.closed_piece.Reads as closed-piece-reads
 use Rattle.tokens.proofs.comment_end.Reads as comment-end-reads
 use Rattle.tokens.proofs.cut.Reads as cut-reads

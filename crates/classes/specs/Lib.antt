@@ -1,2 +1,0 @@
--- The numbers that stand for the classes in the table.
-pub mod Code
