@@ -7,8 +7,10 @@ const fs = require('fs');
 const path = require('path');
 const { Worker, isMainThread, workerData } = require('worker_threads');
 
-// What is taken from the definition: the expansion of a deck, the layout by its number, and what the program prints.
+// What is taken from the definition: the expansion of a deck, the letters in force, the layout by its number, and what the
+// program prints.
 const EXPANSION = 'Expansion.expansionOf';
+const LETTERS = process.env.LETTERS || 'Bytes.mixed';
 const LAYOUT = 'Cards.layoutFor';
 const PRINTED = 'Printed.printed';
 // The bytes of a record before its deck.
@@ -34,6 +36,7 @@ function write(bytes) {
 
 function answerAll(definition, input) {
   const expansion = taken(definition, EXPANSION);
+  const letters = taken(definition, LETTERS);
   const layoutFor = taken(definition, LAYOUT);
   const printed = taken(definition, PRINTED);
   for (let at = 0; at < input.length; ) {
@@ -42,7 +45,7 @@ function answerAll(definition, input) {
     const deck = input.subarray(at + HEADER, at + HEADER + size);
     if (deck.length < size) throw new Error('a record is cut short');
     if (flags > 1) throw new Error('a record has flags that mean nothing');
-    const answer = expansion(layoutFor(flags), true, definition.listOf([...deck]), textRoom, listRoom, steps);
+    const answer = expansion(letters, layoutFor(flags), true, definition.listOf([...deck]), textRoom, listRoom, steps);
     write(Buffer.from(definition.itemsOf(printed(answer))));
     at += HEADER + size;
   }

@@ -495,11 +495,17 @@ class Writer:
     def program_text(self):
         lines = ['const K%d = { t: %d };' % (tag, tag) for tag in range(1, self.program.tags + 1)]
         exported = []
+
+        def export(module, name, text):
+            exported.append('%s: %s' % (json.dumps('%s.%s' % (module.name, name), ensure_ascii=False), text))
         for module in self.program.modules.values():
+            for name, meaning in module.public.items():
+                if isinstance(meaning, Constructor) and meaning.arity == 0:
+                    export(module, name, meaning.make)
             for definition in module.definitions:
                 lines.append('// %s.%s' % (module.name, definition.name))
                 lines.append(self.definition(definition))
-                exported.append('%s: %s' % (json.dumps('%s.%s' % (module.name, definition.name), ensure_ascii=False), definition.js))
+                export(module, definition.name, definition.js)
         lines.append('module.exports = { definitions: { %s }, listOf, itemsOf };' % ', '.join(exported))
         return '\n'.join(lines) + '\n'
 

@@ -8,6 +8,7 @@ use native.Mathlib.Omega.{arith}
 use borrow.Author.Tests.{eqb-true, eqb-false}
 use lib.Dec.{eqb}
 use lib.ListN.{length, set}
+use Rattle.definition.specs.Bytes.{mixed, folded}
 use Rattle.definition.specs.Lists.{part}
 use Rattle.definition.specs.Room.{over}
 use Rattle.definition.specs.Run.{activateName, activated}
@@ -87,9 +88,9 @@ sleeps (labelAt m r q) x a w e = refl
 sleeps builtinName x a w e = refl
 
 module _ (d s t : List ℕ) (n : ℕ) (l : Lexeme) (x : Activity) (len : ℕ) (hl : len ≡ l .to - l .from) (f : Found)
-    (e : f ≡ foundFor (addressIn (part len (l .from) s) (ownerOf Everyone) 0 (identifiersFrom d t 0 n))) where
+    (e : f ≡ foundFor (addressIn (folded mixed (part len (l .from) s)) (ownerOf Everyone) 0 (identifiersFrom d t 0 n))) where
   abbrev name : List ℕ
-  name = part (l .to - l .from) (l .from) s
+  name = folded mixed (part (l .to - l .from) (l .from) s)
 
   abbrev found : W.Address
   found = addressIn name everyone 0 (identifiersFrom d t 0 n)

@@ -6,7 +6,7 @@ use mathlib.Core.List.{List, [], _∷_}
 use Prim.Native.Nat.{ℕ, zero, suc, _-_, _*_, _<_, _≤_}
 use native.Mathlib.Omega.{arith}
 use lib.ListN.{length}
-use Rattle.definition.specs.Bytes.{mixed}
+use Rattle.definition.specs.Bytes.{mixed, folded}
 use Rattle.definition.specs.Lists.{part}
 use Rattle.definition.specs.Tokens.{tokenAt}
 use Rattle.definition.specs.World as W
@@ -141,13 +141,13 @@ module _ (d s t₀ : List ℕ) (n : ℕ) (k : Listed) (x : Activity) (from : ℕ
     name-end : nameEnd s at ≡ l .to
     name-end = ap (λ (q : ℕ). tokenAt mixed s q .to) (sym hp) ∙ sym (lex .to)
 
-    name-spelled : spelledAt s (pastSign "(" s at) ≡ part (l .to - l .from) (l .from) s
+    name-spelled : spelledAt s (pastSign "(" s at) ≡ folded mixed (part (l .to - l .from) (l .from) s)
     name-spelled = ap (λ (q : ℕ). spelledAt s q) (sym hp) ∙ rw (lex .from, lex .to)
 
     first : (B : World) → Named d t₀ n B → Awake d t₀ n B → 16 * n ≤ length t₀
-        → activateName (activityOf (activityBehind k x s (l .to))) (part (l .to - l .from) (l .from) s) (awake t n B) ≡ outcome b (awake u n B)
+        → activateName (activityOf (activityBehind k x s (l .to))) (folded mixed (part (l .to - l .from) (l .from) s)) (awake t n B) ≡ outcome b (awake u n B)
     first B nd aw room =
-        ap (λ (z : Activity). activateName (activityOf z) (part (l .to - l .from) (l .from) s) (awake t n B)) (sym hy)
+        ap (λ (z : Activity). activateName (activityOf z) (folded mixed (part (l .to - l .from) (l .from) s)) (awake t n B)) (sym hy)
         ∙ one .does .is (awake t n B)
         (record { identifiers = nd .identifiers ∙ sym (c .kept .identifiers room); denotations = nd .denotations ∙ sym (c .kept .denotations room) })
         (record { identifiers = nd .identifiers ∙ sym (c .kept .identifiers room); activities = refl })
@@ -156,7 +156,7 @@ module _ (d s t₀ : List ℕ) (n : ℕ) (k : Listed) (x : Activity) (from : ℕ
     step : (B : World) → Named d t₀ n B → Awake d t₀ n B → 16 * n ≤ length t₀
         → setFrom k x s (length s) from B ≡ bind (outcome b (awake u n B)) λ _ v. onward (nextIn k s (l .to)) (λ e. setFrom k x s (turns - 1) e) v
     step B nd aw room =
-        c .is B nd aw room ∙ set-name k x s turns at (awake t n B) h (l .to) name-end (part (l .to - l .from) (l .from) s) name-spelled
+        c .is B nd aw room ∙ set-name k x s turns at (awake t n B) h (l .to) name-end (folded mixed (part (l .to - l .from) (l .from) s)) name-spelled
         ∙ ap (λ (r : Res Why (Unit {0})). bind r λ _ v. onward (nextIn k s (l .to)) (λ e. setFrom k x s (turns - 1) e) v) (first B nd aw room)
 
     pub setting-wrong : b ≡ false → SetsAll d s t₀ u n from k x false

@@ -5,7 +5,7 @@ use mathlib.Core.Path.{_≡_}
 use mathlib.Core.Bool.{Bool, true, false}
 use mathlib.Core.List.{List, []}
 use lib.ListN.{length}
-use Rattle.definition.specs.Bytes.{mixed}
+use Rattle.definition.specs.Bytes.{mixed, folded}
 use Rattle.definition.specs.Lists.{part}
 use Rattle.definition.specs.Expressions.{read}
 use Rattle.definition.specs.Program as P
@@ -53,7 +53,7 @@ pub record Does (d t u : List ℕ) (n : ℕ) (R : World → Res Why (Unit {0})) 
 -- the name l
 pub record SetsName (d s t u : List ℕ) (n : ℕ) (l : Lexeme) (x : Activity) (r : Bool) : Type 0 where
   pub kept : Kept d t u n
-  pub does : Does d t u n (λ w. activateName (activityOf x) (part (l .to - l .from) (l .from) s) w) r
+  pub does : Does d t u n (λ w. activateName (activityOf x) (folded mixed (part (l .to - l .from) (l .from) s)) w) r
 
 -- the names from a place on
 pub record SetsAll (d s t u : List ℕ) (n from : ℕ) (k : Listed) (x : Activity) (r : Bool) : Type 0 where

@@ -7,6 +7,7 @@ use Prim.Native.Nat.{ℕ, _+_, _-_, _≤_}
 use native.Mathlib.Omega.{arith}
 use lib.IntN.{ℤ, pos}
 use lib.ListN.{length, set}
+use Rattle.definition.specs.Bytes.{mixed, folded}
 use Rattle.definition.specs.Fixed as Fx
 use Rattle.definition.specs.Lists.{part}
 use Rattle.definition.specs.Expressions.{Tree}
@@ -210,7 +211,7 @@ module _ {E : Type 0} (M₁ : Machine E) (x : Scene) (u : ℕ) (sv : Serves M₁
   start-same W.unknown g t bs w = refl
 
 -- ---- the target of a name
-module _ (deck s names : List ℕ) (n : ℕ) (o : Owned) (t : Lexeme) (y : Meant) (e : meantFor y ≡ meant (ownerOf o) (part (t .to - t .from) (t .from) s) (namesWorld deck names n)) where
+module _ (deck s names : List ℕ) (n : ℕ) (o : Owned) (t : Lexeme) (y : Meant) (e : meantFor y ≡ meant (ownerOf o) (folded mixed (part (t .to - t .from) (t .from) s)) (namesWorld deck names n)) where
   pub target-variable : (a : ℕ) (k : ValueType) → y ≡ M.AVariable a k → TargetIs deck s names n o t (Va.At a k)
   target-variable a k f = record { name = y; is = e; variable = rw f }
 

@@ -4,6 +4,7 @@ use mathlib.Core.Path.{_≡_, refl, sym, ap, _∙_}
 use mathlib.Core.Bool.{Bool, true, false, cond}
 use mathlib.Core.List.{List}
 use Prim.Native.Nat.{ℕ, _-_}
+use Rattle.definition.specs.Bytes.{mixed, folded}
 use Rattle.definition.specs.Lists.{part}
 use Rattle.definition.specs.Program.{Row as Line}
 use Rattle.definition.specs.Values as Val
@@ -70,11 +71,11 @@ module _ (t : List ℕ) (a : Address) (b : Bool) (x : Name) (h : x ≡ nameIn t 
 
 -- ---- "local names first, every global label is 13"
 module _ (d s t : List ℕ) (n : ℕ) (o : Owner) (x : Lexeme) (m : ℕ) (z : m ≡ x .to - x .from) (f : Found)
-    (e : f ≡ foundFor (addressIn (part m (x .from) s) (ownerOf o) 0 (identifiersFrom d t 0 n))) where
+    (e : f ≡ foundFor (addressIn (folded mixed (part m (x .from) s)) (ownerOf o) 0 (identifiersFrom d t 0 n))) where
   abbrev name : List ℕ
-  name = part (x .to - x .from) (x .from) s
+  name = folded mixed (part (x .to - x .from) (x .from) s)
 
-  own-is : f ≡ foundFor (addressIn (part (x .to - x .from) (x .from) s) (ownerOf o) 0 (identifiersFrom d t 0 n))
+  own-is : f ≡ foundFor (addressIn (folded mixed (part (x .to - x .from) (x .from) s)) (ownerOf o) 0 (identifiersFrom d t 0 n))
   own-is = rw z at e
 
   pub local-known : (a : Address) → f ≡ Known a → (r : Jump) → jumpFor r ≡ localTarget (denotationOf (nameIn t (a .0) .denotation)) → LabelIs d s t n o x r
@@ -82,8 +83,8 @@ module _ (d s t : List ℕ) (n : ℕ) (o : Owner) (x : Lexeme) (m : ℕ) (z : m 
       let k : addressIn name (ownerOf o) 0 (identifiersFrom d t 0 n) ≡ W.address (a .0) = known-is d t n (addressIn name (ownerOf o) 0 (identifiersFrom d t 0 n)) f a own-is g in
       record { is = h ∙ sym (ap (λ (i : W.Address). targetFor i name (namesWorld d t n)) (address-is d t n name (ownerOf o) ∙ k) ∙ ap localTarget (denotation-is d t n (a .0) (low-own d t n name (ownerOf o) (a .0) k))) }
 
-  module _ (u : f ≡ Unknown) (m₂ : ℕ) (z₂ : m₂ ≡ x .to - x .from) (f₂ : Found) (e₂ : f₂ ≡ foundFor (addressIn (part m₂ (x .from) s) (ownerOf Everyone) 0 (identifiersFrom d t 0 n))) where
-    global-is : f₂ ≡ foundFor (addressIn (part (x .to - x .from) (x .from) s) W.everyone 0 (identifiersFrom d t 0 n))
+  module _ (u : f ≡ Unknown) (m₂ : ℕ) (z₂ : m₂ ≡ x .to - x .from) (f₂ : Found) (e₂ : f₂ ≡ foundFor (addressIn (folded mixed (part m₂ (x .from) s)) (ownerOf Everyone) 0 (identifiersFrom d t 0 n))) where
+    global-is : f₂ ≡ foundFor (addressIn (folded mixed (part (x .to - x .from) (x .from) s)) W.everyone 0 (identifiersFrom d t 0 n))
     global-is = rw z₂ at e₂
 
     not-local : targetIn d t n (ownerOf o) name ≡ outTarget (addressIn name W.everyone 0 (identifiersFrom d t 0 n)) (namesWorld d t n)

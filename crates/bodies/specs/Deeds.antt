@@ -5,6 +5,7 @@ use mathlib.Core.Path.{_≡_}
 use mathlib.Core.List.{List, []}
 use lib.IntN.{ℤ}
 use lib.ListN.{length, getD}
+use Rattle.definition.specs.Bytes.{mixed, folded}
 use Rattle.definition.specs.Expressions.{Tree}
 use Rattle.definition.specs.Lists.{part}
 use Rattle.definition.specs.Values as Val
@@ -75,7 +76,7 @@ variableFor M.NoSuch = Va.None
 
 pub record TargetIs (deck s names : List ℕ) (n : ℕ) (o : Owned) (t : Lexeme) (r : Variable) : Type 0 where
   pub name : Meant
-  pub is : meantFor name ≡ Ev.meant (ownerOf o) (part (t .to - t .from) (t .from) s) (namesWorld deck names n)
+  pub is : meantFor name ≡ Ev.meant (ownerOf o) (folded mixed (part (t .to - t .from) (t .from) s)) (namesWorld deck names n)
   pub variable : r ≡ variableFor name
 
 -- ---- assignment

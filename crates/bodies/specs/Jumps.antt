@@ -3,6 +3,7 @@ use Prim.Native.Nat.{ℕ, _-_}
 use mathlib.Core.Bool.{cond}
 use mathlib.Core.Path.{_≡_}
 use mathlib.Core.List.{List}
+use Rattle.definition.specs.Bytes.{mixed, folded}
 use Rattle.definition.specs.Lists.{part}
 use Rattle.definition.specs.Program as P
 use Rattle.definition.specs.Values as Val
@@ -65,7 +66,7 @@ abbrev pub targetIn : List ℕ → List ℕ → ℕ → W.Owner → List ℕ →
 targetIn d t n o l = targetFor (addressOf l o (namesWorld d t n)) l (namesWorld d t n)
 
 pub record LabelIs (deck s names : List ℕ) (n : ℕ) (o : Owner) (t : Lexeme) (r : Jump) : Type 0 where
-  pub is : jumpFor r ≡ targetIn deck names n (ownerOf o) (part (t .to - t .from) (t .from) s)
+  pub is : jumpFor r ≡ targetIn deck names n (ownerOf o) (folded mixed (part (t .to - t .from) (t .from) s))
 
 -- ---- the GOTO of row n, whose label's name stands behind the row's place
 abbrev pub afterJump : List ℕ → Frames → ℕ → Jump → Meter → Step

@@ -9,7 +9,8 @@ use native.Mathlib.Nat.{zero-add}
 use native.Mathlib.Omega.{arith}
 use lib.Dec.{leb}
 use lib.ListN.{length}
-use Rattle.definition.specs.Bytes.{mixed}
+use Rattle.definition.specs.Bytes.{mixed, folded}
+use Rattle.definition.specs.Lists.{part}
 use Rattle.definition.specs.Text.{bytesOf}
 use Rattle.definition.specs.Tokens as T
 use Rattle.definition.specs.Tokens.{tokenAt, isSign}
@@ -21,7 +22,7 @@ use Rattle.definition.specs.declared.Why.the-variants.{WrongName, OverLimit}
 use Rattle.definition.proofs.Ends.{Past, Lies, tokenAt-lies, reads-it, nameAt-past}
 use Rattle.tokens.specs.declared.Lexeme.{Lexeme}
 use Rattle.tokens.specs.declared.Kind.the-variants.{String, Nothing, Wrong}
-use Rattle.tokens.specs.Answer.{Lexed, isSignIn, kindOf, lexemeFor, spelling, content, tokenFor}
+use Rattle.tokens.specs.Answer.{written, Lexed, isSignIn, kindOf, lexemeFor, spelling, content, tokenFor}
 use Rattle.tokens.proofs.Lexemes as L
 use Rattle.names.specs.declared.Place.{Place}
 use Rattle.names.specs.declared.Body.{Body}
@@ -55,8 +56,8 @@ module _ (s : List ℕ) (at : ℕ) (l : Lexeme) (lex : Lexed s at l) (c : Lexeme
   last-is g = rw (comma false g)
 
 -- ---- a name is the bytes of its token
-word-spelled : (k : T.Token) (x y w : List ℕ) → k ≡ tokenFor (kindOf k) x y → k ≡ T.word w → w ≡ x
-word-spelled (T.word z) x y w e f = let g : z ≡ x = cc in let h : z ≡ w = cc in sym h ∙ g
+word-spelled : (k : T.Token) (x y w : List ℕ) → k ≡ tokenFor (kindOf k) x y → k ≡ T.word w → w ≡ folded mixed x
+word-spelled (T.word z) x y w e f = let g : z ≡ folded mixed x = cc in let h : z ≡ w = cc in sym h ∙ g
 word-spelled (T.integer z) x y w e f = absurd (let z : _≡_ {A = ℕ} 0 1 = cc in omega arith)
 word-spelled (T.string z) x y w e f = absurd (let z : _≡_ {A = ℕ} 0 1 = cc in omega arith)
 word-spelled (T.bits z) x y w e f = absurd (let z : _≡_ {A = ℕ} 0 1 = cc in omega arith)
@@ -79,8 +80,8 @@ true-false e = absurd (let z : _≡_ {A = ℕ} 0 1 = cc in omega arith)
 
 module _ (s : List ℕ) (at : ℕ) (n : Named) where
   sp : (w : List ℕ) → tokenAt mixed s at .token ≡ T.word w → w ≡ spelledAt s at
-  unfolding spelling
-  sp w f = word-spelled (tokenAt mixed s at .token) (spelledAt s at) (content s (tokenAt mixed s at .from)) w (L.token-is s at (lexemeFor (tokenAt mixed s at)) (lexed-it s at)) f
+  unfolding written
+  sp w f = word-spelled (tokenAt mixed s at .token) (part (tokenAt mixed s at .to - tokenAt mixed s at .from) (tokenAt mixed s at .from) s) (content s (tokenAt mixed s at .from)) w (L.token-is s at (lexemeFor (tokenAt mixed s at)) (lexed-it s at)) f
 
   worded : (b : Bool) (w : List ℕ) → tokenAt mixed s at .token ≡ T.word w → _≡_ {A = Reading Named} (cond b (read (record { spelling = w; place = tokenAt mixed s at .from; to = tokenAt mixed s at .to })) (refused OverLimit (tokenAt mixed s at .from))) (read n) → IsNamed s at n
   worded true w f g = let h : record { spelling = w; place = tokenAt mixed s at .from; to = tokenAt mixed s at .to } ≡ n = cc in record { spelling = sym (ap (λ (x : Named). x .spelling) h) ∙ sp w f; to = sym (ap (λ (x : Named). x .to) h) }

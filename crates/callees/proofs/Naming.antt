@@ -7,6 +7,7 @@ use Prim.Native.Nat.{ℕ, zero, suc, _+_, _-_, _<_}
 use native.Mathlib.Nat.{add-zero, zero-add}
 use native.Mathlib.Omega.{arith}
 use lib.ListN.{length, getD}
+use Rattle.definition.specs.Bytes.{mixed, folded}
 use Rattle.definition.specs.Choice.{when}
 use Rattle.definition.specs.Lists.{part, same}
 use Rattle.definition.specs.Text.{bytesOf}
@@ -14,6 +15,7 @@ use Rattle.definition.specs.Values as Val
 use Rattle.definition.specs.World as W
 use Rattle.definition.specs.World.{addressIn, isIdentifier, seenFrom, orGlobal, addressOf}
 use Rattle.definition.specs.Evaluate as E
+use Rattle.definition.proofs.Folded.{length-folded}
 use Rattle.definition.proofs.Parts.{length-part, same-length}
 use Rattle.definition.specs.declared.ValueType.{ValueType}
 use Rattle.tokens.specs.declared.Lexeme.{Lexeme}
@@ -37,13 +39,13 @@ use Rattle.callees.specs.Shown.{denotationsFrom, namesWorld}
 use Rattle.callees.specs.Answer.{meantFor, ownerAt, spelledAt, parameterOf, ParameterIs}
 
 -- ---- SUBSTR
-pub substr-six : (s : List ℕ) (from n : ℕ) (r : Bool) → n ≡ 6 → r ≡ same (part 6 from s) (83 ∷ 85 ∷ 66 ∷ 83 ∷ 84 ∷ 82 ∷ []) → r ≡ E.isSubstr (part n from s)
+pub substr-six : (s : List ℕ) (from n : ℕ) (r : Bool) → n ≡ 6 → r ≡ same (folded mixed (part 6 from s)) (83 ∷ 85 ∷ 66 ∷ 83 ∷ 84 ∷ 82 ∷ []) → r ≡ E.isSubstr (folded mixed (part n from s))
 unfolding E.isSubstr
 substr-six s from n r e f = f ∙ rw e
 
-pub substr-other : (s : List ℕ) (from n : ℕ) → (n ≡ 6 → ⊥) → false ≡ E.isSubstr (part n from s)
+pub substr-other : (s : List ℕ) (from n : ℕ) → (n ≡ 6 → ⊥) → false ≡ E.isSubstr (folded mixed (part n from s))
 unfolding E.isSubstr
-substr-other s from n h = same-length (part n from s) (bytesOf "SUBSTR") (λ e. h (sym (length-part n from s) ∙ e))
+substr-other s from n h = same-length (folded mixed (part n from s)) (bytesOf "SUBSTR") (λ e. h (sym (length-folded mixed (part n from s) ∙ length-part n from s) ∙ e))
 
 pub substr-some : (b : Bool) → b ≡ true → TheSubstr ≡ cond b TheSubstr NoSuch
 substr-some b e = rw e
@@ -151,27 +153,27 @@ module _ (d t : List ℕ) (n : ℕ) where
           z ∙ sym (meant-known ∙ y)
 
   -- the same with the name's bytes as the code has them
-  module _ (s : List ℕ) (from to m : ℕ) (z : m ≡ to - from) (o : Owner) (f : Found) (e : f ≡ foundFor (seenIn d t n (part m from s) (ownerOf o))) where
-    pub by-unknown : (b : Bool) (r : Meant) → f ≡ Unknown → b ≡ E.isSubstr (part m from s) → r ≡ cond b TheSubstr NoSuch → meantFor r ≡ E.meant (ownerOf o) (part (to - from) from s) here
-    by-unknown b r g h i = rw (← z) (meant-unknown (part m from s) (ownerOf o) f e b r g h i)
+  module _ (s : List ℕ) (from to m : ℕ) (z : m ≡ to - from) (o : Owner) (f : Found) (e : f ≡ foundFor (seenIn d t n (folded mixed (part m from s)) (ownerOf o))) where
+    pub by-unknown : (b : Bool) (r : Meant) → f ≡ Unknown → b ≡ E.isSubstr (folded mixed (part m from s)) → r ≡ cond b TheSubstr NoSuch → meantFor r ≡ E.meant (ownerOf o) (folded mixed (part (to - from) from s)) here
+    by-unknown b r g h i = rw (← z) (meant-unknown (folded mixed (part m from s)) (ownerOf o) f e b r g h i)
 
     module _ (a : Address) (g : f ≡ Known a) (x : Name) (h : x ≡ nameIn t (a .0)) where
-      pub by-variable : (v : ValueType) → x .denotation ≡ Variable v → meantFor (AVariable (a .0) v) ≡ E.meant (ownerOf o) (part (to - from) from s) here
-      by-variable v i = rw (← z) (meant-variable (part m from s) (ownerOf o) f e a g x h v i)
+      pub by-variable : (v : ValueType) → x .denotation ≡ Variable v → meantFor (AVariable (a .0) v) ≡ E.meant (ownerOf o) (folded mixed (part (to - from) from s)) here
+      by-variable v i = rw (← z) (meant-variable (folded mixed (part m from s)) (ownerOf o) f e a g x h v i)
 
-      pub by-entry : (y : Entry) → x .denotation ≡ EntryName y → meantFor (AnEntry (y .body)) ≡ E.meant (ownerOf o) (part (to - from) from s) here
-      by-entry y i = rw (← z) (meant-entry (part m from s) (ownerOf o) f e a g x h y i)
+      pub by-entry : (y : Entry) → x .denotation ≡ EntryName y → meantFor (AnEntry (y .body)) ≡ E.meant (ownerOf o) (folded mixed (part (to - from) from s)) here
+      by-entry y i = rw (← z) (meant-entry (folded mixed (part m from s)) (ownerOf o) f e a g x h y i)
 
-      pub by-label : (y : Label) → x .denotation ≡ LabelName y → meantFor NoSuch ≡ E.meant (ownerOf o) (part (to - from) from s) here
-      by-label y i = rw (← z) (meant-label (part m from s) (ownerOf o) f e a g x h y i)
+      pub by-label : (y : Label) → x .denotation ≡ LabelName y → meantFor NoSuch ≡ E.meant (ownerOf o) (folded mixed (part (to - from) from s)) here
+      by-label y i = rw (← z) (meant-label (folded mixed (part m from s)) (ownerOf o) f e a g x h y i)
 
-      pub by-builtin : (b : Bool) (r : Meant) → x .denotation ≡ Builtin → b ≡ E.isSubstr (part m from s) → r ≡ cond b TheSubstr NoSuch → meantFor r ≡ E.meant (ownerOf o) (part (to - from) from s) here
-      by-builtin b r i j q = rw (← z) (meant-builtin (part m from s) (ownerOf o) f e a g x h b r i j q)
+      pub by-builtin : (b : Bool) (r : Meant) → x .denotation ≡ Builtin → b ≡ E.isSubstr (folded mixed (part m from s)) → r ≡ cond b TheSubstr NoSuch → meantFor r ≡ E.meant (ownerOf o) (folded mixed (part (to - from) from s)) here
+      by-builtin b r i j q = rw (← z) (meant-builtin (folded mixed (part m from s)) (ownerOf o) f e a g x h b r i j q)
 
   -- ---- parameters
   module _ (s : List ℕ) (at : ℕ) (p : Place) (l : Lexeme) (lex : Lexed s at l) (m : ℕ) (z : m ≡ l .to - l .from) (f : Found)
-      (e : f ≡ foundFor (addressIn (part m (l .from) s) (ownerOf (Procedure p)) 0 (identifiersFrom d t 0 n))) where
-    spelled-is : part m (l .from) s ≡ spelledAt s at
+      (e : f ≡ foundFor (addressIn (folded mixed (part m (l .from) s)) (ownerOf (Procedure p)) 0 (identifiersFrom d t 0 n))) where
+    spelled-is : folded mixed (part m (l .from) s) ≡ spelledAt s at
     spelled-is = rw (z, lex .from, lex .to)
 
     own : W.Address

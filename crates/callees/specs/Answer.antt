@@ -6,7 +6,7 @@ use mathlib.Core.Path.{_≡_}
 use mathlib.Core.List.{List, [], _∷_}
 use lib.ListN.{length, getD, set, take}
 use lib.IntN.{ℤ, pos}
-use Rattle.definition.specs.Bytes.{mixed}
+use Rattle.definition.specs.Bytes.{mixed, folded}
 use Rattle.definition.specs.Lists.{part}
 use Rattle.definition.specs.Fixed as F
 use Rattle.definition.specs.Tokens.{tokenAt, isSign}
@@ -81,9 +81,9 @@ abbrev pub withTo : ParameterAt → ℕ → ParameterAt
 withTo (P.Is x) to = P.Is (record { address = x .address; «value_type» = x .«value_type»; to = to })
 withTo P.Wrong to = P.Wrong
 
--- the bytes of the token behind a place
+-- the name behind a place, as it is compared
 abbrev pub spelledAt : List ℕ → ℕ → List ℕ
-spelledAt s at = part (tokenAt mixed s at .to - tokenAt mixed s at .from) (tokenAt mixed s at .from) s
+spelledAt s at = folded mixed (part (tokenAt mixed s at .to - tokenAt mixed s at .from) (tokenAt mixed s at .from) s)
 
 abbrev pub parameterOf : List ℕ → List ℕ → ℕ → Place → List ℕ → Val.Answer E.Parameter
 parameterOf d t n p w = E.parameterAt (addressOf w (ownerAt p) (namesWorld d t n)) (namesWorld d t n)

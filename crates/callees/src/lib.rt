@@ -5,7 +5,7 @@ ghost use mathlib.Core.Path.{_≡_};
 ghost use mathlib.Core.Bool.{cond, not, _&&_};
 ghost use lib.Dec.{eqb};
 ghost use lib.ListN.{length};
-ghost use Rattle.definition.specs.Bytes.{mixed};
+ghost use Rattle.definition.specs.Bytes.{mixed, folded};
 ghost use Rattle.definition.specs.Tokens.{tokenAt, isSign};
 ghost use Prim.Native.Nat.{_-_};
 ghost use Rattle.definition.specs.Lists.{part};
@@ -86,7 +86,7 @@ pub fn meant_by(
     from: usize,
     to: usize,
 ) -> Meant
-    ensures { λ r. ⌜ meantFor r ≡ E.meant (ownerOf owner) (part (to - from) from (now (s .entry))) (namesWorld (now (deck .entry)) (now (names .entry)) count) ⌝ }
+    ensures { λ r. ⌜ meantFor r ≡ E.meant (ownerOf owner) (folded mixed (part (to - from) from (now (s .entry)))) (namesWorld (now (deck .entry)) (now (names .entry)) count) ⌝ }
 {
     let n = less(to, from);
     let found = seen_from(deck, names, count, s, from, n, owner);

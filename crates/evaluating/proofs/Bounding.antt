@@ -7,7 +7,7 @@ use Prim.Native.Nat.{ℕ, _-_, _≤_}
 use native.Mathlib.Omega.{arith}
 use lib.IntN.{ℤ, pos}
 use lib.ListN.{length, getD}
-use Rattle.definition.specs.Bytes.{mixed}
+use Rattle.definition.specs.Bytes.{mixed, folded}
 use Rattle.definition.specs.Fixed.{inRange}
 use Rattle.definition.specs.Tokens.{tokenAt, isWord}
 use Rattle.definition.specs.Expressions.{read, Tree, parsed, wholeExpression}
@@ -304,7 +304,7 @@ start-is x u g n t bs w = start-at x u (seenFrom (ownerOf (x .owner)) n w) g n t
 module _ (deck s rows names c l h w : List ℕ) (g at u : ℕ) (x : Scene) (m : Meter) (t : Lexeme) (lex : Lexed s at t) (y : Variable) (ti : TargetIs deck s names (x .names) (x .owner) t y)
     (v : Link) (ev : v ≡ controlOf y) where
   -- what the definition's start is, by what the name means
-  started : (B : World) (sh : Shows deck rows names c l h w u x m B) (n : List ℕ) (tr : Tree) (bs : List D.Bound) → part (t .to - t .from) (t .from) s ≡ n
+  started : (B : World) (sh : Shows deck rows names c l h w u x m B) (n : List ℕ) (tr : Tree) (bs : List D.Bound) → folded mixed (part (t .to - t .from) (t .from) s) ≡ n
       → F.startAt (sceneMachine x u) (seenFrom (ownerOf (x .owner)) n (worldIn B c l h (m .used))) g tr bs (worldIn B c l h (m .used)) ≡ onMeant (meantFor (ti .name)) (λ i k. F.startAs (sceneMachine x u) k g i tr bs (worldIn B c l h (m .used))) (worldIn B c l h (m .used))
   started B sh n tr bs e =
       start-is x u g n tr bs (worldIn B c l h (m .used))
@@ -337,7 +337,7 @@ module _ (deck s rows names c l h w : List ℕ) (g at u : ℕ) (x : Scene) (m : 
     is-fixed : ti .name ≡ M.AVariable a FixedType
     is-fixed = fixed-at a (ti .name) (sym e ∙ ev ∙ ap controlOf (ti .variable))
 
-    module _ (B : World) (sh : Shows deck rows names c l h w u x m B) (nm : List ℕ) (tr : Tree) (bs : List D.Bound) (es : part (t .to - t .from) (t .from) s ≡ nm) (k : ℕ) (rd : wholeExpression mixed s (o .to) ≡ read (parsed tr k)) (few : length bs ≤ 2) (bd : Bounded s bs k) where
+    module _ (B : World) (sh : Shows deck rows names c l h w u x m B) (nm : List ℕ) (tr : Tree) (bs : List D.Bound) (es : folded mixed (part (t .to - t .from) (t .from) s) ≡ nm) (k : ℕ) (rd : wholeExpression mixed s (o .to) ≡ read (parsed tr k)) (few : length bs ≤ 2) (bd : Bounded s bs k) where
       abbrev now : World
       now = worldIn B c l h (m .used)
 
@@ -377,7 +377,7 @@ module _ (deck s rows names c l h w : List ℕ) (g at u : ℕ) (x : Scene) (m : 
     pub start-done : StartIs deck s rows names c l h w g at u x m c₂ l₂ h₂ w₂ r
     start-done = record {
       is = λ B sh nm tr bs st.
-          let es : part (t .to - t .from) (t .from) s ≡ nm = spelled deck s rows names c l h w at u x m t lex y ti (st .0) (st .1) ∙ st .2 in
+          let es : folded mixed (part (t .to - t .from) (t .from) s) ≡ nm = spelled deck s rows names c l h w at u x m t lex y ti (st .0) (st .1) ∙ st .2 in
           let oq : o .to ≡ st .3 .0 = lo .to ∙ ap (λ (i : ℕ). tokenAt mixed s i .to) (lex .to ∙ sym (name-is s at (st .0) (st .1) .to)) ∙ sym (expect-is "=" s (st .0 .to) (st .3 .0) (st .3 .2)) in
           by B sh nm tr bs es (st .3 .1) (ap (wholeExpression mixed s) oq ∙ st .3 .3) (st .3 .4) (st .3 .5) n refl;
     }

@@ -7,7 +7,7 @@ use Prim.Native.Nat.{ℕ, suc, _+_, _-_, _<_, _≤_}
 use native.Mathlib.Omega.{arith}
 use lib.Dec.{leb}
 use lib.ListN.{length}
-use Rattle.definition.specs.Bytes.{mixed}
+use Rattle.definition.specs.Bytes.{mixed, folded}
 use Rattle.definition.specs.Choice.{when}
 use Rattle.definition.specs.Tokens as T
 use Rattle.definition.specs.Tokens.{tokenAt, isSign}
@@ -29,7 +29,7 @@ use Rattle.callees.proofs.Naming.{meant-there}
 use Rattle.tokens.specs.declared.Lexeme.{Lexeme}
 use Rattle.tokens.specs.declared.Kind.{Kind}
 use Rattle.tokens.specs.declared.Kind.the-variants as K
-use Rattle.tokens.specs.Answer.{Lexed, spelling, content, tokenFor, isSignIn}
+use Rattle.tokens.specs.Answer.{Lexed, written, spelling, content, tokenFor, isSignIn}
 use Rattle.tokens.proofs.Lexemes as L
 use Rattle.expressions.specs.declared.InfixAt.{InfixAt}
 use Rattle.expressions.specs.declared.InfixAt.the-variants as I
@@ -295,10 +295,10 @@ module _ (deck rows names s c l h w : List ℕ) (at left u : ℕ) (x : Scene) (m
   abbrev here : Reading Parsed
   here = primitiveAt (insideOf left s) s at
 
-  token-of : (k : Kind) → t .kind ≡ k → tokenAt mixed s at .token ≡ tokenFor k (spelling s t) (content s (t .from))
-  token-of k e = L.token-is s at t lex ∙ ap (λ (i : Kind). tokenFor i (spelling s t) (content s (t .from))) e
+  token-of : (k : Kind) → t .kind ≡ k → tokenAt mixed s at .token ≡ tokenFor k (written s t) (content s (t .from))
+  token-of k e = L.token-is s at t lex ∙ ap (λ (i : Kind). tokenFor i (written s t) (content s (t .from))) e
 
-  here-is : (k : Kind) → t .kind ≡ k → here ≡ primitive mixed (insideOf left s) s (tokenFor k (spelling s t) (content s (t .from))) (t .from) (t .to)
+  here-is : (k : Kind) → t .kind ≡ k → here ≡ primitive mixed (insideOf left s) s (tokenFor k (written s t) (content s (t .from))) (t .from) (t .to)
   here-is k e = rw (token-of k e, lex .from, lex .to)
 
   constant-by : (z : Tree) → here ≡ read (parsed z (t .to)) → (w′ : List ℕ) (r : Evaluated) → ConstantIs z w u (t .to) m w′ r → Evaluates deck rows names c l h w u x m c l h w′ r here
@@ -406,10 +406,10 @@ module _ (deck rows names s c l h w : List ℕ) (left u : ℕ) (x : Scene) (m : 
   unfolding valueOf evaluate
   value-reference w = refl
 
-  module _ (X : meantFor y ≡ meant (ownerOf (x .owner)) (part (t .to - t .from) (t .from) s) (namesWorld deck names (x .names))) where
+  module _ (X : meantFor y ≡ meant (ownerOf (x .owner)) (folded mixed (part (t .to - t .from) (t .from) s)) (namesWorld deck names (x .names))) where
     meant-in : (w : World) → w .identifiers ≡ identifiersFrom deck names 0 (x .names) → w .denotations ≡ denotationsFrom names 0 (x .names) → meantFor y ≡ meant (ownerOf (x .owner)) (spelling s t) w
-    unfolding spelling
-    meant-in w e f = X ∙ sym (meant-there deck names (x .names) w e f (ownerOf (x .owner)) (part (t .to - t .from) (t .from) s))
+    unfolding written
+    meant-in w e f = X ∙ sym (meant-there deck names (x .names) w e f (ownerOf (x .owner)) (folded mixed (part (t .to - t .from) (t .from) s)))
 
     means : (B : World) → Shows deck rows names c l h w u x m B → Means y B
     means B sh = record { scope = ownerOf (x .owner); spelling = spelling s t; is = meant-in B (sh .named .identifiers) (sh .named .denotations) }

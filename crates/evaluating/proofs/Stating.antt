@@ -6,7 +6,7 @@ use mathlib.Core.List.{List}
 use Prim.Native.Nat.{ℕ, _-_, _≤_}
 use native.Mathlib.Omega.{arith}
 use lib.ListN.{length, getD}
-use Rattle.definition.specs.Bytes.{mixed}
+use Rattle.definition.specs.Bytes.{mixed, folded}
 use Rattle.definition.specs.Lists.{part}
 use Rattle.definition.specs.Tokens.{tokenAt}
 use Rattle.definition.specs.Expressions.{read, Tree, parsed, Named, nameAt, expectSign, wholeExpression}
@@ -98,13 +98,13 @@ at-by a k M.NoSuch e = clash (cc)
 
 -- ---- assignment
 module _ (deck s rows names c l h w : List ℕ) (at u : ℕ) (x : Scene) (m : Meter) (t : Lexeme) (lex : Lexed s at t) (y : Variable) (ti : TargetIs deck s names (x .names) (x .owner) t y) where
-  pub spelled : (nm : Named) → nameAt mixed s at ≡ read nm → part (t .to - t .from) (t .from) s ≡ nm .spelling
+  pub spelled : (nm : Named) → nameAt mixed s at ≡ read nm → folded mixed (part (t .to - t .from) (t .from) s) ≡ nm .spelling
   spelled nm q = rw (lex .from, lex .to) (sym (name-is s at nm q .spelling))
 
-  pub means : (B : World) → Shows deck rows names c l h w u x m B → (n : List ℕ) → part (t .to - t .from) (t .from) s ≡ n → meantFor (ti .name) ≡ meant (ownerOf (x .owner)) n B
+  pub means : (B : World) → Shows deck rows names c l h w u x m B → (n : List ℕ) → folded mixed (part (t .to - t .from) (t .from) s) ≡ n → meantFor (ti .name) ≡ meant (ownerOf (x .owner)) n B
   means B sh n e = ti .is ∙ ap (λ (i : List ℕ). meant (ownerOf (x .owner)) i (namesWorld deck names (x .names))) e ∙ sym (meant-there deck names (x .names) B (sh .named .identifiers) (sh .named .denotations) (ownerOf (x .owner)) n)
 
-  pub meant-now : (B : World) → Shows deck rows names c l h w u x m B → (n : List ℕ) → part (t .to - t .from) (t .from) s ≡ n → meantFor (ti .name) ≡ meant (ownerOf (x .owner)) n (worldIn B c l h (m .used))
+  pub meant-now : (B : World) → Shows deck rows names c l h w u x m B → (n : List ℕ) → folded mixed (part (t .to - t .from) (t .from) s) ≡ n → meantFor (ti .name) ≡ meant (ownerOf (x .owner)) n (worldIn B c l h (m .used))
   meant-now B sh n e = ti .is ∙ ap (λ (i : List ℕ). meant (ownerOf (x .owner)) i (namesWorld deck names (x .names))) e ∙ sym (meant-there deck names (x .names) (worldIn B c l h (m .used)) (sh .named .identifiers) (sh .named .denotations) (ownerOf (x .owner)) n)
 
   pub none-by : {A : Type 0} (v : Meant) → Va.None ≡ variableFor v → (f : ℕ → ValueType → Res Why A) (W₁ : World) → onMeant (meantFor v) f W₁ ≡ bad WrongName (W₁ .used)
@@ -116,7 +116,7 @@ module _ (deck s rows names c l h w : List ℕ) (at u : ℕ) (x : Scene) (m : Me
   pub assign-none : y ≡ Va.None → AssignIs deck s rows names c l h w at u x m c l h w (Dn.Bad WrongName m)
   assign-none ey = record {
     is = λ B sh n tr st.
-        let e : part (t .to - t .from) (t .from) s ≡ n = spelled (st .0) (st .1) ∙ st .2 in
+        let e : folded mixed (part (t .to - t .from) (t .from) s) ≡ n = spelled (st .0) (st .1) ∙ st .2 in
         let W₁ : World = worldIn B c l h (m .used) in (
           sym (assigned-is x u n tr W₁ ∙ ap (λ (i : Ev.Meant). onMeant i (λ a k. storedOn k a u (valueOf x tr u W₁)) W₁) (sym (meant-now B sh n e)) ∙ none-by (ti .name) (sym ey ∙ ti .variable) (λ a k. storedOn k a u (valueOf x tr u W₁)) W₁),
           record { below = refl; limit = sh .limit; slots = sh .slots },
@@ -131,7 +131,7 @@ module _ (deck s rows names c l h w : List ℕ) (at u : ℕ) (x : Scene) (m : Me
     done-by : (B : World) → Shows deck rows names c l h w u x m B → (n : List ℕ) (tr : Tree) (nm : Named) → nameAt mixed s at ≡ read nm → nm .spelling ≡ n → (q e : ℕ) → expectSign mixed "=" s (nm .to) ≡ read q → wholeExpression mixed s q ≡ read (parsed tr e) → (doneIn B c₂ l₂ h₂ r ≡ F.assigned (sceneMachine x u) n tr (worldIn B c l h (m .used))) × Leaves B u w c₂ l₂ h₂ w₂ (doneMeter r)
     done-by B sh n tr nm q₁ q₂ q e q₃ q₄ =
         let W₁ : World = worldIn B c l h (m .used) in
-        let es : part (t .to - t .from) (t .from) s ≡ n = spelled nm q₁ ∙ q₂ in
+        let es : folded mixed (part (t .to - t .from) (t .from) s) ≡ n = spelled nm q₁ ∙ q₂ in
         let gq : g .to ≡ q = lg .to ∙ ap (λ (i : ℕ). tokenAt mixed s i .to) (lex .to ∙ sym (name-is s at nm q₁ .to)) ∙ sym (expect-is "=" s (nm .to) q q₃) in
         let G : Gave B u w c₁ l₁ h₁ w₁ b e (valueOf x tr u W₁) = ev .is B sh tr e (ap (wholeExpression mixed s) gq ∙ q₄) in
         let dn : getD (B .denotations) a builtinName ≡ variableOf k = variable-denotes a k B (record { scope = ownerOf (x .owner); spelling = n; is = ap meantFor (sym is-at) ∙ means B sh n es }) in

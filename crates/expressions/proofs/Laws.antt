@@ -8,17 +8,18 @@ use Prim.Native.String as S
 use native.Mathlib.Omega.{arith}
 use borrow.Author.Tests.{le-leb, lt-leb}
 use lib.ListN.{length}
-use Rattle.definition.specs.Bytes.{mixed}
-use Rattle.definition.specs.Lists.{same}
+use Rattle.definition.specs.Bytes.{mixed, folded}
+use Rattle.definition.specs.Lists.{same, part}
 use Rattle.definition.specs.Text.{bytesOf}
 use Rattle.definition.specs.Tokens as T
 use Rattle.definition.specs.Expressions as E
 use Rattle.definition.specs.declared.Why.the-variants.{Syntax, OverLimit}
+use Rattle.definition.proofs.Folded.{length-folded}
 use Rattle.definition.proofs.Parts.{length-part}
 use Rattle.tokens.specs.declared.Kind.{Kind}
 use Rattle.tokens.specs.declared.Kind.the-variants.{Word, Integer, String, Bits, Sign, Nothing, Wrong}
 use Rattle.tokens.specs.declared.Lexeme.{Lexeme}
-use Rattle.tokens.specs.Answer.{Lexed, spelling, isSignIn, isWordIn, isSignKind, isWordKind, content, tokenFor}
+use Rattle.tokens.specs.Answer.{written, Lexed, spelling, isSignIn, isWordIn, isSignKind, isWordKind, content, tokenFor}
 use Rattle.tokens.proofs.Lexemes as L
 use Rattle.expressions.specs.declared.Expected.the-variants.{Past, Refused}
 use Rattle.expressions.specs.declared.NamedAt.the-variants as N
@@ -32,7 +33,7 @@ module _ (s : List ℕ) (at : ℕ) (l : Lexeme) (lex : Lexed s at l) where
 
   spelled : (w : List ℕ) → isSignIn s l w ≡ isSpelled w (T.tokenAt mixed s at .token)
   unfolding isSignIn
-  spelled w = rw (L.token-is s at l lex) (by-kind (l .kind) (spelling s l) (content s (l .from)))
+  spelled w = rw (L.token-is s at l lex) (by-kind (l .kind) (written s l) (content s (l .from)))
     where
       by-kind : (k : Kind) (x y : List ℕ) → (isSignKind k && same x w) ≡ isSpelled w (tokenFor k x y)
       by-kind Word x y = refl
@@ -53,9 +54,9 @@ module _ (s : List ℕ) (at : ℕ) (l : Lexeme) (lex : Lexed s at l) where
 
   worded : (w : List ℕ) → isWordIn s l w ≡ isWorded w (T.tokenAt mixed s at .token)
   unfolding isWordIn
-  worded w = rw (L.token-is s at l lex) (by-kind (l .kind) (spelling s l) (content s (l .from)))
+  worded w = rw (L.token-is s at l lex) (by-kind (l .kind) (written s l) (content s (l .from)))
     where
-      by-kind : (k : Kind) (x y : List ℕ) → (isWordKind k && same x w) ≡ isWorded w (tokenFor k x y)
+      by-kind : (k : Kind) (x y : List ℕ) → (isWordKind k && same (folded mixed x) w) ≡ isWorded w (tokenFor k x y)
       by-kind Word x y = refl
       by-kind Integer x y = refl
       by-kind String x y = refl
@@ -73,7 +74,7 @@ module _ (s : List ℕ) (at : ℕ) (l : Lexeme) (lex : Lexed s at l) where
   word-not-there w r f g = rw (← worded w, ← f, g, lex .from)
 
   -- a word is a name, if it is short enough
-  word-is : (k : Kind) (x y : List ℕ) → isWordKind k ≡ true → tokenFor k x y ≡ T.word x
+  word-is : (k : Kind) (x y : List ℕ) → isWordKind k ≡ true → tokenFor k x y ≡ T.word (folded mixed x)
   word-is Word x y e = refl
   word-is Integer x y e = absurd (false≢true e)
   word-is String x y e = absurd (false≢true e)
@@ -84,11 +85,11 @@ module _ (s : List ℕ) (at : ℕ) (l : Lexeme) (lex : Lexed s at l) where
 
   module _ (r : Bool) (f : r ≡ isWordKind (l .kind)) where
     named : r ≡ true → T.tokenAt mixed s at .token ≡ T.word (spelling s l)
-    named g = L.token-is s at l lex ∙ word-is (l .kind) (spelling s l) (content s (l .from)) (sym f ∙ g)
+    named g = L.token-is s at l lex ∙ word-is (l .kind) (written s l) (content s (l .from)) (sym f ∙ g)
 
     size : length (spelling s l) ≡ l .to - l .from
-    unfolding spelling
-    size = length-part (l .to - l .from) (l .from) s
+    unfolding written
+    size = length-folded mixed (part (l .to - l .from) (l .from) s) ∙ length-part (l .to - l .from) (l .from) s
 
     pub short-name : (n : ℕ) → r ≡ true → n ≡ l .to - l .from → n ≤ 31 → N.Is (l .from) (l .to) ≡ namedFor (E.nameAt mixed s at)
     unfolding E.nameAt
@@ -109,7 +110,7 @@ module _ (s : List ℕ) (at : ℕ) (l : Lexeme) (lex : Lexed s at l) where
 
     pub not-a-name : r ≡ false → N.Refused Syntax (l .from) ≡ namedFor (E.nameAt mixed s at)
     unfolding E.nameAt
-    not-a-name g = rw (L.token-is s at l lex, ← lex .from) (sym (no-name (l .kind) (spelling s l) (content s (l .from)) (l .from) (T.tokenAt mixed s at .to) (sym f ∙ g)))
+    not-a-name g = rw (L.token-is s at l lex, ← lex .from) (sym (no-name (l .kind) (written s l) (content s (l .from)) (l .from) (T.tokenAt mixed s at .to) (sym f ∙ g)))
 
 -- ---- the levels
 pub of-level : (n k : ℕ) (s : List ℕ) (at : ℕ) (r : InfixAt) → n ≡ k → r ≡ infixAt k s at → r ≡ infixAt n s at

@@ -23,7 +23,7 @@ use Rattle.definition.specs.declared.Why.the-variants.{Syntax, OverLimit}
 use Rattle.tokens.specs.declared.Kind.{Kind}
 use Rattle.tokens.specs.declared.Kind.the-variants as K
 use Rattle.tokens.specs.declared.Lexeme.{Lexeme}
-use Rattle.tokens.specs.Answer.{Lexed, kindOf, lexemeFor, isToken, spelling, content, isSignIn, isSignKind, tokenFor}
+use Rattle.tokens.specs.Answer.{Lexed, kindOf, lexemeFor, isToken, written, spelling, content, isSignIn, isSignKind, tokenFor}
 use Rattle.tokens.proofs.Lexemes.{token-is}
 use Rattle.tokens.proofs.Reach.{token-low, token-past, token-inside}
 use Rattle.expressions.specs.declared.Expected.{Expected}
@@ -275,10 +275,10 @@ word-then true n w p g = refl
 word-then false n w p g = refl
 
 module _ (inside : ℕ → Reader) (s : List ℕ) (at : ℕ) (l : Lexeme) (lex : Lexed s at l) where
-  token-of : (k : Kind) → l .kind ≡ k → tokenAt mixed s at .token ≡ tokenFor k (spelling s l) (content s (l .from))
-  token-of k e = token-is s at l lex ∙ ap (λ (k : Kind). tokenFor k (spelling s l) (content s (l .from))) e
+  token-of : (k : Kind) → l .kind ≡ k → tokenAt mixed s at .token ≡ tokenFor k (written s l) (content s (l .from))
+  token-of k e = token-is s at l lex ∙ ap (λ (k : Kind). tokenFor k (written s l) (content s (l .from))) e
 
-  pub by-kind : (k : Kind) → l .kind ≡ k → (y : Expected) → y ≡ endFor (primitive mixed inside s (tokenFor k (spelling s l) (content s (l .from))) (l .from) (l .to)) → y ≡ endFor (primitiveAt inside s at)
+  pub by-kind : (k : Kind) → l .kind ≡ k → (y : Expected) → y ≡ endFor (primitive mixed inside s (tokenFor k (written s l) (content s (l .from))) (l .from) (l .to)) → y ≡ endFor (primitiveAt inside s at)
   by-kind k e y f = rw (token-of k e, ← lex .from, ← lex .to) f
 
   pub by-name : l .kind ≡ K.Word → (y : Expected) → y ≡ endFor (referred inside s at) → y ≡ endFor (primitiveAt inside s at)
@@ -287,23 +287,23 @@ module _ (inside : ℕ → Reader) (s : List ℕ) (at : ℕ) (l : Lexeme) (lex :
 
 -- ---- an expression in parentheses
 module _ (inside : ℕ → Reader) (s : List ℕ) (l : Lexeme) (e : l .kind ≡ K.Sign) (v : Bool) (c : v ≡ isSignIn s l (40 ∷ [])) where
-  opens : (b : Bool) → v ≡ b → isSign "(" (sign (spelling s l)) ≡ b
+  opens : (b : Bool) → v ≡ b → isSign "(" (sign (written s l)) ≡ b
   unfolding isSignIn
-  opens b d = sym (ap (λ (k : Kind). isSignKind k && same (spelling s l) (40 ∷ [])) e) ∙ sym c ∙ d
+  opens b d = sym (ap (λ (k : Kind). isSignKind k && same (written s l) (40 ∷ [])) e) ∙ sym c ∙ d
 
-  pub not-open : v ≡ false → Refused Syntax (l .from) ≡ endFor (primitive mixed inside s (sign (spelling s l)) (l .from) (l .to))
+  pub not-open : v ≡ false → Refused Syntax (l .from) ≡ endFor (primitive mixed inside s (sign (written s l)) (l .from) (l .to))
   unfolding primitive endFor
   not-open d = rw (opens false d)
 
   module _ (d : v ≡ true) (x : Expected) (a : x ≡ endFor (inside (l .from) (l .to))) where
-    opened : primitive mixed inside s (sign (spelling s l)) (l .from) (l .to) ≡ then (inside (l .from) (l .to)) λ r. then (expectSign mixed ")" s (r .to)) λ q. read (parsed (r .tree) q)
+    opened : primitive mixed inside s (sign (written s l)) (l .from) (l .to) ≡ then (inside (l .from) (l .to)) λ r. then (expectSign mixed ")" s (r .to)) λ q. read (parsed (r .tree) q)
     unfolding primitive
     opened = rw (opens true d)
 
-    pub open-refused : (w : Why) (p : ℕ) → x ≡ Refused w p → Refused w p ≡ endFor (primitive mixed inside s (sign (spelling s l)) (l .from) (l .to))
+    pub open-refused : (w : Why) (p : ℕ) → x ≡ Refused w p → Refused w p ≡ endFor (primitive mixed inside s (sign (written s l)) (l .from) (l .to))
     open-refused w p b = then-refused x _ (inside (l .from) (l .to)) a w p b ∙ ap endFor (sym opened)
 
-    pub open-closed : (p : ℕ) → x ≡ Past p → (y : Expected) → y ≡ expected (41 ∷ []) s p → y ≡ endFor (primitive mixed inside s (sign (spelling s l)) (l .from) (l .to))
+    pub open-closed : (p : ℕ) → x ≡ Past p → (y : Expected) → y ≡ expected (41 ∷ []) s p → y ≡ endFor (primitive mixed inside s (sign (written s l)) (l .from) (l .to))
     open-closed p b y f = then-past x _ (inside (l .from) (l .to)) a y p b (λ t. f ∙ expected-is ")" (41 ∷ []) refl s p ∙ sym (closed t (expectSign mixed ")" s p))) ∙ ap endFor (sym opened)
 
 -- ---- prefix operators: each has a byte, so that they are no more than the bytes

@@ -5,7 +5,7 @@ ghost use lib.ListN.{length};
 ghost use Rattle.definition.specs.Bytes.{mixed};
 ghost use Rattle.definition.specs.Tokens.{tokenAt, sign};
 ghost use Rattle.definition.specs.Expressions as E;
-ghost use Rattle.tokens.specs.Answer.{spelling};
+ghost use Rattle.tokens.specs.Answer.{written};
 ghost use Rattle.tokens.specs.declared.Kind.the-variants.{Sign};
 ghost use Rattle.expressions.specs.Check.{infixAt, prefixFor, expected, expectedWord, namedFor, prefixes, endFor, insideOf, referred, primitiveAt, operandIn, levelsIn, chainIn};
 use definition::Operator;
@@ -290,7 +290,7 @@ fn reference(s: &[u8], at: usize, left: usize) -> Expected
 
 fn parenthesized(s: &[u8], t: Lexeme, left: usize) -> Expected
     requires { ⌜ t .kind ≡ Sign ⌝ }
-    ensures { λ r. ⌜ r ≡ endFor (E.primitive mixed (insideOf left (now (s .entry))) (now (s .entry)) (sign (spelling (now (s .entry)) t)) (t .from) (t .to)) ⌝ }
+    ensures { λ r. ⌜ r ≡ endFor (E.primitive mixed (insideOf left (now (s .entry))) (now (s .entry)) (sign (written (now (s .entry)) t)) (t .from) (t .to)) ⌝ }
 {
     if is_sign(s, t, b"(") {
         let x = inside(s, t.from, t.to, left);

@@ -7,6 +7,7 @@ use Prim.Native.Nat.{ℕ, _-_, _<_}
 use borrow.Author.Tests.{eq-eqb, ne-eqb, eqb-true}
 use lib.Dec.{eqb}
 use lib.ListN.{length}
+use Rattle.definition.specs.Bytes.{mixed, folded}
 use Rattle.definition.specs.Choice.{when}
 use Rattle.definition.specs.Lists.{part}
 use Rattle.definition.specs.Calls.{Place}
@@ -111,7 +112,7 @@ module _ (rows : List ℕ) (x : Starts) (b : Below) (m n : ℕ) (B : World) (the
 
 -- ---- the name of the label
 module _ (d s rows t : List ℕ) (count : ℕ) (b : Below) (m : ℕ) (x : Starts) (n at : ℕ) (z : Lexeme) (lex : Lexed s at z) (len : ℕ) (hl : len ≡ z .to - z .from) (f : Found)
-    (e : f ≡ foundFor (addressIn (part len (z .from) s) (ownerOf Everyone) 0 (identifiersFrom d t 0 count))) where
+    (e : f ≡ foundFor (addressIn (folded mixed (part len (z .from) s)) (ownerOf Everyone) 0 (identifiersFrom d t 0 count))) where
   abbrev name : List ℕ
   name = spelledAt s at
 

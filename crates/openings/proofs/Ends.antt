@@ -8,7 +8,7 @@ use native.Mathlib.Omega.{arith}
 use borrow.Author.Tests.{leb-false}
 use lib.Dec.{leb, eqb}
 use lib.ListN.{length, getD}
-use Rattle.definition.specs.Bytes.{mixed}
+use Rattle.definition.specs.Bytes.{mixed, folded}
 use Rattle.definition.specs.Choice.{when}
 use Rattle.definition.specs.Lists.{isOneOf}
 use Rattle.definition.specs.Tokens as Tk
@@ -19,7 +19,7 @@ use Rattle.definition.specs.declared.Why.the-variants.{Syntax}
 use Rattle.tokens.specs.declared.Kind.{Kind}
 use Rattle.tokens.specs.declared.Kind.the-variants as Kd
 use Rattle.tokens.specs.declared.Lexeme.{Lexeme}
-use Rattle.tokens.specs.Answer.{Lexed, spelling, content, isWordKind, isWordIn, isSignIn, tokenFor}
+use Rattle.tokens.specs.Answer.{written, Lexed, spelling, content, isWordKind, isWordIn, isSignIn, tokenFor}
 use Rattle.tokens.proofs.Lexemes.{token-is, is-word}
 use Rattle.expressions.specs.declared.Expected.{Expected}
 use Rattle.expressions.specs.declared.Expected.the-variants.{Past, Refused}
@@ -123,9 +123,9 @@ module _ (s : List ℕ) (t : Lexeme) (ls : List (List ℕ)) (a : Bool) (ha : a �
 
 may-name-is : (s : List ℕ) (at : ℕ) (l : Lexeme) → Lexed s at l → (ls : List (List ℕ)) → mayNameIn s l ls ≡ D.mayName (tokenAt mixed s at .token) ls
 unfolding mayNameIn
-may-name-is s at l lex ls = rw (token-is s at l lex) (by-kind (l .kind) (spelling s l) (content s (l .from)))
+may-name-is s at l lex ls = rw (token-is s at l lex) (by-kind (l .kind) (written s l) (content s (l .from)))
   where
-    by-kind : (k : Kind) (x y : List ℕ) → (isWordKind k && isOneOf x ls) ≡ D.mayName (tokenFor k x y) ls
+    by-kind : (k : Kind) (x y : List ℕ) → (isWordKind k && isOneOf (folded mixed x) ls) ≡ D.mayName (tokenFor k x y) ls
     by-kind Kd.Word x y = refl
     by-kind Kd.Integer x y = refl
     by-kind Kd.String x y = refl

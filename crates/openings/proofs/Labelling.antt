@@ -9,7 +9,7 @@ use native.Mathlib.Numerals.{sub-one}
 use borrow.Author.Tests.{lt-ltb}
 use lib.Dec.{ltb}
 use lib.ListN.{length, length-append}
-use Rattle.definition.specs.Bytes.{mixed}
+use Rattle.definition.specs.Bytes.{mixed, folded}
 use Rattle.definition.specs.Choice.{when}
 use Rattle.definition.specs.Lists.{part, same, isOneOf}
 use Rattle.definition.specs.Tokens as Tk
@@ -17,9 +17,10 @@ use Rattle.definition.specs.Tokens.{tokenAt}
 use Rattle.definition.specs.Expressions.{Reading, read, refused, Named, nameAt}
 use Rattle.definition.specs.Reading as D
 use Rattle.definition.specs.declared.Why.{Why}
+use Rattle.definition.proofs.Folded.{length-folded}
 use Rattle.definition.proofs.Parts.{length-part, same-length}
 use Rattle.tokens.specs.declared.Lexeme.{Lexeme}
-use Rattle.tokens.specs.Answer.{spelling}
+use Rattle.tokens.specs.Answer.{written, spelling}
 use Rattle.expressions.specs.Check.{namedFor}
 use Rattle.expressions.specs.declared.NamedAt.{NamedAt}
 use Rattle.expressions.specs.declared.NamedAt.the-variants as N
@@ -171,16 +172,17 @@ labels-counted s from r h e =
 
 -- ---- spellings
 module _ (s : List ℕ) (t : Lexeme) (from to n a : ℕ) (hn : n ≡ to - from) (ha : a ≡ t .to - t .from) where
-  pub spelled-so : a ≡ n → (b : Bool) → b ≡ same (part n (t .from) s) (part n from s) → b ≡ same (spelling s t) (part (to - from) from s)
-  unfolding spelling
-  spelled-so e b f = f ∙ ap (λ (k : ℕ). same (part k (t .from) s) (part n from s)) (sym e ∙ ha) ∙ ap (λ (k : ℕ). same (part (t .to - t .from) (t .from) s) (part k from s)) hn
+  pub spelled-so : a ≡ n → (b : Bool) → b ≡ same (folded mixed (part n (t .from) s)) (folded mixed (part n from s)) → b ≡ same (spelling s t) (folded mixed (part (to - from) from s))
+  unfolding written
+  spelled-so e b f = f ∙ ap (λ (k : ℕ). same (folded mixed (part k (t .from) s)) (folded mixed (part n from s))) (sym e ∙ ha) ∙ ap (λ (k : ℕ). same (folded mixed (part (t .to - t .from) (t .from) s)) (folded mixed (part k from s))) hn
 
-  pub spelled-not : (a ≡ n → ⊥) → false ≡ same (spelling s t) (part (to - from) from s)
-  unfolding spelling
-  spelled-not e = same-length (part (t .to - t .from) (t .from) s) (part (to - from) from s) (λ z. e (ha ∙ sym (length-part (t .to - t .from) (t .from) s) ∙ z ∙ length-part (to - from) from s ∙ sym hn))
+  pub spelled-not : (a ≡ n → ⊥) → false ≡ same (spelling s t) (folded mixed (part (to - from) from s))
+  unfolding written
+  spelled-not e = same-length (folded mixed (part (t .to - t .from) (t .from) s)) (folded mixed (part (to - from) from s))
+      (λ z. e (ha ∙ sym (length-folded mixed (part (t .to - t .from) (t .from) s) ∙ length-part (t .to - t .from) (t .from) s) ∙ z ∙ length-folded mixed (part (to - from) from s) ∙ length-part (to - from) from s ∙ sym hn))
 
 module _ (s w : List ℕ) (at : ℕ) (x : NamedAt) (h : x ≡ namedFor (nameAt mixed s at)) where
-  pub named-so : (from to : ℕ) (b : Bool) → x ≡ N.Is from to → b ≡ same w (part (to - from) from s) → b ≡ namesAs w (nameAt mixed s at)
+  pub named-so : (from to : ℕ) (b : Bool) → x ≡ N.Is from to → b ≡ same w (folded mixed (part (to - from) from s)) → b ≡ namesAs w (nameAt mixed s at)
   named-so from to b e f = f ∙ ap (namesAs w) (sym (named-is s at x from to h e .is))
 
   unnamed : (y : Why) (p : ℕ) (R : Reading Named) → x ≡ namedFor R → x ≡ N.Refused y p → false ≡ namesAs w R

@@ -8,7 +8,8 @@ use native.Mathlib.Omega.{arith}
 use borrow.Author.Tests.{le-leb, lt-leb}
 use lib.Dec.{ltb}
 use lib.ListN.{length}
-use Rattle.definition.specs.Bytes.{mixed}
+use Rattle.definition.specs.Lists.{part}
+use Rattle.definition.specs.Bytes.{mixed, folded}
 use Rattle.definition.specs.Choice.{when}
 use Rattle.definition.specs.Tokens as Tk
 use Rattle.definition.specs.Tokens.{tokenAt}
@@ -18,11 +19,12 @@ use Rattle.definition.specs.Statements as St
 use Rattle.definition.specs.Reading as D
 use Rattle.definition.specs.declared.Why.{Why}
 use Rattle.definition.specs.declared.Why.the-variants.{Syntax, OverLimit}
+use Rattle.definition.proofs.Folded.{length-folded}
 use Rattle.definition.proofs.Parts.{length-part}
 use Rattle.tokens.specs.declared.Kind.{Kind}
 use Rattle.tokens.specs.declared.Kind.the-variants as Kd
 use Rattle.tokens.specs.declared.Lexeme.{Lexeme}
-use Rattle.tokens.specs.Answer.{Lexed, spelling, content, isWordKind, isWordIn, isSignIn, tokenFor}
+use Rattle.tokens.specs.Answer.{Lexed, written, spelling, content, isWordKind, isWordIn, isSignIn, tokenFor}
 use Rattle.tokens.proofs.Lexemes.{token-is, is-word, is-sign}
 use Rattle.expressions.specs.Check.{expectFor, namedFor}
 use Rattle.expressions.specs.declared.Expected.{Expected}
@@ -42,7 +44,7 @@ chosen : {A : Type 0} (b c : Bool) (x y : Unit {0} → A) → b ≡ c → when b
 chosen b c x y e = ap (λ (z : Bool). when z x y) e
 
 -- ---- the statement by its first token
-word-kind : (k : Kind) (x y : List ℕ) → isWordKind k ≡ true → tokenFor k x y ≡ Tk.word x
+word-kind : (k : Kind) (x y : List ℕ) → isWordKind k ≡ true → tokenFor k x y ≡ Tk.word (folded mixed x)
 word-kind Kd.Word x y e = refl
 word-kind Kd.Integer x y e = absurd (false≢true e)
 word-kind Kd.String x y e = absurd (false≢true e)
@@ -67,14 +69,14 @@ module _ (s : List ℕ) (p : ℕ) (ns : List Named) (st : D.State) where
     here = D.byToken mixed (tokenAt mixed s at .token) s p ns (tokenAt mixed s at) st
 
     size : length (spelling s l) ≡ l .to - l .from
-    unfolding spelling
-    size = length-part (l .to - l .from) (l .from) s
+    unfolding written
+    size = length-folded mixed (part (l .to - l .from) (l .from) s) ∙ length-part (l .to - l .from) (l .from) s
 
     abbrev namedIf : Bool → D.Turn
     namedIf b = D.byName mixed (cond b (read (record { spelling = spelling s l; place = tokenAt mixed s at .from; to = tokenAt mixed s at .to })) (refused OverLimit (tokenAt mixed s at .from))) s p ns (tokenAt mixed s at) st
 
     a-word : isWordKind (l .kind) ≡ true → here ≡ D.byToken mixed (Tk.word (spelling s l)) s p ns (tokenAt mixed s at) st
-    a-word e = ap (λ (z : Tk.Token). D.byToken mixed z s p ns (tokenAt mixed s at) st) (token-is s at l lex ∙ word-kind (l .kind) (spelling s l) (content s (l .from)) e)
+    a-word e = ap (λ (z : Tk.Token). D.byToken mixed z s p ns (tokenAt mixed s at) st) (token-is s at l lex ∙ word-kind (l .kind) (written s l) (content s (l .from)) e)
 
     -- a word begins the statement that its keyword says; n labels stand before it
     pub token-word : isWordKind (l .kind) ≡ true → l .to - l .from ≤ 31 → (n : ℕ) → ltb 0 n ≡ not (D.isNone ns)
@@ -87,8 +89,8 @@ module _ (s : List ℕ) (p : ℕ) (ns : List Named) (st : D.State) where
     a-sign : isWordKind (l .kind) ≡ false → here ≡ when (isSignIn s l (59 ∷ [])) (λ _. D.taken mixed s p ns st (St.clause P.null St.opensNothing (tokenAt mixed s at .to)) []) (λ _. D.untaken p ns st Syntax (tokenAt mixed s at .from) [])
     a-sign e =
         ap (λ (z : Tk.Token). D.byToken mixed z s p ns (tokenAt mixed s at) st) (token-is s at l lex)
-        ∙ sign-kind (tokenAt mixed s at) (l .kind) (spelling s l) (content s (l .from)) e
-        ∙ chosen (Tk.isSign ";" (tokenFor (l .kind) (spelling s l) (content s (l .from)))) (isSignIn s l (59 ∷ [])) _ _ (ap (Tk.isSign ";") (sym (token-is s at l lex)) ∙ sym (is-sign s at l lex ";" (59 ∷ []) refl))
+        ∙ sign-kind (tokenAt mixed s at) (l .kind) (written s l) (content s (l .from)) e
+        ∙ chosen (Tk.isSign ";" (tokenFor (l .kind) (written s l) (content s (l .from)))) (isSignIn s l (59 ∷ [])) _ _ (ap (Tk.isSign ";") (sym (token-is s at l lex)) ∙ sym (is-sign s at l lex ";" (59 ∷ []) refl))
 
     pub token-null : isWordKind (l .kind) ≡ false → isSignIn s l (59 ∷ []) ≡ true → here ≡ D.taken mixed s p ns st (St.clause P.null St.opensNothing (l .to)) []
     token-null e f = a-sign e ∙ chosen (isSignIn s l (59 ∷ [])) true _ _ f ∙ ap (λ (q : ℕ). D.taken mixed s p ns st (St.clause P.null St.opensNothing q) []) (sym (lex .to))

@@ -7,7 +7,7 @@ ghost use mathlib.Core.List.{[]};
 ghost use Prim.Native.Nat.{_-_};
 ghost use lib.Dec.{ltb};
 ghost use lib.ListN.{getD};
-ghost use Rattle.definition.specs.Bytes.{mixed};
+ghost use Rattle.definition.specs.Bytes.{mixed, folded};
 ghost use Rattle.definition.specs.Lists.{part, same, isOneOf};
 ghost use Rattle.definition.specs.Tokens.{tokenAt};
 ghost use Rattle.definition.specs.Expressions.{nameAt};

@@ -22,7 +22,7 @@ use Rattle.definition.specs.declared.ValueType.{ValueType}
 use Rattle.fixed.specs.declared.Fixed.{Fixed}
 use Rattle.meter.specs.declared.Meter.{Meter}
 use Rattle.tokens.specs.declared.Lexeme.{Lexeme}
-use Rattle.tokens.specs.Answer.{Lexed, spelling, content, Unquoted}
+use Rattle.tokens.specs.Answer.{written, Lexed, spelling, content, Unquoted}
 use Rattle.values.specs.declared.NumberAnswer.{NumberAnswer}
 use Rattle.values.specs.declared.NumberAnswer.the-variants as N
 use Rattle.values.specs.Answers.{answerOf}
@@ -88,7 +88,7 @@ value-size w u v = size-is w u v
 -- ---- integers
 module _ (s : List ℕ) (t : Lexeme) (m : Meter) (n : ℕ) (e : n ≡ t .to - t .from) (x : NumberAnswer) (f : answerOf x ≡ Val.constant (part n (t .from) s)) where
   constant-is : Val.constant (spelling s t) ≡ answerOf x
-  unfolding spelling
+  unfolding written
   constant-is = rw (← e) (sym f)
 
   integer-value : (sc : Scene) (u : ℕ) (w : World) → valueOf sc (integerOf (spelling s t)) u w ≡ ask (Val.andThen (answerOf x) (λ z. Val.gives (Val.fixed z))) w

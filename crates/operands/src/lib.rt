@@ -5,7 +5,7 @@ ghost use mathlib.Core.Path.{_≡_};
 ghost use mathlib.Core.Bool.{cond};
 ghost use Prim.Native.Nat.{_+_};
 ghost use lib.Dec.{leb, ltb};
-ghost use Rattle.tokens.specs.Answer.{spelling, content};
+ghost use Rattle.tokens.specs.Answer.{written, content};
 ghost use Rattle.operands.specs.Answer.{evaluatedFor, withEnd, WithInfix, PrefixesDone, ConstantIs, IntegerIs, stringTree, ClosedIs, PlainIs};
 ghost use Rattle.operands.specs.Blocks.{noSigns, codeOf, signOf, signIn, WithSign, SignsFrom, BlockDone, AllDone, CountIs};
 ghost use Rattle.operands.specs.Takes.{WishIs, firstListed, wantedBy, WithWish, SubstrDone, AimIs};
@@ -74,7 +74,7 @@ pub fn given_up_to(g: Given, to: usize, m: Meter) -> Evaluated
 // ---- constants
 
 pub fn integer_value(s: &[u8], t: Lexeme, m: Meter) -> Evaluated
-    ensures { λ r. ⌜ IntegerIs (spelling (now (s .entry)) t) (t .to) m r ⌝ }
+    ensures { λ r. ⌜ IntegerIs (written (now (s .entry)) t) (t .to) m r ⌝ }
 {
     let x = constant_number(s, t.from, width(t));
     match x {

@@ -7,7 +7,7 @@ use Prim.Native.Nat.{ℕ, zero, suc, _+_, _-_, _<_, _≤_}
 use native.Mathlib.Nat.{zero-add, add-zero}
 use native.Mathlib.Omega.{arith}
 use lib.ListN.{length, getD}
-use Rattle.definition.specs.Bytes.{mixed}
+use Rattle.definition.specs.Bytes.{mixed, folded}
 use Rattle.definition.specs.Choice.{when}
 use Rattle.definition.specs.Lists.{part}
 use Rattle.definition.specs.Tokens as T
@@ -112,7 +112,7 @@ module _ (d names : List ℕ) (n : ℕ) (t : List ℕ) (x : Src) (p : ℕ) (y : 
   pub token-plain : (b : Bool) → b ≡ isName (y .kind) → b ≡ false → ActiveHere d names n t x p y NotActive
   token-plain b e f = record { is = λ B k w h g. sym (not-active (T.pieceAt mixed here p .piece) B (rw (g) at (sym e ∙ f))) }
 
-  token-named : (b : Bool) (from m : ℕ) (r : Active) → b ≡ isName (y .kind) → b ≡ true → from ≡ sumTo greatest (x .from) p → m ≡ y .to - p → ActiveIs d names n (part m from t) r
+  token-named : (b : Bool) (from m : ℕ) (r : Active) → b ≡ isName (y .kind) → b ≡ true → from ≡ sumTo greatest (x .from) p → m ≡ y .to - p → ActiveIs d names n (folded mixed (part m from t)) r
       → ActiveHere d names n t x p y r
   unfolding stretchOf
   token-named b from m r e f i j a = record {
@@ -131,9 +131,9 @@ pub here-plain : (d names : List ℕ) (n : ℕ) (t : List ℕ) (x : Src) (p : �
 here-plain d names n t x p y b e f = token-plain d names n t x p y b e f
 
 pub here-work : (d names : List ℕ) (n : ℕ) (s w : List ℕ) (x : Src) (p : ℕ) (y : Piece) (b : Bool) (from m : ℕ) (r : Active) → b ≡ isName (y .kind) → b ≡ true → from ≡ sumTo greatest (x .from) p → m ≡ y .to - p
-    → x .«in_work» ≡ true → ActiveIs d names n (part m from w) r → ActiveHere d names n (roomOf s w x) x p y r
+    → x .«in_work» ≡ true → ActiveIs d names n (folded mixed (part m from w)) r → ActiveHere d names n (roomOf s w x) x p y r
 here-work d names n s w x p y b from m r e f i j c a = rw (← room-work s w x c) (token-named d names n w x p y b from m r e f i j a)
 
 pub here-body : (d names : List ℕ) (n : ℕ) (s w : List ℕ) (x : Src) (p : ℕ) (y : Piece) (b : Bool) (from m : ℕ) (r : Active) → b ≡ isName (y .kind) → b ≡ true → from ≡ sumTo greatest (x .from) p → m ≡ y .to - p
-    → x .«in_work» ≡ false → ActiveIs d names n (part m from s) r → ActiveHere d names n (roomOf s w x) x p y r
+    → x .«in_work» ≡ false → ActiveIs d names n (folded mixed (part m from s)) r → ActiveHere d names n (roomOf s w x) x p y r
 here-body d names n s w x p y b from m r e f i j c a = rw (← room-body s w x c) (token-named d names n s x p y b from m r e f i j a)

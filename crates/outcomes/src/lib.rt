@@ -5,7 +5,7 @@ ghost use mathlib.Core.Path.{_≡_};
 ghost use mathlib.Core.Bool.{_&&_};
 ghost use Prim.Native.Nat.{_+_};
 ghost use lib.Dec.{eqb};
-ghost use Rattle.definition.specs.Bytes.{mixed};
+ghost use Rattle.definition.specs.Bytes.{mixed, folded};
 ghost use Rattle.definition.specs.Lists.{part};
 ghost use Rattle.definition.specs.Scan as D;
 ghost use Rattle.definition.specs.Values.{fixedText};
@@ -112,7 +112,7 @@ fn active_as(a: Address, y: Activity) -> Active
 
 // Whether the n bytes at a place are a name that is active.
 fn active_name(deck: &[u8], t: &[u8], names: &[u16], count: u16, from: usize, n: usize) -> Active
-    ensures { λ r. ⌜ ActiveIs (now (deck .entry)) (now (names .entry)) count (part n from (now (t .entry))) r ⌝ }
+    ensures { λ r. ⌜ ActiveIs (now (deck .entry)) (now (names .entry)) count (folded mixed (part n from (now (t .entry)))) r ⌝ }
 {
     let found = find(deck, names, count, t, from, n, Owner::Everyone);
     match found {

@@ -9,7 +9,7 @@ use mathlib.Core.Path.{_≡_, refl, sym, ap, subst, _∙_}
 use lib.Dec.{leb, eqb}
 use lib.ListN.{length, getD, set}
 use borrow.Author.Tests.{le-leb, lt-leb, eqb-true, eqb-false, eq-eqb, ne-eqb}
-use Rattle.definition.specs.Bytes.{mixed}
+use Rattle.definition.specs.Bytes.{mixed, folded}
 use Rattle.definition.specs.Choice.{when}
 use Rattle.definition.specs.Limits.{declaredNames}
 use Rattle.definition.specs.Lists.{part, same}
@@ -21,6 +21,7 @@ use Rattle.definition.specs.Statements.{means}
 use Rattle.definition.specs.World as W
 use Rattle.definition.specs.Names as N
 use Rattle.definition.proofs.Choices.{when-has}
+use Rattle.definition.proofs.Folded.{length-folded}
 use Rattle.definition.proofs.Parts.{length-part, same-length}
 use Rattle.expressions.specs.Check.{isSpelled, namedFor}
 use Rattle.expressions.specs.declared.Expected.{Expected}
@@ -265,7 +266,7 @@ place-of wrong a b = (refl, refl)
 record Name (s : List ℕ) (e : ℕ) (n : Named) : Type 0 where
   from : tokenAt mixed s e .from ≡ n .place
   to : tokenAt mixed s e .to ≡ n .to
-  spelled : n .spelling ≡ part (n .to - n .place) (n .place) s
+  spelled : n .spelling ≡ folded mixed (part (n .to - n .place) (n .place) s)
   low : e ≤ n .place
   some : n .place < n .to
   high : n .to ≤ length s
@@ -310,11 +311,11 @@ abbrev isSpelledIn : List ℕ → List Named → Bool
 isSpelledIn w [] = false
 isSpelledIn w (n ∷ ns) = same (n .spelling) w || isSpelledIn w ns
 
-spelled-by : (s : List ℕ) (a b p q : ℕ) (g : Bool) → eqb (q - p) (b - a) ≡ g → (g && same (part (b - a) p s) (part (b - a) a s)) ≡ same (part (q - p) p s) (part (b - a) a s)
-spelled-by s a b p q true e = ap (λ (z : ℕ). same (part z p s) (part (b - a) a s)) (sym (eqb-true (q - p) (b - a) e))
-spelled-by s a b p q false e = same-length (part (q - p) p s) (part (b - a) a s) (λ z. eqb-false (q - p) (b - a) e (sym (length-part (q - p) p s) ∙ z ∙ length-part (b - a) a s))
+spelled-by : (s : List ℕ) (a b p q : ℕ) (g : Bool) → eqb (q - p) (b - a) ≡ g → (g && same (folded mixed (part (b - a) p s)) (folded mixed (part (b - a) a s))) ≡ same (folded mixed (part (q - p) p s)) (folded mixed (part (b - a) a s))
+spelled-by s a b p q true e = ap (λ (z : ℕ). same (folded mixed (part z p s)) (folded mixed (part (b - a) a s))) (sym (eqb-true (q - p) (b - a) e))
+spelled-by s a b p q false e = same-length (folded mixed (part (q - p) p s)) (folded mixed (part (b - a) a s)) (λ z. eqb-false (q - p) (b - a) e (sym (length-folded mixed (part (q - p) p s) ∙ length-part (q - p) p s) ∙ z ∙ length-folded mixed (part (b - a) a s) ∙ length-part (b - a) a s))
 
-spelled-is : (s : List ℕ) (a b p q : ℕ) → spelledAs s a b p q ≡ same (part (q - p) p s) (part (b - a) a s)
+spelled-is : (s : List ℕ) (a b p q : ℕ) → spelledAs s a b p q ≡ same (folded mixed (part (q - p) p s)) (folded mixed (part (b - a) a s))
 unfolding spelledAs
 spelled-is s a b p q = spelled-by s a b p q (eqb (q - p) (b - a)) refl
 

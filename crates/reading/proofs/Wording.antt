@@ -8,7 +8,8 @@ use Prim.Native.Nat.{ℕ, _-_, _<_, _≤_}
 use native.Mathlib.Omega.{arith}
 use lib.ListN.{length}
 use borrow.Author.Tests.{le-leb, lt-ltb, le-ltb}
-use Rattle.definition.specs.Bytes.{mixed}
+use Rattle.definition.specs.Bytes.{mixed, folded}
+use Rattle.definition.specs.Lists.{part}
 use Rattle.definition.specs.Choice.{when}
 use Rattle.definition.specs.Tokens as Tk
 use Rattle.definition.specs.Tokens.{tokenAt}
@@ -19,12 +20,13 @@ use Rattle.definition.specs.Reading as D
 use Rattle.definition.specs.declared.Why.the-variants.{Syntax, OverLimit}
 use Rattle.definition.specs.declared.ValueType.the-variants.{FixedType}
 use Rattle.definition.specs.Text.{bytesOf}
+use Rattle.definition.proofs.Folded.{length-folded}
 use Rattle.definition.proofs.Ends.{Real}
 use Rattle.definition.proofs.Parts.{length-part}
 use Rattle.tokens.specs.declared.Lexeme.{Lexeme}
 use Rattle.tokens.specs.declared.Kind.{Kind}
 use Rattle.tokens.specs.declared.Kind.the-variants as Kd
-use Rattle.tokens.specs.Answer.{Lexed, spelling, content, isWordKind, tokenFor}
+use Rattle.tokens.specs.Answer.{written, Lexed, spelling, content, isWordKind, tokenFor}
 use Rattle.tokens.proofs.Lexemes.{token-is}
 use Rattle.expressions.specs.Check.{isSpelled}
 use Rattle.rows.specs.declared.Statement.{Statement}
@@ -214,7 +216,7 @@ equals-there : (s : List ℕ) (at : ℕ) → Tk.isSign "=" (tokenAt mixed s at .
 unfolding expectSign
 equals-there s at e = rw e
 
-word-kind : (k : Kind) (x y : List ℕ) → isWordKind k ≡ true → tokenFor k x y ≡ Tk.word x
+word-kind : (k : Kind) (x y : List ℕ) → isWordKind k ≡ true → tokenFor k x y ≡ Tk.word (folded mixed x)
 word-kind Kd.Word x y e = refl
 word-kind Kd.Integer x y e = absurd (false≢true e)
 word-kind Kd.String x y e = absurd (false≢true e)
@@ -224,10 +226,10 @@ word-kind Kd.Nothing x y e = absurd (false≢true e)
 word-kind Kd.Wrong x y e = absurd (false≢true e)
 
 named-word : (s : List ℕ) (at : ℕ) (l : Lexeme) → Lexed s at l → isWordKind (l .kind) ≡ true → l .to - l .from ≤ 31 → nameAt mixed s at ≡ read (record { spelling = spelling s l; place = tokenAt mixed s at .from; to = tokenAt mixed s at .to })
-unfolding nameAt spelling
+unfolding nameAt written
 named-word s at l lex w h =
-    ap (λ (u : Tk.Token). nameOf u (tokenAt mixed s at .from) (tokenAt mixed s at .to)) (token-is s at l lex ∙ word-kind (l .kind) (spelling s l) (content s (l .from)) w)
-    ∙ ap (λ (b : Bool). cond b (read (record { spelling = spelling s l; place = tokenAt mixed s at .from; to = tokenAt mixed s at .to })) (refused OverLimit (tokenAt mixed s at .from))) (le-leb (length (spelling s l)) 31 (omega (arith, length-part (l .to - l .from) (l .from) s, h)))
+    ap (λ (u : Tk.Token). nameOf u (tokenAt mixed s at .from) (tokenAt mixed s at .to)) (token-is s at l lex ∙ word-kind (l .kind) (written s l) (content s (l .from)) w)
+    ∙ ap (λ (b : Bool). cond b (read (record { spelling = spelling s l; place = tokenAt mixed s at .from; to = tokenAt mixed s at .to })) (refused OverLimit (tokenAt mixed s at .from))) (le-leb (length (spelling s l)) 31 (omega (arith, length-folded mixed (part (l .to - l .from) (l .from) s), length-part (l .to - l .from) (l .from) s, h)))
 
 -- ---- one law for each keyword
 module _ (d s t n : List ℕ) (x : State) (k : Keyword) (l : Lexeme) (from p labels : ℕ) (t′ : List ℕ) (r : Turned) (y : Read) (h : TakesAs s t x y p labels t′ r) where

@@ -7,7 +7,7 @@ use Prim.Native.Nat.{ℕ, zero, suc, _-_, _<_, _≤_}
 use native.Mathlib.Omega.{arith}
 use native.Mathlib.Numerals.{sub-one}
 use lib.ListN.{length}
-use Rattle.definition.specs.Bytes.{mixed}
+use Rattle.definition.specs.Bytes.{mixed, folded}
 use Rattle.definition.specs.Choice.{when}
 use Rattle.definition.specs.Lists.{same}
 use Rattle.definition.specs.Tokens.{isWord, tokenAt}
@@ -157,7 +157,7 @@ module _ (s : List ℕ) (from to : ℕ) where
         before-more c m lem = record { same = rw (lt-leb from (l .from) g, ← f, c, ← lem .to) at turned }
 
 module _ (s : List ℕ) (from to p q n a : ℕ) (hn : n ≡ to - from) (ha : a ≡ q - p) where
-  pub spelled-so : a ≡ n → (b : Bool) → b ≡ same (part n p s) (part n from s) → b ≡ spelledAs s from to p q
+  pub spelled-so : a ≡ n → (b : Bool) → b ≡ same (folded mixed (part n p s)) (folded mixed (part n from s)) → b ≡ spelledAs s from to p q
   unfolding spelledAs
   spelled-so i b f = rw (← ha, ← hn, eq-eqb a n i) f
 

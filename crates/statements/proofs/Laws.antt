@@ -8,7 +8,7 @@ use Prim.Native.String as Str
 use native.Mathlib.Omega.{arith}
 use native.Mathlib.Numerals.{sub-one}
 use lib.ListN.{length}
-use Rattle.definition.specs.Bytes.{mixed}
+use Rattle.definition.specs.Bytes.{mixed, folded}
 use Rattle.definition.specs.Lists.{same}
 use Rattle.definition.specs.Text.{bytesOf}
 use Rattle.definition.specs.Tokens.{Token, word, integer, string, bits, sign, nothing, wrong, isSign, isWord, tokenAt}
@@ -19,7 +19,7 @@ use Rattle.definition.specs.declared.Why.the-variants.{Syntax}
 use Rattle.tokens.specs.declared.Kind.{Kind}
 use Rattle.tokens.specs.declared.Kind.the-variants as Kd
 use Rattle.tokens.specs.declared.Lexeme.{Lexeme}
-use Rattle.tokens.specs.Answer.{Lexed, spelling, content, isSignIn, isSignKind, isWordIn, isWordKind, tokenFor}
+use Rattle.tokens.specs.Answer.{written, Lexed, spelling, content, isSignIn, isSignKind, isWordIn, isWordKind, tokenFor}
 use Rattle.tokens.proofs.Lexemes.{token-is}
 use Rattle.expressions.specs.declared.Expected.{Expected}
 use Rattle.expressions.specs.declared.Expected.the-variants.{Past, Refused}
@@ -98,9 +98,9 @@ either-second x y a b e h k = rw (← e, h) k
 module _ (s : List ℕ) (at : ℕ) (l : Lexeme) (lex : Lexed s at l) where
   pub word-in : (w : List ℕ) → isWordIn s l w ≡ isWorded w (tokenAt mixed s at .token)
   unfolding isWordIn
-  word-in w = rw (token-is s at l lex) (by-kind (l .kind) (spelling s l) (content s (l .from)))
+  word-in w = rw (token-is s at l lex) (by-kind (l .kind) (written s l) (content s (l .from)))
     where
-      by-kind : (k : Kind) (x y : List ℕ) → (isWordKind k && same x w) ≡ isWorded w (tokenFor k x y)
+      by-kind : (k : Kind) (x y : List ℕ) → (isWordKind k && same (folded mixed x) w) ≡ isWorded w (tokenFor k x y)
       by-kind Kd.Word x y = refl
       by-kind Kd.Integer x y = refl
       by-kind Kd.String x y = refl
@@ -111,7 +111,7 @@ module _ (s : List ℕ) (at : ℕ) (l : Lexeme) (lex : Lexed s at l) where
 
   pub sign-in : (w : List ℕ) → isSignIn s l w ≡ isSpelled w (tokenAt mixed s at .token)
   unfolding isSignIn
-  sign-in w = rw (token-is s at l lex) (by-kind (l .kind) (spelling s l) (content s (l .from)))
+  sign-in w = rw (token-is s at l lex) (by-kind (l .kind) (written s l) (content s (l .from)))
     where
       by-kind : (k : Kind) (x y : List ℕ) → (isSignKind k && same x w) ≡ isSpelled w (tokenFor k x y)
       by-kind Kd.Word x y = refl

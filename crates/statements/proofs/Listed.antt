@@ -7,7 +7,7 @@ use Prim.Native.Nat.{ℕ, zero, suc, _+_, _-_, _<_, _≤_}
 use native.Mathlib.Omega.{arith}
 use native.Mathlib.Numerals.{sub-one}
 use lib.ListN.{length}
-use Rattle.definition.specs.Bytes.{mixed}
+use Rattle.definition.specs.Bytes.{mixed, folded}
 use Rattle.definition.specs.Choice.{when}
 use Rattle.definition.specs.Lists.{same}
 use Rattle.definition.specs.Tokens.{Token, tokenAt}
@@ -19,7 +19,7 @@ use Rattle.definition.specs.declared.Why.the-variants.{OverLimit}
 use Rattle.tokens.specs.declared.Kind.{Kind}
 use Rattle.tokens.specs.declared.Kind.the-variants as Kd
 use Rattle.tokens.specs.declared.Lexeme.{Lexeme}
-use Rattle.tokens.specs.Answer.{Lexed, spelling, content, isSignIn, tokenFor}
+use Rattle.tokens.specs.Answer.{Lexed, written, spelling, content, isSignIn, tokenFor}
 use Rattle.tokens.proofs.Lexemes.{token-is}
 use Rattle.expressions.specs.declared.Expected.the-variants.{Refused}
 use Rattle.expressions.specs.declared.NamedAt.{NamedAt}
@@ -36,6 +36,7 @@ use lib.ListN.{getD}
 use Rattle.definition.specs.Lists.{part}
 use Rattle.definition.specs.Expressions.{nameOf}
 use Rattle.definition.specs.Names as Nm
+use Rattle.definition.proofs.Folded.{length-folded}
 use Rattle.definition.proofs.Parts.{length-part}
 use Rattle.tokens.specs.Answer.{lexemeFor, isToken}
 use Rattle.tokens.proofs.Reach.{token-low, token-past, token-inside}
@@ -84,7 +85,7 @@ entered-more d t₀ t u x₀ x y xs ys a b = record {
 
 -- ---- a name
 pub record Names (s : List ℕ) (at from to : ℕ) : Type 0 where
-  pub is : nameAt mixed s at ≡ read (record { spelling = part (to - from) from s; place = from; to = to })
+  pub is : nameAt mixed s at ≡ read (record { spelling = folded mixed (part (to - from) from s); place = from; to = to })
   pub past : at ≤ from
   pub low : from < to
   pub high : to ≤ length s
@@ -102,8 +103,8 @@ module _ (x : NamedAt) (from to : ℕ) (k : x ≡ N.Is from to) where
   short-word w p q true e h = let a : p ≡ from = cc in let b : q ≡ to = cc in record { real = refl; first = a; last = b; is = rw (a, b); size = leb-true (length w) 31 e }
   short-word w p q false e h = let z : _≡_ {A = ℕ} 0 1 = cc in absurd (omega arith)
 
-  by-kind : (t : Kind) (w c : List ℕ) (p q : ℕ) → x ≡ namedFor (nameOf (tokenFor t w c) p q) → Word t w p q (nameOf (tokenFor t w c) p q)
-  by-kind Kd.Word w c p q h = short-word w p q (leb (length w) 31) refl h
+  by-kind : (t : Kind) (w c : List ℕ) (p q : ℕ) → x ≡ namedFor (nameOf (tokenFor t w c) p q) → Word t (folded mixed w) p q (nameOf (tokenFor t w c) p q)
+  by-kind Kd.Word w c p q h = short-word (folded mixed w) p q (leb (length (folded mixed w)) 31) refl h
   by-kind Kd.Integer w c p q h = let z : _≡_ {A = ℕ} 0 1 = cc in absurd (omega arith)
   by-kind Kd.String w c p q h = let z : _≡_ {A = ℕ} 0 1 = cc in absurd (omega arith)
   by-kind Kd.Bits w c p q h = let z : _≡_ {A = ℕ} 0 1 = cc in absurd (omega arith)
@@ -115,11 +116,11 @@ lexed : (s : List ℕ) (at : ℕ) → Lexed s at (lexemeFor (tokenAt mixed s at)
 lexed s at = record { kind = refl; from = refl; to = refl }
 
 pub named-is : (s : List ℕ) (at : ℕ) (x : NamedAt) (from to : ℕ) → x ≡ namedFor (nameAt mixed s at) → x ≡ N.Is from to → Names s at from to
-unfolding nameAt spelling
+unfolding nameAt written
 named-is s at x from to h k =
     let l : Lexeme = lexemeFor (tokenAt mixed s at) in
-    let t : tokenAt mixed s at .token ≡ tokenFor (l .kind) (spelling s l) (content s (l .from)) = token-is s at l (lexed s at) in
-    let w : Word x from to k (l .kind) (spelling s l) (l .from) (l .to) (nameOf (tokenFor (l .kind) (spelling s l) (content s (l .from))) (l .from) (l .to)) = by-kind x from to k (l .kind) (spelling s l) (content s (l .from)) (l .from) (l .to) (h ∙ ap (λ (z : Token). namedFor (nameOf z (l .from) (l .to))) t) in
+    let t : tokenAt mixed s at .token ≡ tokenFor (l .kind) (written s l) (content s (l .from)) = token-is s at l (lexed s at) in
+    let w : Word x from to k (l .kind) (spelling s l) (l .from) (l .to) (nameOf (tokenFor (l .kind) (written s l) (content s (l .from))) (l .from) (l .to)) = by-kind x from to k (l .kind) (written s l) (content s (l .from)) (l .from) (l .to) (h ∙ ap (λ (z : Token). namedFor (nameOf z (l .from) (l .to))) t) in
     let a : l .from ≡ from = w .first in
     let b : l .to ≡ to = w .last in
     record {
@@ -127,7 +128,7 @@ named-is s at x from to h k =
       past = omega (arith, token-low s at l (lexed s at), a);
       low = omega (arith, token-past s at l (lexed s at) (w .real), a, b);
       high = omega (arith, token-inside s at l (lexed s at) (w .real), b);
-      short = omega (arith, w .size, length-part (l .to - l .from) (l .from) s, a, b);
+      short = omega (arith, w .size, length-folded mixed (part (l .to - l .from) (l .from) s), length-part (l .to - l .from) (l .from) s, a, b);
     }
 
 -- the bytes of a body lie in the deck
@@ -189,7 +190,7 @@ module _ (d s t₀ : List ℕ) (o : Owner) (g : Meaning) (x₀ : Tally) (r : Rea
         module _ (u : List ℕ) (y : Tally) (size : length u ≡ length t) (b : Entered d t x (bookOne (identifierAt s (record { from = from; to = to }) o) (denotationOf (newDenotation (x .member) g)) from) u y)
             (l : Lexeme) (lex : Lexed s to l) (v : Bool) (c : v ≡ isSignIn s l (44 ∷ [])) where
           abbrev one : Named
-          one = record { spelling = part (to - from) from s; place = from; to = to }
+          one = record { spelling = folded mixed (part (to - from) from s); place = from; to = to }
 
           one-more : Entered d t x (bookAll (x .member) (D.means (scopeOf o) (meaningOf g) (one ∷ []))) u y
           unfolding bookAll

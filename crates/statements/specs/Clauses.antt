@@ -6,7 +6,7 @@ use mathlib.Core.List.{List, [], _∷_}
 use mathlib.Core.Path.{_≡_}
 use lib.Dec.{leb, eqb}
 use lib.ListN.{length}
-use Rattle.definition.specs.Bytes.{mixed}
+use Rattle.definition.specs.Bytes.{mixed, folded}
 use Rattle.definition.specs.Choice.{when}
 use Rattle.definition.specs.Text.{bytesOf}
 use Rattle.definition.specs.Tokens.{Token, isSign, tokenAt}
@@ -290,9 +290,9 @@ unfoldable pub readProcedure : ℕ → D.Declaring → Read
 readProcedure c (D.declared x ds) = R.Is (clauseOf S.Procedure (opensFor (x .opens)) c (x .to) (typeIn (x .statement)))
 readProcedure c (D.undeclared w p ds) = R.Refused w p
 
--- whether the bytes from p to q are those from `from` to `to`
+-- whether the bytes from p to q spell the name from `from` to `to`
 unfoldable pub spelledAs : List ℕ → ℕ → ℕ → ℕ → ℕ → Bool
-spelledAs s from to p q = eqb (q - p) (to - from) && same (part (to - from) p s) (part (to - from) from s)
+spelledAs s from to p q = eqb (q - p) (to - from) && same (folded mixed (part (to - from) p s)) (folded mixed (part (to - from) from s))
 
 -- whether the bytes from `from` to `to` are spelled by one of the tokens from a place on, with one between them, before `from`
 unfoldable pub listedBefore : List ℕ → ℕ → ℕ → ℕ → ℕ → Bool

@@ -4,8 +4,8 @@ use Rattle.statements.proofs.is_spelled_as.Statement.{statement}
 use Rattle.statements.proofs.is_spelled_as.Tie as tie
 use Rattle.statements.proofs.is_spelled_as.Reads as reads
 use Rattle.statements.proofs.is_spelled_as.Lts as lts
+use Rattle.chars.proofs.is_one_name.Reads as is-one-name-reads
 use Rattle.entering.proofs.length_of.Reads as length-of-reads
-use Rattle.rooms.proofs.is_same.Reads as is-same-reads
 use Rattle.tokens.proofs.width.Reads as width-reads
 use Rattle.statements.proofs.Heads.{spelled-so, spelled-not}
 
@@ -15,8 +15,8 @@ length-of-requires c κs = search needs
 width-requires : tie.Need-width-requires
 width-requires c κs = search needs
 
-is-same-requires : tie.Need-is-same-requires
-is-same-requires c κs = search needs
+is-one-name-requires : tie.Need-is-one-name-requires
+is-one-name-requires c κs = search needs
 
 returns : tie.Need-returns
 returns c = search spelled-so
@@ -26,4 +26,4 @@ returns-2 c = search spelled-not
 
 pub is-spelled-as-spec : {M : Type 1} → statement M
 is-spelled-as-spec =
-    tie.close (tie.spec length-of-requires width-requires is-same-requires returns returns-2)
+    tie.close (tie.spec length-of-requires width-requires is-one-name-requires returns returns-2)
