@@ -307,9 +307,9 @@ module _ (deck rows names s c l h w : List ℕ) (at left u : ℕ) (x : Scene) (m
       by : (B : World) → Shows deck rows names c l h w u x m B → (y : Tree) (q : ℕ) → z ≡ y → t .to ≡ q → Gave B u w c l h w′ r q (valueOf x y u (worldIn B c l h (m .used)))
       by B sh y q f g = rw (← f, ← g) (constant-gave deck rows names c l h w u (t .to) x m w′ r z k B sh)
 
-  pub primitive-integer : t .kind ≡ K.Integer → (r : Evaluated) → IntegerIs (spelling s t) (t .to) m r → Evaluates deck rows names c l h w u x m c l h w r here
+  pub primitive-integer : t .kind ≡ K.Integer → (r : Evaluated) → IntegerIs (written s t) (t .to) m r → Evaluates deck rows names c l h w u x m c l h w r here
   unfolding primitive
-  primitive-integer e r k = constant-by (E.integerOf (spelling s t)) (here-is K.Integer e) w r (k .is w u)
+  primitive-integer e r k = constant-by (E.integerOf (written s t)) (here-is K.Integer e) w r (k .is w u)
 
   pub primitive-string : t .kind ≡ K.String → (w′ : List ℕ) (r : Evaluated) → ConstantIs (stringTree false (content s (t .from))) w u (t .to) m w′ r → Evaluates deck rows names c l h w u x m c l h w′ r here
   unfolding primitive
@@ -352,7 +352,7 @@ module _ (deck rows names s c l h w : List ℕ) (at left u : ℕ) (x : Scene) (m
 
   here-sign : t .kind ≡ K.Sign → (z : Parsed) → here ≡ read z → IsRead (insideOf left s (t .from) (t .to)) closing z
   unfolding primitive
-  here-sign e z q = sign-is (isSign "(" (T.sign (spelling s t))) z (sym (here-is K.Sign e) ∙ q)
+  here-sign e z q = sign-is (isSign "(" (T.sign (written s t))) z (sym (here-is K.Sign e) ∙ q)
 
   module _ (e : t .kind ≡ K.Sign) (c₁ l₁ h₁ w₁ : List ℕ) (b : Evaluated) (g : Evaluates deck rows names c l h w u x m c₁ l₁ h₁ w₁ b (insideOf left s 0 (t .to))) (r : Evaluated) (cl : ClosedIs s b r) where
     end-same : (a : Evaluated) (f : ℕ) → withEnd a f ≡ withEnd (withEnd a f) f

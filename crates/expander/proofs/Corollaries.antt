@@ -45,6 +45,7 @@ use Rattle.promises.proofs.Cutting.{partition}
 use Rattle.promises.proofs.Passing.{honest}
 use Rattle.promises.proofs.Growing.{more-keeps-in}
 use Rattle.promises.proofs.Unread.{unread}
+use Rattle.promises.proofs.LowerCase.{keeps-case as keeps}
 use Rattle.promises.proofs.Tied.{tied-unless-short}
 use Rattle.promises.proofs.Rejoined.{rejoins, honest-cards}
 use Rattle.promises.proofs.Edges.{as-given}
@@ -52,7 +53,7 @@ use Rattle.promises.proofs.Bodies.{unread-cards}
 use Rattle.expander.specs.declared.Expansion.{Expansion}
 use Rattle.expander.specs.Answer.{numbersOf}
 use Rattle.expander.specs.Promise.{Working, isRoomy, answerOf, Expanded, sixOf, Told}
-use Rattle.expander.specs.Corollaries.{Call, Meets, Countable, definedFor, readOff, Numbered, Placed, Refused, Ended, ReadOff, Partitioned, Recorded, Honest, HonestCards, Longer, Same, MoreKeeps, Alike, NeverIn, UnreadBody, Determined, Beside, Tied}
+use Rattle.expander.specs.Corollaries.{Call, Meets, Countable, definedFor, readOff, Numbered, Placed, Refused, Ended, ReadOff, Partitioned, Recorded, Honest, HonestCards, Longer, Same, MoreKeeps, Alike, NeverIn, UnreadBody, definedBefore, KeepsCase, Determined, Beside, Tied}
 use Rattle.expander.proofs.Laws.{all-true}
 use Rattle.stops.proofs.Stops.{one-malformed, twenty-uneven, two-short, place-within, offset-near}
 use Rattle.stops.proofs.Near.{lines-small}
@@ -244,6 +245,17 @@ module _ (c : Call) (h : Meets c) where
 
   whole : Countable c → readOff c ≡ defined
   whole k = rw (six-are k, h .text, h .list) (rooms-hold defined (length (c .text)) (length (c .list)) text-in (omega (arith, list-in, list-length (defined .lines))) (lines-small (c .layout) (isRoomy (c .working)) (c .deck) (length (c .text)) (length (c .list)) (c .steps)))
+
+  pub keeps-case : KeepsCase c
+  keeps-case w =
+      let same : definedFor c ≡ definedBefore c =
+          keeps (c .layout) (isRoomy (c .working)) (c .deck) (length (c .text)) (length (c .list)) (c .steps) (w .names) (w .sources) (w .values)
+      in
+      record {
+        numbers = h .numbers ∙ ap numbersOf same;
+        text = h .text ∙ ap (λ (y : X.Expansion). textRoomAfter (length (c .text)) y) same;
+        list = h .list ∙ ap (λ (y : X.Expansion). listRoomAfter (length (c .list)) y) same;
+      }
 
   pub read-off : ReadOff c
   unfolding textRoomAfter expansionIn

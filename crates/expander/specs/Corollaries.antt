@@ -7,7 +7,7 @@ use mathlib.Core.List.{List, _++_, reverse}
 use lib.ListN.{length, take, drop}
 use Rattle.definition.specs.declared.Layout.{Layout}
 use Rattle.definition.specs.declared.Layout.the-variants.{Plain, Cards}
-use Rattle.definition.specs.Bytes.{mixed}
+use Rattle.definition.specs.Bytes.{capitals, mixed}
 use Rattle.definition.specs.Room.{zeros}
 use Rattle.definition.specs.Deck as Deck
 use Rattle.definition.specs.Deck.{isSound}
@@ -18,14 +18,15 @@ use Rattle.definition.specs.World.{Pass}
 use Rattle.definition.specs.Names.{enter}
 use Rattle.definition.specs.Run.{bodyOf}
 use Rattle.definition.specs.Expansion as X
-use Rattle.definition.specs.Expansion.{worldFor, told}
+use Rattle.definition.specs.Expansion.{worldFor, told, expansionOf, textRoomAfter, listRoomAfter}
 use Rattle.printing.specs.Page.{linesIn, expansionIn}
 use Rattle.promises.specs.Origin.{Cuts, Longest}
 use Rattle.promises.specs.Passes.{Told, Scans, outside, passing, mainPasses, listedPlaces, activePlaces}
 use Rattle.promises.specs.Unread.{MainAtBar, NeverIncluded, withBody}
+use Rattle.promises.specs.LowerCase.{BareNames, BareSources, BareValues, asRead}
 use Rattle.promises.specs.Cards.{InRecords, rejoined}
 use Rattle.expander.specs.declared.Expansion.{Expansion}
-use Rattle.expander.specs.Answer.{bare, refusalAt}
+use Rattle.expander.specs.Answer.{bare, refusalAt, numbersOf}
 use Rattle.expander.specs.Promise.{Working, isRoomy, Zero, answerOf, sixOf, Expanded}
 
 -- ---- A CALL of `expand`: what it is given, and what it gives back
@@ -196,6 +197,25 @@ pub record Alike (c e : Call) : Type 0 where
 
 abbrev pub UnreadBody : Call → Call → Type 0
 UnreadBody c e = (k : ℕ) (b : List ℕ) → Rewritten k b c e → Alike c e
+
+-- ---- C-15: "A deck without lower-case letters outside strings and comments, in its member names, sources and values, keeps its
+-- answer, text and list": the numbers and the rooms are those of the expansion with 01's letters
+pub record WithoutLowerCase (c : Call) : Type 0 where
+  pub names : BareNames (c .deck)
+  pub sources : BareSources (asRead (c .layout) (c .deck))
+  pub values : BareValues (c .layout) (asRead (c .layout) (c .deck)) (length (c .text)) (length (c .list)) (c .steps)
+
+abbrev pub definedBefore : Call → X.Expansion
+definedBefore c =
+    expansionOf capitals (c .layout) (isRoomy (c .working)) (c .deck) (length (c .text)) (length (c .list)) (c .steps)
+
+pub record Kept (c : Call) : Type 0 where
+  pub numbers : c .answer ≡ numbersOf (definedBefore c)
+  pub text : c .textAfter ≡ textRoomAfter (length (c .text)) (definedBefore c)
+  pub list : c .listAfter ≡ listRoomAfter (length (c .list)) (definedBefore c)
+
+abbrev pub KeepsCase : Call → Type 0
+KeepsCase c = WithoutLowerCase c → Kept c
 
 -- ---- what lay in the rooms does not matter: calls with the same deck, lengths and steps are answered alike
 pub record Even (c e : Call) : Type 0 where

@@ -22,7 +22,7 @@ use Rattle.definition.specs.declared.ValueType.{ValueType}
 use Rattle.fixed.specs.declared.Fixed.{Fixed}
 use Rattle.meter.specs.declared.Meter.{Meter}
 use Rattle.tokens.specs.declared.Lexeme.{Lexeme}
-use Rattle.tokens.specs.Answer.{written, Lexed, spelling, content, Unquoted}
+use Rattle.tokens.specs.Answer.{Lexed, written, content, Unquoted}
 use Rattle.values.specs.declared.NumberAnswer.{NumberAnswer}
 use Rattle.values.specs.declared.NumberAnswer.the-variants as N
 use Rattle.values.specs.Answers.{answerOf}
@@ -87,22 +87,22 @@ value-size w u v = size-is w u v
 
 -- ---- integers
 module _ (s : List ℕ) (t : Lexeme) (m : Meter) (n : ℕ) (e : n ≡ t .to - t .from) (x : NumberAnswer) (f : answerOf x ≡ Val.constant (part n (t .from) s)) where
-  constant-is : Val.constant (spelling s t) ≡ answerOf x
+  constant-is : Val.constant (written s t) ≡ answerOf x
   unfolding written
   constant-is = rw (← e) (sym f)
 
-  integer-value : (sc : Scene) (u : ℕ) (w : World) → valueOf sc (integerOf (spelling s t)) u w ≡ ask (Val.andThen (answerOf x) (λ z. Val.gives (Val.fixed z))) w
+  integer-value : (sc : Scene) (u : ℕ) (w : World) → valueOf sc (integerOf (written s t)) u w ≡ ask (Val.andThen (answerOf x) (λ z. Val.gives (Val.fixed z))) w
   unfolding valueOf evaluate
   integer-value sc u w = rw constant-is
 
-  pub integer-some : (k : Fixed) → x ≡ N.Is k → IntegerIs (spelling s t) (t .to) m (Is (Number k) (t .to) m)
+  pub integer-some : (k : Fixed) → x ≡ N.Is k → IntegerIs (written s t) (t .to) m (Is (Number k) (t .to) m)
   unfolding valueIn sizeFor
   integer-some k g = record { is = λ w u. record { is = λ a b sc B c l h. sym (integer-value sc u (worldIn B c l h (m .used)) ∙ rw g); end = refl; below = below-same u w; fits = λ q. omega (arith, q); limit = refl } }
 
-  pub integer-wrong : x ≡ N.NoConversion → IntegerIs (spelling s t) (t .to) m (Failed NoConversion m)
+  pub integer-wrong : x ≡ N.NoConversion → IntegerIs (written s t) (t .to) m (Failed NoConversion m)
   integer-wrong g = record { is = λ w u. record { is = λ a b sc B c l h. sym (integer-value sc u (worldIn B c l h (m .used)) ∙ rw g); end = refl; below = below-same u w; fits = λ q. omega (arith, q); limit = refl } }
 
-  pub integer-large : x ≡ N.OutOfRange → IntegerIs (spelling s t) (t .to) m (Failed OutOfRange m)
+  pub integer-large : x ≡ N.OutOfRange → IntegerIs (written s t) (t .to) m (Failed OutOfRange m)
   integer-large g = record { is = λ w u. record { is = λ a b sc B c l h. sym (integer-value sc u (worldIn B c l h (m .used)) ∙ rw g); end = refl; below = below-same u w; fits = λ q. omega (arith, q); limit = refl } }
 
 -- ---- strings
