@@ -1,12 +1,13 @@
 // Answers for many decks: each record has its flags (1 if the bodies are card images, else 0), the bytes of the text room, of the list
 // room, the steps and the deck's length, four bytes each, and then the deck. What is printed for each is what the program prints.
+// A room of more than 1,048,576 bytes is one of so many.
 ghost use Prim.Native.Nat.{_≤_};
 ghost use lib.ListN.{length};
 use definition::Layout;
 use expander::expand;
-use printing::put_answer;
-use printing::used;
 use rooms::get_u32;
+use writing::large_room;
+use writing::write_answer;
 
 fn least(n: usize, most: usize) -> usize
     ensures { λ r. ⌜ r ≤ most ⌝ }
@@ -35,7 +36,8 @@ fn layout_of(flags: u32) -> Layout {
     Layout::Cards
 }
 
-// The answer for a deck with the layout, the rooms and the steps of a record's head: whether it was written.
+// The answer for a deck with the layout, the rooms and the steps of a record's head: whether it was written. Only the part of a
+// room that is asked for is lent, so that a small record does not clear a large room.
 fn answer_deck(
     head: &[u8],
     deck: &[u8],
@@ -48,7 +50,6 @@ fn answer_deck(
     high: &mut [u8],
     work: &mut [u8],
     joined: &mut [u8],
-    page: &mut [u8],
 ) -> bool {
     let layout = layout_of(get_u32(head, 0));
     let t = least(number(head, 4), text.len());
@@ -69,12 +70,11 @@ fn answer_deck(
         steps,
     );
     let numbers = [x.number, x.member, x.offset, x.steps, x.text, x.lines];
-    let size = put_answer(page, &numbers, text, list);
-    io::write_all(libc::STDOUT_FILENO, used(page, size))
+    write_answer(&numbers, text, list)
 }
 
 // One record: whether there was one. One with other flags is none, as one that is cut short.
-fn answer_in(
+fn answer_one(
     deck: &mut [u8],
     text: &mut [u8],
     list: &mut [u8],
@@ -85,7 +85,6 @@ fn answer_in(
     high: &mut [u8],
     work: &mut [u8],
     joined: &mut [u8],
-    page: &mut [u8],
 ) -> bool {
     let mut head = [0u8; 20];
     if io::read_full(libc::STDIN_FILENO, &mut head) < 20 {
@@ -108,17 +107,49 @@ fn answer_in(
             high,
             work,
             joined,
-            page,
         );
     }
     false
 }
 
-// The same with rooms of its own.
-fn answer_one() -> bool {
+// All records. A proved loop has to end, and nothing says that the input does: the turns are counted down, from a number that no
+// run uses up.
+fn answer_all(
+    deck: &mut [u8],
+    text: &mut [u8],
+    list: &mut [u8],
+    rows: &mut [u16],
+    names: &mut [u16],
+    cells: &mut [u32],
+    low: &mut [u8],
+    high: &mut [u8],
+    work: &mut [u8],
+    joined: &mut [u8],
+) {
+    let mut turns = u64::MAX;
+    while 0 < turns {
+        if !answer_one(
+            deck,
+            text,
+            list,
+            rows,
+            names,
+            cells,
+            low,
+            high,
+            work,
+            joined,
+        ) {
+            return;
+        }
+        turns -= 1;
+    }
+}
+
+fn main() {
     let mut deck = [0u8; 131_072];
-    let mut text = [0u8; 65_536];
-    let mut list = [0u8; 49_152];
+    let mut text = large_room();
+    let mut list = large_room();
     let mut rows = [0u16; 32_768];
     let mut names = [0u16; 4_096];
     let mut cells = [0u32; 256];
@@ -126,8 +157,7 @@ fn answer_one() -> bool {
     let mut high = [0u8; 65_536];
     let mut work = [0u8; 65_536];
     let mut joined = [0u8; 65_536];
-    let mut page = [0u8; 262_144];
-    answer_in(
+    answer_all(
         &mut deck,
         &mut text,
         &mut list,
@@ -138,14 +168,5 @@ fn answer_one() -> bool {
         &mut high,
         &mut work,
         &mut joined,
-        &mut page,
-    )
-}
-
-// A proved loop has to end, and nothing says that the input does: the turns are counted down, from a number that no run uses up.
-fn main() {
-    let mut turns = u64::MAX;
-    while 0 < turns && answer_one() {
-        turns -= 1;
-    }
+    );
 }

@@ -1,22 +1,21 @@
 -- WHAT IS PRINTED is the definition's: where the rooms hold an expansion as the definition says they do, `expansionIn` is that
--- expansion; and the program's page holds all that is printed.
+-- expansion; what is printed of it is its pieces, one behind the other; and a page that is long enough holds its piece.
 -- Assumes nothing.
 use mathlib.Core.Path.{_≡_, refl, sym, ap, _∙_}
-use mathlib.Core.List.{List, [], _∷_, _++_}
+use mathlib.Core.List.{List, [], _∷_, _++_, append-assoc, append-nil}
 use Prim.Native.Nat.{ℕ, zero, suc, _+_, _*_, _<_, _≤_}
-use native.Mathlib.Nat.{zero-add, not-suc-le-zero, le-of-suc-le-suc}
+use native.Mathlib.Nat.{zero-add, add-zero, add-suc, not-suc-le-zero, le-of-suc-le-suc}
 use native.Mathlib.Numerals.{add-one}
 use native.Mathlib.Omega.{arith}
 use lib.ListN.{length, getD, take, drop, length-append, length-replicate}
 use lib.Seq.{take-append-seam, drop-append-seam}
-use Rattle.definition.specs.Limits.{programText, programList}
 use Rattle.definition.specs.Lists.{part, number}
 use Rattle.definition.specs.Room.{over, zeros}
 use Rattle.definition.specs.Events.{Line, lineBytes, listBytes}
 use Rattle.definition.specs.Expansion.{Expansion, textRoomAfter, listRoomAfter}
-use Rattle.definition.specs.Printed.{printed}
+use Rattle.definition.specs.Printed.{numbersLine, originLine, originLines, printed}
 use Rattle.definition.proofs.Parts.{length-part, part-append, part-of-part, number-bytes}
-use Rattle.printing.specs.Page.{Puts, lineAt, linesIn, expansionIn}
+use Rattle.printing.specs.Page.{Puts, sixLine, lineAt, linesIn, linesFrom, expansionIn}
 
 -- ---- the page
 take-over : (p xs : List ℕ) → length xs ≤ length p → take (length xs) (over p 0 xs) ≡ xs
@@ -24,13 +23,39 @@ take-over p [] h = refl
 take-over [] (x ∷ xs) h = absurd (not-suc-le-zero h)
 take-over (r ∷ rs) (x ∷ xs) h = ap (λ (t : List ℕ). x ∷ t) (take-over rs xs (le-of-suc-le-suc h))
 
--- the answers that the program's rooms can hold take at most 208,963 bytes: what `used` gives of its page is the whole
-pub page-holds : (p n t l p′ : List ℕ) (r : ℕ) → Puts (67 + 35 * getD n 5 0 + getD n 4 0) p 0 (printed (expansionIn n t l)) p′ r
-    → getD n 4 0 ≤ programText → 12 * getD n 5 0 ≤ programList → 262144 ≤ length p → take r p′ ≡ printed (expansionIn n t l)
-page-holds p n t l p′ r x a b c =
-    let xs : List ℕ = printed (expansionIn n t l) in
+-- what `used` gives of a page that is long enough is the whole piece
+pub page-holds : (most : ℕ) (p xs p′ : List ℕ) (r : ℕ) → Puts most p 0 xs p′ r → most ≤ length p → take r p′ ≡ xs
+page-holds most p xs p′ r x h =
     let e : r ≡ length xs = x .to ∙ zero-add (length xs) in
     rw (e, x .page) (take-over p xs (omega (arith, x .few)))
+
+-- ---- the pieces
+length-lines : (l : List ℕ) (n : ℕ) → length (linesIn l n) ≡ n
+unfolding linesIn
+length-lines l zero = refl
+length-lines l (suc n) = ap suc (length-lines l n)
+
+six-line : (n t l : List ℕ) → sixLine n ≡ numbersLine (expansionIn n t l)
+unfolding sixLine numbersLine expansionIn
+six-line n t l = rw (length-part (getD n 4 0) 0 t, length-lines l (getD n 5 0))
+
+parts : (n t l : List ℕ) → numbersLine (expansionIn n t l) ++ originLines (linesIn l (getD n 5 0)) ++ part (getD n 4 0) 0 t ++ 10 ∷ [] ≡ printed (expansionIn n t l)
+unfolding printed expansionIn
+parts n t l = refl
+
+-- the six numbers, the lines, the text and a line feed
+pub in-pieces : (n t l : List ℕ) → sixLine n ++ originLines (linesIn l (getD n 5 0)) ++ part (getD n 4 0) 0 t ++ 10 ∷ [] ≡ printed (expansionIn n t l)
+in-pieces n t l = rw (six-line n t l) (parts n t l)
+
+-- the lines, up to any one and from there on
+pub in-turns : (l : List ℕ) (k n : ℕ) → originLines (linesIn l (k + n)) ≡ originLines (linesIn l k) ++ originLines (linesFrom l k n)
+unfolding originLines linesIn linesFrom
+in-turns l k zero = rw add-zero (sym (append-nil (originLines (linesIn l k))))
+in-turns l k (suc n) =
+    let a = originLines (linesIn l k) in
+    let b = originLines (linesFrom l k n) in
+    let c = originLine (lineAt l (k + n)) in
+    rw add-suc (ap (λ (z : List ℕ). z ++ c) (in-turns l k n) ∙ append-assoc a b c)
 
 -- ---- parts of a room
 part-next : (n x at : ℕ) (w : List ℕ) → part n (suc at) (x ∷ w) ≡ part n at w

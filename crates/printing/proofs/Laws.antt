@@ -15,10 +15,10 @@ use Rattle.definition.specs.Choice.{when}
 use Rattle.definition.specs.Lists.{part, number}
 use Rattle.definition.specs.Room.{over}
 use Rattle.definition.specs.Values.{decimalOn}
-use Rattle.definition.specs.Printed.{decimal, lineRest, numbersLine, letter, originLine, originLines, printed}
+use Rattle.definition.specs.Printed.{decimal, lineRest, letter, originLine, originLines}
 use Rattle.definition.proofs.Rooms.{over-nil, over-next-at}
 use Rattle.definition.proofs.Parts.{length-part, part-more}
-use Rattle.printing.specs.Page.{Puts, sixLine, lineAt, linesIn, expansionIn}
+use Rattle.printing.specs.Page.{Puts, sixLine, lineAt, linesFrom}
 
 -- ---- one behind the other
 pub then : {j k : ℕ} {p : List ℕ} {at : ℕ} {xs p₁ : List ℕ} {a : ℕ} {ys p₂ : List ℕ} {b : ℕ}
@@ -160,71 +160,51 @@ line-put p at l k q hq t u v m x y ht hu hv hm hx hy p₁ r₁ f p₂ r₂ g =
     let e : u ≡ letter (getD l q 0) = hu ∙ rw (ht, add-zero) in
     rw (← hq, ← hx, ← hy, ← hv, ← hm) (subst (λ (z : ℕ). Puts 35 p at (z ∷ lineRest (m ∷ x ∷ y ∷ [])) p₂ r₂) e (then f g))
 
-pub record Listing (p₀ : List ℕ) (from : ℕ) (l : List ℕ) (lines : ℕ) (p : List ℕ) (at i : ℕ) : Type 0 where
-  pub low : i ≤ lines
-  pub puts : Puts (35 * i) p₀ from (originLines (linesIn l i)) p at
+pub record Listing (p₀ l : List ℕ) (first end : ℕ) (p : List ℕ) (at i : ℕ) : Type 0 where
+  pub low : first ≤ i
+  pub high : i - first ≤ end - first
+  pub puts : Puts (35 * (i - first)) p₀ 0 (originLines (linesFrom l first (i - first))) p at
   pub size : length p ≡ length p₀
 
-pub listing-start : (p l : List ℕ) (from lines : ℕ) → Listing p from l lines p from 0
-unfolding originLines linesIn
-listing-start p l from lines = record {
-  low = omega arith;
-  puts = record { page = sym (over-nil p from); to = omega arith; few = omega arith };
-  size = refl;
-}
+pub listing-start : (p l : List ℕ) (first end : ℕ) → Listing p l first end p 0 first
+unfolding originLines linesFrom
+listing-start p l first end =
+    let e : first - first ≡ 0 = omega arith in
+    record {
+      low = omega arith;
+      high = omega arith;
+      puts = rw e (record { page = sym (over-nil p 0); to = omega arith; few = omega arith });
+      size = refl;
+    }
 
-more-lines : (l : List ℕ) (i : ℕ) → originLines (linesIn l i) ++ originLine (lineAt l i) ≡ originLines (linesIn l (i + 1))
-unfolding originLines linesIn
-more-lines l i = rw add-one
+more-lines : (l : List ℕ) (k i : ℕ) → originLines (linesFrom l k i) ++ originLine (lineAt l (k + i)) ≡ originLines (linesFrom l k (suc i))
+unfolding originLines linesFrom
+more-lines l k i = refl
 
-module _ (p₀ : List ℕ) (from : ℕ) (l : List ℕ) (lines : ℕ) (p : List ℕ) (at i : ℕ) (x : Listing p₀ from l lines p at i) where
+module _ (p₀ l : List ℕ) (first end : ℕ) (p : List ℕ) (at i : ℕ) (x : Listing p₀ l first end p at i) where
   -- the next line has its room before the far end
-  pub listing-room : i < lines → from + 35 * lines ≤ 1099511627776 → at + 35 ≤ 1099511627776
-  listing-room h f = omega (arith, x .puts .to, x .puts .few)
+  pub listing-room : i < end → end < 4294967296 → at + 35 ≤ 1099511627776
+  listing-room h f = omega (arith, x .puts .to, x .puts .few, x .low)
 
-  pub listing-more : i < lines → (p′ : List ℕ) (r : ℕ) → length p′ ≡ length p → Puts 35 p at (originLine (lineAt l i)) p′ r → Listing p₀ from l lines p′ r (i + 1)
+  pub listing-more : i < end → (p′ : List ℕ) (r : ℕ) → length p′ ≡ length p → Puts 35 p at (originLine (lineAt l i)) p′ r → Listing p₀ l first end p′ r (i + 1)
   listing-more h p′ r e y =
-      let s : Puts (35 * i + 35) p₀ from (originLines (linesIn l (i + 1))) p′ r = subst (λ (z : List ℕ). Puts (35 * i + 35) p₀ from z p′ r) (more-lines l i) (then (x .puts) y) in
-      record { low = omega arith; puts = record { page = s .page; to = s .to; few = omega (arith, s .few) }; size = e ∙ x .size }
+      let n = i - first in
+      let d : i ≡ first + n = omega (arith, x .low) in
+      let s : i + 1 - first ≡ suc n = omega (arith, x .low) in
+      let z : Puts 35 p at (originLine (lineAt l (first + n))) p′ r = subst (λ (j : ℕ). Puts 35 p at (originLine (lineAt l j)) p′ r) d y in
+      let t : Puts (35 * n + 35) p₀ 0 (originLines (linesFrom l first (suc n))) p′ r = subst (λ (w : List ℕ). Puts (35 * n + 35) p₀ 0 w p′ r) (more-lines l first n) (then (x .puts) z) in
+      let u : Puts (35 * suc n) p₀ 0 (originLines (linesFrom l first (suc n))) p′ r = record { page = t .page; to = t .to; few = omega (arith, t .few) } in
+      record {
+        low = omega (arith, x .low);
+        high = omega (arith, x .low);
+        puts = subst (λ (j : ℕ). Puts (35 * j) p₀ 0 (originLines (linesFrom l first j)) p′ r) (sym s) u;
+        size = e ∙ x .size;
+      }
 
-  pub listing-done : lines ≤ i → Puts (35 * lines) p₀ from (originLines (linesIn l lines)) p at
+  pub listing-done : end ≤ i → Puts (35 * (end - first)) p₀ 0 (originLines (linesFrom l first (end - first))) p at
   listing-done h =
-      let e : i ≡ lines = omega (arith, x .low) in
-      rw e at (x .puts)
-
--- ---- the answer
-length-lines : (l : List ℕ) (n : ℕ) → length (linesIn l n) ≡ n
-unfolding linesIn
-length-lines l zero = refl
-length-lines l (suc n) = ap suc (length-lines l n)
-
-six-line : (n t l : List ℕ) → sixLine n ≡ numbersLine (expansionIn n t l)
-unfolding sixLine numbersLine expansionIn
-six-line n t l = rw (length-part (getD n 4 0) 0 t, length-lines l (getD n 5 0))
-
-parts : (n t l : List ℕ) → numbersLine (expansionIn n t l) ++ originLines (linesIn l (getD n 5 0)) ++ part (getD n 4 0) 0 t ++ 10 ∷ [] ≡ printed (expansionIn n t l)
-unfolding printed expansionIn
-parts n t l = refl
-
-copied : (p p′ t : List ℕ) (b n : ℕ) → p′ ≡ over p b (part n 0 t) → Puts n p b (part n 0 t) p′ (b + n)
-copied p p′ t b n e =
-    let h : length (part n 0 t) ≡ n = length-part n 0 t in
-    record { page = e; to = omega (arith, h); few = omega (arith, h) }
-
-pub answer-put : (p n t l : List ℕ) (size lines : ℕ) → size ≡ getD n 4 0 → lines ≡ getD n 5 0
-    → (p₁ : List ℕ) (a : ℕ) → Puts 66 p 0 (sixLine n) p₁ a
-    → (p₂ : List ℕ) (b : ℕ) → Puts (35 * lines) p₁ a (originLines (linesIn l lines)) p₂ b
-    → (p₃ : List ℕ) → p₃ ≡ over p₂ b (part size 0 t)
-    → (p₄ : List ℕ) (r : ℕ) → Puts 1 p₃ (b + size) (10 ∷ []) p₄ r
-    → Puts (67 + 35 * getD n 5 0 + getD n 4 0) p 0 (printed (expansionIn n t l)) p₄ r
-answer-put p n t l size lines hs hl p₁ a x p₂ b y p₃ c p₄ r z =
-    let s : Puts (66 + 35 * lines + size + 1) p 0 (sixLine n ++ originLines (linesIn l lines) ++ part size 0 t ++ 10 ∷ []) p₄ r = then (then (then x y) (copied p₂ p₃ t b size c)) z in
-    let e : sixLine n ++ originLines (linesIn l lines) ++ part size 0 t ++ 10 ∷ [] ≡ printed (expansionIn n t l) = whole in
-    let u : Puts (66 + 35 * lines + size + 1) p 0 (printed (expansionIn n t l)) p₄ r = subst (λ (z : List ℕ). Puts (66 + 35 * lines + size + 1) p 0 z p₄ r) e s in
-    record { page = u .page; to = u .to; few = omega (arith, u .few, hs, hl) }
-  where
-    whole : sixLine n ++ originLines (linesIn l lines) ++ part size 0 t ++ 10 ∷ [] ≡ printed (expansionIn n t l)
-    whole = rw (six-line n t l, hl, hs) (parts n t l)
+      let e : i - first ≡ end - first = omega (arith, x .low, x .high) in
+      subst (λ (j : ℕ). Puts (35 * j) p₀ 0 (originLines (linesFrom l first j)) p at) e (x .puts)
 
 -- ---- the part that is used
 pub used-all : (p : List ℕ) (n : ℕ) → length p < n → p ≡ take n p

@@ -32,6 +32,11 @@ unfoldable pub linesIn : List ℕ → ℕ → List Line
 linesIn l zero = []
 linesIn l (suc n) = lineAt l n ∷ linesIn l n
 
+-- n lines of the list room from line k on, newest first
+unfoldable pub linesFrom : List ℕ → ℕ → ℕ → List Line
+linesFrom l k zero = []
+linesFrom l k (suc n) = lineAt l (k + n) ∷ linesFrom l k n
+
 -- numbers n, text room t, list room l
 unfoldable pub expansionIn : List ℕ → List ℕ → List ℕ → Expansion
 expansionIn n t l = record {

@@ -1,15 +1,14 @@
-// What the program prints of an answer: the six numbers, the lines, the text and a line feed. All is put onto one page first; what
-// would go past its end is lost, and counted.
+// What the program prints of an answer is the six numbers, the lines, the text and a line feed. The numbers, and some lines at a
+// time, are put onto a page; what would go past its end is lost, and counted. The text is printed from its room as it stands.
 ghost use mathlib.Core.Path.{_≡_};
 ghost use mathlib.Core.List.{_∷_, []};
-ghost use Prim.Native.Nat.{_+_, _*_, _%_, _≤_};
-ghost use lib.ListN.{getD, take};
+ghost use Prim.Native.Nat.{_+_, _*_, _-_, _%_, _≤_};
+ghost use lib.ListN.{take};
 ghost use Rattle.definition.specs.Lists.{part};
 ghost use Rattle.definition.specs.Values.{decimalOn};
-ghost use Rattle.definition.specs.Printed.{decimal, lineRest, letter, originLine, originLines, printed};
-ghost use Rattle.printing.specs.Page.{Puts, far, sixLine, lineAt, linesIn, expansionIn};
+ghost use Rattle.definition.specs.Printed.{decimal, lineRest, letter, originLine, originLines};
+ghost use Rattle.printing.specs.Page.{Puts, far, sixLine, lineAt, linesFrom};
 use rooms::byte;
-use rooms::copy;
 use rooms::get_u32;
 use rooms::number32;
 use rooms::put_byte;
@@ -83,7 +82,7 @@ fn put_rest(page: &mut [u8], from: usize, numbers: &[u32], first: usize, n: usiz
 }
 
 // The six numbers.
-fn put_numbers(page: &mut [u8], numbers: &[u32]) -> usize
+pub fn put_numbers(page: &mut [u8], numbers: &[u32]) -> usize
     ensures { λ r. ⌜ Puts 66 (now (page .entry)) 0 (sixLine (now (numbers .entry))) (now (page .exit)) r ⌝ }
 {
     let a = put_number(page, 0, number32(numbers, 0, 0));
@@ -119,33 +118,20 @@ fn put_line(page: &mut [u8], at: usize, list: &[u8], k: u32) -> usize
     put_rest(page, a, &rest, 0, 3)
 }
 
-fn put_lines(page: &mut [u8], from: usize, list: &[u8], lines: u32) -> usize
-    requires { ⌜ from + 35 * lines ≤ far ⌝ }
-    ensures { λ r. ⌜ Puts (35 * lines) (now (page .entry)) from (originLines (linesIn (now (list .entry)) lines)) (now (page .exit)) r ⌝ }
+// The lines of the list from one on, up to another that is not among them.
+pub fn put_lines(page: &mut [u8], list: &[u8], first: u32, end: u32) -> usize
+    ensures { λ r. ⌜ Puts (35 * (end - first)) (now (page .entry)) 0 (originLines (linesFrom (now (list .entry)) first (end - first))) (now (page .exit)) r ⌝ }
 {
-    let mut at = from;
-    let mut i: u32 = 0;
-    while i < lines {
+    let mut at = 0;
+    let mut i = first;
+    while i < end {
         at = put_line(page, at, list, i);
         i += 1;
     }
     at
 }
 
-// ---- the answer
-
-// Puts what is printed of an answer onto the page, and says how long it is. The six numbers stand in 01's order.
-pub fn put_answer(page: &mut [u8], numbers: &[u32], text: &[u8], list: &[u8]) -> usize
-    ensures { λ r. ⌜ Puts (67 + 35 * getD (now (numbers .entry)) 5 0 + getD (now (numbers .entry)) 4 0) (now (page .entry)) 0 (printed (expansionIn (now (numbers .entry)) (now (text .entry)) (now (list .entry)))) (now (page .exit)) r ⌝ }
-{
-    let n = number32(numbers, 0, 4) as usize;
-    let a = put_numbers(page, numbers);
-    let b = put_lines(page, a, list, number32(numbers, 0, 5));
-    copy(text, 0, n, page, b);
-    put(page, b + n, b'\n')
-}
-
-// The part of the page that an answer takes.
+// The part of the page that is used.
 pub fn used(page: &[u8], size: usize) -> &[u8]
     ensures { λ r. ⌜ now r ≡ take size (now (page .entry)) ⌝ }
 {

@@ -1,4 +1,4 @@
--- The first i lines stand on the page.
+-- The lines before i stand on the page.
 use borrow.Author.Needs.{needs}
 use Rattle.printing.proofs.put_lines.Statement.{statement}
 use Rattle.printing.proofs.put_lines.Tie as tie
@@ -9,10 +9,10 @@ use Prim.Native.Nat.{_-_}
 use Rattle.printing.proofs.Laws.{Listing, listing-start, listing-room, listing-more, listing-done}
 
 abbrev Inv-loop : tie.InvT-loop
-Inv-loop page₀ from list lines at₀ i₀ page at i = Listing page₀ from list lines page at i
+Inv-loop page₀ list first end at₀ i₀ page at i = Listing page₀ list first end page at i
 
 abbrev μ-loop : tie.MeasureT-loop
-μ-loop page₀ from list lines at₀ i₀ page at i = lines - i
+μ-loop page₀ list first end at₀ i₀ page at i = end - i
 
 loop-holds : tie.Need-loop-holds Inv-loop μ-loop
 loop-holds c = listing-start _ _ _ _
