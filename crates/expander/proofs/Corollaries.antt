@@ -249,7 +249,7 @@ module _ (c : Call) (h : Meets c) where
   pub keeps-case : KeepsCase c
   keeps-case w =
       let same : definedFor c ≡ definedBefore c =
-          keeps (c .layout) (isRoomy (c .working)) (c .deck) (length (c .text)) (length (c .list)) (c .steps) (w .names) (w .sources) (w .values)
+      keeps (c .layout) (isRoomy (c .working)) (c .deck) (length (c .text)) (length (c .list)) (c .steps) (w .names) (w .sources) (w .values)
       in
       record {
         numbers = h .numbers ∙ ap numbersOf same;

@@ -8,7 +8,7 @@ use native.Mathlib.Omega.{arith}
 use borrow.Author.Tests.{leb-true}
 use lib.Dec.{leb}
 use lib.ListN.{length, take, drop}
-use Rattle.definition.specs.Bytes.{mixed}
+use Rattle.definition.specs.Bytes.{mixed, folded}
 use Rattle.definition.specs.Lists.{part}
 use Rattle.definition.specs.Tokens.{isSign, tokenAt}
 use Rattle.definition.specs.Deck as Deck
@@ -42,7 +42,7 @@ lexes : (s : List ℕ) (at : ℕ) (t : Lexeme) → Lexed s at t → Lexes s at t
 lexes s at t lex =
     let on : On s at (tokenAt mixed s at) = token-on s at in
     record {
-      spells = ap (λ (i : ℕ). part (i - t .from) (t .from) s) (lex .to) ∙ ap (λ (i : ℕ). part (tokenAt mixed s at .to - i) i s) (lex .from);
+      spells = ap (λ (i : ℕ). folded mixed (part (i - t .from) (t .from) s)) (lex .to) ∙ ap (λ (i : ℕ). folded mixed (part (tokenAt mixed s at .to - i) i s)) (lex .from);
       low = omega (arith, on .low, lex .from);
       order = omega (arith, on .order, lex .from, lex .to);
     }
@@ -116,7 +116,7 @@ name-there d m sound line from (suc n) h =
 -- ---- THE LINE for what is sought
 module _ (d : List ℕ) (m : ℕ) (x : Sought) (base : ℕ) (e : base ≡ lineAt d m .offset) (r : Found) where
   in-deck : isSound mixed d ≡ true → m < count d → (w v : Spelled) → v ≡ inDeck base w → w .from + w .len ≤ length (bodyIn d m) → spelled d v ≡ spelled (bodyIn d m) w
-  in-deck sound line w v f h = ap (spelled d) (f ∙ ap (λ (i : ℕ). inDeck i w) e) ∙ name-there d m sound line (w .from) (w .len) h
+  in-deck sound line w v f h = ap (spelled d) (f ∙ ap (λ (i : ℕ). inDeck i w) e) ∙ ap (folded mixed) (name-there d m sound line (w .from) (w .len) h)
 
   pub found-bare : (w v : Spelled) → x ≡ Bare w → v ≡ inDeck base w → r ≡ foundFor (find mixed (soughtIn d (Bare v)) 0 (lines d)) → FoundIs d m x r
   unfolding soughtIn
