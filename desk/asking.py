@@ -5,6 +5,7 @@ import struct
 from desk.answers import Unbelievable, read_answers
 from desk.building import ensure_built, program_path, read_mark
 from desk.errors import Stop
+from desk.limits import STANDARD, longest_answer
 from desk.running import in_memory, on_this_machine, output_of
 from desk.sources import digest_of_file
 
@@ -13,13 +14,8 @@ PROGRAM = 'cases'
 
 # whether it is of card images, bytes of the text room and of the list room, steps, bytes of the deck
 HEAD = struct.Struct('<5I')
-TEXT, LIST, STEPS = 65_536, 49_152, 1_000_000
-# a line of the list takes so many bytes of its room
-ORIGIN = 12
 # how much of a digest is told
 SHORT = 16
-# more than an answer has, so that a program that writes without end does not fill the memory
-MOST = 1 << 18
 
 
 def other_program():
@@ -48,19 +44,20 @@ def identity():
     return f'expander of sources {mark.sources[:SHORT]}, program {mark.program[:SHORT]}, {mark.kit}'
 
 
-def record(deck, steps):
-    return HEAD.pack(deck.is_cards, TEXT, LIST, steps, len(deck.content)) + deck.content
+def record(deck, limits):
+    return HEAD.pack(deck.is_cards, limits.text, limits.list, limits.steps, len(deck.content)) + deck.content
 
 
-def answers_to(decks, words, steps=STEPS):
+def answers_to(decks, words, limits=STANDARD):
     """What the expander answers to decks in turn, if it can be believed."""
-    return answers_within([(deck, steps) for deck in decks], words)
+    return answers_within([(deck, limits) for deck in decks], words)
 
 
 def answers_within(asked, words):
-    """The same for pairs of a deck and how many steps it may take."""
-    with in_memory(b''.join(record(deck, steps) for deck, steps in asked)) as source:
-        content = output_of('the expander', words, MOST * len(asked), stdin=source)
+    """The same for pairs of a deck and its limits. A program that writes without end must not fill the memory."""
+    most = sum(longest_answer(limits) for _, limits in asked)
+    with in_memory(b''.join(record(deck, limits) for deck, limits in asked)) as source:
+        content = output_of('the expander', words, most, stdin=source)
     try:
         return read_answers(content, [deck for deck, _ in asked])
     except Unbelievable as reason:

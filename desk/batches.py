@@ -6,8 +6,9 @@ import resource
 import time
 
 from desk.answers import Unbelievable, read_answers
-from desk.asking import MOST, STEPS, record
+from desk.asking import record
 from desk.errors import Stop
+from desk.limits import longest_answer
 from desk.running import how_ended, in_memory, started
 
 # decks of a batch at most; how often processes are looked at, in seconds
@@ -24,32 +25,37 @@ def batches_of(count, jobs):
     return [list(range(at, min(at + size, count))) for at in range(0, count, size)]
 
 
-def limit_output(count):
-    """For a child: its output does not grow past what so many answers have."""
+def limit_output(size):
+    """For a child: its output does not grow past so many bytes."""
     _, most = resource.getrlimit(resource.RLIMIT_FSIZE)
-    size = MOST * count if most == resource.RLIM_INFINITY else min(MOST * count, most)
+    if most != resource.RLIM_INFINITY:
+        size = min(size, most)
     return lambda: resource.setrlimit(resource.RLIMIT_FSIZE, (size, most))
 
 
 class Batches:
-    def __init__(self, decks, words, jobs):
-        self.decks, self.words, self.jobs = decks, words, jobs
+    def __init__(self, decks, words, jobs, limits):
+        self.decks, self.words, self.jobs, self.limits = decks, words, jobs, limits
         self.left = collections.deque(batches_of(len(decks), jobs))
         self.running = []
 
+    def most(self, numbers):
+        """How many bytes the answers of a batch have at most."""
+        return longest_answer(self.limits) * len(numbers)
+
     def start(self, numbers, stack):
-        content = b''.join(record(self.decks[number], STEPS) for number in numbers)
+        content = b''.join(record(self.decks[number], self.limits) for number in numbers)
         source = stack.enter_context(in_memory(content))
         output = stack.enter_context(in_memory(b''))
         child = stack.enter_context(started(self.words, stdin=source, stdout=output,
-                                            preexec_fn=limit_output(len(numbers))))
+                                            preexec_fn=limit_output(self.most(numbers))))
         self.running.append(Running(numbers, child, output, stack.pop_all()))
 
     def end(self, batch):
         """What came of a batch: pairs of a number and its answer, or a Stop that says why there is none."""
         self.running.remove(batch)
         with batch.stack:
-            content = os.pread(batch.output.fileno(), MOST * len(batch.numbers), 0)
+            content = os.pread(batch.output.fileno(), self.most(batch.numbers), 0)
         try:
             if batch.child.returncode != 0:
                 raise Unbelievable(f'the expander {how_ended(batch.child.returncode)}')

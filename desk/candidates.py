@@ -42,9 +42,10 @@ def slip(source, at):
 class Trial:
     """A deck whose refused member is changed, to see what the expander says of it."""
 
-    def __init__(self, deck, answer, words):
+    def __init__(self, deck, answer, words, limits):
         self.members = [Member(one.library, one.name, deck.source(number)) for number, one in enumerate(deck.members)]
-        self.number, self.steps, self.words = answer.member, answer.steps, words
+        self.number, self.words = answer.member, words
+        self.limits = limits._replace(steps=answer.steps)
         self.source = self.members[answer.member].body
         self.at = in_source(deck, answer.offset)
 
@@ -56,7 +57,7 @@ class Trial:
     def moved(self, trials):
         """Of trials, a body and a place, whether what stands up to this place is not wrong."""
         decks = [self.changed(body) for body, _ in trials]
-        answers = iter(answers_to([deck for deck in decks if deck], self.words, self.steps))
+        answers = iter(answers_to([deck for deck in decks if deck], self.words, self.limits))
         met = [next(answers) if deck else None for deck in decks]
         return [one is not None and not (one.number == WRONG and one.member == self.number and one.offset <= place)
                 for one, (_, place) in zip(met, trials)]
@@ -74,9 +75,9 @@ class Trial:
         return [token for token, has_moved in zip(tokens, self.moved(trials)) if has_moved]
 
 
-def what_could_stand(deck, answer, words):
+def what_could_stand(deck, answer, words, limits):
     """Hints for wrong syntax."""
-    trial = Trial(deck, answer, words)
+    trial = Trial(deck, answer, words, limits)
     found = slip(trial.source, trial.at)
     if found:
         return [found]

@@ -1,6 +1,7 @@
 """plidesk expand: expands a main program with its members."""
 import os
 
+from desk import limits as bounds
 from desk import standard, unproved
 from desk.asking import answers_to, expander
 from desk.definition import definition
@@ -16,6 +17,7 @@ from desk.trace import shown_trace
 EXPANDED, REFUSED = 0, 1
 
 USAGE = ('usage: plidesk expand [-c] [-I [LIBRARY=]DIR].. [-L LIBRARY] [-o FILE [-MD]] [-l] [--json] [--trace]\n'
+         f'                      [--stats] {bounds.USAGE}\n'
          '                      [--unproved | --by definition] [NAME=]MAIN.pli [[NAME=]MEMBER.pli ..]\n')
 
 HELP = USAGE + '''
@@ -44,6 +46,11 @@ standard input, called MAIN.
   --by definition let the definition itself answer, translated and run by node: the text that the proofs
                   are about, in place of the program that is proved
   --trace         tell each step of the run, to standard error: where it was, and what stands there
+  --steps N       let the program take up to N steps, at most 4294967295; else it is 1000000
+  --text N        give its text a room of N bytes, at most 1048576; else it is 65536
+  --list-room N   give its origin list a room of N bytes, 12 for a line, at most 1048576; else it is 49152
+                  (a program that finishes gives the same with any larger ones)
+  --stats         say how many steps, bytes and lines were used beside these limits, to standard error
   --json          write the whole answer as JSON in place of the text, also if it is a refusal
   -h, --help      print this help
   --              no option stands behind this
@@ -115,19 +122,22 @@ def expand(options):
     deck, files = gather(options.arguments, shelf, options.has('-c'))
     check_target(options, files)
     warn(files)
-    words = who_answers(options)
-    answer = answers_to([deck], words)[0]
+    limits, words = bounds.limits_of(options), who_answers(options)
+    answer = answers_to([deck], words, limits)[0]
     if options.has('--unproved'):
         unproved.warn()
     if options.has('--trace'):
-        standard.show(shown_trace(deck, answer, words))
+        standard.show(shown_trace(deck, answer, words, limits))
     is_refused = answer.number != 0
     if is_refused:
-        standard.show(shown_refusal(deck, answer, shelf, words))
+        standard.show(shown_refusal(deck, answer, shelf, words, limits))
     elif options.has('--list'):
         standard.show(shown_list(deck, answer.origins))
+    if options.has('--stats'):
+        standard.show(bounds.shown_use(answer, limits))
     if options.has('--json'):
-        put(options, as_json(dict(told_answer(deck, files, answer), answered_by=answered_by(options))))
+        put(options, as_json(dict(told_answer(deck, files, answer), answered_by=answered_by(options),
+                                  **bounds.told_use(answer, limits))))
     elif not is_refused:
         put(options, answer.text + b'\n')
     if not is_refused:
@@ -137,7 +147,8 @@ def expand(options):
 
 def command(words, closed):
     """Does what the words behind `expand` ask for; closed are the standard files that were so."""
-    options = Options(words, 'cI:L:o:M:lh', ['list', 'json', 'unproved', 'by=', 'trace', 'help'], USAGE)
+    options = Options(words, 'cI:L:o:M:lh',
+                      ['list', 'json', 'unproved', 'by=', 'trace', 'stats', 'help', *bounds.LONG], USAGE)
     if options.has('--help'):
         standard.put_out(HELP.encode())
         return EXPANDED

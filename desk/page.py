@@ -7,6 +7,8 @@ from desk.asking import answers_to, expander
 from desk.errors import Stop
 from desk.expand import EXPANDED, REFUSED, check_target, warn
 from desk.gathering import gather, shelf_of
+from desk.limits import LONG, limits_of
+from desk.limits import USAGE as LIMITS
 from desk.markup import (as_data, data_of, marks_of, names_section, parts_of, path_of, segments, source_section,
                          text_section, verdict)
 from desk.options import Options
@@ -21,6 +23,7 @@ SEARCH = ('<form role="search"><input id="wanted" type="search" placeholder="sea
 KEYS = 'arrows move, [ and ] to the next name, Enter to the source and back, / searches'
 
 USAGE = ('usage: plidesk page [-c] [-I [LIBRARY=]DIR].. [-L LIBRARY] -o PAGE.html\n'
+         f'                    {LIMITS}\n'
          '                    [NAME=]MAIN.pli [[NAME=]MEMBER.pli ..]\n')
 
 HELP = USAGE + '''
@@ -93,15 +96,15 @@ def page(options):
     deck, files = gather(options.arguments, shelf, options.has('-c'))
     check_target(options, files)
     warn(files)
-    words = expander()
-    answer = answers_to([deck], words)[0]
-    hints = hints_for(deck, answer, shelf, words) if answer.number else []
+    limits, words = limits_of(options), expander()
+    answer = answers_to([deck], words, limits)[0]
+    hints = hints_for(deck, answer, shelf, words, limits) if answer.number else []
     write_whole(options.value('-o'), page_of(deck, answer, hints))
     return REFUSED if answer.number else EXPANDED
 
 
 def command(words, _closed):
-    options = Options(words, 'cI:L:o:h', ['help'], USAGE)
+    options = Options(words, 'cI:L:o:h', ['help', *LONG], USAGE)
     if options.has('--help'):
         standard.put_out(HELP.encode())
         return EXPANDED

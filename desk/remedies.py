@@ -1,9 +1,10 @@
 """What to do about a refusal, as far as it can be told: hints, a line each."""
 import difflib
 
-from desk.asking import LIST, ORIGIN, STEPS, TEXT
+from desk.asking import answers_within
 from desk.candidates import what_could_stand
 from desk.includes import included, numbers_of
+from desk.limits import MOST, OPTIONS, lines_in
 from desk.names import folded, key_of
 from desk.reading import Known, in_source, names_in, statement_at, token_at, tokens_of
 
@@ -16,8 +17,6 @@ GENERAL = {
     12: 'a procedure cannot call itself, also through others, and each way through it must meet a RETURN',
     13: 'a GOTO cannot enter an iterated group, leave a procedure, or go to a member that is not running',
     16: 'a CHARACTER or BIT value has at most 512 places; split it into several',
-    17: f'the text has room for {TEXT} bytes and its list for {LIST // ORIGIN} lines; split the program into several',
-    18: f'{STEPS} steps; is there a group that never ends, a %DO without TO or a BY of 0?',
     19: 'SUBSTR(S, I, N) needs I >= 1, N >= 0 and I + N - 1 <= the length of S; a number has 8 characters',
     20: 'a file with line ends is padded to records of 80; one without must be whole records',
 }
@@ -32,8 +31,9 @@ def called(names):
 class Case:
     """A refusal with what is known of its place."""
 
-    def __init__(self, deck, answer, shelf):
+    def __init__(self, deck, answer, shelf, words, limits):
         self.deck, self.answer, self.shelf = deck, answer, shelf
+        self.words, self.limits = words, limits
         self.source = deck.source(answer.member)
         self.at = in_source(deck, answer.offset)
         self.statement = statement_at(self.source, self.at)
@@ -137,13 +137,46 @@ def too_deep(case):
             'Then %ACTIVATE it NORESCAN']
 
 
-SPECIAL = {4: over_a_limit, 5: twice, 6: unknown, 7: valueless, 10: zero, 11: miscounted, 14: not_found, 15: too_deep}
+def full_rooms(case):
+    """Which of the two rooms was full, by their fields: the one without which the run goes on if it is larger. Where one is
+    as large as can be it is not known whether it would, and it is meant if the other is not."""
+    rooms = ('text', 'list')
+    limits = case.limits._replace(steps=case.answer.steps)    # enough to come to the place
+    larger = [limits._replace(**{room: getattr(MOST, room)}) for room in rooms]
+    answers = answers_within([(case.deck, one) for one in larger], case.words)
+    gone_on = [room for room, answer in zip(rooms, answers) if answer != case.answer]
+    return gone_on[:1] or [room for room in rooms if getattr(limits, room) == getattr(MOST, room)]
 
 
-def remedies(deck, answer, shelf, words):
+def raised_by(case, field):
+    """How a limit is raised."""
+    most = getattr(MOST, field)
+    if getattr(case.limits, field) == most:
+        return 'it can be no larger; split the program into several'
+    return f'{getattr(OPTIONS, field)} N raises it, up to {most}'
+
+
+def full(case):
+    """17: which room."""
+    sizes = {'text': f'the text room of {case.limits.text} bytes',
+             'list': f'the list room of {case.limits.list} bytes, {lines_in(case.limits)} lines,'}
+    return [f'{sizes[room]} is full; {raised_by(case, room)}' for room in full_rooms(case)]
+
+
+def used_up(case):
+    """18: how many."""
+    return [f'the limit of {case.limits.steps} steps is met; {raised_by(case, "steps")}',
+            'is there a group that never ends, a %DO without TO or a BY of 0?']
+
+
+SPECIAL = {4: over_a_limit, 5: twice, 6: unknown, 7: valueless, 10: zero, 11: miscounted, 14: not_found, 15: too_deep,
+           17: full, 18: used_up}
+
+
+def remedies(deck, answer, shelf, words, limits):
     """What to do about a refusal that has a place."""
     if answer.number == 3:
-        return what_could_stand(deck, answer, words)
+        return what_could_stand(deck, answer, words, limits)
     if answer.number in SPECIAL:
-        return SPECIAL[answer.number](Case(deck, answer, shelf))
+        return SPECIAL[answer.number](Case(deck, answer, shelf, words, limits))
     return [GENERAL[answer.number]]

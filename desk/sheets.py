@@ -5,6 +5,7 @@ import json
 import os
 
 from desk.errors import Stop
+from desk.limits import STANDARD, Limits, shown_limits
 from desk.names import folded
 from desk.version import VERSION
 
@@ -104,11 +105,13 @@ def shown_row(row, width):
 
 
 def as_text(sheet):
-    rows = sheet['programs']
+    rows, limits = sheet['programs'], Limits(**sheet['limits'])
     width = max([7] + [len(row['program']) for row in rows])
     totals = ', '.join(f'{count} {verdict}' for verdict, count in totals_of(rows).items())
-    lines = [f'RELEASE SHEET, {sheet["ended"]}', f'plidesk {VERSION}, {sheet["expander"]}', '',
-             f'{"PROGRAM":{width}}  VERDICT     STEPS   BYTES  LINES  TEXT, SHA-256']
+    lines = [f'RELEASE SHEET, {sheet["ended"]}', f'plidesk {VERSION}, {sheet["expander"]}']
+    if limits != STANDARD:
+        lines.append(f'limits: {shown_limits(limits)}')
+    lines += ['', f'{"PROGRAM":{width}}  VERDICT     STEPS   BYTES  LINES  TEXT, SHA-256']
     lines += [shown_row(row, width) for row in rows]
     lines += ['', f'{len(rows)} programs: {totals}']
     if sheet.get('since'):

@@ -13,6 +13,8 @@ from desk.errors import Stop
 from desk.expand import shown_list
 from desk.gathering import gather, shelf_of
 from desk.jobs import jobs_of
+from desk.limits import LONG, limits_of
+from desk.limits import USAGE as LIMITS
 from desk.options import Options
 from desk.output import write_whole
 from desk.page import page_of
@@ -26,7 +28,8 @@ ALL, SOME, BROKEN = 0, 1, 2
 TEXT, LIST, PAGE = '.text', '.list', '.html'
 JOURNAL = 'shift.journal'
 
-USAGE = ('usage: plidesk shift [-c] [-I [LIBRARY=]DIR].. [-L LIBRARY] [-j N] [--since SHEET] [--pages] -o OUT JOB ..\n')
+USAGE = ('usage: plidesk shift [-c] [-I [LIBRARY=]DIR].. [-L LIBRARY] [-j N] [--since SHEET] [--pages]\n'
+         f'                     {LIMITS} -o OUT JOB ..\n')
 
 HELP = USAGE + '''
 Expands each main program. A JOB is its file, a folder of such files, or @ and a job file: a line
@@ -37,6 +40,8 @@ is called NAME if its main program is NAME=path, else as its file up to the firs
   -o OUT         the folder that gets NAME.text and NAME.list for each program that finished, and the
                  release sheet as sheet.txt, sheet.json and sheet.csv
   -I, -L, -c     as for plidesk expand, for all programs
+  --steps N, --text N, --list-room N
+                 as for plidesk expand, for all programs; the sheet has them if they are not the usual ones
   -j N           so many processes at a time; without it as many as there are processors
   --since SHEET  say what changed since an earlier sheet: sheet.json, or its folder
   --pages        write NAME.html too, for refused programs as well
@@ -94,8 +99,8 @@ class Work:
 class Out:
     """The folder of a shift. Its journal has a line for each program that is done, until the sheet is written."""
 
-    def __init__(self, path, is_pages, expanded_by):
-        self.path, self.is_pages, self.expanded_by = path, is_pages, expanded_by
+    def __init__(self, path, is_pages, expanded_by, limits):
+        self.path, self.is_pages, self.expanded_by, self.limits = path, is_pages, expanded_by, limits
         self.journal = None
 
     def at(self, name):
@@ -116,14 +121,16 @@ class Out:
             raise Stop(f'{self.path}: {error.strerror}') from None
 
     def done_before(self):
-        """The rows of a shift that was stopped, by program: those of this expander, with or without pages as now."""
+        """The rows of a shift that was stopped, by program: those of this expander and these limits, with or without pages as
+        now."""
         self.journal.seek(0)
         rows = {}
         for line in self.journal.read().splitlines():
             with contextlib.suppress(ValueError, TypeError, KeyError):    # the last line may be cut
                 entry = json.loads(line)
-                if entry['by'] == self.expanded_by and entry['pages'] == self.is_pages:
-                    rows[entry['row']['program']] = entry['row']
+                row = entry.pop('row')
+                if entry == self.made_by():
+                    rows[row['program']] = row
         return rows
 
     def is_whole(self, row):
@@ -138,8 +145,12 @@ class Out:
         except OSError:
             return False
 
+    def made_by(self):
+        """What a row of the journal must agree in to be taken up again."""
+        return {'by': self.expanded_by, 'pages': self.is_pages, 'limits': self.limits._asdict()}
+
     def note(self, row):
-        entry = {'by': self.expanded_by, 'pages': self.is_pages, 'row': row}
+        entry = dict(self.made_by(), row=row)
         self.journal.seek(0, os.SEEK_END)
         self.journal.write(b'\n' + json.dumps(entry).encode())
         self.journal.flush()
@@ -211,7 +222,7 @@ def run(works, out, words, count):
             out.clear(work.job.name)
             left.append(work)
     try:
-        batches = Batches([work.deck for work in left], words, count)
+        batches = Batches([work.deck for work in left], words, count, out.limits)
         with contextlib.closing(batches.answers()) as answers:
             for number, answer in answers:
                 tally.add(settle(left[number], answer, out, words))
@@ -224,7 +235,7 @@ def settle(work, answer, out, words):
     """Writes what came of a program, and notes that it is done."""
     if isinstance(answer, Stop):
         return work.row(str(answer))
-    hints = hints_for(work.deck, answer, work.shelf, words) if answer.number else []
+    hints = hints_for(work.deck, answer, work.shelf, words, out.limits) if answer.number else []
     out.put(work, answer, hints)
     row = work.row(answer, hints)
     out.note(row)
@@ -236,15 +247,15 @@ def shift(options):
     jobs = jobs_of(options.arguments, options.has('-c'))
     earlier, since = read_sheet(options.value('--since')) if options.value('--since') else ({}, None)
     works = [Work(job, shelf) for job in jobs]
-    words = expander()
-    out = Out(options.value('-o'), options.has('--pages'), identity())
+    limits, words = limits_of(options), expander()
+    out = Out(options.value('-o'), options.has('--pages'), identity(), limits)
     began = now()
     with out.held():
         out.clear_sheets()
         rows = run(works, out, words, processes(options.value('-j')))
         ordered = [rows[work.job.name] for work in works]
-        sheet = {'began': began, 'ended': now(), 'expander': out.expanded_by, 'programs': ordered,
-                 'stale': out.stale(rows)}
+        sheet = {'began': began, 'ended': now(), 'expander': out.expanded_by, 'limits': limits._asdict(),
+                 'programs': ordered, 'stale': out.stale(rows)}
         if since:
             sheet.update(since=since, gone=compare(ordered, earlier))
         out.put_sheet(sheet)
@@ -262,7 +273,7 @@ def processes(given):
 
 
 def command(words, closed):
-    options = Options(words, 'cI:L:o:j:h', ['since=', 'pages', 'help'], USAGE)
+    options = Options(words, 'cI:L:o:j:h', ['since=', 'pages', 'help', *LONG], USAGE)
     if options.has('--help'):
         standard.put_out(HELP.encode())
         return ALL

@@ -14,12 +14,12 @@ WIDTH = 60
 BLANKS = {b' ': b'a blank', b'\n': b'a line feed'}
 
 
-def places(deck, answer, words):
+def places(deck, answer, words, limits):
     """The place of each step, up to as many as are traced."""
     count = min(answer.steps, MOST)
     found = []
     while len(found) < count:
-        asked = [(deck, steps) for steps in range(len(found), min(len(found) + RUNS, count))]
+        asked = [(deck, limits._replace(steps=steps)) for steps in range(len(found), min(len(found) + RUNS, count))]
         for one in answers_within(asked, words):
             if one.number != STEPS_USED_UP:
                 raise Stop(f'with {len(found)} steps the answer is {one.number}, and it should be {STEPS_USED_UP}')
@@ -55,9 +55,9 @@ def token_text(source, at):
     return TOKEN.match(source, at)[0] if at < len(source) else b'the end'
 
 
-def shown_trace(deck, answer, words):
+def shown_trace(deck, answer, words, limits):
     lines = []
-    for first, last, (member, offset) in runs_of(places(deck, answer, words)):
+    for first, last, (member, offset) in runs_of(places(deck, answer, words, limits)):
         numbers = b'%d' % first if first == last else b'%d-%d' % (first, last)
         found = spot(deck, member, offset)
         lines.append(b'step %-11s %s:%d:%d: %s\n' % (numbers, deck.called(member), found.line, found.column,

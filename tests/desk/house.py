@@ -213,6 +213,11 @@ class Clone:
         with open(self.path('asked'), 'rb') as file:
             return file.read()[RECORD.size:]
 
+    def asked_within(self):
+        """Text room, list room and steps that the expander was given."""
+        with open(self.path('asked'), 'rb') as file:
+            return RECORD.unpack(file.read(RECORD.size))[1:4]
+
     def start(self, *words, path=None, command='expand', files=('main.pli', 'm.pli'), **how):
         """Starts a subcommand; standard output and error are pipes unless said otherwise."""
         how.setdefault('stdout', subprocess.PIPE)

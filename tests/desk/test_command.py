@@ -382,6 +382,52 @@ class Into(Through):
         self.assertEqual(json.loads(self.out())['place'], {'member': 1, 'offset': 17, 'line': 1, 'column': 18})
 
 
+class Limits(Through):
+    def test_limits(self):
+        self.expands()
+        self.assertEqual(self.clone.asked_within(), (65_536, 49_152, 1_000_000))
+        self.expands('--list-room', '24', '--steps=4294967295', '--text', '1048576')
+        self.assertEqual(self.clone.asked_within(), (1_048_576, 24, 4_294_967_295))
+        self.expands('--text', '0', '--steps', '007')
+        self.assertEqual(self.clone.asked_within(), (0, 49_152, 7))
+
+    def test_no_limits(self):
+        for option, most in (('--steps', 4_294_967_295), ('--text', 1_048_576), ('--list-room', 1_048_576)):
+            for number in (str(most + 1), '-1', '', '1e3', ' 1', '1,000', '\N{ARABIC-INDIC DIGIT ONE}', '9' * 5_000, '0' * 5_000 + 'x'):
+                self.fails(f'it takes a number from 0 to {most}', option, number)
+            self.fails(f'{option}: it is said twice', option, '1', option, '1')
+            self.fails('requires argument', files=[], *['main.pli', option])
+
+    def test_list_prints_the_list(self):
+        self.assertIn(house.NAMED, self.expands('--list', '--list-room', '84'))
+
+    def test_stats(self):
+        self.assertEqual(self.expands('--stats', '--steps', '20'),
+                         b'steps 18 of 20\ntext %d of 65536 bytes\nlist 7 of 4096 lines\n' % len(house.TEXT))
+        self.clone.put('answer', house.REFUSAL)
+        status, _, said = self.clone.run('--stats', '--list-room', '24')
+        self.assertEqual(status, 1)
+        self.assertTrue(said.endswith(b'steps 3 of 1000000\ntext refused, 65536 bytes of room\n'
+                                      b'list refused, 2 lines of room\n'), said)
+
+    def test_stats_as_json(self):
+        _, wrote, _ = self.clone.run('--json', '--steps', '20')
+        told = json.loads(wrote)
+        self.assertEqual(told['used'], {'steps': 18, 'text': len(house.TEXT), 'lines': 7})
+        self.assertEqual(told['limits'], {'steps': 20, 'text': 65_536, 'list': 49_152})
+
+    def test_steps_used_up(self):
+        self.clone.put('answer', b'18 0 0 5 0 0\n\n')
+        status, _, said = self.clone.run('--steps', '5')
+        self.assertEqual(status, 1)
+        self.assertIn(b'hint: the limit of 5 steps is met; --steps N raises it, up to 4294967295\n', said)
+
+    def test_answer_that_is_too_long(self):
+        """More than the rooms that were lent can hold."""
+        self.clone.put('answer', house.ANSWER + bytes(3_000))
+        self.fails('writes more than', '--text', '20', '--list-room', '84')
+
+
 class Version(unittest.TestCase):
     def test_everywhere_the_same(self):
         for path, line in (('CHANGELOG.md', r'## (\S+)'), ('bindings/rust/Cargo.toml', r'version = "(\S+)\.0"')):

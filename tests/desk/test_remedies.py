@@ -4,9 +4,11 @@ from unittest import mock
 
 import house
 from desk import candidates
+from desk import remedies as module
 from desk.answers import LAST_NUMBER, Answer
 from desk.decks import read_deck
 from desk.gathering import Folder, Shelf
+from desk.limits import MOST, STANDARD
 from desk.reading import Known, in_source, statement_at
 from desk.remedies import GENERAL, SPECIAL, remedies
 
@@ -17,7 +19,7 @@ class Hints(unittest.TestCase):
     def hints(self, number, offset, *bodies, member=0, shelf=SHELF, is_cards=False):
         names = ['MAIN', 'M', 'N'][:len(bodies)]
         deck = read_deck(house.deck_of(**dict(zip(names, bodies))), is_cards)
-        return remedies(deck, Answer(number, member, offset, 1, b'', []), shelf, [])
+        return remedies(deck, Answer(number, member, offset, 1, b'', []), shelf, [], STANDARD)
 
     def test_every_number(self):
         self.assertEqual(sorted([3, *GENERAL, *SPECIAL]), list(range(3, LAST_NUMBER + 1)))
@@ -91,18 +93,51 @@ class Hints(unittest.TestCase):
         self.assertIn('include itself', self.hints(15, 0, b'%include main;')[0])
         self.assertIn('value of A', self.hints(15, 1, b' A')[0])
         self.assertIn('value of aB', self.hints(15, 1, b' aB')[0])
-        self.assertIn('65536 bytes and its list for 4096 lines', self.hints(17, 0, b'A')[0])
-        self.assertIn('1000000 steps', self.hints(18, 0, b'A')[0])
         self.assertIn('X: declare it once', self.hints(5, 12, b'%DECLARE (X,X) FIXED;')[0])
         self.assertIn('xY: declare it once', self.hints(5, 13, b'%declare (Xy,xY) fixed;')[0])
 
     def test_every_case_has_a_hint(self):
-        with mock.patch.object(candidates, 'answers_to', lambda decks, *_: [Answer(0, 0, 0, 0, b'', [])] * len(decks)):
+        finished = lambda asked, *_: [Answer(0, 0, 0, 0, b'', [])] * len(asked)
+        with mock.patch.object(candidates, 'answers_to', finished), mock.patch.object(module, 'answers_within', finished):
             for content, is_cards, answer in house.cases():
                 number, member, offset, *_ = map(int, answer.split(b'\n')[0].split())
                 if number > 2:
-                    hints = remedies(read_deck(content, is_cards), Answer(number, member, offset, 1, b'', []), SHELF, [])
+                    hints = remedies(read_deck(content, is_cards), Answer(number, member, offset, 1, b'', []), SHELF, [],
+                                     STANDARD)
                     self.assertIsInstance(hints, list)
+
+
+class Raising(unittest.TestCase):
+    """Which limit was met, and how it is raised, with an expander that goes on where certain rooms are larger."""
+
+    def hints(self, number, limits, *rooms):
+        deck, refused = read_deck(house.deck_of(MAIN=b'A'), False), Answer(number, 0, 0, 1, b'', [])
+
+        def answers_within(asked, _words):
+            self.assertEqual([within.steps for _, within in asked], [1, 1])
+            return [Answer(0, 0, 0, 1, b' A', []) if any(getattr(within, room) > getattr(limits, room) for room in rooms)
+                    else refused for _, within in asked]
+        with mock.patch.object(module, 'answers_within', answers_within):
+            return remedies(deck, refused, SHELF, [], limits)
+
+    def test_which_room(self):
+        self.assertEqual(self.hints(17, STANDARD, 'text'),
+                         ['the text room of 65536 bytes is full; --text N raises it, up to 1048576'])
+        self.assertEqual(self.hints(17, STANDARD, 'list'),
+                         ['the list room of 49152 bytes, 4096 lines, is full; --list-room N raises it, up to 1048576'])
+        self.assertEqual(self.hints(17, STANDARD._replace(text=10, list=25), 'list'),
+                         ['the list room of 25 bytes, 2 lines, is full; --list-room N raises it, up to 1048576'])
+
+    def test_room_as_large_as_can_be(self):
+        self.assertEqual(self.hints(17, STANDARD._replace(text=MOST.text)),
+                         ['the text room of 1048576 bytes is full; it can be no larger; split the program into several'])
+        self.assertIn('list room of 1048576 bytes, 87381 lines', self.hints(17, STANDARD._replace(list=MOST.list))[0])
+        self.assertEqual(len(self.hints(17, MOST)), 2)
+
+    def test_steps(self):
+        self.assertEqual(self.hints(18, STANDARD)[0],
+                         'the limit of 1000000 steps is met; --steps N raises it, up to 4294967295')
+        self.assertIn('the limit of 4294967295 steps is met; it can be no larger', self.hints(18, MOST)[0])
 
 
 class Reading(unittest.TestCase):
@@ -143,8 +178,8 @@ class Slips(unittest.TestCase):
 class Candidates(unittest.TestCase):
     """With an expander in place of the proved one that takes `;` or `)` at offset 4 of the member and nothing else."""
 
-    def answers_to(self, decks, _words, steps):
-        self.assertEqual(steps, 7)
+    def answers_to(self, decks, _words, limits):
+        self.assertEqual(limits, STANDARD._replace(steps=7))
         answers = []
         for deck in decks:
             body = deck.members[0].body
@@ -155,12 +190,12 @@ class Candidates(unittest.TestCase):
     def test_what_could_stand(self):
         deck = read_deck(house.deck_of(MAIN=b'%A=B'), False)
         with mock.patch.object(candidates, 'answers_to', self.answers_to):
-            hints = candidates.what_could_stand(deck, Answer(3, 0, 3, 7, b'', []), [])
+            hints = candidates.what_could_stand(deck, Answer(3, 0, 3, 7, b'', []), [], STANDARD)
         self.assertEqual(hints, ['here could stand `;` or `)`'])
 
     def test_no_room_for_more(self):
         """A deck that is full is tried with what is shorter."""
         trial = candidates.Trial(read_deck(house.deck_of(MAIN=b'%A=B'.ljust(65_536 - 18)), False),
-                                 Answer(3, 0, 3, 7, b'', []), [])
+                                 Answer(3, 0, 3, 7, b'', []), [], STANDARD)
         with mock.patch.object(candidates, 'answers_to', self.answers_to):
             self.assertEqual(trial.mending([b';']), [])

@@ -226,6 +226,12 @@ class Later(Shift):
         with open(self.clone.path('out/p0.text'), 'rb') as file:
             self.assertEqual(file.read(), b' X\n')
 
+    def test_taken_up_with_other_limits(self):
+        self.stop_in_the_middle(signal.SIGTERM)
+        self.clone.drop('processes')
+        _, rows = self.shift('--steps', '2000000')
+        self.assertEqual(sum(self.processes()), len(rows))
+
     def test_two_shifts_at_a_time(self):
         self.put(a='HANG')
         self.clone.put('hang', '')
@@ -275,6 +281,23 @@ class Jobs(unittest.TestCase):
         for name in ('b.pli', 'a.pli', 'a.pli~', '.hidden', 'sub/x.pli'):
             self.clone.put('jobs/' + name, '')
         self.assertEqual([job.name for job in jobs_of([self.clone.path('jobs')], True)], ['a', 'b'])
+
+
+class Limits(Shift):
+    def test_limits_in_the_sheet(self):
+        self.put(a='ONE')
+        self.shift()
+        self.assertNotIn(b'limits', self.wrote)
+        self.assertEqual(self.sheet()['limits'], {'steps': 1_000_000, 'text': 65_536, 'list': 49_152})
+        self.shift('--text', '1048576', '--steps', '5')
+        self.assertIn(b'\nlimits: 5 steps, a text room of 1048576 bytes, a list room of 49152 bytes\n', self.wrote)
+        self.assertEqual(self.sheet()['limits'], {'steps': 5, 'text': 1_048_576, 'list': 49_152})
+
+    def test_no_limits(self):
+        child = self.start('--steps', 'many')
+        wrote, said = child.communicate(timeout=30)
+        self.assertEqual((child.returncode, wrote), (2, b''))
+        self.assertIn(b'--steps many: it takes a number from 0 to 4294967295', said)
 
 
 class Batches(unittest.TestCase):

@@ -7,6 +7,7 @@ from desk import trace
 from desk.answers import Answer
 from desk.decks import read_deck
 from desk.errors import Stop
+from desk.limits import STANDARD
 
 DECK = read_deck(house.deck_of(MAIN=b'%A=1;B \n/* C */'), False)
 # where step k + 1 is due
@@ -17,9 +18,9 @@ class Trace(unittest.TestCase):
     def shown(self, steps, answers=None):
         def answers_within(asked, _words):
             self.assertLessEqual(len(asked), trace.RUNS)
-            return [Answer(18, 0, PLACES[limit], limit, b'', []) for _, limit in asked]
+            return [Answer(18, 0, PLACES[limits.steps], limits.steps, b'', []) for _, limits in asked]
         with mock.patch.object(trace, 'answers_within', answers or answers_within):
-            return trace.shown_trace(DECK, Answer(0, 0, 0, steps, b'', []), []).decode()
+            return trace.shown_trace(DECK, Answer(0, 0, 0, steps, b'', []), [], STANDARD).decode()
 
     def test_each_step(self):
         self.assertEqual(self.shown(6), 'step 1           MAIN:1:1: %A=1\nstep 2-3         MAIN:1:6: B\n'
