@@ -118,11 +118,12 @@ def who_answers(options):
 
 def expand(options):
     """Expands, shows what came out, and returns the status."""
+    limits = bounds.limits_of(options)
     shelf = shelf_of(options.value('-L'), options.values('-I'))
     deck, files = gather(options.arguments, shelf, options.has('-c'))
     check_target(options, files)
     warn(files)
-    limits, words = bounds.limits_of(options), who_answers(options)
+    words = who_answers(options)
     answer = answers_to([deck], words, limits)[0]
     if options.has('--unproved'):
         unproved.warn()

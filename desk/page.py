@@ -92,11 +92,12 @@ def page_of(deck, answer, hints=()):
 
 
 def page(options):
+    limits = limits_of(options)
     shelf = shelf_of(options.value('-L'), options.values('-I'))
     deck, files = gather(options.arguments, shelf, options.has('-c'))
     check_target(options, files)
     warn(files)
-    limits, words = limits_of(options), expander()
+    words = expander()
     answer = answers_to([deck], words, limits)[0]
     hints = hints_for(deck, answer, shelf, words, limits) if answer.number else []
     write_whole(options.value('-o'), page_of(deck, answer, hints))

@@ -243,11 +243,12 @@ def settle(work, answer, out, words):
 
 
 def shift(options):
+    limits = limits_of(options)
     shelf = shelf_of(options.value('-L'), options.values('-I'))
     jobs = jobs_of(options.arguments, options.has('-c'))
     earlier, since = read_sheet(options.value('--since')) if options.value('--since') else ({}, None)
     works = [Work(job, shelf) for job in jobs]
-    limits, words = limits_of(options), expander()
+    words = expander()
     out = Out(options.value('-o'), options.has('--pages'), identity(), limits)
     began = now()
     with out.held():

@@ -1,2 +1,2 @@
 """The version of the desk: the second number is the last change request that has landed. CHANGELOG.md has what is new."""
-VERSION = '0.15'
+VERSION = '0.16'
