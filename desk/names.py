@@ -13,3 +13,8 @@ def folded(name):
 def key_of(library, name):
     """What a member is looked up by; the library may be empty."""
     return folded(library), folded(name)
+
+
+def called(names):
+    """What hints call names."""
+    return ', '.join(name.decode('latin-1') for name in names)

@@ -70,6 +70,41 @@ def names_in(tokens):
     return list(names.values())
 
 
+def group_end(contents, first):
+    """The number behind a token, or where it is a `(` behind all up to its `)`."""
+    at = first
+    depth = 0
+    while at < len(contents) and (at == first or depth > 0):
+        depth += (contents[at] == b'(') - (contents[at] == b')')
+        at += 1
+    return at
+
+
+def split_at(tokens, mark):
+    """What stands before, between and behind the tokens that are a mark."""
+    parts = [[]]
+    for token in tokens:
+        if token.content == mark:
+            parts.append([])
+        else:
+            parts[-1].append(token)
+    return parts
+
+
+def begins_procedure(tokens):
+    """Whether labels come first, and then PROCEDURE."""
+    words = [token.word for token in tokens]
+    at = 0
+    while words[at + 1:at + 2] == [b':']:
+        at += 2
+    return at > 0 and at < len(words) and words[at] in PROCEDURES
+
+
+def procedures_in(tokens):
+    """The statements of each procedure, its heading first; it has no `%` before that of its END."""
+    return [split_at(part, b';') for part in split_at(tokens, b'%')[1:] if begins_procedure(part)]
+
+
 class Known:
     """What the members of a deck say of names, which are folded here."""
 

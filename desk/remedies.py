@@ -5,10 +5,9 @@ from desk.asking import answers_within
 from desk.candidates import what_could_stand
 from desk.includes import included, numbers_of
 from desk.limits import MOST, OPTIONS, lines_in
-from desk.names import folded, key_of
-from desk.reading import Known, in_source, names_in, statement_at, token_at, tokens_of
-
-NAME_LENGTH = 31
+from desk.names import called, folded, key_of
+from desk.overrun import over_a_limit, too_deep, too_long
+from desk.reading import Known, group_end, in_source, names_in, statement_at
 
 # where the sources say no more
 GENERAL = {
@@ -16,16 +15,9 @@ GENERAL = {
     9: 'each number on the way counts too, and so does the step behind the last pass of a DO',
     12: 'a procedure cannot call itself, also through others, and each way through it must meet a RETURN',
     13: 'a GOTO cannot enter an iterated group, leave a procedure, or go to a member that is not running',
-    16: 'a CHARACTER or BIT value has at most 512 places; split it into several',
     19: 'SUBSTR(S, I, N) needs I >= 1, N >= 0 and I + N - 1 <= the length of S; a number has 8 characters',
     20: 'a file with line ends is padded to records of 80; one without must be whole records',
 }
-LIMITS = ('a member has at most 1024 sentences, all members that are entered 2048 and 256 names; 16 groups or alternatives '
-          'can be open')
-
-
-def called(names):
-    return ', '.join(name.decode('latin-1') for name in names)
 
 
 class Case:
@@ -39,17 +31,6 @@ class Case:
         self.statement = statement_at(self.source, self.at)
         self.names = names_in(self.statement)
         self.is_statement = self.source[self.at:self.at + 1] == b'%'
-
-
-def over_a_limit(case):
-    """4: which limit."""
-    tokens = tokens_of(case.source)
-    token = (tokens[token_at(tokens, case.at):] or [None])[0]
-    if token and token.kind == 'name' and len(token.content) > NAME_LENGTH:
-        return [f'a name has at most {NAME_LENGTH} characters, and this one has {len(token.content)}']
-    if token and token.content == b'(':
-        return ['an expression has at most 16 parentheses open']
-    return [LIMITS]
 
 
 def twice(case):
@@ -87,12 +68,8 @@ def divisor(tokens):
     contents = [token.content for token in tokens]
     if b'/' not in contents:
         return ''
-    at = first = contents.index(b'/') + 1
-    depth = 0
-    while at < len(contents) and (at == first or depth > 0):
-        depth += (contents[at] == b'(') - (contents[at] == b')')
-        at += 1
-    return called(contents[first:at]).replace(', ', ' ').replace('( ', '(').replace(' )', ')')
+    first = contents.index(b'/') + 1
+    return called(contents[first:group_end(contents, first)]).replace(', ', ' ').replace('( ', '(').replace(' )', ')')
 
 
 def zero(case):
@@ -125,16 +102,6 @@ def not_found(case):
         elif not folders:
             hints.append('name its file too, or its folder with -I')
     return hints
-
-
-def too_deep(case):
-    """15: which levels."""
-    if any(token.word == b'INCLUDE' for token in case.statement):
-        return ['members can include each other 8 levels deep; does one include itself?']
-    if case.is_statement:
-        return ['16 procedures can run at once, and replacements go 32 levels deep']
-    return [f'replacements go 32 levels deep; does the value of {called(case.names)} lead to its own name? '
-            'Then %ACTIVATE it NORESCAN']
 
 
 def full_rooms(case):
@@ -170,7 +137,7 @@ def used_up(case):
 
 
 SPECIAL = {4: over_a_limit, 5: twice, 6: unknown, 7: valueless, 10: zero, 11: miscounted, 14: not_found, 15: too_deep,
-           17: full, 18: used_up}
+           16: too_long, 17: full, 18: used_up}
 
 
 def remedies(deck, answer, shelf, words, limits):

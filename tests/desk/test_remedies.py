@@ -3,13 +3,13 @@ import unittest
 from unittest import mock
 
 import house
-from desk import candidates
+from desk import candidates, overrun
 from desk import remedies as module
 from desk.answers import LAST_NUMBER, Answer
 from desk.decks import read_deck
 from desk.gathering import Folder, Shelf
 from desk.limits import MOST, STANDARD
-from desk.reading import Known, in_source, statement_at
+from desk.reading import Known, group_end, in_source, procedures_in, statement_at, tokens_of
 from desk.remedies import GENERAL, SPECIAL, remedies
 
 SHELF = Shelf(None, [])
@@ -86,7 +86,6 @@ class Hints(unittest.TestCase):
         self.assertEqual(self.hints(4, 1, b'%' + b'A' * 32 + b'=1;'),
                          ['a name has at most 31 characters, and this one has 32'])
         self.assertIn('16 parentheses', self.hints(4, 3, b'%A=((1));')[0])
-        self.assertIn('1024 sentences', self.hints(4, 0, b'%A=1;')[0])
         self.assertEqual(self.hints(4, 1, b'%' + b'aB' * 16 + b'=1;'),
                          ['a name has at most 31 characters, and this one has 32'])
         self.assertIn('include itself', self.hints(15, 0, b'%INCLUDE MAIN;')[0])
@@ -98,7 +97,8 @@ class Hints(unittest.TestCase):
 
     def test_every_case_has_a_hint(self):
         finished = lambda asked, *_: [Answer(0, 0, 0, 0, b'', [])] * len(asked)
-        with mock.patch.object(candidates, 'answers_to', finished), mock.patch.object(module, 'answers_within', finished):
+        with mock.patch.object(candidates, 'answers_to', finished), mock.patch.object(overrun, 'answers_to', finished), \
+                mock.patch.object(module, 'answers_within', finished):
             for content, is_cards, answer in house.cases():
                 number, member, offset, *_ = map(int, answer.split(b'\n')[0].split())
                 if number > 2:
@@ -159,6 +159,20 @@ class Reading(unittest.TestCase):
         self.assertEqual([one.content for one in statement_at(b'X %A = 1; Y', 2)], [b'%', b'A', b'=', b'1'])
         self.assertEqual([one.content for one in statement_at(b'X Y', 2)], [b'Y'])
         self.assertEqual(statement_at(b'', 0), [])
+
+    def test_group(self):
+        contents = [b'A', b'(', b'(', b')', b'B', b')', b'C', b'(', b'D']
+        self.assertEqual([group_end(contents, first) for first in (0, 1, 2, 7)], [1, 6, 4, 9])
+
+    def test_procedures(self):
+        """One in text is none; a word that is a label or a target begins none."""
+        source = (b"X: PROC; '%Y: PROC;' %P: Q: PROC(A) RETURNS(FIXED); IF A THEN RETURN(';'); ELSE RETURN(1); %END;"
+                  b'%PROC: ;%PROC = 1;%r: procedure returns(fixed); return(1); %end; Z;')
+        found = [[b' '.join(token.content for token in one) for one in procedure]
+                 for procedure in procedures_in(tokens_of(source))]
+        self.assertEqual(found, [[b'P : Q : PROC ( A ) RETURNS ( FIXED )', b"IF A THEN RETURN ( ';' )",
+                                  b'ELSE RETURN ( 1 )', b''],
+                                 [b'r : procedure returns ( fixed )', b'return ( 1 )', b'']])
 
     def test_place_on_cards(self):
         deck = read_deck(house.deck_of(MAIN=b' ' * 160), True)
