@@ -55,7 +55,7 @@ fn activate(deck: &[u8], s: &[u8], names: &mut [u16], count: u16, t: Lexeme, act
 // ---- from name to name
 
 // What stands beside the names of a list, by statement.
-#[derive(Drop)]
+#[derive(Clone, Copy)]
 enum Listed {
     Plainly,
     WithRescan,
@@ -101,7 +101,7 @@ fn past_close(s: &[u8], at: usize) -> usize
 }
 
 // The place of the next name, or that there is none.
-#[derive(Drop)]
+#[derive(Clone, Copy)]
 enum Following {
     NameAt(usize),
     AtEnd,

@@ -25,14 +25,14 @@ use tokens::{Lexeme, is_word, token_at, width};
 // ---- a statement that evaluates; its expression was evaluated last
 
 // A statement that was done, and the steps.
-#[derive(Drop)]
+#[derive(Clone, Copy)]
 pub enum Done {
     Good(Meter),
     Bad(Why, Meter),
 }
 
 // A variable that a statement sets, or that there is none.
-#[derive(Drop)]
+#[derive(Clone, Copy)]
 pub enum Variable {
     At(u16, ValueType),
     None,
@@ -87,7 +87,7 @@ pub fn stored(
 }
 
 // Whether an IF holds, and the steps.
-#[derive(Drop)]
+#[derive(Clone, Copy)]
 pub enum Tested {
     Is(bool, Meter),
     Bad(Why, Meter),
@@ -111,7 +111,7 @@ pub fn truth_of(work: &mut [u8], u: usize, x: Evaluated) -> Tested
 // ---- DO: its numbers
 
 // A number as stored and the place past its expression.
-#[derive(Drop)]
+#[derive(Clone, Copy)]
 pub enum Bound {
     Is(Fixed, usize, Meter),
     Bad(Why, Meter),
@@ -133,14 +133,14 @@ pub fn bound_of(work: &[u8], u: usize, x: Evaluated) -> Bound
 }
 
 // BY or TO that stands at a place.
-#[derive(Drop)]
+#[derive(Clone, Copy)]
 pub enum Word {
     Of(Side, usize),
     Neither,
 }
 
 // What a bound is: the step, or what the variable goes up to.
-#[derive(Drop)]
+#[derive(Clone, Copy)]
 pub enum Side {
     By,
     Upto,
@@ -160,7 +160,7 @@ pub fn bound_word(s: &[u8], at: usize) -> Word
 }
 
 // The frame of a group that is about to start and the place past the bounds that it has so far, or why there is none.
-#[derive(Drop)]
+#[derive(Clone, Copy)]
 pub enum Widened {
     Is(Frame, usize, Meter),
     Bad(Why, Meter),
@@ -239,7 +239,7 @@ pub fn control_address(v: Variable) -> Link
 }
 
 // An iterated group that starts: its frame, whether its first pass begins.
-#[derive(Drop)]
+#[derive(Clone, Copy)]
 pub enum Started {
     Is(Frame, bool, Meter),
     Bad(Why, Meter),
@@ -309,14 +309,14 @@ fn summed(x: Fixed, by: Answer) -> Answer
 // ---- where control goes in a body; `part` is the rows of its member
 
 // What comes behind a statement of a body: another, the value of RETURN, or a refusal.
-#[derive(Drop)]
+#[derive(Clone, Copy)]
 pub enum Step {
     On(Next, Meter),
     Gave(Value, Meter),
     Bad(Why, Meter),
 }
 
-#[derive(Drop)]
+#[derive(Clone, Copy)]
 pub struct Turned {
     pub frames: Frames,
     pub step: Step,
@@ -402,7 +402,7 @@ pub fn on_return(work: &mut [u8], fs: Frames, u: usize, t: ValueType, x: Evaluat
 // ---- GOTO in a body
 
 // A label that GOTO names, or why it may not.
-#[derive(Drop)]
+#[derive(Clone, Copy)]
 pub enum Jump {
     To(Label),
     Bad(Why),

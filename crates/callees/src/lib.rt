@@ -28,7 +28,7 @@ use tokens::{is_sign, token_at, width};
 
 // ---- what a name means
 
-#[derive(Drop)]
+#[derive(Clone, Copy)]
 pub enum Meant {
     AVariable(u16, ValueType),
     AnEntry(Body),
@@ -88,7 +88,7 @@ pub fn meant_by(
 
 // ---- procedures that are running
 
-#[derive(Drop)]
+#[derive(Clone, Copy)]
 pub struct Running {
     // how many may still be started
     pub left: usize,
@@ -154,14 +154,14 @@ pub fn started(g: Running, p: Place) -> Running
 // ---- parameters
 
 // A parameter: its address, its type, and the place behind it in the list.
-#[derive(Drop)]
+#[derive(Clone, Copy)]
 pub struct Parameter {
     pub address: u16,
     pub value_type: ValueType,
     pub to: usize,
 }
 
-#[derive(Drop)]
+#[derive(Clone, Copy)]
 pub enum ParameterAt {
     Is(Parameter),
     Wrong,
@@ -203,14 +203,14 @@ pub fn parameter_at(
 }
 
 // A body that can be called: where it is, where its parameters are listed, and how many they are.
-#[derive(Drop)]
+#[derive(Clone, Copy)]
 pub struct Callee {
     pub place: Place,
     pub list: usize,
     pub count: usize,
 }
 
-#[derive(Drop)]
+#[derive(Clone, Copy)]
 pub enum Called {
     Is(Callee),
     Fails(Why),
@@ -288,7 +288,7 @@ pub fn callee_of(
 
 // ---- arguments that wait: of a FIXED the number as it is stored, of a CHARACTER the length of what lies in the work room
 
-#[derive(Drop)]
+#[derive(Clone, Copy)]
 pub struct Held {
     pub numbers: [u32; 256],
 }

@@ -13,33 +13,33 @@ use member::body_of;
 use rooms::{byte, get_u16, get_u32};
 
 // A sound deck, by the number of its lines.
-#[derive(Drop)]
+#[derive(Clone, Copy)]
 pub struct Deck {
     pub lines: u16,
 }
 
-#[derive(Drop)]
+#[derive(Clone, Copy)]
 pub enum Contents {
     Malformed,
     Sound(Deck),
 }
 
 // Where a name is spelled in the deck.
-#[derive(Drop)]
+#[derive(Clone, Copy)]
 pub struct Spelled {
     pub from: usize,
     pub len: usize,
 }
 
 // What INCLUDE names: a member, or a library and a member of it.
-#[derive(Drop)]
+#[derive(Clone, Copy)]
 pub enum Sought {
     Bare(Spelled),
     InLibrary(Spelled, Spelled),
 }
 
 // Which line is sought.
-#[derive(Drop)]
+#[derive(Clone, Copy)]
 pub enum Found {
     Line(u16),
     Nothing,

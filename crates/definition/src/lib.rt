@@ -1,7 +1,7 @@
 // The definition stands in specs/; here are the plain types that it and the code both name.
 
 // The class of a byte.
-#[derive(Drop)]
+#[derive(Clone, Copy)]
 pub enum Class {
     Letter,
     Digit,
@@ -15,7 +15,7 @@ pub enum Class {
 }
 
 // Why a deck is refused, in the order of 01's table.
-#[derive(Drop)]
+#[derive(Clone, Copy)]
 pub enum Why {
     MalformedDeck,
     ShortRoom,
@@ -40,14 +40,14 @@ pub enum Why {
 }
 
 // What the bodies of a deck are: source as it stands, or records of 80 columns.
-#[derive(Drop)]
+#[derive(Clone, Copy)]
 pub enum Layout {
     Plain,
     Cards,
 }
 
 // The infix operators of 000, 3.2.1, and the prefix ones.
-#[derive(Drop)]
+#[derive(Clone, Copy)]
 pub enum Operator {
     OrOp,
     AndOp,
@@ -66,7 +66,7 @@ pub enum Operator {
     Divided,
 }
 
-#[derive(Drop)]
+#[derive(Clone, Copy)]
 pub enum Prefix {
     Positive,
     Negative,
@@ -74,7 +74,7 @@ pub enum Prefix {
 }
 
 // The types that a variable, a parameter or a procedure is declared with.
-#[derive(Drop)]
+#[derive(Clone, Copy)]
 pub enum ValueType {
     FixedType,
     CharacterType,

@@ -16,7 +16,7 @@ use names::{
 use sums::less;
 
 // What a declaration makes of a name.
-#[derive(Drop)]
+#[derive(Clone, Copy)]
 pub enum Meaning {
     Variable(ValueType),
     EntryOnly,
@@ -27,7 +27,7 @@ pub enum Meaning {
 }
 
 // A place that was met, or none.
-#[derive(Drop)]
+#[derive(Clone, Copy)]
 pub enum Mark {
     Unmarked,
     Marked(usize),
@@ -35,7 +35,7 @@ pub enum Mark {
 
 // The member whose names are declared, and where its body begins in the deck; how many names there are; the first name that is
 // one too many, and the first that is declared twice.
-#[derive(Drop)]
+#[derive(Clone, Copy)]
 pub struct Tally {
     pub member: u16,
     pub base: u16,
@@ -45,7 +45,7 @@ pub struct Tally {
 }
 
 // Where a name is spelled in its member's body.
-#[derive(Drop)]
+#[derive(Clone, Copy)]
 pub struct Spelling {
     pub from: usize,
     pub to: usize,
@@ -130,7 +130,7 @@ fn denotation_of(m: u16, x: Meaning) -> Denotation
 }
 
 // What two declarations make of a name together.
-#[derive(Drop)]
+#[derive(Clone, Copy)]
 enum Joint {
     Joined(Denotation),
     Twice,
@@ -272,7 +272,7 @@ pub fn declare(
 }
 
 // What is wrong with a member, if anything is.
-#[derive(Drop)]
+#[derive(Clone, Copy)]
 pub enum Fault {
     Sound,
     Faulty(Why, usize),

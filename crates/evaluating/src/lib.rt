@@ -34,14 +34,14 @@ use tokens::{Kind, Lexeme, is_sign, token_at};
 // ---- expressions and calls: `left` is the parentheses that may still be opened
 
 // The arguments that wait, the first of them, and the place past their list.
-#[derive(Drop)]
+#[derive(Clone, Copy)]
 struct Taken {
     held: Held,
     first: Value,
     outcome: Outcome,
 }
 
-#[derive(Drop)]
+#[derive(Clone, Copy)]
 enum Outcome {
     Upto(usize, Meter),
     Failed(Why, Meter),

@@ -17,14 +17,14 @@ use writing::{large_room, write_answer};
 const LARGEST: u32 = 1_048_576;
 
 // What was said of a limit so far; if it was wrong, the reason has been told.
-#[derive(Drop)]
+#[derive(Clone, Copy)]
 enum Said {
     Nothing,
     Number(u32),
     Wrong,
 }
 
-#[derive(Drop)]
+#[derive(Clone, Copy)]
 struct Order {
     steps: Said,
     text: Said,
@@ -32,14 +32,14 @@ struct Order {
 }
 
 // The limits of a run.
-#[derive(Drop)]
+#[derive(Clone, Copy)]
 struct Limits {
     steps: u32,
     text: usize,
     list: usize,
 }
 
-#[derive(Drop)]
+#[derive(Clone, Copy)]
 enum Asked {
     Run(Limits),
     Nothing,

@@ -21,7 +21,7 @@ use running::run;
 use texts::{Progress, Ran, Stop, size32};
 
 // The six numbers of an answer.
-#[derive(Drop)]
+#[derive(Clone, Copy)]
 pub struct Expansion {
     pub number: u32,
     pub member: u32,
@@ -32,7 +32,7 @@ pub struct Expansion {
 }
 
 // What is refused before a run.
-#[derive(Drop)]
+#[derive(Clone, Copy)]
 enum Early {
     Refused(Expansion),
     Runs,

@@ -16,27 +16,27 @@ use tokens::{Kind, Lexeme, is_sign, is_word, is_word_kind, token_at, width};
 pub const LEVELS: usize = 6;
 
 // The infix operator that stands next, and the place past it.
-#[derive(Drop)]
+#[derive(Clone, Copy)]
 pub enum InfixAt {
     Is(Operator, usize),
     Other,
 }
 
-#[derive(Drop)]
+#[derive(Clone, Copy)]
 pub enum PrefixAt {
     Is(Prefix, usize),
     Other,
 }
 
 // The place past what must follow, or the refusal and its place.
-#[derive(Drop)]
+#[derive(Clone, Copy)]
 pub enum Expected {
     Past(usize),
     Refused(Why, usize),
 }
 
 // A name: where it begins and the place past it.
-#[derive(Drop)]
+#[derive(Clone, Copy)]
 pub enum NamedAt {
     Is(usize, usize),
     Refused(Why, usize),
@@ -204,7 +204,7 @@ pub fn expect_word(s: &[u8], at: usize, w: &[u8]) -> Expected
 }
 
 // Prefix operators: how many they are, and the place behind them.
-#[derive(Drop)]
+#[derive(Clone, Copy)]
 pub struct Prefixes {
     pub count: usize,
     pub to: usize,

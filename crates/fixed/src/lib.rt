@@ -7,13 +7,13 @@ ghost use Rattle.definition.specs.Values.{signed_by};
 ghost use Rattle.fixed.specs.Answer.{result_of};
 ghost use Rattle.fixed.specs.Signed.{eq_z, stored_of, from_stored, Widened};
 
-#[derive(Drop)]
+#[derive(Clone, Copy)]
 pub struct Fixed {
     pub value: i32,
 }
 
 // What arithmetic gives: a number in range, or why there is none.
-#[derive(Drop)]
+#[derive(Clone, Copy)]
 pub enum Answer {
     Is(Fixed),
     OutOfRange,

@@ -11,7 +11,7 @@ use names::Label;
 use rows::{Link, Role, Row, Statement, row_at};
 
 // What begins next: a statement, another test of an iterated group, or nothing.
-#[derive(Drop)]
+#[derive(Clone, Copy)]
 pub enum Next {
     Begin(u16),
     Again(u16),
@@ -19,14 +19,14 @@ pub enum Next {
 }
 
 // One step behind a row: what begins next, or that it is what comes behind another row.
-#[derive(Drop)]
+#[derive(Clone, Copy)]
 pub enum Walk {
     To(Next),
     Up(u16),
 }
 
 // An iterated group that was entered: the address of its variable, BY and TO as stored (0: no TO). Without both there is one pass.
-#[derive(Drop)]
+#[derive(Clone, Copy)]
 pub struct Frame {
     pub group: Link,
     pub address: u16,
@@ -36,7 +36,7 @@ pub struct Frame {
 }
 
 // One for each depth at which a group can stand.
-#[derive(Drop)]
+#[derive(Clone, Copy)]
 pub struct Frames {
     pub items: [Frame; 16],
 }

@@ -10,7 +10,7 @@ use rows::{Link, Starts, part_of};
 use tokens::{token_at, width};
 
 // Members that are running below this one: how many, and of each the row where it stands.
-#[derive(Drop)]
+#[derive(Clone, Copy)]
 pub struct Below {
     pub count: usize,
     pub members: [u16; 16],
@@ -57,7 +57,7 @@ fn row_below(b: Below, member: u16) -> Link
 }
 
 // A label that GOTO leads to, here or in a member below, or why it may not.
-#[derive(Drop)]
+#[derive(Clone, Copy)]
 pub enum Jump {
     Here(Label),
     Away(Label),

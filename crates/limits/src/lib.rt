@@ -6,7 +6,7 @@ ghost use Rattle.definition.specs.Limits.{include_levels, replacement_levels, ru
 ghost use Rattle.limits.specs.Checked.{name_of, value_of, name_refusal, value_refusal};
 
 // A record of a card image, by its columns: the source begins with the second.
-#[derive(Drop)]
+#[derive(Clone, Copy)]
 pub struct Record {
     pub columns: usize,
 }
@@ -18,12 +18,12 @@ impl Record {
 }
 
 // A name in a statement, by its length.
-#[derive(Drop)]
+#[derive(Clone, Copy)]
 pub struct Name {
     pub length: usize,
 }
 
-#[derive(Drop)]
+#[derive(Clone, Copy)]
 pub enum Named {
     Is(Name),
     TooLong,
@@ -54,12 +54,12 @@ pub fn name_refusal(n: Named) -> u8
 }
 
 // A CHARACTER or BIT value, by its length.
-#[derive(Drop)]
+#[derive(Clone, Copy)]
 pub struct Value {
     pub length: usize,
 }
 
-#[derive(Drop)]
+#[derive(Clone, Copy)]
 pub enum Valued {
     Is(Value),
     TooLong,
@@ -90,7 +90,7 @@ pub fn value_refusal(v: Valued) -> u8
 }
 
 // How many sentences and procedure statements there are in a member, and in all members entered.
-#[derive(Drop)]
+#[derive(Clone, Copy)]
 pub struct Sentences {
     pub in_member: usize,
     pub entered: usize,
@@ -115,7 +115,7 @@ impl Sentences {
 }
 
 // How many names are declared in the members entered.
-#[derive(Drop)]
+#[derive(Clone, Copy)]
 pub struct Names {
     pub declared: usize,
 }
@@ -131,7 +131,7 @@ impl Names {
 }
 
 // What is open at a place: parentheses of an expression, groups and alternatives of a member.
-#[derive(Drop)]
+#[derive(Clone, Copy)]
 pub struct Nesting {
     pub parentheses: usize,
     pub groups: usize,
@@ -156,7 +156,7 @@ impl Nesting {
 }
 
 // How deep a run stands: members included, replacements, procedures running.
-#[derive(Drop)]
+#[derive(Clone, Copy)]
 pub struct Levels {
     pub includes: usize,
     pub replacements: usize,
@@ -190,7 +190,7 @@ impl Levels {
 }
 
 // What the text room and the room of unfinished values hold, in bytes.
-#[derive(Drop)]
+#[derive(Clone, Copy)]
 pub struct Filling {
     pub text: usize,
     pub unfinished: usize,
@@ -215,7 +215,7 @@ impl Filling {
 }
 
 // The rooms that the program lends, in bytes.
-#[derive(Drop)]
+#[derive(Clone, Copy)]
 pub struct Rooms {
     pub text: usize,
     pub list: usize,

@@ -2,7 +2,7 @@
 ghost use Rattle.std.specs.Prelude.{◌≡◌};
 ghost use Rattle.member.specs.Body.{body_bytes};
 
-#[derive(Drop)]
+#[derive(Clone, Copy)]
 pub struct Member<'a> {
     pub deck: &'a [u8],
     pub offset: usize,

@@ -3,14 +3,14 @@ ghost use Rattle.std.specs.Prelude.{◌≡◌};
 ghost use Rattle.definition.specs.Limits.{program_steps};
 ghost use Rattle.meter.specs.Charges.{Charges};
 
-#[derive(Drop)]
+#[derive(Clone, Copy)]
 pub struct Meter {
     pub limit: u32,
     pub used: u32,
 }
 
 // What comes of a step that is due: whether it was paid, and the meter after it.
-#[derive(Drop)]
+#[derive(Clone, Copy)]
 pub struct Charged {
     pub paid: bool,
     pub meter: Meter,

@@ -15,48 +15,48 @@ use rooms::{number16, put_number16};
 use types::{type_in, type_number};
 
 // Where an identifier is spelled in the deck: its place and its length.
-#[derive(Drop)]
+#[derive(Clone, Copy)]
 pub struct Identifier(pub u16, pub u16);
 
 // The number of a record, by which values are kept.
-#[derive(Drop)]
+#[derive(Clone, Copy)]
 pub struct Address(pub u16);
 
 // A row of a member.
-#[derive(Drop)]
+#[derive(Clone, Copy)]
 pub struct Place {
     pub member: u16,
     pub row: u16,
 }
 
 // Who sees a name: all of the program, or one procedure.
-#[derive(Drop)]
+#[derive(Clone, Copy)]
 pub enum Owner {
     Everyone,
     Procedure(Place),
 }
 
-#[derive(Drop)]
+#[derive(Clone, Copy)]
 pub enum Body {
     Nothing,
     At(Place),
 }
 
 // An entry: whether ENTRY declares it, and its body.
-#[derive(Drop)]
+#[derive(Clone, Copy)]
 pub struct Entry {
     pub declared: bool,
     pub body: Body,
 }
 
 // A label of a row, or of the END of a row.
-#[derive(Drop)]
+#[derive(Clone, Copy)]
 pub struct Label {
     pub place: Place,
     pub is_end: bool,
 }
 
-#[derive(Drop)]
+#[derive(Clone, Copy)]
 pub enum Denotation {
     Variable(ValueType),
     EntryName(Entry),
@@ -64,14 +64,14 @@ pub enum Denotation {
     Builtin,
 }
 
-#[derive(Drop)]
+#[derive(Clone, Copy)]
 pub enum Activity {
     Inactive,
     Rescanned,
     CopiedOnly,
 }
 
-#[derive(Drop)]
+#[derive(Clone, Copy)]
 pub struct Name {
     pub identifier: Identifier,
     pub owner: Owner,
@@ -79,7 +79,7 @@ pub struct Name {
     pub activity: Activity,
 }
 
-#[derive(Drop)]
+#[derive(Clone, Copy)]
 pub enum Found {
     Known(Address),
     Unknown,

@@ -25,7 +25,7 @@ use tokens::{Ending, Lexeme, is_sign, is_word, is_word_kind, token_at, width};
 
 // ---- what is open
 
-#[derive(Drop)]
+#[derive(Clone, Copy)]
 pub enum Where {
     InProgram,
     InGroup,
@@ -35,7 +35,7 @@ pub enum Where {
 }
 
 // What is open: its row, the last row of its list so far, and where the labels stand that END may name.
-#[derive(Drop)]
+#[derive(Clone, Copy)]
 pub struct Open {
     pub kind: Where,
     pub row: u16,
@@ -44,7 +44,7 @@ pub struct Open {
 }
 
 // At most the program, 17 groups and alternatives, and a procedure.
-#[derive(Drop)]
+#[derive(Clone, Copy)]
 pub struct Opened {
     pub count: usize,
     pub items: [Open; 20],
@@ -285,7 +285,7 @@ pub fn scope_out(k: Where, scope: Owner) -> Owner
 // ---- labels
 
 // Labels: how many they are, the first that is too long, and the place behind them.
-#[derive(Drop)]
+#[derive(Clone, Copy)]
 pub struct Labels {
     pub count: usize,
     pub long: Mark,
@@ -534,7 +534,7 @@ fn else_at(s: &[u8], scope: Owner, e: usize) -> Mark
 }
 
 // Whether an alternative is done, or an ELSE follows it, or sentences of a list go on.
-#[derive(Drop)]
+#[derive(Clone, Copy)]
 pub enum Done {
     Up(u16),
     OnElse(u16, usize),

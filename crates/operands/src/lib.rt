@@ -23,7 +23,7 @@ use values::{NumberAnswer, constant_number};
 
 // Who sees names: how many there are, where the rows of each member start, from which scope names are seen, and which procedures are
 // running.
-#[derive(Drop)]
+#[derive(Clone, Copy)]
 pub struct Scene {
     pub names: u16,
     pub starts: Starts,
@@ -32,7 +32,7 @@ pub struct Scene {
 }
 
 // A value at u and the place past its expression, or why there is none; and the steps.
-#[derive(Drop)]
+#[derive(Clone, Copy)]
 pub enum Evaluated {
     Is(Value, usize, Meter),
     Failed(Why, Meter),
@@ -100,7 +100,7 @@ pub fn with_infix(work: &mut [u8], u: usize, o: Operator, x: Value, y: Evaluated
 const BLOCK: usize = 256;
 
 // Prefix operators as numbers.
-#[derive(Drop)]
+#[derive(Clone, Copy)]
 struct Signs {
     items: [u8; 256],
 }
@@ -282,21 +282,21 @@ pub fn count_arguments(s: &[u8], from: usize, left: usize) -> usize
 }
 
 // What an argument is to be made: of a parameter's type, or what SUBSTR is taken of.
-#[derive(Drop)]
+#[derive(Clone, Copy)]
 pub enum Wish {
     As(ValueType),
     AsSubject,
 }
 
 // Whose arguments are taken: those of a procedure, or of SUBSTR.
-#[derive(Drop)]
+#[derive(Clone, Copy)]
 pub enum Target {
     Entry(Callee),
     Substr(usize),
 }
 
 // The wish for the next argument, and where the next parameter is listed.
-#[derive(Drop)]
+#[derive(Clone, Copy)]
 pub struct Wished {
     pub wish: Wish,
     pub to: usize,
@@ -437,7 +437,7 @@ pub fn plain_value(
 }
 
 // Whose arguments a list of n takes, or why none does: 6, then 11.
-#[derive(Drop)]
+#[derive(Clone, Copy)]
 pub enum Aim {
     At(Target),
     Fails(Why),

@@ -23,20 +23,20 @@ use values::{
 };
 
 // A number, or so many bytes of the work room.
-#[derive(Drop)]
+#[derive(Clone, Copy)]
 pub enum Value {
     Number(Fixed),
     Characters(usize),
     Bits(usize),
 }
 
-#[derive(Drop)]
+#[derive(Clone, Copy)]
 pub enum Given {
     Gives(Value),
     Fails(Why),
 }
 
-#[derive(Drop)]
+#[derive(Clone, Copy)]
 pub enum NumberGiven {
     Is(Fixed),
     Fails(Why),
@@ -224,7 +224,7 @@ pub fn subject(work: &mut [u8], u: usize, v: Value) -> Given
     }
 }
 
-#[derive(Drop)]
+#[derive(Clone, Copy)]
 pub enum Truth {
     Is(bool),
     Fails(Why),
@@ -296,7 +296,7 @@ fn arithmetic(o: Operator, a: Fixed, b: Fixed) -> Answer
 }
 
 // Two sides as numbers, the first converted first.
-#[derive(Drop)]
+#[derive(Clone, Copy)]
 enum Pair {
     Are(Fixed, Fixed),
     Fails(Why),
@@ -328,7 +328,7 @@ fn calculated(work: &[u8], u: usize, o: Operator, x: Value, y: Value) -> Given
     }
 }
 
-#[derive(Drop)]
+#[derive(Clone, Copy)]
 enum OrderGiven {
     Is(Order),
     Fails(Why),

@@ -28,7 +28,7 @@ use tokens::{Piece, PieceKind, piece_at};
 use values::put_fixed;
 
 // What is scanned: a stretch of a body, or of the work room.
-#[derive(Drop)]
+#[derive(Clone, Copy)]
 pub struct Src {
     pub in_work: bool,
     pub from: usize,
@@ -36,7 +36,7 @@ pub struct Src {
 }
 
 // Where an outcome goes: into the text room from a place on, or into the work room above what waits; and how many bytes may go.
-#[derive(Drop)]
+#[derive(Clone, Copy)]
 pub struct Dest {
     pub to_work: bool,
     pub at: usize,
@@ -74,7 +74,7 @@ pub fn piece_of(s: &[u8], work: &[u8], x: Src, p: usize) -> Piece
 }
 
 // A name that is active, by its address.
-#[derive(Drop)]
+#[derive(Clone, Copy)]
 pub enum Active {
     NotActive,
     IsActive(Address, Activity),
@@ -220,14 +220,14 @@ fn put_bytes(
 }
 
 // An outcome so far, or a refusal; and the steps.
-#[derive(Drop)]
+#[derive(Clone, Copy)]
 pub enum Scanned {
     Good(usize, Meter),
     Bad(Why, Meter),
 }
 
 // The outcome of one replacement and the place behind it.
-#[derive(Drop)]
+#[derive(Clone, Copy)]
 pub enum Replaced {
     Good(usize, usize, Meter),
     Bad(Why, Meter),
@@ -268,7 +268,7 @@ pub fn copy_token(
 // ---- argument lists
 
 // Where an argument ends: at a comma, or at the parenthesis that closes the list.
-#[derive(Drop)]
+#[derive(Clone, Copy)]
 enum Ending {
     Comma(usize),
     Close(usize),
@@ -323,7 +323,7 @@ fn is_outer_comma(b: u8, open: usize) -> bool
 }
 
 // A list: how many arguments it has, where the first begins, and the place past it.
-#[derive(Drop)]
+#[derive(Clone, Copy)]
 pub enum Listing {
     Upto(usize, usize, usize),
     NoList,

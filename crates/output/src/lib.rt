@@ -10,7 +10,7 @@ use rooms::{copy, put_byte, put_u32};
 use sums::{less, sum, sum32};
 
 // The newest line of the list; kind 0 where there is none.
-#[derive(Drop)]
+#[derive(Clone, Copy)]
 pub struct Newest {
     pub kind: u8,
     pub member: u8,
@@ -19,7 +19,7 @@ pub struct Newest {
 }
 
 // What has been put out: bytes and lines; the bytes and lines that the rooms may still take; the newest line.
-#[derive(Drop)]
+#[derive(Clone, Copy)]
 pub struct Out {
     pub text: usize,
     pub room: usize,
@@ -28,7 +28,7 @@ pub struct Out {
     pub newest: Newest,
 }
 
-#[derive(Drop)]
+#[derive(Clone, Copy)]
 pub enum Put {
     Done(Out),
     Full,

@@ -16,14 +16,14 @@ use rooms::{byte, copy, is_same, put_byte, put_u16, put_u32};
 use sums::sum;
 
 // Where the deck ends so far, or that there is none; then its reason has been said.
-#[derive(Drop)]
+#[derive(Clone, Copy)]
 enum Packed {
     To(u32),
     Refused,
 }
 
 // What one read brought.
-#[derive(Drop)]
+#[derive(Clone, Copy)]
 enum Came {
     To(u32),
     Nothing,
@@ -31,7 +31,7 @@ enum Came {
 }
 
 // What the arguments ask for: which is the first member, how many there are, and whether lines name libraries.
-#[derive(Drop)]
+#[derive(Clone, Copy)]
 struct Order {
     first: usize,
     members: u16,

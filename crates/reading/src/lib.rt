@@ -36,7 +36,7 @@ use tokens::{Ending, Lexeme, is_sign, is_word, is_word_kind, text_end, token_at,
 
 // ---- what has been read
 
-#[derive(Drop)]
+#[derive(Clone, Copy)]
 pub struct State {
     // sentences entered before this member, and the rows of the member so far
     pub entered: u16,
@@ -50,7 +50,7 @@ pub struct State {
 
 // What comes next: the text that the program or a group begins with, the text behind the sentence of a row, the statement of an
 // alternative, or in a procedure a statement or END.
-#[derive(Drop)]
+#[derive(Clone, Copy)]
 enum Mode {
     Leading,
     Behind(u16),
@@ -58,14 +58,14 @@ enum Mode {
     Inner,
 }
 
-#[derive(Drop)]
+#[derive(Clone, Copy)]
 enum Next {
     Go(Mode, usize),
     Stop(Why, usize),
     Finish,
 }
 
-#[derive(Drop)]
+#[derive(Clone, Copy)]
 struct Turned {
     state: State,
     next: Next,
@@ -732,7 +732,7 @@ fn turn(
 // ---- the member
 
 // A member that was read: its first row and its leading text; how many rows it has; the names that there are now; what is wrong with it.
-#[derive(Drop)]
+#[derive(Clone, Copy)]
 pub struct Source {
     pub first: Link,
     pub lead: Stretch,

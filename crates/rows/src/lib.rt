@@ -12,7 +12,7 @@ use rooms::{number16, put_number16};
 use types::{type_in, type_number};
 
 // The statements of 000, 3.2.1.
-#[derive(Drop)]
+#[derive(Clone, Copy)]
 pub enum Statement {
     Null,
     Declare,
@@ -29,7 +29,7 @@ pub enum Statement {
 }
 
 // What a row is to its parent: one of its list, or an alternative.
-#[derive(Drop)]
+#[derive(Clone, Copy)]
 pub enum Role {
     Listed,
     ThenPart,
@@ -37,20 +37,20 @@ pub enum Role {
 }
 
 // Another row, or none.
-#[derive(Drop)]
+#[derive(Clone, Copy)]
 pub enum Link {
     Nowhere,
     To(u16),
 }
 
 // A text, from a place of the body to another.
-#[derive(Drop)]
+#[derive(Clone, Copy)]
 pub struct Stretch {
     pub from: u16,
     pub to: u16,
 }
 
-#[derive(Drop)]
+#[derive(Clone, Copy)]
 pub struct Row {
     pub statement: Statement,
     // of its `%`, or in a procedure of its first token
@@ -281,7 +281,7 @@ pub fn set_text(rows: &mut [u16], n: u16, x: Stretch)
 // ---- the rows of a member
 
 // Which row of the table is the first of each member, by the lines of the deck.
-#[derive(Drop)]
+#[derive(Clone, Copy)]
 pub struct Starts {
     pub at: [u16; 32],
 }

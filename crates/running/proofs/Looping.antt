@@ -51,7 +51,7 @@ use Rattle.texts.specs.declared.Stop.{Stop}
 use Rattle.texts.specs.declared.Ran.{Ran}
 use Rattle.texts.specs.declared.Ran.TheVariants as Rn
 use Rattle.texts.specs.Shown.{stretch_for, stop_for, After, RanAs, Lies}
-use Rattle.texts.specs.Contracts.{lead_text, LeadIs}
+use Rattle.texts.specs.Promises.{lead_text, LeadIs}
 use Rattle.texts.proofs.Common.{body_size}
 use Rattle.stepping.specs.declared.Ended.{Ended}
 use Rattle.stepping.specs.declared.Ended.TheVariants as En

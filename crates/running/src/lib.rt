@@ -31,7 +31,7 @@ use tokens::{Lexeme, is_sign, token_at, width};
 // ---- where members stand
 
 // How the rows of a member have ended, and where the rows of each member start since.
-#[derive(Drop)]
+#[derive(Clone, Copy)]
 struct Left {
     ended: Ended,
     starts: Starts,
@@ -45,7 +45,7 @@ fn left_at(here: Here, ended: Ended) -> Left
 }
 
 // A turn of a member, and where the rows of each member start since.
-#[derive(Drop)]
+#[derive(Clone, Copy)]
 struct Begun {
     turned: Turned,
     starts: Starts,
@@ -156,7 +156,7 @@ fn forget(cells: &mut [u32], from: u16, to: u16)
 // ---- INCLUDE
 
 // An item of its list: what it names, where the body spells it, and the place past it.
-#[derive(Drop)]
+#[derive(Clone, Copy)]
 struct Item {
     sought: Sought,
     to: usize,

@@ -22,13 +22,13 @@ use outcomes::{
 use sums::{less, sum};
 
 // The arguments that wait, or a refusal; and the steps.
-#[derive(Drop)]
+#[derive(Clone, Copy)]
 struct Taken {
     held: Held,
     outcome: Outcome,
 }
 
-#[derive(Drop)]
+#[derive(Clone, Copy)]
 enum Outcome {
     All(Meter),
     Bad(Why, Meter),

@@ -21,7 +21,7 @@ use rows::Statement;
 use tokens::{Lexeme, is_sign, is_word, token_at, width};
 
 // The words that begin statements.
-#[derive(Drop)]
+#[derive(Clone, Copy)]
 pub enum Keyword {
     If,
     Do,
@@ -37,7 +37,7 @@ pub enum Keyword {
 }
 
 // What a statement opens: nothing, a group, a procedure's body, or the THEN alternative.
-#[derive(Drop)]
+#[derive(Clone, Copy)]
 pub enum Opens {
     Nothing,
     Group,
@@ -46,7 +46,7 @@ pub enum Opens {
 }
 
 // A statement that was read: where it is read again when it runs, the place past it, and of a procedure its type.
-#[derive(Drop)]
+#[derive(Clone, Copy)]
 pub struct Clause {
     pub statement: Statement,
     pub opens: Opens,
@@ -55,14 +55,14 @@ pub struct Clause {
     pub value_type: ValueType,
 }
 
-#[derive(Drop)]
+#[derive(Clone, Copy)]
 pub enum Read {
     Is(Clause),
     Refused(Why, usize),
 }
 
 // What the items of a list are.
-#[derive(Drop)]
+#[derive(Clone, Copy)]
 enum Each {
     Name,
     Activation,
@@ -70,7 +70,7 @@ enum Each {
 }
 
 // The names that were read count even where the statement is wrong.
-#[derive(Drop)]
+#[derive(Clone, Copy)]
 pub struct Declaring {
     pub tally: Tally,
     pub read: Read,
@@ -443,7 +443,7 @@ fn declare_names(
 }
 
 // One item of a declaration: where its names begin, how many there may be, and the place past them.
-#[derive(Drop)]
+#[derive(Clone, Copy)]
 struct Item {
     names: usize,
     most: usize,
@@ -468,7 +468,7 @@ fn item_at(s: &[u8], at: usize) -> Item
     }
 }
 
-#[derive(Drop)]
+#[derive(Clone, Copy)]
 enum Attribute {
     Means(Meaning),
     Missing,
@@ -506,7 +506,7 @@ fn attribute_at(s: &[u8], t: Lexeme, owner: Owner) -> Attribute
 }
 
 // What an item is: its meaning and the place past its attribute, or why it is wrong.
-#[derive(Drop)]
+#[derive(Clone, Copy)]
 enum Itemized {
     Means(Meaning, usize),
     Refused(Why, usize),
@@ -649,7 +649,7 @@ fn parameters(s: &[u8], tally: Tally, list: usize) -> Tally
 }
 
 // The type that a procedure returns, and the place past it.
-#[derive(Drop)]
+#[derive(Clone, Copy)]
 enum Typed {
     Is(ValueType, usize),
     Refused(Why, usize),

@@ -39,7 +39,7 @@ use Rattle.texts.specs.declared.Stop.{Stop}
 use Rattle.texts.specs.declared.Ran.{Ran}
 use Rattle.texts.specs.declared.Ran.TheVariants as Rn
 use Rattle.texts.specs.Shown.{with_meter, stretch_for, stop_for, After, RanAs}
-use Rattle.texts.specs.Contracts.{lead_text, LeadIs}
+use Rattle.texts.specs.Promises.{lead_text, LeadIs}
 use Rattle.texts.proofs.Looping.{lead_is}
 use Rattle.stepping.specs.declared.Step.TheVariants as St
 use Rattle.stepping.specs.declared.Turned.{Turned}

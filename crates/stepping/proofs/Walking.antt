@@ -33,7 +33,7 @@ use Rattle.texts.specs.declared.Stop.{Stop}
 use Rattle.texts.specs.declared.Ran.{Ran}
 use Rattle.texts.specs.declared.Ran.TheVariants as Rn
 use Rattle.texts.specs.Shown.{stretch_for, stop_for, Goes, After, RanAs}
-use Rattle.texts.specs.Contracts.{TextIs}
+use Rattle.texts.specs.Promises.{TextIs}
 use Rattle.texts.proofs.Common.{goes_none, goes_on_lem}
 use Rattle.texts.proofs.Looping.{out_is}
 use Rattle.stepping.specs.declared.Onward.{Onward}

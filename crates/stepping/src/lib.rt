@@ -26,7 +26,7 @@ pub fn part_here(rows: &[u16], here: Here) -> &[u16]
 // ---- where control goes, and what is put out on the way
 
 // What comes next in a member, or a refusal.
-#[derive(Drop)]
+#[derive(Clone, Copy)]
 enum Onward {
     Good(Next, Progress),
     Bad(Stop, Progress),
@@ -123,14 +123,14 @@ fn follow(
 // ---- statements
 
 // What a statement does: control goes on, a GOTO leads out of the member, or a refusal.
-#[derive(Drop)]
+#[derive(Clone, Copy)]
 pub enum Step {
     On(Walk, Progress),
     Went(Label, Progress),
     Bad(Stop, Progress),
 }
 
-#[derive(Drop)]
+#[derive(Clone, Copy)]
 pub struct Turned {
     pub frames: Frames,
     pub step: Step,
@@ -440,14 +440,14 @@ pub fn is_include(r: Row) -> bool
 // ---- what comes of a turn
 
 // How the rows of a member have ended.
-#[derive(Drop)]
+#[derive(Clone, Copy)]
 pub enum Ended {
     Ran(Progress),
     Went(Label, Progress),
     Bad(Stop, Progress),
 }
 // What a turn gives, with the texts that come behind it.
-#[derive(Drop)]
+#[derive(Clone, Copy)]
 pub enum Settled {
     On(Next, Progress),
     End(Ended),

@@ -11,13 +11,13 @@ use fixed::{Answer, Fixed};
 use limits::Value;
 use rooms::{copy, number32, put_number32};
 
-#[derive(Drop)]
+#[derive(Clone, Copy)]
 pub enum Number {
     NoNumber,
     Holds(Fixed),
 }
 
-#[derive(Drop)]
+#[derive(Clone, Copy)]
 pub enum Length {
     NoCharacters,
     Bytes(u32),

@@ -33,7 +33,7 @@ use Rattle.texts.specs.declared.Ran.TheVariants as Rn
 use Rattle.texts.specs.declared.Passed.{Passed}
 use Rattle.texts.specs.declared.Passed.TheVariants as Ps
 use Rattle.texts.specs.Shown.{stretch_for, stop_for, Onstage, Goes, After, RanAs, PassedAs, Lies}
-use Rattle.texts.specs.Contracts.{PutIs, turn_here, TokenIs, TokensAre, TextIs, lead_text, LeadIs}
+use Rattle.texts.specs.Promises.{PutIs, turn_here, TokenIs, TokensAre, TextIs, lead_text, LeadIs}
 use Rattle.texts.proofs.Common.{body_text, body_still, goes_none, goes_on_lem}
 use Rattle.texts.proofs.Putting.{put_ran}
 

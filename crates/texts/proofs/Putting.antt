@@ -28,7 +28,7 @@ use Rattle.texts.specs.declared.Passed.TheVariants as Ps
 use Rattle.texts.specs.declared.Ran.{Ran}
 use Rattle.texts.specs.declared.Ran.TheVariants as Rn
 use Rattle.texts.specs.Shown.{with_out, bad_at, put_for, pass_for, Onstage, RanAs}
-use Rattle.texts.specs.Contracts.{PutAs, PutIs, LineIs}
+use Rattle.texts.specs.Promises.{PutAs, PutIs, LineIs}
 use Rattle.texts.proofs.Common.{member_low, size_low, stage_event, goes_event}
 
 -- ---- answers by cases

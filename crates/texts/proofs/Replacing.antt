@@ -40,7 +40,7 @@ use Rattle.texts.specs.declared.Ran.{Ran}
 use Rattle.texts.specs.declared.Passed.{Passed}
 use Rattle.texts.specs.declared.Passed.TheVariants as Ps
 use Rattle.texts.specs.Shown.{with_meter, with_out, bad_at, pass_for, SceneIs, Onstage, PassedAs, Lies}
-use Rattle.texts.specs.Contracts.{PutMore, LineIs, ReplacementAs, ReplacementIs, ReplacingIs}
+use Rattle.texts.specs.Promises.{PutMore, LineIs, ReplacementAs, ReplacementIs, ReplacingIs}
 use Rattle.texts.proofs.Common.{body_sourced, runs_out, stage_event, stage_scene, stage_awake, goes_event}
 
 -- ---- the outcome with its line

@@ -48,7 +48,7 @@ use Rattle.texts.specs.declared.Ran.TheVariants as Rn
 use Rattle.texts.specs.declared.Passed.{Passed}
 use Rattle.texts.specs.declared.Passed.TheVariants as Ps
 use Rattle.texts.specs.Shown.{with_meter, bad_at, pass_for, Onstage, RanAs, PassedAs, Lies}
-use Rattle.texts.specs.Contracts.{PutIs, ReplacingIs, turn_here, TokenIs}
+use Rattle.texts.specs.Promises.{PutIs, ReplacingIs, turn_here, TokenIs}
 use Rattle.texts.proofs.Common.{body_text, body_within, stage_meter}
 use Rattle.texts.proofs.Putting.{put_ran}
 

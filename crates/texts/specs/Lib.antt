@@ -1,3 +1,3 @@
 -- What the contracts of `texts` cite beside the definition.
 pub mod Shown
-pub mod Contracts
+pub mod Promises

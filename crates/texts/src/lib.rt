@@ -4,7 +4,7 @@ ghost use Rattle.std.specs.Prelude.{◌≡◌, ◌%◌, ◌-◌, length};
 ghost use Rattle.definition.specs.Lists.{part};
 ghost use Rattle.definition.specs.Events.{blank, copied};
 ghost use Rattle.texts.specs.Shown.{with_meter, with_out, bad_at, SceneIs, put_for, pass_for};
-ghost use Rattle.texts.specs.Contracts.{PutIs, LineIs, ReplacementIs, ReplacingIs, TokenIs, TokensAre, TextIs, LeadIs};
+ghost use Rattle.texts.specs.Promises.{PutIs, LineIs, ReplacementIs, ReplacingIs, TokenIs, TokensAre, TextIs, LeadIs};
 
 use callees::none_running;
 use definition::{Layout, Why};
@@ -20,7 +20,7 @@ use scanning::replace;
 use sums::{less, sum};
 
 // What a run changes beside the rooms: the steps, what was put out, the rows and names that there are; and what the deck is.
-#[derive(Drop)]
+#[derive(Clone, Copy)]
 pub struct Progress {
     pub meter: Meter,
     pub layout: Layout,
@@ -30,14 +30,14 @@ pub struct Progress {
 }
 
 // The member that runs, and where the rows of each member start.
-#[derive(Drop)]
+#[derive(Clone, Copy)]
 pub struct Here {
     pub member: u16,
     pub starts: Starts,
 }
 
 // A refusal with its place.
-#[derive(Drop)]
+#[derive(Clone, Copy)]
 pub struct Stop {
     pub why: Why,
     pub member: u16,
@@ -45,7 +45,7 @@ pub struct Stop {
 }
 
 // What a part of the run gives.
-#[derive(Drop)]
+#[derive(Clone, Copy)]
 pub enum Ran {
     Good(Progress),
     Bad(Stop, Progress),
@@ -184,7 +184,7 @@ fn replaced_out(
 }
 
 // A token of program text that was put out: the place behind it.
-#[derive(Drop)]
+#[derive(Clone, Copy)]
 pub enum Passed {
     Good(usize, Progress),
     Bad(Stop, Progress),

@@ -13,7 +13,7 @@ use definition::Class;
 use rooms::{byte, is_same, put_byte};
 use sums::less;
 
-#[derive(Drop)]
+#[derive(Clone, Copy)]
 pub enum Kind {
     Word,
     Integer,
@@ -25,7 +25,7 @@ pub enum Kind {
 }
 
 // A token of a statement: its kind, where it begins, and the place past it.
-#[derive(Drop)]
+#[derive(Clone, Copy)]
 pub struct Lexeme {
     pub kind: Kind,
     pub from: usize,
@@ -33,14 +33,14 @@ pub struct Lexeme {
 }
 
 // The place past what closes a comment or a string, or that nothing does.
-#[derive(Drop)]
+#[derive(Clone, Copy)]
 enum Closed {
     At(usize),
     Open,
 }
 
 // One step through spaces.
-#[derive(Drop)]
+#[derive(Clone, Copy)]
 enum Step {
     On(usize),
     Stop,
@@ -48,14 +48,14 @@ enum Step {
 }
 
 // Where spaces end, or where the comment in them that stays open begins.
-#[derive(Drop)]
+#[derive(Clone, Copy)]
 enum Gap {
     To(usize),
     Open(usize),
 }
 
 // The place past a constant in quotes, and whether it has only the bytes 0 and 1.
-#[derive(Drop)]
+#[derive(Clone, Copy)]
 enum Constant {
     To(usize, bool),
     Open,
@@ -471,7 +471,7 @@ pub fn unquote(s: &[u8], p: usize, room: &mut [u8], at: usize) -> usize
     n
 }
 
-#[derive(Drop)]
+#[derive(Clone, Copy)]
 pub enum PieceKind {
     Name,
     Plain,
@@ -479,14 +479,14 @@ pub enum PieceKind {
 }
 
 // A token of a text, and the place past it.
-#[derive(Drop)]
+#[derive(Clone, Copy)]
 pub struct Piece {
     pub kind: PieceKind,
     pub to: usize,
 }
 
 // The `%` where a text ends, or that it goes to the end, or the token in it that stays open.
-#[derive(Drop)]
+#[derive(Clone, Copy)]
 pub enum Ending {
     Percent(usize),
     AtEnd,

@@ -18,7 +18,7 @@ use fixed::{Answer, Fixed};
 use rooms::{byte, put_byte};
 
 // How two values lie to each other.
-#[derive(Drop)]
+#[derive(Clone, Copy)]
 pub enum Order {
     Below,
     Alike,
@@ -26,7 +26,7 @@ pub enum Order {
 }
 
 // The comparisons that a statement can ask for.
-#[derive(Drop)]
+#[derive(Clone, Copy)]
 pub enum Comparison {
     Greater,
     GreaterEqual,
@@ -39,7 +39,7 @@ pub enum Comparison {
 }
 
 // What conversion to FIXED gives.
-#[derive(Drop)]
+#[derive(Clone, Copy)]
 pub enum NumberAnswer {
     Is(Fixed),
     NoConversion,
@@ -47,21 +47,21 @@ pub enum NumberAnswer {
 }
 
 // The base that digits are written to.
-#[derive(Drop)]
+#[derive(Clone, Copy)]
 enum Base {
     Two,
     Ten,
 }
 
 // The operators that join two bit strings.
-#[derive(Drop)]
+#[derive(Clone, Copy)]
 pub enum Logic {
     And,
     Or,
 }
 
 // What SUBSTR takes: so many places from a place on, counted from 0.
-#[derive(Drop)]
+#[derive(Clone, Copy)]
 pub enum Cut {
     Stretch(usize, usize),
     Outside,
