@@ -19,7 +19,7 @@ use rows::{Link, Statement, row_at};
 use tokens::token_at;
 
 // The assignment whose target stands at a place.
-#[cycle(arguments_call_chain_assign_begun_body_turn_bounded_bounds_run_body_start_test_evaluate_inside_levels_listed_operand_plain_primitive_reference)]
+#[cycle(evaluation)]
 pub fn assign(
     deck: &[u8],
     s: &[u8],
@@ -52,7 +52,7 @@ pub fn assign(
 }
 
 // The IF whose expression stands at a place.
-#[cycle(arguments_call_chain_assign_begun_body_turn_bounded_bounds_run_body_start_test_evaluate_inside_levels_listed_operand_plain_primitive_reference)]
+#[cycle(evaluation)]
 pub fn test(
     deck: &[u8],
     s: &[u8],
@@ -74,7 +74,7 @@ pub fn test(
 }
 
 // BY or TO, if one stands behind the place that an iterated group is read to.
-#[cycle(arguments_call_chain_assign_begun_body_turn_bounded_bounds_run_body_start_test_evaluate_inside_levels_listed_operand_plain_primitive_reference)]
+#[cycle(evaluation)]
 fn bounded(
     deck: &[u8],
     s: &[u8],
@@ -106,7 +106,7 @@ fn bounded(
 }
 
 // BY and TO as written, each before the next; then the variable is set to the number b.
-#[cycle(arguments_call_chain_assign_begun_body_turn_bounded_bounds_run_body_start_test_evaluate_inside_levels_listed_operand_plain_primitive_reference)]
+#[cycle(evaluation)]
 fn bounds(
     deck: &[u8],
     s: &[u8],
@@ -146,7 +146,7 @@ fn bounds(
 }
 
 // The iterated group of row g, whose variable stands at a place.
-#[cycle(arguments_call_chain_assign_begun_body_turn_bounded_bounds_run_body_start_test_evaluate_inside_levels_listed_operand_plain_primitive_reference)]
+#[cycle(evaluation)]
 pub fn start(
     deck: &[u8],
     s: &[u8],
@@ -196,7 +196,7 @@ pub fn start(
 // ---- bodies of procedures; `part` is the rows of the member
 
 // The statement of row n in the procedure at p, whose step is charged.
-#[cycle(arguments_call_chain_assign_begun_body_turn_bounded_bounds_run_body_start_test_evaluate_inside_levels_listed_operand_plain_primitive_reference)]
+#[cycle(evaluation)]
 fn begun(
     deck: &[u8],
     s: &[u8],
@@ -253,7 +253,7 @@ fn begun(
 }
 
 // One turn of a body: a statement begins, or an iterated group is tested again. A body that ends did not RETURN.
-#[cycle(arguments_call_chain_assign_begun_body_turn_bounded_bounds_run_body_start_test_evaluate_inside_levels_listed_operand_plain_primitive_reference)]
+#[cycle(evaluation)]
 fn body_turn(
     deck: &[u8],
     s: &[u8],
@@ -303,7 +303,7 @@ pub fn turns_left(m: Meter) -> usize
 }
 
 // The body of the procedure at p.
-#[cycle(arguments_call_chain_assign_begun_body_turn_bounded_bounds_run_body_start_test_evaluate_inside_levels_listed_operand_plain_primitive_reference)]
+#[cycle(evaluation)]
 pub fn run_body(
     deck: &[u8],
     s: &[u8],

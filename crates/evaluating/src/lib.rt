@@ -48,7 +48,7 @@ enum Outcome {
 }
 
 // What stands behind a parenthesis.
-#[cycle(arguments_call_chain_assign_begun_body_turn_bounded_bounds_run_body_start_test_evaluate_inside_levels_listed_operand_plain_primitive_reference)]
+#[cycle(evaluation)]
 fn inside(
     deck: &[u8],
     s: &[u8],
@@ -88,7 +88,7 @@ fn inside(
 }
 
 // The arguments of a list, each evaluated, made what is wished for, and waiting above those before it.
-#[cycle(arguments_call_chain_assign_begun_body_turn_bounded_bounds_run_body_start_test_evaluate_inside_levels_listed_operand_plain_primitive_reference)]
+#[cycle(evaluation)]
 fn arguments(
     deck: &[u8],
     s: &[u8],
@@ -151,7 +151,7 @@ fn arguments(
 }
 
 // A name with a list, which begins at a place.
-#[cycle(arguments_call_chain_assign_begun_body_turn_bounded_bounds_run_body_start_test_evaluate_inside_levels_listed_operand_plain_primitive_reference)]
+#[cycle(evaluation)]
 fn listed(
     deck: &[u8],
     s: &[u8],
@@ -197,7 +197,7 @@ fn listed(
 }
 
 // A name without a list, behind which the place is `to`.
-#[cycle(arguments_call_chain_assign_begun_body_turn_bounded_bounds_run_body_start_test_evaluate_inside_levels_listed_operand_plain_primitive_reference)]
+#[cycle(evaluation)]
 fn plain(
     deck: &[u8],
     rows: &[u16],
@@ -249,7 +249,7 @@ fn plain(
 }
 
 // The name t, with a list or without.
-#[cycle(arguments_call_chain_assign_begun_body_turn_bounded_bounds_run_body_start_test_evaluate_inside_levels_listed_operand_plain_primitive_reference)]
+#[cycle(evaluation)]
 fn reference(
     deck: &[u8],
     s: &[u8],
@@ -278,7 +278,7 @@ fn reference(
     plain(deck, rows, names, cells, low, high, work, x, t.to, u, c, m)
 }
 
-#[cycle(arguments_call_chain_assign_begun_body_turn_bounded_bounds_run_body_start_test_evaluate_inside_levels_listed_operand_plain_primitive_reference)]
+#[cycle(evaluation)]
 fn primitive(
     deck: &[u8],
     s: &[u8],
@@ -317,7 +317,7 @@ fn primitive(
 }
 
 // Prefix operators apply from the last to the first.
-#[cycle(arguments_call_chain_assign_begun_body_turn_bounded_bounds_run_body_start_test_evaluate_inside_levels_listed_operand_plain_primitive_reference)]
+#[cycle(evaluation)]
 fn operand(
     deck: &[u8],
     s: &[u8],
@@ -343,7 +343,7 @@ fn operand(
 }
 
 // What follows a value: operators of a level, each with its right side. "Infix goes left to right."
-#[cycle(arguments_call_chain_assign_begun_body_turn_bounded_bounds_run_body_start_test_evaluate_inside_levels_listed_operand_plain_primitive_reference)]
+#[cycle(evaluation)]
 fn chain(
     deck: &[u8],
     s: &[u8],
@@ -397,7 +397,7 @@ fn chain(
 }
 
 // n levels of infix operators over operands.
-#[cycle(arguments_call_chain_assign_begun_body_turn_bounded_bounds_run_body_start_test_evaluate_inside_levels_listed_operand_plain_primitive_reference)]
+#[cycle(evaluation)]
 fn levels(
     deck: &[u8],
     s: &[u8],
@@ -462,7 +462,7 @@ fn levels(
 }
 
 // THE VALUE of the expression at a place.
-#[cycle(arguments_call_chain_assign_begun_body_turn_bounded_bounds_run_body_start_test_evaluate_inside_levels_listed_operand_plain_primitive_reference)]
+#[cycle(evaluation)]
 pub fn evaluate(
     deck: &[u8],
     s: &[u8],
@@ -498,7 +498,7 @@ pub fn evaluate(
 }
 
 // The call of a procedure with its arguments, which wait above u: 12, then 15, then its body, whose value comes to u.
-#[cycle(arguments_call_chain_assign_begun_body_turn_bounded_bounds_run_body_start_test_evaluate_inside_levels_listed_operand_plain_primitive_reference)]
+#[cycle(evaluation)]
 pub fn call(
     deck: &[u8],
     rows: &[u16],

@@ -233,7 +233,7 @@ pub fn past_prefixes(s: &[u8], from: usize) -> Prefixes
 // ---- the check of an expression: the place past it. `left` parentheses may still be opened in it
 
 // What stands behind the parenthesis at p.
-#[cycle(arguments_chain_inside_levels_operand_parenthesized_primitive_reference)]
+#[cycle(expression)]
 pub fn inside(s: &[u8], p: usize, at: usize, left: usize) -> Expected
     ensures { result ≡ end_for (inside_of left s.now p at) }
 {
@@ -244,7 +244,7 @@ pub fn inside(s: &[u8], p: usize, at: usize, left: usize) -> Expected
 }
 
 // Arguments, from behind the parenthesis at p; more turns than there are bytes are never needed.
-#[cycle(arguments_chain_inside_levels_operand_parenthesized_primitive_reference)]
+#[cycle(expression)]
 fn arguments(s: &[u8], p: usize, from: usize, left: usize) -> Expected
     ensures { result ≡ end_for (E.arguments mixed (inside_of left s.now p) s.now (length s.now) from) }
 {
@@ -270,7 +270,7 @@ fn arguments(s: &[u8], p: usize, from: usize, left: usize) -> Expected
     Expected::Refused(Why::Syntax, at)
 }
 
-#[cycle(arguments_chain_inside_levels_operand_parenthesized_primitive_reference)]
+#[cycle(expression)]
 fn reference(s: &[u8], at: usize, left: usize) -> Expected
     ensures { result ≡ end_for (referred (inside_of left s.now) s.now at) }
 {
@@ -287,7 +287,7 @@ fn reference(s: &[u8], at: usize, left: usize) -> Expected
     }
 }
 
-#[cycle(arguments_chain_inside_levels_operand_parenthesized_primitive_reference)]
+#[cycle(expression)]
 fn parenthesized(s: &[u8], t: Lexeme, left: usize) -> Expected
     requires { t.kind ≡ Sign }
     ensures { result ≡ end_for (E.primitive mixed (inside_of left s.now) s.now (sign (written s.now t)) t.from t.to) }
@@ -302,7 +302,7 @@ fn parenthesized(s: &[u8], t: Lexeme, left: usize) -> Expected
     Expected::Refused(Why::Syntax, t.from)
 }
 
-#[cycle(arguments_chain_inside_levels_operand_parenthesized_primitive_reference)]
+#[cycle(expression)]
 fn primitive(s: &[u8], at: usize, left: usize) -> Expected
     ensures { result ≡ end_for (primitive_at (inside_of left s.now) s.now at) }
 {
@@ -319,7 +319,7 @@ fn primitive(s: &[u8], at: usize, left: usize) -> Expected
     }
 }
 
-#[cycle(arguments_chain_inside_levels_operand_parenthesized_primitive_reference)]
+#[cycle(expression)]
 fn operand(s: &[u8], at: usize, left: usize) -> Expected
     ensures { result ≡ end_for (operand_in left s.now at) }
 {
@@ -328,7 +328,7 @@ fn operand(s: &[u8], at: usize, left: usize) -> Expected
 }
 
 // What follows an operand: operators of a level, each with its right side; as many turns as the definition has.
-#[cycle(arguments_chain_inside_levels_operand_parenthesized_primitive_reference)]
+#[cycle(expression)]
 fn chain(s: &[u8], from: usize, level: usize, left: usize) -> Expected
     ensures { result ≡ end_for (chain_in left s.now level from) }
 {
@@ -358,7 +358,7 @@ fn chain(s: &[u8], from: usize, level: usize, left: usize) -> Expected
 }
 
 // n levels of infix operators over operands.
-#[cycle(arguments_chain_inside_levels_operand_parenthesized_primitive_reference)]
+#[cycle(expression)]
 fn levels(s: &[u8], at: usize, n: usize, left: usize) -> Expected
     ensures { result ≡ end_for (levels_in left s.now n at) }
 {

@@ -222,7 +222,7 @@ fn stopped(g: Progress, why: Why, member: u16, place: usize) -> Ended
 }
 
 // The member of the deck that an item of INCLUDE means is entered and run: 14, 15, then the member.
-#[cycle(begin_enter_and_run_include_all_include_one_run_rows_run_source_turn)]
+#[cycle(member_run)]
 fn include_one(
     deck: &[u8],
     rows: &mut [u16],
@@ -269,7 +269,7 @@ fn include_one(
 }
 
 // The INCLUDE of row n: its members one after the other.
-#[cycle(begin_enter_and_run_include_all_include_one_run_rows_run_source_turn)]
+#[cycle(member_run)]
 fn include_all(
     deck: &[u8],
     rows: &mut [u16],
@@ -331,7 +331,7 @@ fn include_all(
 // ---- turns
 
 // The statement of row n begins: its step is charged.
-#[cycle(begin_enter_and_run_include_all_include_one_run_rows_run_source_turn)]
+#[cycle(member_run)]
 fn begin(
     deck: &[u8],
     s: &[u8],
@@ -389,7 +389,7 @@ fn begin(
 }
 
 // One turn of a member: a statement begins, or an iterated group is tested again.
-#[cycle(begin_enter_and_run_include_all_include_one_run_rows_run_source_turn)]
+#[cycle(member_run)]
 fn turn(
     deck: &[u8],
     s: &[u8],
@@ -442,7 +442,7 @@ fn turn(
 }
 
 // The rows of a member, from one on; `left` include levels are left.
-#[cycle(begin_enter_and_run_include_all_include_one_run_rows_run_source_turn)]
+#[cycle(member_run)]
 fn run_rows(
     deck: &[u8],
     rows: &mut [u16],
@@ -501,7 +501,7 @@ fn run_rows(
 // ---- a member
 
 // A member that was entered: its leading text, then its rows.
-#[cycle(begin_enter_and_run_include_all_include_one_run_rows_run_source_turn)]
+#[cycle(member_run)]
 fn run_source(
     deck: &[u8],
     rows: &mut [u16],
@@ -549,7 +549,7 @@ fn run_source(
 }
 
 // The member is read, its names are declared, and it is run.
-#[cycle(begin_enter_and_run_include_all_include_one_run_rows_run_source_turn)]
+#[cycle(member_run)]
 fn enter_and_run(
     deck: &[u8],
     rows: &mut [u16],

@@ -92,7 +92,7 @@ fn meter_of(x: Evaluated) -> Meter
 // ---- the cycle: scan, replacement, arguments; n levels of replacement are left
 
 // With RESCAN a value, as CHARACTER at u, is scanned by itself.
-#[cycle(call_with_replace_replace_entry_rescan_scan_scan_arguments_token)]
+#[cycle(replacement)]
 fn rescan(
     deck: &[u8],
     s: &[u8],
@@ -131,7 +131,7 @@ fn rescan(
 }
 
 // "each argument in turn is scanned, then converted"
-#[cycle(call_with_replace_replace_entry_rescan_scan_scan_arguments_token)]
+#[cycle(replacement)]
 fn scan_arguments(
     deck: &[u8],
     s: &[u8],
@@ -206,7 +206,7 @@ fn scan_arguments(
 }
 
 // The call of an entry whose arguments wait above u, and its outcome.
-#[cycle(call_with_replace_replace_entry_rescan_scan_scan_arguments_token)]
+#[cycle(replacement)]
 fn call_with(
     deck: &[u8],
     s: &[u8],
@@ -240,7 +240,7 @@ fn call_with(
 }
 
 // The entry whose name ends at p in what is scanned. "Without parameters nothing is read on."
-#[cycle(call_with_replace_replace_entry_rescan_scan_scan_arguments_token)]
+#[cycle(replacement)]
 fn replace_entry(
     deck: &[u8],
     s: &[u8],
@@ -312,7 +312,7 @@ fn replace_entry(
 }
 
 // THE REPLACEMENT of the active name that ends at p, at the address a; `left` levels are left.
-#[cycle(call_with_replace_replace_entry_rescan_scan_scan_arguments_token)]
+#[cycle(replacement)]
 pub fn replace(
     deck: &[u8],
     s: &[u8],
@@ -373,7 +373,7 @@ pub fn replace(
 }
 
 // One token of a value or an argument, whose step is charged, behind an outcome of k bytes.
-#[cycle(call_with_replace_replace_entry_rescan_scan_scan_arguments_token)]
+#[cycle(replacement)]
 fn token(
     deck: &[u8],
     s: &[u8],
@@ -425,7 +425,7 @@ fn token(
 }
 
 // The tokens of a value or an argument, one after the other.
-#[cycle(call_with_replace_replace_entry_rescan_scan_scan_arguments_token)]
+#[cycle(replacement)]
 fn scan(
     deck: &[u8],
     s: &[u8],

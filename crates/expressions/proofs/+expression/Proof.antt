@@ -6,38 +6,38 @@ use borrow.Fn.Kinds.{In}
 use borrow.Fn.PlainCycle.{Measures, is, falls, and}
 use Rattle.expressions.proofs.arguments.Reads as arguments
 use Rattle.expressions.proofs.arguments.Kinds as arguments-kinds
-use Rattle.expressions.proofs.+arguments_chain_inside_levels_operand_parenthesized_primitive_reference.Lts-arguments as arguments-lts
+use Rattle.expressions.proofs.+expression.Lts-arguments as arguments-lts
 use Rattle.expressions.proofs.chain.Reads as chain
 use Rattle.expressions.proofs.chain.Kinds as chain-kinds
-use Rattle.expressions.proofs.+arguments_chain_inside_levels_operand_parenthesized_primitive_reference.Lts-chain as chain-lts
+use Rattle.expressions.proofs.+expression.Lts-chain as chain-lts
 use Rattle.expressions.proofs.inside.Reads as inside
 use Rattle.expressions.proofs.inside.Kinds as inside-kinds
-use Rattle.expressions.proofs.+arguments_chain_inside_levels_operand_parenthesized_primitive_reference.Lts-inside as inside-lts
+use Rattle.expressions.proofs.+expression.Lts-inside as inside-lts
 use Rattle.expressions.proofs.levels.Reads as levels
 use Rattle.expressions.proofs.levels.Kinds as levels-kinds
-use Rattle.expressions.proofs.+arguments_chain_inside_levels_operand_parenthesized_primitive_reference.Lts-levels as levels-lts
+use Rattle.expressions.proofs.+expression.Lts-levels as levels-lts
 use Rattle.expressions.proofs.operand.Reads as operand
 use Rattle.expressions.proofs.operand.Kinds as operand-kinds
-use Rattle.expressions.proofs.+arguments_chain_inside_levels_operand_parenthesized_primitive_reference.Lts-operand as operand-lts
+use Rattle.expressions.proofs.+expression.Lts-operand as operand-lts
 use Rattle.expressions.proofs.parenthesized.Reads as parenthesized
 use Rattle.expressions.proofs.parenthesized.Kinds as parenthesized-kinds
-use Rattle.expressions.proofs.+arguments_chain_inside_levels_operand_parenthesized_primitive_reference.Lts-parenthesized as parenthesized-lts
+use Rattle.expressions.proofs.+expression.Lts-parenthesized as parenthesized-lts
 use Rattle.expressions.proofs.primitive.Reads as primitive
 use Rattle.expressions.proofs.primitive.Kinds as primitive-kinds
-use Rattle.expressions.proofs.+arguments_chain_inside_levels_operand_parenthesized_primitive_reference.Lts-primitive as primitive-lts
+use Rattle.expressions.proofs.+expression.Lts-primitive as primitive-lts
 use Rattle.expressions.proofs.reference.Reads as reference
 use Rattle.expressions.proofs.reference.Kinds as reference-kinds
-use Rattle.expressions.proofs.+arguments_chain_inside_levels_operand_parenthesized_primitive_reference.Lts-reference as reference-lts
+use Rattle.expressions.proofs.+expression.Lts-reference as reference-lts
 use Rattle.expressions.proofs.expect_sign.Reads as expect-sign-reads
 use Rattle.expressions.proofs.infix_at.Reads as infix-at-reads
 use Rattle.expressions.proofs.name_at.Reads as name-at-reads
 use Rattle.expressions.proofs.past_prefixes.Reads as past-prefixes-reads
 use Rattle.tokens.proofs.is_sign.Reads as is-sign-reads
 use Rattle.tokens.proofs.token_at.Reads as token-at-reads
-use Rattle.expressions.proofs.+arguments_chain_inside_levels_operand_parenthesized_primitive_reference.{
+use Rattle.expressions.proofs.+expression.{
   statement,
 }
-use Rattle.expressions.proofs.+arguments_chain_inside_levels_operand_parenthesized_primitive_reference.Tie.{
+use Rattle.expressions.proofs.+expression.Tie.{
   close,
 }
 use Prim.Native.Nat.{◌+◌, ◌*◌}

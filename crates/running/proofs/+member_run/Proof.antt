@@ -5,25 +5,25 @@ use borrow.Fn.Kinds.{In}
 use borrow.Fn.PlainCycle.{Measures, is, falls, and}
 use Rattle.running.proofs.begin.Reads as begin
 use Rattle.running.proofs.begin.Kinds as begin-kinds
-use Rattle.running.proofs.+begin_enter_and_run_include_all_include_one_run_rows_run_source_turn.Lts-begin as begin-lts
+use Rattle.running.proofs.+member_run.Lts-begin as begin-lts
 use Rattle.running.proofs.enter_and_run.Reads as enter-and-run
 use Rattle.running.proofs.enter_and_run.Kinds as enter-and-run-kinds
-use Rattle.running.proofs.+begin_enter_and_run_include_all_include_one_run_rows_run_source_turn.Lts-enter_and_run as enter-and-run-lts
+use Rattle.running.proofs.+member_run.Lts-enter_and_run as enter-and-run-lts
 use Rattle.running.proofs.include_all.Reads as include_all_lem
 use Rattle.running.proofs.include_all.Kinds as include-all-kinds
-use Rattle.running.proofs.+begin_enter_and_run_include_all_include_one_run_rows_run_source_turn.Lts-include_all as include-all-lts
+use Rattle.running.proofs.+member_run.Lts-include_all as include-all-lts
 use Rattle.running.proofs.include_one.Reads as include-one
 use Rattle.running.proofs.include_one.Kinds as include-one-kinds
-use Rattle.running.proofs.+begin_enter_and_run_include_all_include_one_run_rows_run_source_turn.Lts-include_one as include-one-lts
+use Rattle.running.proofs.+member_run.Lts-include_one as include-one-lts
 use Rattle.running.proofs.run_rows.Reads as run-rows
 use Rattle.running.proofs.run_rows.Kinds as run-rows-kinds
-use Rattle.running.proofs.+begin_enter_and_run_include_all_include_one_run_rows_run_source_turn.Lts-run_rows as run-rows-lts
+use Rattle.running.proofs.+member_run.Lts-run_rows as run-rows-lts
 use Rattle.running.proofs.run_source.Reads as run_source_lem
 use Rattle.running.proofs.run_source.Kinds as run-source-kinds
-use Rattle.running.proofs.+begin_enter_and_run_include_all_include_one_run_rows_run_source_turn.Lts-run_source as run-source-lts
+use Rattle.running.proofs.+member_run.Lts-run_source as run-source-lts
 use Rattle.running.proofs.turn.Reads as turn
 use Rattle.running.proofs.turn.Kinds as turn-kinds
-use Rattle.running.proofs.+begin_enter_and_run_include_all_include_one_run_rows_run_source_turn.Lts-turn as turn-lts
+use Rattle.running.proofs.+member_run.Lts-turn as turn-lts
 use Rattle.deck.proofs.body.Reads as body-Reads
 use Rattle.evaluating.proofs.deeds.turns_left.Reads as turns-left-reads
 use Rattle.flow.proofs.first_of.Reads as first-of-reads
@@ -56,10 +56,10 @@ use Rattle.texts.proofs.lead_out.Reads as lead-out-reads
 use Rattle.texts.proofs.with_meter.Reads as with-meter-reads
 use Rattle.tokens.proofs.is_sign.Reads as is-sign-reads
 use Rattle.tokens.proofs.token_at.Reads as token-at-reads
-use Rattle.running.proofs.+begin_enter_and_run_include_all_include_one_run_rows_run_source_turn.{
+use Rattle.running.proofs.+member_run.{
   statement,
 }
-use Rattle.running.proofs.+begin_enter_and_run_include_all_include_one_run_rows_run_source_turn.Tie.{
+use Rattle.running.proofs.+member_run.Tie.{
   close,
 }
 use Prim.Native.Nat.{◌+◌, ◌*◌}

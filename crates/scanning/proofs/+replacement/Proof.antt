@@ -5,25 +5,25 @@ use borrow.Fn.Kinds.{In}
 use borrow.Fn.PlainCycle.{Measures, is, falls, and}
 use Rattle.scanning.proofs.call_with.Reads as call_with_lem
 use Rattle.scanning.proofs.call_with.Kinds as call-with-kinds
-use Rattle.scanning.proofs.+call_with_replace_replace_entry_rescan_scan_scan_arguments_token.Lts-call_with as call-with-lts
+use Rattle.scanning.proofs.+replacement.Lts-call_with as call-with-lts
 use Rattle.scanning.proofs.replace.Reads as replace
 use Rattle.scanning.proofs.replace.Kinds as replace-kinds
-use Rattle.scanning.proofs.+call_with_replace_replace_entry_rescan_scan_scan_arguments_token.Lts-replace as replace-lts
+use Rattle.scanning.proofs.+replacement.Lts-replace as replace-lts
 use Rattle.scanning.proofs.replace_entry.Reads as replace_entry_lem
 use Rattle.scanning.proofs.replace_entry.Kinds as replace-entry-kinds
-use Rattle.scanning.proofs.+call_with_replace_replace_entry_rescan_scan_scan_arguments_token.Lts-replace_entry as replace-entry-lts
+use Rattle.scanning.proofs.+replacement.Lts-replace_entry as replace-entry-lts
 use Rattle.scanning.proofs.rescan.Reads as rescan
 use Rattle.scanning.proofs.rescan.Kinds as rescan-kinds
-use Rattle.scanning.proofs.+call_with_replace_replace_entry_rescan_scan_scan_arguments_token.Lts-rescan as rescan-lts
+use Rattle.scanning.proofs.+replacement.Lts-rescan as rescan-lts
 use Rattle.scanning.proofs.scan.Reads as scan
 use Rattle.scanning.proofs.scan.Kinds as scan-kinds
-use Rattle.scanning.proofs.+call_with_replace_replace_entry_rescan_scan_scan_arguments_token.Lts-scan as scan-lts
+use Rattle.scanning.proofs.+replacement.Lts-scan as scan-lts
 use Rattle.scanning.proofs.scan_arguments.Reads as scan_arguments_lem
 use Rattle.scanning.proofs.scan_arguments.Kinds as scan-arguments-kinds
-use Rattle.scanning.proofs.+call_with_replace_replace_entry_rescan_scan_scan_arguments_token.Lts-scan_arguments as scan-arguments-lts
+use Rattle.scanning.proofs.+replacement.Lts-scan_arguments as scan-arguments-lts
 use Rattle.scanning.proofs.token.Reads as token
 use Rattle.scanning.proofs.token.Kinds as token-kinds
-use Rattle.scanning.proofs.+call_with_replace_replace_entry_rescan_scan_scan_arguments_token.Lts-token as token-lts
+use Rattle.scanning.proofs.+replacement.Lts-token as token-lts
 use Rattle.callees.proofs.callee_of.Reads as callee-of-reads
 use Rattle.callees.proofs.nothing_held.Reads as nothing-held-reads
 use Rattle.callees.proofs.parameter_at.Reads as parameter-at-reads
@@ -58,10 +58,10 @@ use Rattle.scanning.proofs.meter_of.Reads as meter-of-reads
 use Rattle.scanning.proofs.next_of.Reads as next-of-reads
 use Rattle.scanning.proofs.type_of.Reads as type-of-reads
 use Rattle.scanning.proofs.value_given.Reads as value-given-reads
-use Rattle.scanning.proofs.+call_with_replace_replace_entry_rescan_scan_scan_arguments_token.{
+use Rattle.scanning.proofs.+replacement.{
   statement,
 }
-use Rattle.scanning.proofs.+call_with_replace_replace_entry_rescan_scan_scan_arguments_token.Tie.{
+use Rattle.scanning.proofs.+replacement.Tie.{
   close,
 }
 use Prim.Native.Nat.{◌+◌, ◌*◌}

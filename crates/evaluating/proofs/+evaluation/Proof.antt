@@ -6,61 +6,61 @@ use borrow.Fn.Kinds.{In}
 use borrow.Fn.PlainCycle.{Measures, is, falls, and}
 use Rattle.evaluating.proofs.arguments.Reads as arguments
 use Rattle.evaluating.proofs.arguments.Kinds as arguments-kinds
-use Rattle.evaluating.proofs.+arguments_call_chain_assign_begun_body_turn_bounded_bounds_run_body_start_test_evaluate_inside_levels_listed_operand_plain_primitive_reference.Lts-arguments as arguments-lts
+use Rattle.evaluating.proofs.+evaluation.Lts-arguments as arguments-lts
 use Rattle.evaluating.proofs.call.Reads as call
 use Rattle.evaluating.proofs.call.Kinds as call-kinds
-use Rattle.evaluating.proofs.+arguments_call_chain_assign_begun_body_turn_bounded_bounds_run_body_start_test_evaluate_inside_levels_listed_operand_plain_primitive_reference.Lts-call as call-lts
+use Rattle.evaluating.proofs.+evaluation.Lts-call as call-lts
 use Rattle.evaluating.proofs.chain.Reads as chain
 use Rattle.evaluating.proofs.chain.Kinds as chain-kinds
-use Rattle.evaluating.proofs.+arguments_call_chain_assign_begun_body_turn_bounded_bounds_run_body_start_test_evaluate_inside_levels_listed_operand_plain_primitive_reference.Lts-chain as chain-lts
+use Rattle.evaluating.proofs.+evaluation.Lts-chain as chain-lts
 use Rattle.evaluating.proofs.deeds.assign.Reads as deeds::assign
 use Rattle.evaluating.proofs.deeds.assign.Kinds as deeds::assign-kinds
-use Rattle.evaluating.proofs.+arguments_call_chain_assign_begun_body_turn_bounded_bounds_run_body_start_test_evaluate_inside_levels_listed_operand_plain_primitive_reference.Lts-deeds-assign as deeds::assign-lts
+use Rattle.evaluating.proofs.+evaluation.Lts-deeds-assign as deeds::assign-lts
 use Rattle.evaluating.proofs.deeds.begun.Reads as deeds::begun
 use Rattle.evaluating.proofs.deeds.begun.Kinds as deeds::begun-kinds
-use Rattle.evaluating.proofs.+arguments_call_chain_assign_begun_body_turn_bounded_bounds_run_body_start_test_evaluate_inside_levels_listed_operand_plain_primitive_reference.Lts-deeds-begun as deeds::begun-lts
+use Rattle.evaluating.proofs.+evaluation.Lts-deeds-begun as deeds::begun-lts
 use Rattle.evaluating.proofs.deeds.body_turn.Reads as deeds::body-turn
 use Rattle.evaluating.proofs.deeds.body_turn.Kinds as deeds::body-turn-kinds
-use Rattle.evaluating.proofs.+arguments_call_chain_assign_begun_body_turn_bounded_bounds_run_body_start_test_evaluate_inside_levels_listed_operand_plain_primitive_reference.Lts-deeds-body_turn as deeds::body-turn-lts
+use Rattle.evaluating.proofs.+evaluation.Lts-deeds-body_turn as deeds::body-turn-lts
 use Rattle.evaluating.proofs.deeds.bounded.Reads as deeds::bounded
 use Rattle.evaluating.proofs.deeds.bounded.Kinds as deeds::bounded-kinds
-use Rattle.evaluating.proofs.+arguments_call_chain_assign_begun_body_turn_bounded_bounds_run_body_start_test_evaluate_inside_levels_listed_operand_plain_primitive_reference.Lts-deeds-bounded as deeds::bounded-lts
+use Rattle.evaluating.proofs.+evaluation.Lts-deeds-bounded as deeds::bounded-lts
 use Rattle.evaluating.proofs.deeds.bounds.Reads as deeds::bounds
 use Rattle.evaluating.proofs.deeds.bounds.Kinds as deeds::bounds-kinds
-use Rattle.evaluating.proofs.+arguments_call_chain_assign_begun_body_turn_bounded_bounds_run_body_start_test_evaluate_inside_levels_listed_operand_plain_primitive_reference.Lts-deeds-bounds as deeds::bounds-lts
+use Rattle.evaluating.proofs.+evaluation.Lts-deeds-bounds as deeds::bounds-lts
 use Rattle.evaluating.proofs.deeds.run_body.Reads as deeds::run-body
 use Rattle.evaluating.proofs.deeds.run_body.Kinds as deeds::run-body-kinds
-use Rattle.evaluating.proofs.+arguments_call_chain_assign_begun_body_turn_bounded_bounds_run_body_start_test_evaluate_inside_levels_listed_operand_plain_primitive_reference.Lts-deeds-run_body as deeds::run-body-lts
+use Rattle.evaluating.proofs.+evaluation.Lts-deeds-run_body as deeds::run-body-lts
 use Rattle.evaluating.proofs.deeds.start.Reads as deeds::start
 use Rattle.evaluating.proofs.deeds.start.Kinds as deeds::start-kinds
-use Rattle.evaluating.proofs.+arguments_call_chain_assign_begun_body_turn_bounded_bounds_run_body_start_test_evaluate_inside_levels_listed_operand_plain_primitive_reference.Lts-deeds-start as deeds::start-lts
+use Rattle.evaluating.proofs.+evaluation.Lts-deeds-start as deeds::start-lts
 use Rattle.evaluating.proofs.deeds.test.Reads as deeds::test
 use Rattle.evaluating.proofs.deeds.test.Kinds as deeds::test-kinds
-use Rattle.evaluating.proofs.+arguments_call_chain_assign_begun_body_turn_bounded_bounds_run_body_start_test_evaluate_inside_levels_listed_operand_plain_primitive_reference.Lts-deeds-test as deeds::test-lts
+use Rattle.evaluating.proofs.+evaluation.Lts-deeds-test as deeds::test-lts
 use Rattle.evaluating.proofs.evaluate.Reads as evaluate
 use Rattle.evaluating.proofs.evaluate.Kinds as evaluate-kinds
-use Rattle.evaluating.proofs.+arguments_call_chain_assign_begun_body_turn_bounded_bounds_run_body_start_test_evaluate_inside_levels_listed_operand_plain_primitive_reference.Lts-evaluate as evaluate-lts
+use Rattle.evaluating.proofs.+evaluation.Lts-evaluate as evaluate-lts
 use Rattle.evaluating.proofs.inside.Reads as inside
 use Rattle.evaluating.proofs.inside.Kinds as inside-kinds
-use Rattle.evaluating.proofs.+arguments_call_chain_assign_begun_body_turn_bounded_bounds_run_body_start_test_evaluate_inside_levels_listed_operand_plain_primitive_reference.Lts-inside as inside-lts
+use Rattle.evaluating.proofs.+evaluation.Lts-inside as inside-lts
 use Rattle.evaluating.proofs.levels.Reads as levels
 use Rattle.evaluating.proofs.levels.Kinds as levels-kinds
-use Rattle.evaluating.proofs.+arguments_call_chain_assign_begun_body_turn_bounded_bounds_run_body_start_test_evaluate_inside_levels_listed_operand_plain_primitive_reference.Lts-levels as levels-lts
+use Rattle.evaluating.proofs.+evaluation.Lts-levels as levels-lts
 use Rattle.evaluating.proofs.listed.Reads as listed
 use Rattle.evaluating.proofs.listed.Kinds as listed-kinds
-use Rattle.evaluating.proofs.+arguments_call_chain_assign_begun_body_turn_bounded_bounds_run_body_start_test_evaluate_inside_levels_listed_operand_plain_primitive_reference.Lts-listed as listed-lts
+use Rattle.evaluating.proofs.+evaluation.Lts-listed as listed-lts
 use Rattle.evaluating.proofs.operand.Reads as operand
 use Rattle.evaluating.proofs.operand.Kinds as operand-kinds
-use Rattle.evaluating.proofs.+arguments_call_chain_assign_begun_body_turn_bounded_bounds_run_body_start_test_evaluate_inside_levels_listed_operand_plain_primitive_reference.Lts-operand as operand-lts
+use Rattle.evaluating.proofs.+evaluation.Lts-operand as operand-lts
 use Rattle.evaluating.proofs.plain.Reads as plain
 use Rattle.evaluating.proofs.plain.Kinds as plain-kinds
-use Rattle.evaluating.proofs.+arguments_call_chain_assign_begun_body_turn_bounded_bounds_run_body_start_test_evaluate_inside_levels_listed_operand_plain_primitive_reference.Lts-plain as plain-lts
+use Rattle.evaluating.proofs.+evaluation.Lts-plain as plain-lts
 use Rattle.evaluating.proofs.primitive.Reads as primitive
 use Rattle.evaluating.proofs.primitive.Kinds as primitive-kinds
-use Rattle.evaluating.proofs.+arguments_call_chain_assign_begun_body_turn_bounded_bounds_run_body_start_test_evaluate_inside_levels_listed_operand_plain_primitive_reference.Lts-primitive as primitive-lts
+use Rattle.evaluating.proofs.+evaluation.Lts-primitive as primitive-lts
 use Rattle.evaluating.proofs.reference.Reads as reference
 use Rattle.evaluating.proofs.reference.Kinds as reference-kinds
-use Rattle.evaluating.proofs.+arguments_call_chain_assign_begun_body_turn_bounded_bounds_run_body_start_test_evaluate_inside_levels_listed_operand_plain_primitive_reference.Lts-reference as reference-lts
+use Rattle.evaluating.proofs.+evaluation.Lts-reference as reference-lts
 use Rattle.bodies.proofs.bound_of.Reads as bound-of-reads
 use Rattle.bodies.proofs.bound_word.Reads as bound-word-reads
 use Rattle.bodies.proofs.bounded_by.Reads as bounded-by-reads
@@ -116,10 +116,10 @@ use Rattle.rows.proofs.row_at.Reads as row-at-reads
 use Rattle.sums.proofs.sum.Reads as sum-reads
 use Rattle.tokens.proofs.is_sign.Reads as is-sign-reads
 use Rattle.tokens.proofs.token_at.Reads as token-at-reads
-use Rattle.evaluating.proofs.+arguments_call_chain_assign_begun_body_turn_bounded_bounds_run_body_start_test_evaluate_inside_levels_listed_operand_plain_primitive_reference.{
+use Rattle.evaluating.proofs.+evaluation.{
   statement,
 }
-use Rattle.evaluating.proofs.+arguments_call_chain_assign_begun_body_turn_bounded_bounds_run_body_start_test_evaluate_inside_levels_listed_operand_plain_primitive_reference.Tie.{
+use Rattle.evaluating.proofs.+evaluation.Tie.{
   close,
 }
 use Prim.Native.Nat.{◌+◌, ◌*◌, ◌≤◌, ◌-◌}
