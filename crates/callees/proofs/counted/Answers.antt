@@ -1,0 +1,37 @@
+-- What is left of the list, with those that were counted, is all.
+use Prim.Native.Nat.{◌-◌}
+use Rattle.callees.proofs.Listing.{counting_start, counting_more, counting_last, counting_wrong, counting_end}
+use Rattle.callees.proofs.counted.Goals as goal
+
+pub counted_spec : {M : Type 1} → statement M
+counted_spec =
+    tie.close
+    (tie.spec
+    invariant-loop
+    decreases-loop
+    loop-holds
+    parameter-at-requires
+    enum-known-x
+    add-n
+    is-last-requires
+    returns
+    loop-less
+    loop_again
+    enum_told
+    returns-2
+    returns-3)
+
+pub loop-n-init : goal.loop-n-init
+loop-n-init c = counting_start _ _ _ _ _ _
+
+pub returns-then-is_last : goal.returns-then-is_last
+returns-then-is_last c = search counting_last
+
+pub loop-n-preserved : goal.loop-n-preserved
+loop-n-preserved c = search counting_more
+
+pub returns-in-Wrong : goal.returns-in-Wrong
+returns-in-Wrong c = search counting_wrong
+
+pub returns : goal.returns
+returns c = search counting_end

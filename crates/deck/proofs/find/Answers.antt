@@ -1,0 +1,31 @@
+-- What is left to look at decides.
+use Prim.Native.Nat.{◌-◌}
+use Rattle.deck.proofs.Laws.{finding_start, finding_more, finding_here, finding_none}
+use Rattle.deck.proofs.find.Goals as goal
+
+pub find_spec : {M : Type 1} → statement M
+find_spec =
+    tie.close
+    (tie.spec
+    invariant-loop
+    decreases-loop
+    count-requires
+    loop-holds
+    is-called-requires
+    returns
+    add-k
+    loop-less
+    loop_again
+    returns-2)
+
+pub loop-k-init : goal.loop-k-init
+loop-k-init c = search finding_start
+
+pub returns-then-is_called : goal.returns-then-is_called
+returns-then-is_called c = search finding_here
+
+pub loop-k-preserved : goal.loop-k-preserved
+loop-k-preserved c = search finding_more
+
+pub returns : goal.returns
+returns c = search finding_none

@@ -1,0 +1,9 @@
+-- Where lines have no libraries none is met.
+use Rattle.deck.proofs.Laws.{in_library_lem, in_none}
+use Rattle.deck.proofs.is_in_library.Goals as goal
+
+pub returns-then-has_libraries : goal.returns-then-has_libraries
+returns-then-has_libraries c = search in_library_lem
+
+pub returns : goal.returns
+returns c = search in_none

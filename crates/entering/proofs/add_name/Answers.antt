@@ -1,0 +1,9 @@
+-- One name too many, or one more.
+use Rattle.entering.proofs.Laws.{adds_past, adds_more}
+use Rattle.entering.proofs.add_name.Goals as goal
+
+pub returns-then-t-ge-MOST : goal.returns-then-t-ge-MOST
+returns-then-t-ge-MOST c = search adds_past
+
+pub returns : goal.returns
+returns c = search adds_more

@@ -1,0 +1,16 @@
+-- The prefix operators that are left, with those that were passed, are all.
+use Prim.Native.Nat.{◌-◌}
+use Rattle.expressions.proofs.Reading.{passing_start, passing_more, passing_stop, passing_end}
+use Rattle.expressions.proofs.past_prefixes.Goals as goal
+
+pub loop-count-init : goal.loop-count-init
+loop-count-init c = passing_start _ _
+
+pub loop-count-preserved : goal.loop-count-preserved
+loop-count-preserved c = search passing_more
+
+pub returns-in-Other : goal.returns-in-Other
+returns-in-Other c = search passing_stop
+
+pub returns : goal.returns
+returns c = search passing_end

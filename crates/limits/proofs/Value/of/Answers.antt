@@ -1,0 +1,12 @@
+-- By the test against the limit.
+use borrow.Author.Tests.{le-leb, lt-leb}
+use Rattle.limits.proofs.Value.of.Goals as goal
+
+pub of_spec : {M : Type 1} → statement M
+of_spec = tie.close (tie.spec returns returns-2)
+
+pub returns-then-length-le-LONGEST : goal.returns-then-length-le-LONGEST
+returns-then-length-le-LONGEST c = rw (le-leb _ _ c.if-length-le-LONGEST.true)
+
+pub returns-else-length-le-LONGEST : goal.returns-else-length-le-LONGEST
+returns-else-length-le-LONGEST c = rw (lt-leb _ _ c.if-length-le-LONGEST.false)

@@ -1,0 +1,31 @@
+-- What is left to look at decides.
+use Rattle.std.proofs.Common.{refl}
+use Prim.Native.Nat.{◌-◌}
+use Rattle.names.proofs.Laws.{search_start, search_more, search_here, search_none}
+use Rattle.names.proofs.find.Goals as goal
+
+pub find_spec : {M : Type 1} → statement M
+find_spec =
+    tie.close
+    (tie.spec
+    invariant-loop
+    decreases-loop
+    loop-holds
+    is-at-requires
+    returns
+    add_a
+    loop-less
+    loop_again
+    returns-2)
+
+pub loop-a-init : goal.loop-a-init
+loop-a-init c = search_start _ _ _ _ _
+
+pub returns-then-is_at : goal.returns-then-is_at
+returns-then-is_at c = search_here _ _ _ _ _ _ c.loop-a.invariant _ c.is_at.result c.loop-a-test.true refl c.is_at.ensures c.if-is_at.true
+
+pub loop-a-preserved : goal.loop-a-preserved
+loop-a-preserved c = search_more _ _ _ _ _ _ c.loop-a.invariant _ c.is_at.result c.loop-a-test.true refl c.is_at.ensures c.if-is_at.false
+
+pub returns : goal.returns
+returns c = search_none _ _ _ _ _ _ c.loop-a.invariant c.loop-a-test.false

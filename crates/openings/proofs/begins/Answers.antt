@@ -1,0 +1,9 @@
+-- A word or a semicolon.
+use Rattle.openings.proofs.Words.{begins_word, begins_sign}
+use Rattle.openings.proofs.begins.Goals as goal
+
+pub returns-then-is_word_kind : goal.returns-then-is_word_kind
+returns-then-is_word_kind c = search begins_word
+
+pub returns : goal.returns
+returns c = search begins_sign

@@ -1,0 +1,16 @@
+-- Those that were read and those that are left are all.
+use Rattle.openings.proofs.Labelling.{labelling_start, labelling_more, labelling_none, labelling_over}
+use Prim.Native.Nat.{◌-◌}
+use Rattle.openings.proofs.labels_at.Goals as goal
+
+pub loop-count-init : goal.loop-count-init
+loop-count-init c = search labelling_start
+
+pub loop-count-preserved : goal.loop-count-preserved
+loop-count-preserved c = search labelling_more
+
+pub returns-in-Unmarked : goal.returns-in-Unmarked
+returns-in-Unmarked c = search labelling_none
+
+pub returns : goal.returns
+returns c = search labelling_over

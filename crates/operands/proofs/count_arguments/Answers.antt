@@ -1,0 +1,19 @@
+-- What is left of the list, with those that were counted, is all.
+use Prim.Native.Nat.{◌-◌}
+use Rattle.operands.proofs.Prefixing.{counting_start, counting_more, counting_last, counting_refused, counting_end}
+use Rattle.operands.proofs.count_arguments.Goals as goal
+
+pub loop-n-init : goal.loop-n-init
+loop-n-init c = counting_start _ _ _
+
+pub loop-n-preserved : goal.loop-n-preserved
+loop-n-preserved c = search counting_more
+
+pub returns-else-is_sign : goal.returns-else-is_sign
+returns-else-is_sign c = search counting_last
+
+pub returns-in-Refused : goal.returns-in-Refused
+returns-in-Refused c = search counting_refused
+
+pub returns : goal.returns
+returns c = search counting_end

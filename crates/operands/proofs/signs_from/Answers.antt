@@ -1,0 +1,20 @@
+-- Those that were taken are there, and those that are left are the rest.
+use Rattle.std.proofs.Common.{rules}
+use Prim.Native.Nat.{◌-◌}
+use Rattle.operands.proofs.Prefixing.{signing_start, signing_more, signing_full, signing_stop, signing_end}
+use Rattle.operands.proofs.signs_from.Goals as goal
+
+pub loop-i-init : goal.loop-i-init
+loop-i-init c = search (rules, signing_start)
+
+pub returns-then-is_behind : goal.returns-then-is_behind
+returns-then-is_behind c = search signing_full
+
+pub returns-in-Other : goal.returns-in-Other
+returns-in-Other c = search signing_stop
+
+pub loop-i-preserved : goal.loop-i-preserved
+loop-i-preserved c = search signing_more
+
+pub returns : goal.returns
+returns c = search signing_end

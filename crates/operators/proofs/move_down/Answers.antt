@@ -1,0 +1,28 @@
+-- The first j bytes are there.
+use Prim.Native.Nat.{◌-◌}
+use Rattle.operators.proofs.Room.{lowering_start, lowering_more, lowering_done}
+use Rattle.operators.proofs.move_down.Goals as goal
+
+pub move_down_spec : {M : Type 1} → statement M
+move_down_spec =
+    tie.close
+    (tie.spec
+    invariant-loop
+    decreases-loop
+    loop-holds
+    byte-requires
+    put-byte-requires
+    add-j
+    loop-less
+    loop_again
+    same_length
+    returns)
+
+pub loop-j-init : goal.loop-j-init
+loop-j-init c = lowering_start _ _ _ _
+
+pub loop-j-preserved : goal.loop-j-preserved
+loop-j-preserved c = search lowering_more
+
+pub returns : goal.returns
+returns c = search lowering_done

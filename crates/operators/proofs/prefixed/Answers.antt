@@ -1,0 +1,15 @@
+-- A case for each operator.
+use Rattle.operators.proofs.Texts.{prefix_positive, prefix_negative, complement_is, complement_not}
+use Rattle.operators.proofs.prefixed.Goals as goal
+
+pub returns-in-Positive : goal.returns-in-Positive
+returns-in-Positive c = search prefix_positive
+
+pub returns-in-Negative : goal.returns-in-Negative
+returns-in-Negative c = search prefix_negative
+
+pub returns-in-Gives : goal.returns-in-Gives
+returns-in-Gives c = search (complement_is, c.to_bits_lem.ensures, c.type_size.ensures, c.invert.ensures, c.in-Gives.is, c.in-Complement.is)
+
+pub returns-in-Fails : goal.returns-in-Fails
+returns-in-Fails c = search complement_not

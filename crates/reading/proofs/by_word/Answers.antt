@@ -1,0 +1,39 @@
+-- One law for each keyword.
+use Rattle.reading.proofs.Wording.{word_if, word_do, word_deep, word_goto, word_go, word_include, word_activate, word_deactivate, word_return, word_other, word_declare, word_procedure}
+use Rattle.reading.proofs.by_word.Goals as goal
+
+pub returns-then-depth-lt-GROUPS : goal.returns-then-depth-lt-GROUPS
+returns-then-depth-lt-GROUPS c = search (word_if, word_do, word_deep, word_goto, word_go, word_include, word_activate, word_deactivate, word_return, word_other, word_declare, word_procedure)
+
+pub returns-in-Declare : goal.returns-in-Declare
+returns-in-Declare c = search (word_if, word_do, word_deep, word_goto, word_go, word_include, word_activate, word_deactivate, word_return, word_other, word_declare, word_procedure)
+
+pub returns-in-Procedure : goal.returns-in-Procedure
+returns-in-Procedure c = search (word_if, word_do, word_deep, word_goto, word_go, word_include, word_activate, word_deactivate, word_return, word_other, word_declare, word_procedure)
+
+pub returns-in-Other : goal.returns-in-Other
+returns-in-Other c = search (word_if, word_do, word_deep, word_goto, word_go, word_include, word_activate, word_deactivate, word_return, word_other, word_declare, word_procedure)
+
+pub returns-else-depth-lt-GROUPS : goal.returns-else-depth-lt-GROUPS
+returns-else-depth-lt-GROUPS c = search (word_if, word_do, word_deep, word_goto, word_go, word_include, word_activate, word_deactivate, word_return, word_other, word_declare, word_procedure)
+
+pub returns-in-If : goal.returns-in-If
+returns-in-If c = search (word_if, word_do, word_deep, word_goto, word_go, word_include, word_activate, word_deactivate, word_return, word_other, word_declare, word_procedure)
+
+pub returns-in-Goto : goal.returns-in-Goto
+returns-in-Goto c = search (word_if, word_do, word_deep, word_goto, word_go, word_include, word_activate, word_deactivate, word_return, word_other, word_declare, word_procedure)
+
+pub returns-in-Go : goal.returns-in-Go
+returns-in-Go c = search (word_if, word_do, word_deep, word_goto, word_go, word_include, word_activate, word_deactivate, word_return, word_other, word_declare, word_procedure)
+
+pub returns-in-Include : goal.returns-in-Include
+returns-in-Include c = search (word_if, word_do, word_deep, word_goto, word_go, word_include, word_activate, word_deactivate, word_return, word_other, word_declare, word_procedure)
+
+pub returns-in-Activate : goal.returns-in-Activate
+returns-in-Activate c = search (word_if, word_do, word_deep, word_goto, word_go, word_include, word_activate, word_deactivate, word_return, word_other, word_declare, word_procedure)
+
+pub returns-in-Deactivate : goal.returns-in-Deactivate
+returns-in-Deactivate c = search (word_if, word_do, word_deep, word_goto, word_go, word_include, word_activate, word_deactivate, word_return, word_other, word_declare, word_procedure)
+
+pub returns-in-Return : goal.returns-in-Return
+returns-in-Return c = search (word_if, word_do, word_deep, word_goto, word_go, word_include, word_activate, word_deactivate, word_return, word_other, word_declare, word_procedure)

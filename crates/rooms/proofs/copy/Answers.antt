@@ -1,0 +1,28 @@
+-- The first j bytes are copied.
+use Prim.Native.Nat.{◌-◌}
+use Rattle.rooms.proofs.Laws.{copied_start, copied_more, copied_all}
+use Rattle.rooms.proofs.copy.Goals as goal
+
+pub copy_spec : {M : Type 1} → statement M
+copy_spec =
+    tie.close
+    (tie.spec
+    invariant-loop
+    decreases-loop
+    loop-holds
+    byte-requires
+    put-byte-requires
+    add-j
+    loop-less
+    loop_again
+    same_length
+    returns)
+
+pub loop-j-init : goal.loop-j-init
+loop-j-init c = copied_start _ _ _ _ _
+
+pub loop-j-preserved : goal.loop-j-preserved
+loop-j-preserved c = copied_more _ _ _ _ _ _ _ _ _ c.loop-j.invariant c.loop-j-test.true c.byte.ensures c.put_byte.ensures
+
+pub returns : goal.returns
+returns c = copied_all _ _ _ _ _ _ _ c.loop-j.invariant c.loop-j-test.false

@@ -1,0 +1,41 @@
+-- The number of the arm, or none of them.
+use Rattle.std.proofs.Common.{ap, sym}
+use Rattle.rows.specs.Table.{statement_in}
+use Rattle.rows.proofs.Laws.{no_statement}
+use Rattle.rows.proofs.statement_in.Goals as goal
+
+pub returns-in-1 : goal.returns-in-1
+returns-in-1 c = ap statement_in (sym c.in-1.is)
+
+pub returns-in-2 : goal.returns-in-2
+returns-in-2 c = ap statement_in (sym c.in-2.is)
+
+pub returns-in-3 : goal.returns-in-3
+returns-in-3 c = ap statement_in (sym c.in-3.is)
+
+pub returns-in-4 : goal.returns-in-4
+returns-in-4 c = ap statement_in (sym c.in-4.is)
+
+pub returns-in-5 : goal.returns-in-5
+returns-in-5 c = ap statement_in (sym c.in-5.is)
+
+pub returns-in-6 : goal.returns-in-6
+returns-in-6 c = ap statement_in (sym c.in-6.is)
+
+pub returns-in-7 : goal.returns-in-7
+returns-in-7 c = ap statement_in (sym c.in-7.is)
+
+pub returns-in-8 : goal.returns-in-8
+returns-in-8 c = ap statement_in (sym c.in-8.is)
+
+pub returns-in-9 : goal.returns-in-9
+returns-in-9 c = ap statement_in (sym c.in-9.is)
+
+pub returns-in-10 : goal.returns-in-10
+returns-in-10 c = ap statement_in (sym c.in-10.is)
+
+pub returns-in-11 : goal.returns-in-11
+returns-in-11 c = ap statement_in (sym c.in-11.is)
+
+pub returns-in_default : goal.returns-in_default
+returns-in_default c = no_statement c.args.k c.in_default.in_default-own.rest.0.0.0.0.0.0.0.0.0.0.1 c.in_default.in_default-own.rest.0.0.0.0.0.0.0.0.0.1 c.in_default.in_default-own.rest.0.0.0.0.0.0.0.0.1 c.in_default.in_default-own.rest.0.0.0.0.0.0.0.1 c.in_default.in_default-own.rest.0.0.0.0.0.0.1 c.in_default.in_default-own.rest.0.0.0.0.0.1 c.in_default.in_default-own.rest.0.0.0.0.1 c.in_default.in_default-own.rest.0.0.0.1 c.in_default.in_default-own.rest.0.0.1 c.in_default.in_default-own.rest.0.1 c.in_default.in_default-own.rest.1

@@ -1,0 +1,9 @@
+-- What is left to read, with what was entered, is what the definition reads.
+use Rattle.statements.proofs.Items.{ItemizingIf}
+use Rattle.statements.proofs.declare_clause.Given as goal
+
+abbrev pub invariant-loop-turns : goal.invariant-loop-turns
+invariant-loop-turns l = ItemizingIf l.deck l.s l.initial.names l.owner l.initial.tally l.from l.names l.tally l.at l.turns
+
+abbrev pub decreases-loop-turns : goal.decreases-loop-turns
+decreases-loop-turns l = l.turns

@@ -1,0 +1,10 @@
+-- What is left ends where all of it does.
+use mathlib.Core.List.{◌∷◌}
+use Rattle.statements.proofs.Laws.{Listing}
+use Rattle.statements.proofs.name_list.Given as goal
+
+abbrev pub invariant-loop-turns : goal.invariant-loop-turns
+invariant-loop-turns l = Listing (59 ∷ []) l.each l.s l.from l.turns l.at
+
+abbrev pub decreases-loop-turns : goal.decreases-loop-turns
+decreases-loop-turns l = l.turns

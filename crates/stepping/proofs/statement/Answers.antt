@@ -1,0 +1,41 @@
+-- Each kind of statement has its law.
+use Rattle.stepping.proofs.Acting.{row_assign, row_test, row_start, row_group, row_null, row_procedure, row_return, row_include}
+use Rattle.stepping.proofs.Waking.{row_declare, row_activate, row_deactivate}
+use Rattle.stepping.proofs.Jumping.{row_goto}
+use Rattle.stepping.proofs.statement.Goals as goal
+
+pub returns-in-Assign : goal.returns-in-Assign
+returns-in-Assign c = row_assign _ _ _ _ _ _ _ _ _ _ _ _ _ _ _ _ _ c.row_at.ensures (search c.enum_told) _ c.scene.ensures _ _ _ _ c.assign-d.auto.cells c.assign-d.auto.work _ c.assign-d.ensures _ c.on_done.ensures
+
+pub returns-in-Conditional : goal.returns-in-Conditional
+returns-in-Conditional c = row_test _ _ _ _ _ _ _ _ _ _ _ _ _ _ _ _ _ c.row_at.ensures (search c.enum-told2) _ c.scene-in-Conditional.ensures _ _ _ _ c.test-t.auto.cells c.test-t.auto.work _ c.test-t.ensures _ c.on_test_lem.ensures
+
+pub returns-in-Iterated : goal.returns-in-Iterated
+returns-in-Iterated c = row_start _ _ _ _ _ _ _ _ _ _ _ _ _ _ _ _ _ c.row_at.ensures (search c.enum-told3) _ c.scene3.ensures _ _ _ _ c.start.auto.1.1.1.1.0 c.start.auto.1.1.1.1.1.1.1.0 _ c.start.ensures _ _ _ _ _ _ _ c.into_started.ensures
+
+pub returns-in-Group : goal.returns-in-Group
+returns-in-Group c = row_group _ _ _ _ _ _ _ _ _ _ _ _ _ _ _ _ _ c.row_at.ensures (search c.enum-told4) _ _ _ _ _ _ _ c.into.ensures
+
+pub returns-in-Goto : goal.returns-in-Goto
+returns-in-Goto c = row_goto _ _ _ _ _ _ _ _ _ _ _ _ _ _ _ _ _ c.row_at.ensures (search c.enum-told5) _ c.jump_from_lem.ensures _ c.on_jump.ensures
+
+pub returns-in-Declare : goal.returns-in-Declare
+returns-in-Declare c = row_declare _ _ _ _ _ _ _ _ _ _ _ _ _ _ _ _ _ c.row_at-r.ensures (search c.in-Declare) _ _ c.declare_all_lem.ensures _ c.on_activated.ensures
+
+pub returns-in-Activate : goal.returns-in-Activate
+returns-in-Activate c = row_activate _ _ _ _ _ _ _ _ _ _ _ _ _ _ _ _ _ c.row_at-r.ensures (search c.in-Activate) _ _ c.activate_all_lem.ensures _ c.on_activated-in-Activate.ensures
+
+pub returns-in-Deactivate : goal.returns-in-Deactivate
+returns-in-Deactivate c = row_deactivate _ _ _ _ _ _ _ _ _ _ _ _ _ _ _ _ _ c.row_at-r.ensures (search c.in-Deactivate) _ _ c.deactivate_all-b.ensures _ c.on_activated-in-Deactivate.ensures
+
+pub returns-in-Null : goal.returns-in-Null
+returns-in-Null c = row_null _ _ _ _ _ _ _ _ _ _ _ _ _ _ _ _ _ c.row_at-r.ensures (search c.in-Null) _ c.with_step.ensures
+
+pub returns-in-Procedure : goal.returns-in-Procedure
+returns-in-Procedure c = row_procedure _ _ _ _ _ _ _ _ _ _ _ _ _ _ _ _ _ c.row_at-r.ensures (search c.in-Procedure) _ c.with_step-in-Procedure.ensures
+
+pub returns-in-Include : goal.returns-in-Include
+returns-in-Include c = row_include _ _ _ _ _ _ _ _ _ _ _ _ _ _ _ _ _ c.row_at-r.ensures (search c.in-Include) _
+
+pub returns-in-Return : goal.returns-in-Return
+returns-in-Return c = row_return _ _ _ _ _ _ _ _ _ _ _ _ _ _ _ _ _ c.row_at-r.ensures (search c.in-Return) _ c.with_step-in-Return.ensures

@@ -1,0 +1,20 @@
+-- What is left to look at decides, with the bytes so far.
+use Rattle.std.proofs.Common.{arith}
+use Prim.Native.Nat.{◌-◌}
+use Rattle.tokens.proofs.Laws.{quoting_start, quoting_more, quoting_last, quoting_open, width_inside}
+use Rattle.tokens.proofs.constant_end.Goals as goal
+
+pub loop-i-init : goal.loop-i-init
+loop-i-init c = quoting_start _ _
+
+pub returns-then-n-lt1 : goal.returns-then-n-lt1
+returns-then-n-lt1 c = search quoting_last
+
+pub overflow_add-i : goal.overflow_add-i
+overflow_add-i c = omega (arith, width_inside _ _ c.loop-i-test.true _ c.byte_width-n.ensures)
+
+pub loop-i-preserved : goal.loop-i-preserved
+loop-i-preserved c = quoting_more _ _ _ _ c.loop-i.invariant _ _ _ c.loop-i-test.true c.byte_width-n.ensures c.if-n-lt1.false c.is_bit.ensures c.both-bits.ensures
+
+pub returns : goal.returns
+returns c = search quoting_open

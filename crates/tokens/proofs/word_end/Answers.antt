@@ -1,0 +1,16 @@
+-- What is left to pass is passed.
+use Prim.Native.Nat.{◌-◌}
+use Rattle.tokens.proofs.Laws.{passing_start, passing_more, passing_stop, passing_end}
+use Rattle.tokens.proofs.word_end.Goals as goal
+
+pub loop-i-init : goal.loop-i-init
+loop-i-init c = passing_start _ _ _
+
+pub loop-i-preserved : goal.loop-i-preserved
+loop-i-preserved c = search passing_more
+
+pub returns-else-is_alphameric : goal.returns-else-is_alphameric
+returns-else-is_alphameric c = search passing_stop
+
+pub returns : goal.returns
+returns c = search passing_end

@@ -1,0 +1,9 @@
+-- A byte inside, and the filling past the end.
+use Rattle.values.proofs.Compare.{byte_in, byte_out}
+use Rattle.values.proofs.byte_or.Goals as goal
+
+pub returns-then-j-n : goal.returns-then-j-n
+returns-then-j-n c = search byte_in
+
+pub returns : goal.returns
+returns c = search byte_out

@@ -1,0 +1,8 @@
+-- As long as it was made, without counting.
+use Rattle.std.proofs.Common.{sym}
+use Prim.Native.Nat.{ℕ}
+use lib.ListN.{length-replicate}
+use Rattle.writing.proofs.large_room.Goals as goal
+
+pub returns : goal.returns
+returns c = sym (length-replicate {A = ℕ} 1048576 0)
