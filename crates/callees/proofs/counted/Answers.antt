@@ -3,24 +3,6 @@ use Prim.Native.Nat.{◌-◌}
 use Rattle.callees.proofs.Listing.{counting_start, counting_more, counting_last, counting_wrong, counting_end}
 use Rattle.callees.proofs.counted.Goals as goal
 
-pub counted_spec : {M : Type 1} → statement M
-counted_spec =
-    tie.close
-    (tie.spec
-    invariant-loop
-    decreases-loop
-    loop-holds
-    parameter-at-requires
-    enum-known-x
-    add-n
-    is-last-requires
-    returns
-    loop-less
-    loop_again
-    enum_told
-    returns-2
-    returns-3)
-
 pub loop-n-init : goal.loop-n-init
 loop-n-init c = counting_start _ _ _ _ _ _
 

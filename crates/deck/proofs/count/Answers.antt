@@ -2,9 +2,6 @@
 use Rattle.deck.proofs.Laws.{count_less, count_first}
 use Rattle.deck.proofs.count.Goals as goal
 
-pub count_spec : {M : Type 1} → statement M
-count_spec = tie.close (tie.spec get-u16-requires sub-result returns returns-2)
-
 pub returns-then-n-gt-LIBRARIES : goal.returns-then-n-gt-LIBRARIES
 returns-then-n-gt-LIBRARIES c = search count_less
 

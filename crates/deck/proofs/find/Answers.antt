@@ -3,21 +3,6 @@ use Prim.Native.Nat.{◌-◌}
 use Rattle.deck.proofs.Laws.{finding_start, finding_more, finding_here, finding_none}
 use Rattle.deck.proofs.find.Goals as goal
 
-pub find_spec : {M : Type 1} → statement M
-find_spec =
-    tie.close
-    (tie.spec
-    invariant-loop
-    decreases-loop
-    count-requires
-    loop-holds
-    is-called-requires
-    returns
-    add-k
-    loop-less
-    loop_again
-    returns-2)
-
 pub loop-k-init : goal.loop-k-init
 loop-k-init c = search finding_start
 

@@ -372,10 +372,10 @@ pub chain-returns : goal.chain-returns
 chain-returns t c = search (chaining_end, c.loop-turns.invariant, c.loop-turns-test.false)
 
 pub deeds::assign-returns-in-At : goal.deeds::assign-returns-in-At
-deeds::assign-returns-in-At t c = assign_done _ _ _ _ _ _ _ _ _ _ _ _ _ c.token_at-t.ensures _ c.target_at_lem.ensures _ _ c.in-At.is _ c.token_at-sign.ensures _ _ _ _ c.evaluate-x.auto.work _ c.evaluate-x.ensures _ _ _ _ _ c.stored.ensures
+deeds::assign-returns-in-At t c = assign_done _ _ _ _ _ _ _ _ _ _ _ _ _ c.token_at-t.ensures _ c.target_at-target.ensures _ _ c.in-At.is _ c.token_at-sign.ensures _ _ _ _ c.evaluate-x.auto.work _ c.evaluate-x.ensures _ _ _ _ _ c.stored.ensures
 
 pub deeds::assign-returns-in-None : goal.deeds::assign-returns-in-None
-deeds::assign-returns-in-None t c = search (assign_none, c.token_at-t.ensures, c.target_at_lem.ensures, c.in-None)
+deeds::assign-returns-in-None t c = search (assign_none, c.token_at-t.ensures, c.target_at-target.ensures, c.in-None)
 
 pub deeds::begun-returns-in-Assign : goal.deeds::begun-returns-in-Assign
 deeds::begun-returns-in-Assign t c = row_assign _ _ _ _ _ _ _ _ _ _ _ _ _ _ _ _ c.row_at-r.ensures (search c.in-Assign) _ _ _ _ _ c.assign-d.ensures _ c.on_behind.ensures
@@ -393,7 +393,7 @@ pub deeds::begun-returns-in-Group : goal.deeds::begun-returns-in-Group
 deeds::begun-returns-in-Group t c = row_group _ _ _ _ _ _ _ _ _ _ _ _ _ _ _ _ c.row_at-r.ensures (search c.in-Group) _ c.into_group.ensures _ c.with_step.ensures
 
 pub deeds::begun-returns-in-Goto : goal.deeds::begun-returns-in-Goto
-deeds::begun-returns-in-Goto t c = row_goto _ _ _ _ _ _ _ _ _ _ _ _ _ _ _ _ c.row_at-r.ensures (search c.in-Goto) _ c.jump_in_lem.ensures
+deeds::begun-returns-in-Goto t c = row_goto _ _ _ _ _ _ _ _ _ _ _ _ _ _ _ _ c.row_at-r.ensures (search c.in-Goto) _ c.jump_in.ensures
 
 pub deeds::begun-returns-in-Null : goal.deeds::begun-returns-in-Null
 deeds::begun-returns-in-Null t c = row_passed _ _ _ _ _ _ _ _ _ _ _ _ _ _ _ _ c.row_at-r.ensures S.Null (search c.in-Null) refl _ c.on_behind-in-Null.ensures
@@ -420,7 +420,7 @@ pub deeds::body_turn-returns-else-paid : goal.deeds::body_turn-returns-else-paid
 deeds::body_turn-returns-else-paid t c = turn_due _ _ _ _ _ _ _ _ _ _ _ _ _ _ _ _ c.in-Begin.is _ c.charged-paid.ensures c.if-paid.false _ c.with_step.ensures
 
 pub deeds::body_turn-returns-in-Again : goal.deeds::body_turn-returns-in-Again
-deeds::body_turn-returns-in-Again t c = turn_again _ _ _ _ _ _ _ _ _ _ _ _ _ _ _ _ c.in-Again.is _ c.frame_of_lem.ensures _ _ c.stepped-t.ensures _ c.on_again.ensures
+deeds::body_turn-returns-in-Again t c = turn_again _ _ _ _ _ _ _ _ _ _ _ _ _ _ _ _ c.in-Again.is _ c.frame_of.ensures _ _ c.stepped-t.ensures _ c.on_again.ensures
 
 pub deeds::body_turn-returns-in-Over : goal.deeds::body_turn-returns-in-Over
 deeds::body_turn-returns-in-Over t c = turn_over _ _ _ _ _ _ _ _ _ _ _ _ _ _ _ (search c.in-Over) _ c.with_step-in-Over.ensures
@@ -519,10 +519,10 @@ pub deeds::start-shape_of-high : goal.deeds::start-shape_of-high
 deeds::start-shape_of-high t c = c.bounds.auto.high ∙ c.evaluate.auto.1.1.1.1.1.1.0
 
 pub deeds::start-returns-in-To : goal.deeds::start-returns-in-To
-deeds::start-returns-in-To t c = start_done _ _ _ _ _ _ _ _ _ _ _ _ _ _ c.token-at.ensures _ c.target_at_lem.ensures _ c.control-address.ensures _ c.v.given.1 _ c.token-at2.ensures _ _ _ _ c.evaluate.auto.1.1.1.1.1.1.1.0 _ c.evaluate.ensures _ c.bound_of-b.ensures _ c.new_frame.ensures _ _ _ _ _ c.bounds.ensures
+deeds::start-returns-in-To t c = start_done _ _ _ _ _ _ _ _ _ _ _ _ _ _ c.token-at.ensures _ c.target_at.ensures _ c.control-address.ensures _ c.v.given.1 _ c.token-at2.ensures _ _ _ _ c.evaluate.auto.1.1.1.1.1.1.1.0 _ c.evaluate.ensures _ c.bound_of-b.ensures _ c.new_frame.ensures _ _ _ _ _ c.bounds.ensures
 
 pub deeds::start-returns-in-Nowhere : goal.deeds::start-returns-in-Nowhere
-deeds::start-returns-in-Nowhere t c = search (start_none, c.token_at-t.ensures, c.target_at_lem.ensures, c.control_address-v.ensures, c.in-Nowhere)
+deeds::start-returns-in-Nowhere t c = search (start_none, c.token_at-t.ensures, c.target_at.ensures, c.control_address-v.ensures, c.in-Nowhere)
 
 pub deeds::test-returns : goal.deeds::test-returns
 deeds::test-returns t c = search (test_done, c.evaluate-x.ensures, c.evaluate-x.auto.work, c.truth_of.ensures)
@@ -555,7 +555,7 @@ pub listed-shape_of-low-in-Entry : goal.listed-shape_of-low-in-Entry
 listed-shape_of-low-in-Entry t c = c.call-v.auto.low ∙ c.arguments-taken.auto.low
 
 pub listed-returns-in-Entry : goal.listed-returns-in-Entry
-listed-returns-in-Entry t c = listed_call _ _ _ _ _ _ _ _ _ _ _ _ _ _ _ c.count_arguments-n.ensures _ c.aim_of-aim.ensures _ c.in-At.is _ _ _ _ c.arguments-taken.auto.work _ _ _ c.arguments-taken.ensures _ _ c.in-Upto.is _ c.in-Entry.is _ _ _ _ _ c.call-v.ensures _ c.up_to_lem.ensures
+listed-returns-in-Entry t c = listed_call _ _ _ _ _ _ _ _ _ _ _ _ _ _ _ c.count_arguments-n.ensures _ c.aim_of-aim.ensures _ c.in-At.is _ _ _ _ c.arguments-taken.auto.work _ _ _ c.arguments-taken.ensures _ _ c.in-Upto.is _ c.in-Entry.is _ _ _ _ _ c.call-v.ensures _ c.up_to.ensures
 
 pub listed-returns-in-Substr : goal.listed-returns-in-Substr
 listed-returns-in-Substr t c = search (listed_substr, c.count_arguments-n.ensures, c.aim_of-aim.ensures, c.in-At.is, c.arguments-taken.auto.work, c.arguments-taken.ensures, c.in-Upto.is, c.in-Substr, c.substr_of.ensures)
@@ -570,7 +570,7 @@ pub operand-returns : goal.operand-returns
 operand-returns t c = search (operand_done, c.past_prefixes-p.ensures, c.primitive-x.ensures, c.primitive-x.auto.work, c.prefixes_done.ensures)
 
 pub plain-returns-then-z-eq0 : goal.plain-returns-then-z-eq0
-plain-returns-then-z-eq0 t c = entry_called _ _ _ _ _ _ _ _ _ _ _ _ c.Callee-of.ensures _ c.in-AnEntry.is _ _ c.in-Is.is c.if-z-eq0.true _ _ _ _ _ _ c.call-v.ensures _ c.up_to_lem.ensures
+plain-returns-then-z-eq0 t c = entry_called _ _ _ _ _ _ _ _ _ _ _ _ c.Callee-of.ensures _ c.in-AnEntry.is _ _ c.in-Is.is c.if-z-eq0.true _ _ _ _ _ _ c.call-v.ensures _ c.up_to.ensures
 
 pub plain-returns-else-z-eq0 : goal.plain-returns-else-z-eq0
 plain-returns-else-z-eq0 t c = search entry_many
@@ -609,7 +609,7 @@ pub primitive-returns-in-Wrong : goal.primitive-returns-in-Wrong
 primitive-returns-in-Wrong t c = search (primitive_wrong, c.token_at-t.ensures, c.in-Wrong)
 
 pub reference-returns-then-is_sign : goal.reference-returns-then-is_sign
-reference-returns-then-is_sign t c = search (reference_listed, c.meant_by-x.ensures, c.token_at-next.ensures, c.is_sign_lem.ensures, c.if-is_sign.true, c.listed.ensures)
+reference-returns-then-is_sign t c = search (reference_listed, c.meant_by-x.ensures, c.token_at-next.ensures, c.is_sign.ensures, c.if-is_sign.true, c.listed.ensures)
 
 pub reference-returns : goal.reference-returns
-reference-returns t c = search (reference_plain, c.meant_by-x.ensures, c.token_at-next.ensures, c.is_sign_lem.ensures, c.if-is_sign.false, c.plain.ensures)
+reference-returns t c = search (reference_plain, c.meant_by-x.ensures, c.token_at-next.ensures, c.is_sign.ensures, c.if-is_sign.false, c.plain.ensures)

@@ -4,20 +4,6 @@ use Prim.Native.Nat.{◌-◌}
 use Rattle.names.proofs.Laws.{search_start, search_more, search_here, search_none}
 use Rattle.names.proofs.find.Goals as goal
 
-pub find_spec : {M : Type 1} → statement M
-find_spec =
-    tie.close
-    (tie.spec
-    invariant-loop
-    decreases-loop
-    loop-holds
-    is-at-requires
-    returns
-    add_a
-    loop-less
-    loop_again
-    returns-2)
-
 pub loop-a-init : goal.loop-a-init
 loop-a-init c = search_start _ _ _ _ _
 

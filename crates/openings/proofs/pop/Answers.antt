@@ -2,9 +2,6 @@
 use Rattle.openings.proofs.Stacked.{pops, pops_none}
 use Rattle.openings.proofs.pop.Goals as goal
 
-pub pop_spec : {M : Type 1} → statement M
-pop_spec = tie.close (tie.spec sub-all returns returns-2)
-
 pub returns-then-n-gt0 : goal.returns-then-n-gt0
 returns-then-n-gt0 c = search pops
 

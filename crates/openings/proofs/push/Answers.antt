@@ -2,9 +2,6 @@
 use Rattle.openings.proofs.Stacked.{as_long, pushes, pushes_none}
 use Rattle.openings.proofs.push.Goals as goal
 
-pub push_spec : {M : Type 1} → statement M
-push_spec = tie.close (tie.spec mul-x element-set-from-x add-all returns returns-2)
-
 pub returns-then-n-lt20 : goal.returns-then-n-lt20
 returns-then-n-lt20 c = search (pushes, as_long)
 

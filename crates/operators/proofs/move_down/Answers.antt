@@ -3,21 +3,6 @@ use Prim.Native.Nat.{◌-◌}
 use Rattle.operators.proofs.Room.{lowering_start, lowering_more, lowering_done}
 use Rattle.operators.proofs.move_down.Goals as goal
 
-pub move_down_spec : {M : Type 1} → statement M
-move_down_spec =
-    tie.close
-    (tie.spec
-    invariant-loop
-    decreases-loop
-    loop-holds
-    byte-requires
-    put-byte-requires
-    add-j
-    loop-less
-    loop_again
-    same_length
-    returns)
-
 pub loop-j-init : goal.loop-j-init
 loop-j-init c = lowering_start _ _ _ _
 

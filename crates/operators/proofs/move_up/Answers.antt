@@ -2,21 +2,6 @@
 use Rattle.operators.proofs.Room.{raising_start, raising_more, raising_done}
 use Rattle.operators.proofs.move_up.Goals as goal
 
-pub move_up_spec : {M : Type 1} → statement M
-move_up_spec =
-    tie.close
-    (tie.spec
-    invariant-loop
-    decreases-loop
-    loop-holds
-    sub-j
-    byte-requires
-    put-byte-requires
-    loop-less
-    loop_again
-    same_length
-    returns)
-
 pub loop-j-init : goal.loop-j-init
 loop-j-init c = raising_start _ _ _ _
 

@@ -10,7 +10,7 @@ pub returns-in-On : goal.returns-in-On
 returns-in-On c = search complete_on
 
 pub returns-in-OnElse : goal.returns-in-OnElse
-returns-in-OnElse c = search (complete_else, c.loop-turns.invariant.1, c.top-o.ensures, c.done_in-d.ensures, c.pop.ensures, c.opening.ensures, c.push-inner.ensures, c.with_opened_lem.ensures, c.go-in-OnElse.ensures)
+returns-in-OnElse c = search (complete_else, c.loop-turns.invariant.1, c.top-o.ensures, c.done_in-d.ensures, c.pop.ensures, c.opening.ensures, c.push-inner.ensures, c.with_opened.ensures, c.go-in-OnElse.ensures)
 
 pub loop-turns-preserved : goal.loop-turns-preserved
 loop-turns-preserved c = search (rules, complete_up)

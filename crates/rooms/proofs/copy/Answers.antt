@@ -3,21 +3,6 @@ use Prim.Native.Nat.{◌-◌}
 use Rattle.rooms.proofs.Laws.{copied_start, copied_more, copied_all}
 use Rattle.rooms.proofs.copy.Goals as goal
 
-pub copy_spec : {M : Type 1} → statement M
-copy_spec =
-    tie.close
-    (tie.spec
-    invariant-loop
-    decreases-loop
-    loop-holds
-    byte-requires
-    put-byte-requires
-    add-j
-    loop-less
-    loop_again
-    same_length
-    returns)
-
 pub loop-j-init : goal.loop-j-init
 loop-j-init c = copied_start _ _ _ _ _
 

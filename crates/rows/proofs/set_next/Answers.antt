@@ -1,4 +1,5 @@
 -- One number, where the record has it.
+
 use Rattle.rows.proofs.set_next.Goals as goal
 
 pub returns : goal.returns

@@ -11,8 +11,7 @@ use Rattle.running.proofs.run_rows.Kinds as run-rows-kinds
 use Rattle.running.proofs.run_source.Kinds as run-source-kinds
 use Rattle.running.proofs.turn.Kinds as turn-kinds
 use Prim.Native.Nat.{◌+◌, ◌*◌}
-use borrow.Author.Tests.{not-true, not-false}
-use Rattle.running.proofs.Turning.{begin_due, begin_include, begin_statement, turn_begin, turn_again, turn_over}
+use Rattle.running.proofs.Turning.{turn_begin, turn_again, turn_over}
 use Rattle.running.proofs.Looping.{runs_start, runs_out, runs_over, runs_more, runs_end, source_runs, source_bad}
 use Rattle.running.proofs.Entering.{enter_runs, enter_refused}
 use Rattle.running.proofs.Naming.{include_unknown, include_deep, include_enters, going_start, going_more, all_went, all_stopped, all_ran, all_turned}
@@ -94,32 +93,20 @@ turn_at t = and 10 turn-kinds.ps (is 10 turn-kinds.ps μ-turn t) turn.Pre
 abbrev turn_below : ℕ → In 10 turn-kinds.ps
 turn_below t = and 10 turn-kinds.ps (falls 10 turn-kinds.ps ◌<◌ μ-turn t) turn.Pre
 
-pub begin-returns-then-not-paid : goal.begin-returns-then-not-paid
-begin-returns-then-not-paid t c = begin_due _ _ _ _ _ _ _ _ _ _ _ _ _ _ _ _ _ c.part_here.ensures _ c.row_at-r.ensures _ c.charged-paid.ensures _ c.with_meter-g.ensures (not-true _ c.if-not-paid.true) _ c.refused-t.ensures _ c.turned_at.ensures
-
-pub begin-include_all-e-requires : goal.begin-include_all-e-requires
-begin-include_all-e-requires t c = omega (arith, c.requires)
-
-pub begin-returns-then-is_include : goal.begin-returns-then-is_include
-begin-returns-then-is_include t c = begin_include _ _ _ _ _ _ _ _ _ _ _ _ _ _ _ _ _ c.part-here.ensures _ c.row_at.ensures _ c.charged.ensures _ c.with-meter.ensures (not-false _ c.if1.false) _ c.is_include_lem.ensures c.if2.true _ _ _ _ _ _ _ _ _ c.include_all_lem.ensures _ c.on_ended.ensures
-
-pub begin-returns : goal.begin-returns
-begin-returns t c = begin_statement _ _ _ _ _ _ _ _ _ _ _ _ _ _ _ _ _ c.part-here.ensures _ c.row_at.ensures _ c.charged.ensures _ c.with-meter.ensures (not-false _ c.if1.false) _ c.is_include_lem.ensures c.if2.false _ c.part_here-2.ensures _ _ _ _ _ _ _ _ c.statement-t.ensures _ c.turned_at-2.ensures
-
 pub enter_and_run-run_source-requires : goal.enter_and_run-run_source-requires
 enter_and_run-run_source-requires t c = omega (arith, c.requires)
 
 pub enter_and_run-shape_of-rows-in-Sound : goal.enter_and_run-shape_of-rows-in-Sound
-enter_and_run-shape_of-rows-in-Sound t c = c.run_source_lem.auto.1.0 ∙ c.read_behind-x.auto.rows
+enter_and_run-shape_of-rows-in-Sound t c = c.run_source.auto.rows ∙ c.read_behind-x.auto.rows
 
 pub enter_and_run-shape_of-names-in-Sound : goal.enter_and_run-shape_of-names-in-Sound
-enter_and_run-shape_of-names-in-Sound t c = c.run_source_lem.auto.1.1.0 ∙ c.read_behind-x.auto.names
+enter_and_run-shape_of-names-in-Sound t c = c.run_source.auto.names ∙ c.read_behind-x.auto.names
 
 pub enter_and_run-shape_of-cells : goal.enter_and_run-shape_of-cells
-enter_and_run-shape_of-cells t c = c.run_source_lem.auto.1.1.1.0 ∙ c.forget.auto.cells
+enter_and_run-shape_of-cells t c = c.run_source.auto.cells ∙ c.forget.auto.cells
 
 pub enter_and_run-returns-in-Sound : goal.enter_and_run-returns-in-Sound
-enter_and_run-returns-in-Sound t c = enter_runs _ _ _ _ _ _ _ _ _ _ _ _ _ _ _ _ c.read_behind-x.ensures _ _ _ _ _ _ _ _ _ _ _ _ c.in-Sound.is c.forget.ensures c.entered.ensures c.with_source.ensures c.run_source_lem.ensures
+enter_and_run-returns-in-Sound t c = enter_runs _ _ _ _ _ _ _ _ _ _ _ _ _ _ _ _ c.read_behind-x.ensures _ _ _ _ _ _ _ _ _ _ _ _ c.in-Sound.is c.forget.ensures c.entered.ensures c.with_source.ensures c.run_source.ensures
 
 pub enter_and_run-returns-in-Faulty : goal.enter_and_run-returns-in-Faulty
 enter_and_run-returns-in-Faulty t c = enter_refused _ _ _ _ _ _ _ _ _ _ _ _ _ _ _ _ c.read_behind-x.ensures _ _ _ _ c.in-Faulty.is c.stopped.ensures c.left_at.ensures
@@ -191,7 +178,7 @@ pub include_all-loop-turns-smaller : goal.include_all-loop-turns-smaller
 include_all-loop-turns-smaller t c = omega (arith, c.loop-turns-test.true)
 
 pub include_all-loop-turns-preserved : goal.include_all-loop-turns-preserved
-include_all-loop-turns-preserved t c = (going_more _ _ _ _ _ _ _ _ _ _ _ _ _ _ _ _ _ c.body-s.ensures _ _ _ _ _ _ _ _ _ _ _ _ c.loop-turns.invariant.0 _ c.item_at-item.ensures _ _ _ _ _ _ _ _ _ c.include_one-x.ensures _ c.resumed-here.ensures _ c.in-Ran.is _ c.token_at-comma.ensures _ c.is_sign_lem.ensures c.if-is_sign.true, c.include_one-x.auto.rows ∙ c.loop-turns.invariant.1, c.include_one-x.auto.names ∙ c.loop-turns.invariant.2, c.include_one-x.auto.cells ∙ c.loop-turns.invariant.3, c.include_one-x.auto.low ∙ c.loop-turns.invariant.4, c.include_one-x.auto.high ∙ c.loop-turns.invariant.5, c.include_one-x.auto.work ∙ c.loop-turns.invariant.6, c.include_one-x.auto.text ∙ c.loop-turns.invariant.7, c.include_one-x.auto.list ∙ c.loop-turns.invariant.8)
+include_all-loop-turns-preserved t c = (going_more _ _ _ _ _ _ _ _ _ _ _ _ _ _ _ _ _ c.body-s.ensures _ _ _ _ _ _ _ _ _ _ _ _ c.loop-turns.invariant.0 _ c.item_at-item.ensures _ _ _ _ _ _ _ _ _ c.include_one-x.ensures _ c.resumed-here.ensures _ c.in-Ran.is _ c.token_at-comma.ensures _ c.is_sign.ensures c.if-is_sign.true, c.include_one-x.auto.rows ∙ c.loop-turns.invariant.1, c.include_one-x.auto.names ∙ c.loop-turns.invariant.2, c.include_one-x.auto.cells ∙ c.loop-turns.invariant.3, c.include_one-x.auto.low ∙ c.loop-turns.invariant.4, c.include_one-x.auto.high ∙ c.loop-turns.invariant.5, c.include_one-x.auto.work ∙ c.loop-turns.invariant.6, c.include_one-x.auto.text ∙ c.loop-turns.invariant.7, c.include_one-x.auto.list ∙ c.loop-turns.invariant.8)
 
 pub include_all-shape_of-rows-else-is_sign : goal.include_all-shape_of-rows-else-is_sign
 include_all-shape_of-rows-else-is_sign t c = c.include_one-x.auto.rows ∙ c.loop-turns.invariant.1
@@ -218,7 +205,7 @@ pub include_all-shape_of-list-else-is_sign : goal.include_all-shape_of-list-else
 include_all-shape_of-list-else-is_sign t c = c.include_one-x.auto.list ∙ c.loop-turns.invariant.8
 
 pub include_all-returns-else-is_sign : goal.include_all-returns-else-is_sign
-include_all-returns-else-is_sign t c = all_ran _ _ _ _ _ _ _ _ _ _ _ _ _ _ _ c.with_below-inner.ensures _ c.part_here.ensures _ c.row_at-r.ensures _ c.body-s.ensures _ _ _ _ _ _ _ _ _ _ _ _ c.loop-turns.invariant.0 _ c.item_at-item.ensures _ _ _ _ _ _ _ _ _ c.include_one-x.ensures _ c.resumed-here.ensures _ c.in-Ran.is _ c.token_at-comma.ensures _ c.is_sign_lem.ensures c.if-is_sign.false _ c.left_at-else-is_sign.ensures
+include_all-returns-else-is_sign t c = all_ran _ _ _ _ _ _ _ _ _ _ _ _ _ _ _ c.with_below-inner.ensures _ c.part_here.ensures _ c.row_at-r.ensures _ c.body-s.ensures _ _ _ _ _ _ _ _ _ _ _ _ c.loop-turns.invariant.0 _ c.item_at-item.ensures _ _ _ _ _ _ _ _ _ c.include_one-x.ensures _ c.resumed-here.ensures _ c.in-Ran.is _ c.token_at-comma.ensures _ c.is_sign.ensures c.if-is_sign.false _ c.left_at-else-is_sign.ensures
 
 pub include_all-shape_of-rows : goal.include_all-shape_of-rows
 include_all-shape_of-rows t c = c.loop-turns.invariant.1
@@ -359,25 +346,25 @@ pub run_source-run_rows-requires : goal.run_source-run_rows-requires
 run_source-run_rows-requires t c = omega (arith, c.requires)
 
 pub run_source-shape_of-cells-in-Good : goal.run_source-shape_of-cells-in-Good
-run_source-shape_of-cells-in-Good t c = c.run_rows.auto.cells ∙ c.lead_out_lem.auto.1.1.1.1.0
+run_source-shape_of-cells-in-Good t c = c.run_rows.auto.cells ∙ c.lead_out-l.auto.cells
 
 pub run_source-shape_of-low-in-Good : goal.run_source-shape_of-low-in-Good
-run_source-shape_of-low-in-Good t c = c.run_rows.auto.low ∙ c.lead_out_lem.auto.1.1.1.1.1.0
+run_source-shape_of-low-in-Good t c = c.run_rows.auto.low ∙ c.lead_out-l.auto.low
 
 pub run_source-shape_of-high-in-Good : goal.run_source-shape_of-high-in-Good
-run_source-shape_of-high-in-Good t c = c.run_rows.auto.high ∙ c.lead_out_lem.auto.1.1.1.1.1.1.0
+run_source-shape_of-high-in-Good t c = c.run_rows.auto.high ∙ c.lead_out-l.auto.high
 
 pub run_source-shape_of-work-in-Good : goal.run_source-shape_of-work-in-Good
-run_source-shape_of-work-in-Good t c = c.run_rows.auto.work ∙ c.lead_out_lem.auto.1.1.1.1.1.1.1.0
+run_source-shape_of-work-in-Good t c = c.run_rows.auto.work ∙ c.lead_out-l.auto.work
 
 pub run_source-shape_of-text-in-Good : goal.run_source-shape_of-text-in-Good
-run_source-shape_of-text-in-Good t c = c.run_rows.auto.text ∙ c.lead_out_lem.auto.1.1.1.1.1.1.1.1.0
+run_source-shape_of-text-in-Good t c = c.run_rows.auto.text ∙ c.lead_out-l.auto.text
 
 pub run_source-returns-in-Good : goal.run_source-returns-in-Good
-run_source-returns-in-Good t c = source_runs _ _ _ _ _ _ _ _ _ _ _ _ _ _ _ c.body.ensures _ _ _ _ _ _ _ c.lead_out_lem.ensures _ c.in-Good.is c.lead_out_lem.auto.1.1.1.1.0 _ c.first_of.ensures _ _ _ _ _ _ _ _ _ c.run_rows.ensures
+run_source-returns-in-Good t c = source_runs _ _ _ _ _ _ _ _ _ _ _ _ _ _ _ c.body.ensures _ _ _ _ _ _ _ c.lead_out-l.ensures _ c.in-Good.is c.lead_out-l.auto.cells _ c.first_of.ensures _ _ _ _ _ _ _ _ _ c.run_rows.ensures
 
 pub run_source-returns-in-Bad : goal.run_source-returns-in-Bad
-run_source-returns-in-Bad t c = source_bad _ _ _ _ _ _ _ _ _ _ _ _ _ _ _ c.body.ensures _ _ _ _ _ _ _ c.lead_out_lem.ensures _ _ c.in-Bad.is _ c.left_at.ensures
+run_source-returns-in-Bad t c = source_bad _ _ _ _ _ _ _ _ _ _ _ _ _ _ _ c.body.ensures _ _ _ _ _ _ _ c.lead_out-l.ensures _ _ c.in-Bad.is _ c.left_at.ensures
 
 pub turn-begin-requires : goal.turn-begin-requires
 turn-begin-requires t c = omega (arith, c.requires)

@@ -131,43 +131,43 @@ pub replace-rescan-z-requires : goal.replace-rescan-z-requires
 replace-rescan-z-requires t c = omega (arith, c.requires, c.if1.false)
 
 pub replace-returns-then-is_rescanned : goal.replace-returns-then-is_rescanned
-replace-returns-then-is_rescanned t c = replace_rescanned _ _ _ _ _ _ _ _ _ _ _ _ _ _ _ _ _ _ c.if1.false _ c.name_at_lem.ensures _ c.k.given.1 _ c.is-rescanned.ensures _ _ _ _ _ _ _ _ _ c.if2.true c.variable_value-g.ensures c.rescan-z.ensures c.variable_value-g.auto.work c.up_to_lem.ensures
+replace-returns-then-is_rescanned t c = replace_rescanned _ _ _ _ _ _ _ _ _ _ _ _ _ _ _ _ _ _ c.if1.false _ c.name-at.ensures _ c.k.given.1 _ c.is-rescanned.ensures _ _ _ _ _ _ _ _ _ c.if2.true c.variable_value-g.ensures c.rescan-z.ensures c.variable_value-g.auto.work c.up_to.ensures
 
 pub replace-replace_entry-requires : goal.replace-replace_entry-requires
 replace-replace_entry-requires t c = omega (arith, c.requires, c.if-left-lt1.false)
 
 pub replace-returns-else-is_rescanned : goal.replace-returns-else-is_rescanned
-replace-returns-else-is_rescanned t c = replace_copied _ _ _ _ _ _ _ _ _ _ _ _ _ _ _ _ _ _ c.if1.false _ c.name_at_lem.ensures _ c.k.given.1 _ c.is-rescanned.ensures _ _ _ _ c.if2.false c.copied_variable-z.ensures c.up_to-in-Variable.ensures
+replace-returns-else-is_rescanned t c = replace_copied _ _ _ _ _ _ _ _ _ _ _ _ _ _ _ _ _ _ c.if1.false _ c.name-at.ensures _ c.k.given.1 _ c.is-rescanned.ensures _ _ _ _ c.if2.false c.copied_variable-z.ensures c.up_to-in-Variable.ensures
 
 pub replace-returns-in-Is : goal.replace-returns-in-Is
-replace-returns-in-Is t c = replace_some _ _ _ _ _ _ _ _ _ _ _ _ _ _ _ _ _ _ c.if-left-lt1.false _ c.name_at_lem.ensures _ c.in-EntryName.is _ c.Callee-of.ensures _ _ _ _ _ _ _ c.in-Is.is c.replace_entry_lem.ensures
+replace-returns-in-Is t c = replace_some _ _ _ _ _ _ _ _ _ _ _ _ _ _ _ _ _ _ c.if-left-lt1.false _ c.name_at-name.ensures _ c.in-EntryName.is _ c.Callee-of.ensures _ _ _ _ _ _ _ c.in-Is.is c.replace_entry.ensures
 
 pub replace-returns-in-Fails : goal.replace-returns-in-Fails
-replace-returns-in-Fails t c = replace_fails _ _ _ _ _ _ _ _ _ _ _ _ _ _ _ _ _ _ c.if-left-lt1.false _ c.name_at_lem.ensures _ c.in-EntryName.is _ c.Callee-of.ensures _ c.in-Fails.is
+replace-returns-in-Fails t c = replace_fails _ _ _ _ _ _ _ _ _ _ _ _ _ _ _ _ _ _ c.if-left-lt1.false _ c.name_at-name.ensures _ c.in-EntryName.is _ c.Callee-of.ensures _ c.in-Fails.is
 
 pub replace-returns-in-LabelName : goal.replace-returns-in-LabelName
-replace-returns-in-LabelName t c = replace_label _ _ _ _ _ _ _ _ _ _ _ _ _ _ _ _ _ _ c.if-left-lt1.false _ c.name_at_lem.ensures _ c.in-LabelName.is
+replace-returns-in-LabelName t c = replace_label _ _ _ _ _ _ _ _ _ _ _ _ _ _ _ _ _ _ c.if-left-lt1.false _ c.name_at-name.ensures _ c.in-LabelName.is
 
 pub replace-returns-in-Builtin : goal.replace-returns-in-Builtin
-replace-returns-in-Builtin t c = replace_builtin _ _ _ _ _ _ _ _ _ _ _ _ _ _ _ _ _ _ c.if-left-lt1.false _ c.name_at_lem.ensures c.in-Builtin.is
+replace-returns-in-Builtin t c = replace_builtin _ _ _ _ _ _ _ _ _ _ _ _ _ _ _ _ _ _ c.if-left-lt1.false _ c.name_at-name.ensures c.in-Builtin.is
 
 pub replace_entry-returns-then-y-lt1 : goal.replace_entry-returns-then-y-lt1
-replace_entry-returns-then-y-lt1 t c = entry_plain _ _ _ _ _ _ _ _ _ _ _ _ _ _ _ _ _ _ _ _ _ _ _ _ _ _ c.if-y-lt1.true c.call_with_lem.ensures c.up_to_lem.ensures
+replace_entry-returns-then-y-lt1 t c = entry_plain _ _ _ _ _ _ _ _ _ _ _ _ _ _ _ _ _ _ _ _ _ _ _ _ _ _ c.if-y-lt1.true c.call_with-z.ensures c.up_to.ensures
 
 pub replace_entry-returns-then-count-y : goal.replace_entry-returns-then-count-y
-replace_entry-returns-then-count-y t c = entry_many _ _ _ _ _ _ _ _ _ _ _ _ _ _ _ _ _ _ c.if1.false _ c.list_of_lem.ensures _ _ _ c.in-Upto.is c.if-count-y.true
+replace_entry-returns-then-count-y t c = entry_many _ _ _ _ _ _ _ _ _ _ _ _ _ _ _ _ _ _ c.if1.false _ c.list_of-l.ensures _ _ _ c.in-Upto.is c.if-count-y.true
 
 pub replace_entry-call_with-z-requires-in-All : goal.replace_entry-call_with-z-requires-in-All
 replace_entry-call_with-z-requires-in-All t c = omega (arith, c.requires)
 
 pub replace_entry-returns-in-All : goal.replace_entry-returns-in-All
-replace_entry-returns-in-All t c = entry_called _ _ _ _ _ _ _ _ _ _ _ _ _ _ _ _ _ _ c.if1.false _ c.list_of_lem.ensures _ _ _ c.in-Upto.is c.if-count-y.false _ _ _ _ _ _ _ c.scan_arguments_lem.ensures _ _ _ _ _ _ _ _ c.in-All.is c.call_with-z-in-All.ensures c.up_to-in-All.ensures
+replace_entry-returns-in-All t c = entry_called _ _ _ _ _ _ _ _ _ _ _ _ _ _ _ _ _ _ c.if1.false _ c.list_of-l.ensures _ _ _ c.in-Upto.is c.if-count-y.false _ _ _ _ _ _ _ c.scan_arguments-taken.ensures _ _ _ _ _ _ _ _ c.in-All.is c.call_with-z-in-All.ensures c.up_to-in-All.ensures
 
 pub replace_entry-returns-in-Bad : goal.replace_entry-returns-in-Bad
-replace_entry-returns-in-Bad t c = entry_refused _ _ _ _ _ _ _ _ _ _ _ _ _ _ _ _ _ _ c.if1.false _ c.list_of_lem.ensures _ _ _ c.in-Upto.is c.if-count-y.false _ _ _ _ _ _ _ c.scan_arguments_lem.ensures _ _ c.in-Bad.is
+replace_entry-returns-in-Bad t c = entry_refused _ _ _ _ _ _ _ _ _ _ _ _ _ _ _ _ _ _ c.if1.false _ c.list_of-l.ensures _ _ _ c.in-Upto.is c.if-count-y.false _ _ _ _ _ _ _ c.scan_arguments-taken.ensures _ _ c.in-Bad.is
 
 pub replace_entry-returns-in-NoList : goal.replace_entry-returns-in-NoList
-replace_entry-returns-in-NoList t c = entry_none _ _ _ _ _ _ _ _ _ _ _ _ _ _ _ _ _ _ c.if1.false _ c.list_of_lem.ensures c.in-NoList.is
+replace_entry-returns-in-NoList t c = entry_none _ _ _ _ _ _ _ _ _ _ _ _ _ _ _ _ _ _ c.if1.false _ c.list_of-l.ensures c.in-NoList.is
 
 pub rescan-returns-in-Good : goal.rescan-returns-in-Good
 rescan-returns-in-Good t c = rescan_scanned _ _ _ _ _ _ _ _ _ _ _ _ _ _ _ _ _ c.as_text-x.ensures c.as_text-x.auto.work _ _ c.in-Good.is _ _ _ _ _ _ _ _ c.settled.ensures _ c.above-top.ensures c.scan-y.ensures
@@ -278,13 +278,13 @@ pub scan_arguments-shape_of-text-in-Failed : goal.scan_arguments-shape_of-text-i
 scan_arguments-shape_of-text-in-Failed t c = c.scan-z.auto.text ∙ c.loop.invariant.long
 
 pub scan_arguments-returns-in-Failed : goal.scan_arguments-returns-in-Failed
-scan_arguments-returns-in-Failed t c = arguing_failed _ _ _ _ _ _ _ _ _ _ _ _ _ _ _ _ _ _ _ _ _ _ _ _ _ _ _ _ c.loop.invariant c.loop-test.true _ c.body.ensures _ c.parameter_at_lem.ensures _ c.end_of_lem.ensures _ c.part_of.ensures _ c.into_work.ensures _ _ _ _ _ _ c.scan-z.ensures _ c.type_of.ensures _ _ c.converted-v.ensures c.converted-v.auto.work _ _ c.in-Failed.is
+scan_arguments-returns-in-Failed t c = arguing_failed _ _ _ _ _ _ _ _ _ _ _ _ _ _ _ _ _ _ _ _ _ _ _ _ _ _ _ _ c.loop.invariant c.loop-test.true _ c.body.ensures _ c.parameter-at.ensures _ c.end_of-to.ensures _ c.part_of.ensures _ c.into_work.ensures _ _ _ _ _ _ c.scan-z.ensures _ c.type_of.ensures _ _ c.converted-v.ensures c.converted-v.auto.work _ _ c.in-Failed.is
 
 pub scan_arguments-loop-turns-smaller : goal.scan_arguments-loop-turns-smaller
 scan_arguments-loop-turns-smaller t c = omega (arith, c.loop-test.true)
 
 pub scan_arguments-loop-turns-preserved : goal.scan_arguments-loop-turns-preserved
-scan_arguments-loop-turns-preserved t c = arguing_more _ _ _ _ _ _ _ _ _ _ _ _ _ _ _ _ _ _ _ _ _ _ _ _ _ _ _ _ c.loop.invariant c.loop-test.true _ c.body.ensures _ c.parameter_at_lem.ensures _ c.end_of_lem.ensures _ c.part_of.ensures _ c.into_work.ensures _ _ _ _ _ _ c.scan-z.ensures _ c.type_of.ensures _ _ c.converted-v.ensures c.converted-v.auto.work _ _ _ _ _ _ _ _ _ c.in-Is.is c.with_held-held.ensures c.type_size.ensures c.above-top.ensures c.place_after-from.ensures c.next_of.ensures c.sum-i.ensures c.scan-z.auto.cells c.scan-z.auto.low c.scan-z.auto.high c.scan-z.auto.work c.scan-z.auto.text
+scan_arguments-loop-turns-preserved t c = arguing_more _ _ _ _ _ _ _ _ _ _ _ _ _ _ _ _ _ _ _ _ _ _ _ _ _ _ _ _ c.loop.invariant c.loop-test.true _ c.body.ensures _ c.parameter-at.ensures _ c.end_of-to.ensures _ c.part_of.ensures _ c.into_work.ensures _ _ _ _ _ _ c.scan-z.ensures _ c.type_of.ensures _ _ c.converted-v.ensures c.converted-v.auto.work _ _ _ _ _ _ _ _ _ c.in-Is.is c.with_held-held.ensures c.type_size.ensures c.above-top.ensures c.place_after-from.ensures c.next_of.ensures c.sum-i.ensures c.scan-z.auto.cells c.scan-z.auto.low c.scan-z.auto.high c.scan-z.auto.work c.scan-z.auto.text
 
 pub scan_arguments-shape_of-cells : goal.scan_arguments-shape_of-cells
 scan_arguments-shape_of-cells t c = c.loop-turns.invariant.cells

@@ -17,13 +17,13 @@ pub returns-in-Group : goal.returns-in-Group
 returns-in-Group c = row_group _ _ _ _ _ _ _ _ _ _ _ _ _ _ _ _ _ c.row_at.ensures (search c.enum-told4) _ _ _ _ _ _ _ c.into.ensures
 
 pub returns-in-Goto : goal.returns-in-Goto
-returns-in-Goto c = row_goto _ _ _ _ _ _ _ _ _ _ _ _ _ _ _ _ _ c.row_at.ensures (search c.enum-told5) _ c.jump_from_lem.ensures _ c.on_jump.ensures
+returns-in-Goto c = row_goto _ _ _ _ _ _ _ _ _ _ _ _ _ _ _ _ _ c.row_at.ensures (search c.enum-told5) _ c.jump_from-j.ensures _ c.on_jump.ensures
 
 pub returns-in-Declare : goal.returns-in-Declare
-returns-in-Declare c = row_declare _ _ _ _ _ _ _ _ _ _ _ _ _ _ _ _ _ c.row_at-r.ensures (search c.in-Declare) _ _ c.declare_all_lem.ensures _ c.on_activated.ensures
+returns-in-Declare c = row_declare _ _ _ _ _ _ _ _ _ _ _ _ _ _ _ _ _ c.row_at-r.ensures (search c.in-Declare) _ _ c.declare_all-b.ensures _ c.on_activated.ensures
 
 pub returns-in-Activate : goal.returns-in-Activate
-returns-in-Activate c = row_activate _ _ _ _ _ _ _ _ _ _ _ _ _ _ _ _ _ c.row_at-r.ensures (search c.in-Activate) _ _ c.activate_all_lem.ensures _ c.on_activated-in-Activate.ensures
+returns-in-Activate c = row_activate _ _ _ _ _ _ _ _ _ _ _ _ _ _ _ _ _ c.row_at-r.ensures (search c.in-Activate) _ _ c.activate_all-b.ensures _ c.on_activated-in-Activate.ensures
 
 pub returns-in-Deactivate : goal.returns-in-Deactivate
 returns-in-Deactivate c = row_deactivate _ _ _ _ _ _ _ _ _ _ _ _ _ _ _ _ _ c.row_at-r.ensures (search c.in-Deactivate) _ _ c.deactivate_all-b.ensures _ c.on_activated-in-Deactivate.ensures

@@ -1,4 +1,5 @@
 -- The stored number.
+
 use Rattle.store.proofs.store_number.Goals as goal
 
 pub returns : goal.returns

@@ -31,28 +31,28 @@ pub loop-turns-smaller : goal.loop-turns-smaller
 loop-turns-smaller c = omega (arith, c.loop-turns-test.true)
 
 pub loop-turns-preserved : goal.loop-turns-preserved
-loop-turns-preserved c = texting_more _ _ _ _ _ _ _ _ _ _ _ _ _ _ _ _ _ _ _ _ _ _ c.loop-turns.invariant _ c.less-size.ensures c.if-size-p.false c.loop-turns-test.true _ _ _ _ _ _ _ c.token_here_lem.ensures _ _ c.in-Good.is c.token_here_lem.auto.1.1.1.1.0 c.token_here_lem.auto.1.1.1.1.1.0 c.token_here_lem.auto.1.1.1.1.1.1.0 c.token_here_lem.auto.1.1.1.1.1.1.1.0 c.token_here_lem.auto.1.1.1.1.1.1.1.1.0 c.token_here_lem.auto.1.1.1.1.1.1.1.1.1.0
+loop-turns-preserved c = texting_more _ _ _ _ _ _ _ _ _ _ _ _ _ _ _ _ _ _ _ _ _ _ c.loop-turns.invariant _ c.less-size.ensures c.if-size-p.false c.loop-turns-test.true _ _ _ _ _ _ _ c.token_here-t.ensures _ _ c.in-Good.is c.token_here-t.auto.cells c.token_here-t.auto.low c.token_here-t.auto.high c.token_here-t.auto.work c.token_here-t.auto.text c.token_here-t.auto.list
 
 pub shape_of-cells-in-Bad : goal.shape_of-cells-in-Bad
-shape_of-cells-in-Bad c = c.token_here_lem.auto.1.1.1.1.0 ∙ c.loop-turns.invariant.cells
+shape_of-cells-in-Bad c = c.token_here-t.auto.cells ∙ c.loop-turns.invariant.cells
 
 pub shape_of-low-in-Bad : goal.shape_of-low-in-Bad
-shape_of-low-in-Bad c = c.token_here_lem.auto.1.1.1.1.1.0 ∙ c.loop-turns.invariant.low
+shape_of-low-in-Bad c = c.token_here-t.auto.low ∙ c.loop-turns.invariant.low
 
 pub shape_of-high-in-Bad : goal.shape_of-high-in-Bad
-shape_of-high-in-Bad c = c.token_here_lem.auto.1.1.1.1.1.1.0 ∙ c.loop-turns.invariant.high
+shape_of-high-in-Bad c = c.token_here-t.auto.high ∙ c.loop-turns.invariant.high
 
 pub shape_of-work-in-Bad : goal.shape_of-work-in-Bad
-shape_of-work-in-Bad c = c.token_here_lem.auto.1.1.1.1.1.1.1.0 ∙ c.loop-turns.invariant.work
+shape_of-work-in-Bad c = c.token_here-t.auto.work ∙ c.loop-turns.invariant.work
 
 pub shape_of-text-in-Bad : goal.shape_of-text-in-Bad
-shape_of-text-in-Bad c = c.token_here_lem.auto.1.1.1.1.1.1.1.1.0 ∙ c.loop-turns.invariant.long
+shape_of-text-in-Bad c = c.token_here-t.auto.text ∙ c.loop-turns.invariant.long
 
 pub shape_of-list-in-Bad : goal.shape_of-list-in-Bad
-shape_of-list-in-Bad c = c.token_here_lem.auto.1.1.1.1.1.1.1.1.1.0 ∙ c.loop-turns.invariant.list
+shape_of-list-in-Bad c = c.token_here-t.auto.list ∙ c.loop-turns.invariant.list
 
 pub returns-in-Bad : goal.returns-in-Bad
-returns-in-Bad c = texting_bad _ _ _ _ _ _ _ _ _ _ _ _ _ _ _ _ _ _ _ _ _ _ c.loop-turns.invariant _ c.less-size.ensures c.if-size-p.false c.loop-turns-test.true _ _ _ _ _ _ _ c.token_here_lem.ensures _ _ c.in-Bad.is
+returns-in-Bad c = texting_bad _ _ _ _ _ _ _ _ _ _ _ _ _ _ _ _ _ _ _ _ _ _ c.loop-turns.invariant _ c.less-size.ensures c.if-size-p.false c.loop-turns-test.true _ _ _ _ _ _ _ c.token_here-t.ensures _ _ c.in-Bad.is
 
 pub shape_of-cells : goal.shape_of-cells
 shape_of-cells c = c.loop-turns.invariant.cells

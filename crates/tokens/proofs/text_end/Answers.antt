@@ -14,7 +14,7 @@ pub returns-then-is_unclosed : goal.returns-then-is_unclosed
 returns-then-is_unclosed c = search texting_open
 
 pub loop-i-smaller : goal.loop-i-smaller
-loop-i-smaller c = omega (arith, texting_further _ _ _ c.loop-i.invariant c.loop-i-test.true c.if-s-i-eq37.false _ _ c.piece_at_lem.ensures c.is_unclosed.ensures c.if-is_unclosed.false)
+loop-i-smaller c = omega (arith, texting_further _ _ _ c.loop-i.invariant c.loop-i-test.true c.if-s-i-eq37.false _ _ c.piece_at-x.ensures c.is_unclosed.ensures c.if-is_unclosed.false)
 
 pub loop-i-preserved : goal.loop-i-preserved
 loop-i-preserved c = search texting_more

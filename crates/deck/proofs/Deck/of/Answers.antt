@@ -2,24 +2,6 @@
 use Rattle.deck.proofs.Laws.{of_big, of_none, of_many, of_cut, of_unnamed, of_twice, of_gap, of_sound}
 use Rattle.deck.proofs.Deck.of.Goals as goal
 
-pub of_spec : {M : Type 1} → statement M
-of_spec =
-    tie.close
-    (tie.spec
-    returns
-    count-requires
-    returns-2
-    returns-3
-    line-place-requires
-    returns-4
-    are-named-requires
-    are-distinct-requires
-    do-follow-requires
-    returns-5
-    returns-6
-    returns-7
-    returns-8)
-
 pub returns-then-d-gt-BYTES : goal.returns-then-d-gt-BYTES
 returns-then-d-gt-BYTES c = of_big c.args.d.now c.if-d-gt-BYTES.true
 

@@ -5,9 +5,6 @@ use Rattle.definition.specs.Fixed.{ranged, sum}
 use Rattle.fixed.proofs.Laws.{op_fits, op_read, sum_size}
 use Rattle.fixed.proofs.Fixed.add.Goals as goal
 
-pub add_spec : {M : Type 1} → statement M
-add_spec = tie.close (tie.spec wide-requires wide-requires-2 add-of of-requires returns)
-
 pub overflow_add-wide : goal.overflow_add-wide
 overflow_add-wide c = op_fits ◌+ℤ◌ sum_size c.wide.ensures c.wide-2.ensures
 

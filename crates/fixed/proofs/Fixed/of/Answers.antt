@@ -3,14 +3,11 @@ use mir.Facts.{to_z-of_z}
 use Rattle.fixed.proofs.Laws.{range_fits, range_is, range_out}
 use Rattle.fixed.proofs.Fixed.of.Goals as goal
 
-pub of_spec : {M : Type 1} → statement M
-of_spec = tie.close (tie.spec in-range-requires cast-t4 returns returns-2)
-
 pub overflow_cast-result : goal.overflow_cast-result
-overflow_cast-result c = range_fits (to_z-of_z c.ranges.n) c.in_range_lem.ensures c.if-in_range.true
+overflow_cast-result c = range_fits (to_z-of_z c.ranges.n) c.in_range.ensures c.if-in_range.true
 
 pub returns-then-in_range : goal.returns-then-in_range
-returns-then-in_range c = range_is (to_z-of_z c.ranges.n) c.in_range_lem.ensures c.if-in_range.true
+returns-then-in_range c = range_is (to_z-of_z c.ranges.n) c.in_range.ensures c.if-in_range.true
 
 pub returns-else-in_range : goal.returns-else-in_range
-returns-else-in_range c = range_out (to_z-of_z c.ranges.n) c.in_range_lem.ensures c.if-in_range.false
+returns-else-in_range c = range_out (to_z-of_z c.ranges.n) c.in_range.ensures c.if-in_range.false

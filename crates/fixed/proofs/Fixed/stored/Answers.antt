@@ -9,10 +9,10 @@ pub overflow_add-result : goal.overflow_add-result
 overflow_add-result c = op_fits ◌+ℤ◌ sum_size c.wide-wide.ensures (wide_literal 100000 (lit≤ tt))
 
 pub overflow_cast-result : goal.overflow_cast-result
-overflow_cast-result c = stored_fits c.wide-wide.ensures c.in_range_lem.ensures c.if-in_range.true
+overflow_cast-result c = stored_fits c.wide-wide.ensures c.in_range.ensures c.if-in_range.true
 
 pub returns-then-in_range : goal.returns-then-in_range
-returns-then-in_range c = ap nat_abs (stored_read c.wide-wide.ensures c.in_range_lem.ensures c.if-in_range.true)
+returns-then-in_range c = ap nat_abs (stored_read c.wide-wide.ensures c.in_range.ensures c.if-in_range.true)
 
 pub returns-else-in_range : goal.returns-else-in_range
-returns-else-in_range c = stored_out c.wide-wide.ensures c.in_range_lem.ensures c.if-in_range.false
+returns-else-in_range c = stored_out c.wide-wide.ensures c.in_range.ensures c.if-in_range.false

@@ -2,9 +2,6 @@
 use Rattle.fixed.proofs.Laws.{wide_fits, wide_is}
 use Rattle.fixed.proofs.Fixed.wide.Goals as goal
 
-pub wide_spec : {M : Type 1} → statement M
-wide_spec = tie.close (tie.spec cast-result returns)
-
 pub overflow_cast-result : goal.overflow_cast-result
 overflow_cast-result c = search wide_fits
 

@@ -2,9 +2,6 @@
 use borrow.Author.Tests.{le-leb, lt-leb}
 use Rattle.limits.proofs.Name.of.Goals as goal
 
-pub of_spec : {M : Type 1} → statement M
-of_spec = tie.close (tie.spec returns returns-2)
-
 pub returns-then-length-le-LONGEST : goal.returns-then-length-le-LONGEST
 returns-then-length-le-LONGEST c = rw (le-leb _ _ c.if-length-le-LONGEST.true)
 
