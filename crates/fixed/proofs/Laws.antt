@@ -19,7 +19,7 @@ use Rattle.fixed.proofs.Magnitude.{size_mag, size_negative, size_sum, size_produ
 -- ---- 32 bits
 
 pub read_narrow : {z : ℤ} → mag z < 2147483648 → to_z w32 (of_z w32 z) ≡ z
-read_narrow h = to_z-of_z (record { sfits = h })
+read_narrow h = to_z-of_z {w = w32} (record { sfits = h })
 
 -- ---- 64 bits
 
@@ -35,7 +35,7 @@ fits_as : {n z : ℤ} → n ≡ z → Wide z → SFits w64 n
 fits_as {n} {z} p h = rw p (record { sfits = omega (arith, size_mag z) })
 
 read_as : {n z : ℤ} → n ≡ z → Wide z → read n ≡ z
-read_as p h = to_z-of_z (fits_as p h) ∙ p
+read_as p h = to_z-of_z {w = w64} (fits_as p h) ∙ p
 
 pub read_wide : {a x : ℤ} → Widened x a → read a ≡ x
 read_wide u = read_as u.same (omega (arith, u.small))
@@ -44,7 +44,7 @@ pub wide_fits : (z : ℤ) → mag z < 2147483648 → SFits w64 (to_z w32 (of_z w
 wide_fits z h = fits_as {z = z} (read_narrow h) (omega (arith, nat_abs-le z h))
 
 pub wide_is : (z : ℤ) → mag z < 2147483648 → Widened z (read (to_z w32 (of_z w32 z)))
-wide_is z h = record { same = to_z-of_z (wide_fits z h) ∙ read_narrow h; small = nat_abs-le z h }
+wide_is z h = record { same = to_z-of_z {w = w64} (wide_fits z h) ∙ read_narrow h; small = nat_abs-le z h }
 
 pub wide_literal : (n : ℕ) → n ≤ 2147483648 → Widened (pos n) (pos n)
 wide_literal n h = record { same = refl; small = h }

@@ -1,29 +1,8 @@
 -- The procedures that may still be started fall from a call to its body, the parentheses from an argument to what is inside, the
 -- levels from an operator to its sides; bodies come above their statements, and these above expressions.
 use Rattle.std.proofs.Common.{arith, refl, rules, ◌∙◌}
-use Prim.Native.Nat.{ℕ, ◌<◌}
-use borrow.Fn.Kinds.{In}
-use borrow.Fn.PlainCycle.{Measures, is, falls, and}
-use Rattle.evaluating.proofs.arguments.Kinds as arguments-kinds
-use Rattle.evaluating.proofs.call.Kinds as call-kinds
-use Rattle.evaluating.proofs.chain.Kinds as chain-kinds
-use Rattle.evaluating.proofs.deeds.assign.Kinds as deeds::assign-kinds
-use Rattle.evaluating.proofs.deeds.begun.Kinds as deeds::begun-kinds
-use Rattle.evaluating.proofs.deeds.body_turn.Kinds as deeds::body-turn-kinds
-use Rattle.evaluating.proofs.deeds.bounded.Kinds as deeds::bounded-kinds
-use Rattle.evaluating.proofs.deeds.bounds.Kinds as deeds::bounds-kinds
-use Rattle.evaluating.proofs.deeds.run_body.Kinds as deeds::run-body-kinds
-use Rattle.evaluating.proofs.deeds.start.Kinds as deeds::start-kinds
-use Rattle.evaluating.proofs.deeds.test.Kinds as deeds::test-kinds
-use Rattle.evaluating.proofs.evaluate.Kinds as evaluate-kinds
-use Rattle.evaluating.proofs.inside.Kinds as inside-kinds
-use Rattle.evaluating.proofs.levels.Kinds as levels-kinds
-use Rattle.evaluating.proofs.listed.Kinds as listed-kinds
-use Rattle.evaluating.proofs.operand.Kinds as operand-kinds
-use Rattle.evaluating.proofs.plain.Kinds as plain-kinds
-use Rattle.evaluating.proofs.primitive.Kinds as primitive-kinds
-use Rattle.evaluating.proofs.reference.Kinds as reference-kinds
-use Prim.Native.Nat.{◌+◌, ◌*◌, ◌-◌}
+use borrow.Fn.PlainCycle.{is}
+use Prim.Native.Nat.{◌-◌}
 use Rattle.evaluating.proofs.Cycle.{levels_operand, levels_chain, levels_failed, chaining_start, chaining_more, chaining_failed, chaining_done, chaining_end, operand_done, inside_over, inside_some, primitive_word, primitive_integer, primitive_string, primitive_bits, primitive_sign, primitive_nothing, primitive_wrong, whole, reference_listed, reference_plain, named_variable, named_substr, named_none}
 use Rattle.evaluating.proofs.Entries.{entry_called, entry_many, entry_fails}
 use Rattle.evaluating.proofs.Calling.{call_running, call_deep, call_body}
@@ -34,237 +13,6 @@ use Rattle.evaluating.proofs.Bounding.{bounded_some, bounded_none, bounded_bad, 
 use Rattle.evaluating.proofs.Bodying.{row_passed, row_assign, row_test, row_start, row_group, row_goto, row_return}
 use Rattle.evaluating.proofs.Looping.{turn_over, turn_due, turn_begin, turn_again, runs_start, runs_more, runs_gave, runs_bad, runs_end}
 use Rattle.evaluating.proofs.+evaluation.Goals as goal
-
-abbrev μ-arguments : Measures 8 arguments-kinds.ps ℕ
-μ-arguments κs a = 1000 * a.1.1.1.1.1.1.1.1.1.1.1.1.0.running.left + 32 * a.1.1.1.1.1.1.1.1.1.0 + 2
-
-abbrev μ-call : Measures 7 call-kinds.ps ℕ
-μ-call κs a = 1000 * a.1.1.1.1.1.1.1.1.1.1.0.running.left
-
-abbrev μ-chain : Measures 8 chain-kinds.ps ℕ
-μ-chain κs a = 1000 * a.1.1.1.1.1.1.1.1.1.1.1.1.1.0.running.left + 32 * a.1.1.1.1.1.1.1.1.1.1.1.0 + 2 * a.1.1.1.1.1.1.1.1.1.1.0 + 9
-
-abbrev μ-deeds::assign : Measures 8 deeds::assign-kinds.ps ℕ
-μ-deeds::assign κs a = 1000 * a.1.1.1.1.1.1.1.1.1.1.0.running.left + 870
-
-abbrev μ-deeds::begun : Measures 9 deeds::begun-kinds.ps ℕ
-μ-deeds::begun κs a = 1000 * a.1.1.1.1.1.1.1.1.1.1.1.1.1.0.running.left + 880
-
-abbrev μ-deeds::body-turn : Measures 9 deeds::body-turn-kinds.ps ℕ
-μ-deeds::body-turn κs a = 1000 * a.1.1.1.1.1.1.1.1.1.1.1.1.1.0.running.left + 890
-
-abbrev μ-deeds::bounded : Measures 8 deeds::bounded-kinds.ps ℕ
-μ-deeds::bounded κs a = 1000 * a.1.1.1.1.1.1.1.1.1.1.0.running.left + 864
-
-abbrev μ-deeds::bounds : Measures 8 deeds::bounds-kinds.ps ℕ
-μ-deeds::bounds κs a = 1000 * a.1.1.1.1.1.1.1.1.1.1.1.0.running.left + 866
-
-abbrev μ-deeds::run-body : Measures 9 deeds::run-body-kinds.ps ℕ
-μ-deeds::run-body κs a = 1000 * a.1.1.1.1.1.1.1.1.1.1.1.0.running.left + 900
-
-abbrev μ-deeds::start : Measures 8 deeds::start-kinds.ps ℕ
-μ-deeds::start κs a = 1000 * a.1.1.1.1.1.1.1.1.1.1.1.0.running.left + 870
-
-abbrev μ-deeds::test : Measures 8 deeds::test-kinds.ps ℕ
-μ-deeds::test κs a = 1000 * a.1.1.1.1.1.1.1.1.1.1.0.running.left + 870
-
-abbrev μ-evaluate : Measures 8 evaluate-kinds.ps ℕ
-μ-evaluate κs a = 1000 * a.1.1.1.1.1.1.1.1.1.1.0.running.left + 860
-
-abbrev μ-inside : Measures 8 inside-kinds.ps ℕ
-μ-inside κs a = 1000 * a.1.1.1.1.1.1.1.1.1.1.1.0.running.left + 32 * a.1.1.1.1.1.1.1.1.1.0 + 1
-
-abbrev μ-levels : Measures 8 levels-kinds.ps ℕ
-μ-levels κs a = 1000 * a.1.1.1.1.1.1.1.1.1.1.1.1.0.running.left + 32 * a.1.1.1.1.1.1.1.1.1.1.0 + 2 * a.1.1.1.1.1.1.1.1.1.0 + 8
-
-abbrev μ-listed : Measures 8 listed-kinds.ps ℕ
-μ-listed κs a = 1000 * a.1.1.1.1.1.1.1.1.1.1.1.1.0.running.left + 32 * a.1.1.1.1.1.1.1.1.1.1.0 + 3
-
-abbrev μ-operand : Measures 8 operand-kinds.ps ℕ
-μ-operand κs a = 1000 * a.1.1.1.1.1.1.1.1.1.1.1.0.running.left + 32 * a.1.1.1.1.1.1.1.1.1.0 + 6
-
-abbrev μ-plain : Measures 7 plain-kinds.ps ℕ
-μ-plain κs a = 1000 * a.1.1.1.1.1.1.1.1.1.1.0.running.left + 1
-
-abbrev μ-primitive : Measures 8 primitive-kinds.ps ℕ
-μ-primitive κs a = 1000 * a.1.1.1.1.1.1.1.1.1.1.1.0.running.left + 32 * a.1.1.1.1.1.1.1.1.1.0 + 5
-
-abbrev μ-reference : Measures 8 reference-kinds.ps ℕ
-μ-reference κs a = 1000 * a.1.1.1.1.1.1.1.1.1.1.1.0.running.left + 32 * a.1.1.1.1.1.1.1.1.1.0 + 4
-
-abbrev arguments-at : ℕ → In 8 arguments-kinds.ps
-arguments-at t = and 8 arguments-kinds.ps (is 8 arguments-kinds.ps μ-arguments t) arguments.Pre
-
-abbrev arguments-below : ℕ → In 8 arguments-kinds.ps
-arguments-below t =
-    and 8 arguments-kinds.ps (falls 8 arguments-kinds.ps ◌<◌ μ-arguments t) arguments.Pre
-
-abbrev call_at : ℕ → In 7 call-kinds.ps
-call_at t = and 7 call-kinds.ps (is 7 call-kinds.ps μ-call t) call.Pre
-
-abbrev call_below : ℕ → In 7 call-kinds.ps
-call_below t = and 7 call-kinds.ps (falls 7 call-kinds.ps ◌<◌ μ-call t) call.Pre
-
-abbrev chain-at : ℕ → In 8 chain-kinds.ps
-chain-at t = and 8 chain-kinds.ps (is 8 chain-kinds.ps μ-chain t) chain.Pre
-
-abbrev chain-below : ℕ → In 8 chain-kinds.ps
-chain-below t = and 8 chain-kinds.ps (falls 8 chain-kinds.ps ◌<◌ μ-chain t) chain.Pre
-
-abbrev deeds::assign-at : ℕ → In 8 deeds::assign-kinds.ps
-deeds::assign-at t =
-    and 8 deeds::assign-kinds.ps (is 8 deeds::assign-kinds.ps μ-deeds::assign t) deeds::assign.Pre
-
-abbrev deeds::assign-below : ℕ → In 8 deeds::assign-kinds.ps
-deeds::assign-below t =
-    and
-    8
-    deeds::assign-kinds.ps
-    (falls 8 deeds::assign-kinds.ps ◌<◌ μ-deeds::assign t)
-    deeds::assign.Pre
-
-abbrev deeds::begun-at : ℕ → In 9 deeds::begun-kinds.ps
-deeds::begun-at t =
-    and
-    9
-    deeds::begun-kinds.ps
-    (is 9 deeds::begun-kinds.ps μ-deeds::begun t)
-    deeds::begun.Pre
-
-abbrev deeds::begun-below : ℕ → In 9 deeds::begun-kinds.ps
-deeds::begun-below t =
-    and
-    9
-    deeds::begun-kinds.ps
-    (falls 9 deeds::begun-kinds.ps ◌<◌ μ-deeds::begun t)
-    deeds::begun.Pre
-
-abbrev deeds::body-turn-at : ℕ → In 9 deeds::body-turn-kinds.ps
-deeds::body-turn-at t =
-    and
-    9
-    deeds::body-turn-kinds.ps
-    (is 9 deeds::body-turn-kinds.ps μ-deeds::body-turn t)
-    deeds::body-turn.Pre
-
-abbrev deeds::body-turn-below : ℕ → In 9 deeds::body-turn-kinds.ps
-deeds::body-turn-below t =
-    and
-    9
-    deeds::body-turn-kinds.ps
-    (falls 9 deeds::body-turn-kinds.ps ◌<◌ μ-deeds::body-turn t)
-    deeds::body-turn.Pre
-
-abbrev deeds::bounded-at : ℕ → In 8 deeds::bounded-kinds.ps
-deeds::bounded-at t =
-    and 8 deeds::bounded-kinds.ps (is 8 deeds::bounded-kinds.ps μ-deeds::bounded t) deeds::bounded.Pre
-
-abbrev deeds::bounded-below : ℕ → In 8 deeds::bounded-kinds.ps
-deeds::bounded-below t =
-    and
-    8
-    deeds::bounded-kinds.ps
-    (falls 8 deeds::bounded-kinds.ps ◌<◌ μ-deeds::bounded t)
-    deeds::bounded.Pre
-
-abbrev deeds::bounds-at : ℕ → In 8 deeds::bounds-kinds.ps
-deeds::bounds-at t =
-    and 8 deeds::bounds-kinds.ps (is 8 deeds::bounds-kinds.ps μ-deeds::bounds t) deeds::bounds.Pre
-
-abbrev deeds::bounds-below : ℕ → In 8 deeds::bounds-kinds.ps
-deeds::bounds-below t =
-    and
-    8
-    deeds::bounds-kinds.ps
-    (falls 8 deeds::bounds-kinds.ps ◌<◌ μ-deeds::bounds t)
-    deeds::bounds.Pre
-
-abbrev deeds::run-body-at : ℕ → In 9 deeds::run-body-kinds.ps
-deeds::run-body-at t =
-    and
-    9
-    deeds::run-body-kinds.ps
-    (is 9 deeds::run-body-kinds.ps μ-deeds::run-body t)
-    deeds::run-body.Pre
-
-abbrev deeds::run-body-below : ℕ → In 9 deeds::run-body-kinds.ps
-deeds::run-body-below t =
-    and
-    9
-    deeds::run-body-kinds.ps
-    (falls 9 deeds::run-body-kinds.ps ◌<◌ μ-deeds::run-body t)
-    deeds::run-body.Pre
-
-abbrev deeds::start-at : ℕ → In 8 deeds::start-kinds.ps
-deeds::start-at t =
-    and 8 deeds::start-kinds.ps (is 8 deeds::start-kinds.ps μ-deeds::start t) deeds::start.Pre
-
-abbrev deeds::start-below : ℕ → In 8 deeds::start-kinds.ps
-deeds::start-below t =
-    and 8 deeds::start-kinds.ps (falls 8 deeds::start-kinds.ps ◌<◌ μ-deeds::start t) deeds::start.Pre
-
-abbrev deeds::test-at : ℕ → In 8 deeds::test-kinds.ps
-deeds::test-at t =
-    and 8 deeds::test-kinds.ps (is 8 deeds::test-kinds.ps μ-deeds::test t) deeds::test.Pre
-
-abbrev deeds::test-below : ℕ → In 8 deeds::test-kinds.ps
-deeds::test-below t =
-    and 8 deeds::test-kinds.ps (falls 8 deeds::test-kinds.ps ◌<◌ μ-deeds::test t) deeds::test.Pre
-
-abbrev evaluate-at : ℕ → In 8 evaluate-kinds.ps
-evaluate-at t = and 8 evaluate-kinds.ps (is 8 evaluate-kinds.ps μ-evaluate t) evaluate.Pre
-
-abbrev evaluate-below : ℕ → In 8 evaluate-kinds.ps
-evaluate-below t =
-    and 8 evaluate-kinds.ps (falls 8 evaluate-kinds.ps ◌<◌ μ-evaluate t) evaluate.Pre
-
-abbrev inside-at : ℕ → In 8 inside-kinds.ps
-inside-at t = and 8 inside-kinds.ps (is 8 inside-kinds.ps μ-inside t) inside.Pre
-
-abbrev inside-below : ℕ → In 8 inside-kinds.ps
-inside-below t = and 8 inside-kinds.ps (falls 8 inside-kinds.ps ◌<◌ μ-inside t) inside.Pre
-
-abbrev levels-at : ℕ → In 8 levels-kinds.ps
-levels-at t = and 8 levels-kinds.ps (is 8 levels-kinds.ps μ-levels t) levels.Pre
-
-abbrev levels-below : ℕ → In 8 levels-kinds.ps
-levels-below t = and 8 levels-kinds.ps (falls 8 levels-kinds.ps ◌<◌ μ-levels t) levels.Pre
-
-abbrev listed_at : ℕ → In 8 listed-kinds.ps
-listed_at t =
-    and 8 listed-kinds.ps (is 8 listed-kinds.ps μ-listed t) listed.Pre
-
-abbrev listed_below : ℕ → In 8 listed-kinds.ps
-listed_below t =
-    and 8 listed-kinds.ps (falls 8 listed-kinds.ps ◌<◌ μ-listed t) listed.Pre
-
-abbrev operand_at : ℕ → In 8 operand-kinds.ps
-operand_at t = and 8 operand-kinds.ps (is 8 operand-kinds.ps μ-operand t) operand.Pre
-
-abbrev operand_below : ℕ → In 8 operand-kinds.ps
-operand_below t = and 8 operand-kinds.ps (falls 8 operand-kinds.ps ◌<◌ μ-operand t) operand.Pre
-
-abbrev plain_at : ℕ → In 7 plain-kinds.ps
-plain_at t =
-    and 7 plain-kinds.ps (is 7 plain-kinds.ps μ-plain t) plain.Pre
-
-abbrev plain-below : ℕ → In 7 plain-kinds.ps
-plain-below t =
-    and 7 plain-kinds.ps (falls 7 plain-kinds.ps ◌<◌ μ-plain t) plain.Pre
-
-abbrev primitive-at : ℕ → In 8 primitive-kinds.ps
-primitive-at t = and 8 primitive-kinds.ps (is 8 primitive-kinds.ps μ-primitive t) primitive.Pre
-
-abbrev primitive-below : ℕ → In 8 primitive-kinds.ps
-primitive-below t =
-    and 8 primitive-kinds.ps (falls 8 primitive-kinds.ps ◌<◌ μ-primitive t) primitive.Pre
-
-abbrev reference-at : ℕ → In 8 reference-kinds.ps
-reference-at t = and 8 reference-kinds.ps (is 8 reference-kinds.ps μ-reference t) reference.Pre
-
-abbrev reference-below : ℕ → In 8 reference-kinds.ps
-reference-below t =
-    and 8 reference-kinds.ps (falls 8 reference-kinds.ps ◌<◌ μ-reference t) reference.Pre
 
 pub arguments-loop-turns-init : goal.arguments-loop-turns-init
 arguments-loop-turns-init t c = search (rules, taking_start)
@@ -381,13 +129,13 @@ pub deeds::begun-returns-in-Assign : goal.deeds::begun-returns-in-Assign
 deeds::begun-returns-in-Assign t c = row_assign _ _ _ _ _ _ _ _ _ _ _ _ _ _ _ _ c.row_at-r.ensures (search c.in-Assign) _ _ _ _ _ c.assign-d.ensures _ c.on_behind.ensures
 
 pub deeds::begun-returns-in-Conditional : goal.deeds::begun-returns-in-Conditional
-deeds::begun-returns-in-Conditional t c = row_test _ _ _ _ _ _ _ _ _ _ _ _ _ _ _ _ c.row_at-r.ensures (search c.in-Conditional) _ _ _ _ _ c.test-t.ensures _ c.on_test_lem.ensures
+deeds::begun-returns-in-Conditional t c = row_test _ _ _ _ _ _ _ _ _ _ _ _ _ _ _ _ c.row_at-r.ensures (search c.in-Conditional) _ _ _ _ _ c.test-t.ensures _ c.on_test.ensures
 
 pub deeds::begun-returns-in-Iterated : goal.deeds::begun-returns-in-Iterated
 deeds::begun-returns-in-Iterated t c = row_start _ _ _ _ _ _ _ _ _ _ _ _ _ _ _ _ c.row_at-r.ensures (search c.in-Iterated) _ _ _ _ _ c.start-t.ensures _ c.on_start.ensures
 
 pub deeds::begun-returns-in-Return : goal.deeds::begun-returns-in-Return
-deeds::begun-returns-in-Return t c = row_return _ _ _ _ _ _ _ _ _ _ _ _ _ _ _ _ c.row_at-r.ensures (search c.in-Return) _ c.token_at-open.ensures _ _ _ _ c.evaluate-v.auto.work _ c.evaluate-v.ensures _ c.row_at-q.ensures _ _ c.on_Return.ensures
+deeds::begun-returns-in-Return t c = row_return _ _ _ _ _ _ _ _ _ _ _ _ _ _ _ _ c.row_at-r.ensures (search c.in-Return) _ c.token_at-open.ensures _ _ _ _ c.evaluate-v.auto.work _ c.evaluate-v.ensures _ c.row_at-q.ensures _ _ c.on_return.ensures
 
 pub deeds::begun-returns-in-Group : goal.deeds::begun-returns-in-Group
 deeds::begun-returns-in-Group t c = row_group _ _ _ _ _ _ _ _ _ _ _ _ _ _ _ _ c.row_at-r.ensures (search c.in-Group) _ c.into_group.ensures _ c.with_step.ensures
@@ -570,7 +318,7 @@ pub operand-returns : goal.operand-returns
 operand-returns t c = search (operand_done, c.past_prefixes-p.ensures, c.primitive-x.ensures, c.primitive-x.auto.work, c.prefixes_done.ensures)
 
 pub plain-returns-then-z-eq0 : goal.plain-returns-then-z-eq0
-plain-returns-then-z-eq0 t c = entry_called _ _ _ _ _ _ _ _ _ _ _ _ c.Callee-of.ensures _ c.in-AnEntry.is _ _ c.in-Is.is c.if-z-eq0.true _ _ _ _ _ _ c.call-v.ensures _ c.up_to.ensures
+plain-returns-then-z-eq0 t c = entry_called _ _ _ _ _ _ _ _ _ _ _ _ c.callee_of-y.ensures _ c.in-AnEntry.is _ _ c.in-Is.is c.if-z-eq0.true _ _ _ _ _ _ c.call-v.ensures _ c.up_to.ensures
 
 pub plain-returns-else-z-eq0 : goal.plain-returns-else-z-eq0
 plain-returns-else-z-eq0 t c = search entry_many

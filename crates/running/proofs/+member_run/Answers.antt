@@ -1,97 +1,11 @@
 -- The include levels that are left fall from an INCLUDE to its member.
 use Rattle.std.proofs.Common.{arith, refl, ◌∙◌}
-use Prim.Native.Nat.{ℕ, ◌<◌}
-use borrow.Fn.Kinds.{In}
-use borrow.Fn.PlainCycle.{Measures, is, falls, and}
-use Rattle.running.proofs.begin.Kinds as begin-kinds
-use Rattle.running.proofs.enter_and_run.Kinds as enter-and-run-kinds
-use Rattle.running.proofs.include_all.Kinds as include-all-kinds
-use Rattle.running.proofs.include_one.Kinds as include-one-kinds
-use Rattle.running.proofs.run_rows.Kinds as run-rows-kinds
-use Rattle.running.proofs.run_source.Kinds as run-source-kinds
-use Rattle.running.proofs.turn.Kinds as turn-kinds
-use Prim.Native.Nat.{◌+◌, ◌*◌}
+use borrow.Fn.PlainCycle.{is}
 use Rattle.running.proofs.Turning.{turn_begin, turn_again, turn_over}
 use Rattle.running.proofs.Looping.{runs_start, runs_out, runs_over, runs_more, runs_end, source_runs, source_bad}
 use Rattle.running.proofs.Entering.{enter_runs, enter_refused}
 use Rattle.running.proofs.Naming.{include_unknown, include_deep, include_enters, going_start, going_more, all_went, all_stopped, all_ran, all_turned}
 use Rattle.running.proofs.+member_run.Goals as goal
-
-abbrev μ-begin : Measures 10 begin-kinds.ps ℕ
-μ-begin κs a = 8 * a.1.1.1.1.1.1.1.1.1.1.1.1.1.1.0 + 3
-
-abbrev μ-enter-and-run : Measures 9 enter-and-run-kinds.ps ℕ
-μ-enter-and-run κs a = 8 * a.1.1.1.1.1.1.1.1.1.1.1.0 + 7
-
-abbrev μ-include-all : Measures 9 include-all-kinds.ps ℕ
-μ-include-all κs a = 8 * a.1.1.1.1.1.1.1.1.1.1.1.1.0 + 2
-
-abbrev μ-include-one : Measures 9 include-one-kinds.ps ℕ
-μ-include-one κs a = 8 * a.1.1.1.1.1.1.1.1.1.1.1.1.1.0 + 1
-
-abbrev μ-run-rows : Measures 9 run-rows-kinds.ps ℕ
-μ-run-rows κs a = 8 * a.1.1.1.1.1.1.1.1.1.1.1.1.0 + 5
-
-abbrev μ-run-source : Measures 9 run-source-kinds.ps ℕ
-μ-run-source κs a = 8 * a.1.1.1.1.1.1.1.1.1.1.1.1.0 + 6
-
-abbrev μ-turn : Measures 10 turn-kinds.ps ℕ
-μ-turn κs a = 8 * a.1.1.1.1.1.1.1.1.1.1.1.1.1.1.0 + 4
-
-abbrev begin-at : ℕ → In 10 begin-kinds.ps
-begin-at t = and 10 begin-kinds.ps (is 10 begin-kinds.ps μ-begin t) begin.Pre
-
-abbrev begin-below : ℕ → In 10 begin-kinds.ps
-begin-below t = and 10 begin-kinds.ps (falls 10 begin-kinds.ps ◌<◌ μ-begin t) begin.Pre
-
-abbrev enter-and-run-at : ℕ → In 9 enter-and-run-kinds.ps
-enter-and-run-at t =
-    and 9 enter-and-run-kinds.ps (is 9 enter-and-run-kinds.ps μ-enter-and-run t) enter-and-run.Pre
-
-abbrev enter-and-run-below : ℕ → In 9 enter-and-run-kinds.ps
-enter-and-run-below t =
-    and
-    9
-    enter-and-run-kinds.ps
-    (falls 9 enter-and-run-kinds.ps ◌<◌ μ-enter-and-run t)
-    enter-and-run.Pre
-
-abbrev include-all-at : ℕ → In 9 include-all-kinds.ps
-include-all-at t =
-    and 9 include-all-kinds.ps (is 9 include-all-kinds.ps μ-include-all t) include_all_lem.Pre
-
-abbrev include-all-below : ℕ → In 9 include-all-kinds.ps
-include-all-below t =
-    and 9 include-all-kinds.ps (falls 9 include-all-kinds.ps ◌<◌ μ-include-all t) include_all_lem.Pre
-
-abbrev include-one-at : ℕ → In 9 include-one-kinds.ps
-include-one-at t =
-    and 9 include-one-kinds.ps (is 9 include-one-kinds.ps μ-include-one t) include-one.Pre
-
-abbrev include-one-below : ℕ → In 9 include-one-kinds.ps
-include-one-below t =
-    and 9 include-one-kinds.ps (falls 9 include-one-kinds.ps ◌<◌ μ-include-one t) include-one.Pre
-
-abbrev run-rows-at : ℕ → In 9 run-rows-kinds.ps
-run-rows-at t = and 9 run-rows-kinds.ps (is 9 run-rows-kinds.ps μ-run-rows t) run-rows.Pre
-
-abbrev run-rows-below : ℕ → In 9 run-rows-kinds.ps
-run-rows-below t =
-    and 9 run-rows-kinds.ps (falls 9 run-rows-kinds.ps ◌<◌ μ-run-rows t) run-rows.Pre
-
-abbrev run-source-at : ℕ → In 9 run-source-kinds.ps
-run-source-at t =
-    and 9 run-source-kinds.ps (is 9 run-source-kinds.ps μ-run-source t) run_source_lem.Pre
-
-abbrev run-source-below : ℕ → In 9 run-source-kinds.ps
-run-source-below t =
-    and 9 run-source-kinds.ps (falls 9 run-source-kinds.ps ◌<◌ μ-run-source t) run_source_lem.Pre
-
-abbrev turn_at : ℕ → In 10 turn-kinds.ps
-turn_at t = and 10 turn-kinds.ps (is 10 turn-kinds.ps μ-turn t) turn.Pre
-
-abbrev turn_below : ℕ → In 10 turn-kinds.ps
-turn_below t = and 10 turn-kinds.ps (falls 10 turn-kinds.ps ◌<◌ μ-turn t) turn.Pre
 
 pub enter_and_run-run_source-requires : goal.enter_and_run-run_source-requires
 enter_and_run-run_source-requires t c = omega (arith, c.requires)

@@ -1,16 +1,6 @@
 -- The levels of replacement that are left fall from a name to what is scanned for it.
 use Rattle.std.proofs.Common.{arith, ◌∙◌}
-use Prim.Native.Nat.{ℕ, ◌<◌}
-use borrow.Fn.Kinds.{In}
-use borrow.Fn.PlainCycle.{Measures, is, falls, and}
-use Rattle.scanning.proofs.call_with.Kinds as call-with-kinds
-use Rattle.scanning.proofs.replace.Kinds as replace-kinds
-use Rattle.scanning.proofs.replace_entry.Kinds as replace-entry-kinds
-use Rattle.scanning.proofs.rescan.Kinds as rescan-kinds
-use Rattle.scanning.proofs.scan.Kinds as scan-kinds
-use Rattle.scanning.proofs.scan_arguments.Kinds as scan-arguments-kinds
-use Rattle.scanning.proofs.token.Kinds as token-kinds
-use Prim.Native.Nat.{◌+◌, ◌*◌}
+use borrow.Fn.PlainCycle.{is}
 use borrow.Author.Tests.{not-true, not-false}
 use Rattle.scanning.proofs.Looping.{scanning_start, scanning_end, scanning_out, scanning_none, scanning_bad, scanning_more}
 use Rattle.scanning.proofs.Tokens.{token_copied, token_replaced}
@@ -19,86 +9,6 @@ use Rattle.scanning.proofs.Replacing.{replace_deep, replace_rescanned, replace_c
 use Rattle.scanning.proofs.Entries.{entry_plain, entry_none, entry_many, entry_refused, entry_called}
 use Rattle.scanning.proofs.Arguing.{arguing_start, arguing_done, arguing_failed, arguing_more}
 use Rattle.scanning.proofs.+replacement.Goals as goal
-
-abbrev μ-call-with : Measures 9 call-with-kinds.ps ℕ
-μ-call-with κs a = 8 * a.1.1.1.1.1.1.1.1.1.1.1.1.1.1.0 + 5
-
-abbrev μ-replace : Measures 9 replace-kinds.ps ℕ
-μ-replace κs a = 8 * a.1.1.1.1.1.1.1.1.1.1.1.1.1.1.1.0
-
-abbrev μ-replace-entry : Measures 9 replace-entry-kinds.ps ℕ
-μ-replace-entry κs a = 8 * a.1.1.1.1.1.1.1.1.1.1.1.1.1.1.1.0 + 6
-
-abbrev μ-rescan : Measures 9 rescan-kinds.ps ℕ
-μ-rescan κs a = 8 * a.1.1.1.1.1.1.1.1.1.1.1.1.0 + 4
-
-abbrev μ-scan : Measures 9 scan-kinds.ps ℕ
-μ-scan κs a = 8 * a.1.1.1.1.1.1.1.1.1.1.1.1.0 + 2
-
-abbrev μ-scan-arguments : Measures 9 scan-arguments-kinds.ps ℕ
-μ-scan-arguments κs a = 8 * a.1.1.1.1.1.1.1.1.1.1.1.1.1.0 + 5
-
-abbrev μ-token : Measures 9 token-kinds.ps ℕ
-μ-token κs a = 8 * a.1.1.1.1.1.1.1.1.1.1.1.1.1.1.0 + 1
-
-abbrev call-with-at : ℕ → In 9 call-with-kinds.ps
-call-with-at t = and 9 call-with-kinds.ps (is 9 call-with-kinds.ps μ-call-with t) call_with_lem.Pre
-
-abbrev call-with-below : ℕ → In 9 call-with-kinds.ps
-call-with-below t =
-    and 9 call-with-kinds.ps (falls 9 call-with-kinds.ps ◌<◌ μ-call-with t) call_with_lem.Pre
-
-abbrev replace-at : ℕ → In 9 replace-kinds.ps
-replace-at t = and 9 replace-kinds.ps (is 9 replace-kinds.ps μ-replace t) replace.Pre
-
-abbrev replace-below : ℕ → In 9 replace-kinds.ps
-replace-below t = and 9 replace-kinds.ps (falls 9 replace-kinds.ps ◌<◌ μ-replace t) replace.Pre
-
-abbrev replace-entry-at : ℕ → In 9 replace-entry-kinds.ps
-replace-entry-at t =
-    and 9 replace-entry-kinds.ps (is 9 replace-entry-kinds.ps μ-replace-entry t) replace_entry_lem.Pre
-
-abbrev replace-entry-below : ℕ → In 9 replace-entry-kinds.ps
-replace-entry-below t =
-    and
-    9
-    replace-entry-kinds.ps
-    (falls 9 replace-entry-kinds.ps ◌<◌ μ-replace-entry t)
-    replace_entry_lem.Pre
-
-abbrev rescan-at : ℕ → In 9 rescan-kinds.ps
-rescan-at t = and 9 rescan-kinds.ps (is 9 rescan-kinds.ps μ-rescan t) rescan.Pre
-
-abbrev rescan-below : ℕ → In 9 rescan-kinds.ps
-rescan-below t = and 9 rescan-kinds.ps (falls 9 rescan-kinds.ps ◌<◌ μ-rescan t) rescan.Pre
-
-abbrev scan-at : ℕ → In 9 scan-kinds.ps
-scan-at t = and 9 scan-kinds.ps (is 9 scan-kinds.ps μ-scan t) scan.Pre
-
-abbrev scan-below : ℕ → In 9 scan-kinds.ps
-scan-below t = and 9 scan-kinds.ps (falls 9 scan-kinds.ps ◌<◌ μ-scan t) scan.Pre
-
-abbrev scan-arguments-at : ℕ → In 9 scan-arguments-kinds.ps
-scan-arguments-at t =
-    and
-    9
-    scan-arguments-kinds.ps
-    (is 9 scan-arguments-kinds.ps μ-scan-arguments t)
-    scan_arguments_lem.Pre
-
-abbrev scan-arguments-below : ℕ → In 9 scan-arguments-kinds.ps
-scan-arguments-below t =
-    and
-    9
-    scan-arguments-kinds.ps
-    (falls 9 scan-arguments-kinds.ps ◌<◌ μ-scan-arguments t)
-    scan_arguments_lem.Pre
-
-abbrev token-at : ℕ → In 9 token-kinds.ps
-token-at t = and 9 token-kinds.ps (is 9 token-kinds.ps μ-token t) token.Pre
-
-abbrev token-below : ℕ → In 9 token-kinds.ps
-token-below t = and 9 token-kinds.ps (falls 9 token-kinds.ps ◌<◌ μ-token t) token.Pre
 
 pub call_with-rescan-requires : goal.call_with-rescan-requires
 call_with-rescan-requires t c = omega (arith, c.requires)
@@ -140,10 +50,10 @@ pub replace-returns-else-is_rescanned : goal.replace-returns-else-is_rescanned
 replace-returns-else-is_rescanned t c = replace_copied _ _ _ _ _ _ _ _ _ _ _ _ _ _ _ _ _ _ c.if1.false _ c.name-at.ensures _ c.k.given.1 _ c.is-rescanned.ensures _ _ _ _ c.if2.false c.copied_variable-z.ensures c.up_to-in-Variable.ensures
 
 pub replace-returns-in-Is : goal.replace-returns-in-Is
-replace-returns-in-Is t c = replace_some _ _ _ _ _ _ _ _ _ _ _ _ _ _ _ _ _ _ c.if-left-lt1.false _ c.name_at-name.ensures _ c.in-EntryName.is _ c.Callee-of.ensures _ _ _ _ _ _ _ c.in-Is.is c.replace_entry.ensures
+replace-returns-in-Is t c = replace_some _ _ _ _ _ _ _ _ _ _ _ _ _ _ _ _ _ _ c.if-left-lt1.false _ c.name_at-name.ensures _ c.in-EntryName.is _ c.callee_of-y.ensures _ _ _ _ _ _ _ c.in-Is.is c.replace_entry.ensures
 
 pub replace-returns-in-Fails : goal.replace-returns-in-Fails
-replace-returns-in-Fails t c = replace_fails _ _ _ _ _ _ _ _ _ _ _ _ _ _ _ _ _ _ c.if-left-lt1.false _ c.name_at-name.ensures _ c.in-EntryName.is _ c.Callee-of.ensures _ c.in-Fails.is
+replace-returns-in-Fails t c = replace_fails _ _ _ _ _ _ _ _ _ _ _ _ _ _ _ _ _ _ c.if-left-lt1.false _ c.name_at-name.ensures _ c.in-EntryName.is _ c.callee_of-y.ensures _ c.in-Fails.is
 
 pub replace-returns-in-LabelName : goal.replace-returns-in-LabelName
 replace-returns-in-LabelName t c = replace_label _ _ _ _ _ _ _ _ _ _ _ _ _ _ _ _ _ _ c.if-left-lt1.false _ c.name_at-name.ensures _ c.in-LabelName.is

@@ -8,7 +8,7 @@ pub returns-in-Assign : goal.returns-in-Assign
 returns-in-Assign c = row_assign _ _ _ _ _ _ _ _ _ _ _ _ _ _ _ _ _ c.row_at.ensures (search c.enum_told) _ c.scene.ensures _ _ _ _ c.assign-d.auto.cells c.assign-d.auto.work _ c.assign-d.ensures _ c.on_done.ensures
 
 pub returns-in-Conditional : goal.returns-in-Conditional
-returns-in-Conditional c = row_test _ _ _ _ _ _ _ _ _ _ _ _ _ _ _ _ _ c.row_at.ensures (search c.enum-told2) _ c.scene-in-Conditional.ensures _ _ _ _ c.test-t.auto.cells c.test-t.auto.work _ c.test-t.ensures _ c.on_test_lem.ensures
+returns-in-Conditional c = row_test _ _ _ _ _ _ _ _ _ _ _ _ _ _ _ _ _ c.row_at.ensures (search c.enum-told2) _ c.scene-in-Conditional.ensures _ _ _ _ c.test-t.auto.cells c.test-t.auto.work _ c.test-t.ensures _ c.on_test.ensures
 
 pub returns-in-Iterated : goal.returns-in-Iterated
 returns-in-Iterated c = row_start _ _ _ _ _ _ _ _ _ _ _ _ _ _ _ _ _ c.row_at.ensures (search c.enum-told3) _ c.scene3.ensures _ _ _ _ c.start.auto.1.1.1.1.0 c.start.auto.1.1.1.1.1.1.1.0 _ c.start.ensures _ _ _ _ _ _ _ c.into_started.ensures
