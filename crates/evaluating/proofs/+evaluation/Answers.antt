@@ -60,10 +60,10 @@ pub call-returns-then-running-lt1 : goal.call-returns-then-running-lt1
 call-returns-then-running-lt1 t c = search call_deep
 
 pub call-run_body-requires : goal.call-run_body-requires
-call-run_body-requires t c = omega (arith, c.requires, c.started.ensures.left, c.if2.false)
+call-run_body-requires t c = omega (arith, c.requires, c.started.ensures.left, c.if-running-lt1.false)
 
 pub call-returns : goal.call-returns
-call-returns t c = call_body _ _ _ _ _ _ _ _ _ _ _ _ _ c.is-running.ensures c.if1.false c.if2.false _ _ _ c.store_all.ensures _ c.started.ensures _ _ _ _ _ _ _ c.body.ensures c.part_of.ensures c.run_body.ensures
+call-returns t c = call_body _ _ _ _ _ _ _ _ _ _ _ _ _ c.is_running.ensures c.if-is_running.false c.if-running-lt1.false _ _ _ c.store_all.ensures _ c.started.ensures _ _ _ _ _ _ _ c.body.ensures c.part_of.ensures c.run_body.ensures
 
 pub chain-loop-turns-init : goal.chain-loop-turns-init
 chain-loop-turns-init t c = search (rules, chaining_start)
@@ -174,7 +174,7 @@ pub deeds::body_turn-returns-in-Over : goal.deeds::body_turn-returns-in-Over
 deeds::body_turn-returns-in-Over t c = turn_over _ _ _ _ _ _ _ _ _ _ _ _ _ _ _ (search c.in-Over) _ c.with_step-in-Over.ensures
 
 pub deeds::bounded-returns-in-Of : goal.deeds::bounded-returns-in-Of
-deeds::bounded-returns-in-Of t c = bounded_some _ _ _ _ _ _ _ _ _ _ _ _ _ _ c.x.given.1 _ c.bound-word.ensures _ _ c.w.given.1 _ _ _ _ _ c.evaluate.ensures _ c.bound_of.ensures _ c.bounded_by.ensures
+deeds::bounded-returns-in-Of t c = bounded_some _ _ _ _ _ _ _ _ _ _ _ _ _ _ c.in-Is.is _ c.bound_word-w.ensures _ _ c.in-Of.is _ _ _ _ _ c.evaluate-e.ensures _ c.bound_of.ensures _ c.bounded_by.ensures
 
 pub deeds::bounded-returns-in-Neither : goal.deeds::bounded-returns-in-Neither
 deeds::bounded-returns-in-Neither t c = search (bounded_none, c.in-Is.is, c.bound_word-w.ensures, c.in-Neither)
@@ -258,16 +258,16 @@ pub deeds::start-bounds-requires : goal.deeds::start-bounds-requires
 deeds::start-bounds-requires t c = omega (arith, c.requires)
 
 pub deeds::start-shape_of-cells : goal.deeds::start-shape_of-cells
-deeds::start-shape_of-cells t c = c.bounds.auto.cells ∙ c.evaluate.auto.1.1.1.1.0
+deeds::start-shape_of-cells t c = c.bounds.auto.cells ∙ c.evaluate-e.auto.cells
 
 pub deeds::start-shape_of-low : goal.deeds::start-shape_of-low
-deeds::start-shape_of-low t c = c.bounds.auto.low ∙ c.evaluate.auto.1.1.1.1.1.0
+deeds::start-shape_of-low t c = c.bounds.auto.low ∙ c.evaluate-e.auto.low
 
 pub deeds::start-shape_of-high : goal.deeds::start-shape_of-high
-deeds::start-shape_of-high t c = c.bounds.auto.high ∙ c.evaluate.auto.1.1.1.1.1.1.0
+deeds::start-shape_of-high t c = c.bounds.auto.high ∙ c.evaluate-e.auto.high
 
 pub deeds::start-returns-in-To : goal.deeds::start-returns-in-To
-deeds::start-returns-in-To t c = start_done _ _ _ _ _ _ _ _ _ _ _ _ _ _ c.token-at.ensures _ c.target_at.ensures _ c.control-address.ensures _ c.v.given.1 _ c.token-at2.ensures _ _ _ _ c.evaluate.auto.1.1.1.1.1.1.1.0 _ c.evaluate.ensures _ c.bound_of-b.ensures _ c.new_frame.ensures _ _ _ _ _ c.bounds.ensures
+deeds::start-returns-in-To t c = start_done _ _ _ _ _ _ _ _ _ _ _ _ _ _ c.token_at-t.ensures _ c.target_at.ensures _ c.control_address-v.ensures _ c.in-To.is _ c.token_at-sign.ensures _ _ _ _ c.evaluate-e.auto.work _ c.evaluate-e.ensures _ c.bound_of-b.ensures _ c.new_frame.ensures _ _ _ _ _ c.bounds.ensures
 
 pub deeds::start-returns-in-Nowhere : goal.deeds::start-returns-in-Nowhere
 deeds::start-returns-in-Nowhere t c = search (start_none, c.token_at-t.ensures, c.target_at.ensures, c.control_address-v.ensures, c.in-Nowhere)

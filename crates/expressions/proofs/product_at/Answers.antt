@@ -1,7 +1,7 @@
 -- The first sign that stands there, or none.
 use Rattle.std.proofs.Common.{refl}
 use mathlib.Core.Bool.{true, false}
-use mathlib.Core.List.{◌∷◌}
+use mathlib.Core.List.{◌∷◌, []}
 use Rattle.definition.specs.Expressions.{infix_of}
 use Rattle.expressions.specs.Check.{infix_at}
 use Rattle.expressions.proofs.Laws.{told}

@@ -4,7 +4,7 @@ use Rattle.flow.proofs.Steps.{Going}
 use Rattle.flow.proofs.may_go.Given as goal
 
 abbrev pub invariant-loop-turns : goal.invariant-loop-turns
-invariant-loop-turns l = Going l.rows l.n (may_go_on l.rows l.n 2048 (label_from l.rows l.r l.is-end)) l.up l.turns
+invariant-loop-turns l = Going l.rows l.n (may_go_on l.rows l.n 2048 (label_from l.rows l.r l.is_end)) l.up l.turns
 
 abbrev pub decreases-loop-turns : goal.decreases-loop-turns
 decreases-loop-turns l = l.turns

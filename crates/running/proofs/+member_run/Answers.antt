@@ -26,7 +26,7 @@ pub enter_and_run-returns-in-Faulty : goal.enter_and_run-returns-in-Faulty
 enter_and_run-returns-in-Faulty t c = enter_refused _ _ _ _ _ _ _ _ _ _ _ _ _ _ _ _ c.read_behind-x.ensures _ _ _ _ c.in-Faulty.is c.stopped.ensures c.left_at.ensures
 
 pub include_all-loop-turns-init : goal.include_all-loop-turns-init
-include_all-loop-turns-init t c = (going_start _ _ _ _ _ _ _ _ _ _ _ _ _ _ _ _ _ c.body.ensures, refl, refl, refl, refl, refl, refl, refl, refl)
+include_all-loop-turns-init t c = (going_start _ _ _ _ _ _ _ _ _ _ _ _ _ _ _ _ _ c.body-s.ensures, refl, refl, refl, refl, refl, refl, refl, refl)
 
 pub include_all-overflow_sub-turns : goal.include_all-overflow_sub-turns
 include_all-overflow_sub-turns t c = omega (arith, c.loop-turns-test.true)
@@ -59,7 +59,7 @@ pub include_all-shape_of-list-in-Went : goal.include_all-shape_of-list-in-Went
 include_all-shape_of-list-in-Went t c = c.include_one-x.auto.list ∙ c.loop-turns.invariant.8
 
 pub include_all-returns-in-Went : goal.include_all-returns-in-Went
-include_all-returns-in-Went t c = all_went _ _ _ _ _ _ _ _ _ _ _ _ _ _ _ c.with_below-inner.ensures _ c.part_here.ensures _ c.row_at-r.ensures _ c.body.ensures _ _ _ _ _ _ _ _ _ _ _ _ c.loop-turns.invariant.0 _ c.item_at-item.ensures _ _ _ _ _ _ _ _ _ c.include_one-x.ensures _ c.resumed-here.ensures _ _ _ c.in-Went.is c.left_at.ensures
+include_all-returns-in-Went t c = all_went _ _ _ _ _ _ _ _ _ _ _ _ _ _ _ c.with_below-inner.ensures _ c.part_here.ensures _ c.row_at-r.ensures _ c.body-s.ensures _ _ _ _ _ _ _ _ _ _ _ _ c.loop-turns.invariant.0 _ c.item_at-item.ensures _ _ _ _ _ _ _ _ _ c.include_one-x.ensures _ c.resumed-here.ensures _ _ _ c.in-Went.is c.left_at.ensures
 
 pub include_all-shape_of-rows-in-Bad : goal.include_all-shape_of-rows-in-Bad
 include_all-shape_of-rows-in-Bad t c = c.include_one-x.auto.rows ∙ c.loop-turns.invariant.1
@@ -86,7 +86,7 @@ pub include_all-shape_of-list-in-Bad : goal.include_all-shape_of-list-in-Bad
 include_all-shape_of-list-in-Bad t c = c.include_one-x.auto.list ∙ c.loop-turns.invariant.8
 
 pub include_all-returns-in-Bad : goal.include_all-returns-in-Bad
-include_all-returns-in-Bad t c = all_stopped _ _ _ _ _ _ _ _ _ _ _ _ _ _ _ c.with_below-inner.ensures _ c.part_here.ensures _ c.row_at-r.ensures _ c.body.ensures _ _ _ _ _ _ _ _ _ _ _ _ c.loop-turns.invariant.0 _ c.item_at-item.ensures _ _ _ _ _ _ _ _ _ c.include_one-x.ensures _ c.resumed-here.ensures _ _ _ c.in-Bad.is c.left_at-in-Bad.ensures
+include_all-returns-in-Bad t c = all_stopped _ _ _ _ _ _ _ _ _ _ _ _ _ _ _ c.with_below-inner.ensures _ c.part_here.ensures _ c.row_at-r.ensures _ c.body-s.ensures _ _ _ _ _ _ _ _ _ _ _ _ c.loop-turns.invariant.0 _ c.item_at-item.ensures _ _ _ _ _ _ _ _ _ c.include_one-x.ensures _ c.resumed-here.ensures _ _ _ c.in-Bad.is c.left_at-in-Bad.ensures
 
 pub include_all-loop-turns-smaller : goal.include_all-loop-turns-smaller
 include_all-loop-turns-smaller t c = omega (arith, c.loop-turns-test.true)
@@ -197,37 +197,37 @@ pub run_rows-turn-t-requires : goal.run_rows-turn-t-requires
 run_rows-turn-t-requires t c = omega (arith, c.requires)
 
 pub run_rows-loop-turns-smaller : goal.run_rows-loop-turns-smaller
-run_rows-loop-turns-smaller t c = omega (arith, c.loop-test.true)
+run_rows-loop-turns-smaller t c = omega (arith, c.loop-turns-test.true)
 
 pub run_rows-loop-turns-preserved : goal.run_rows-loop-turns-preserved
-run_rows-loop-turns-preserved t c = (runs_more _ _ _ _ _ _ _ _ _ _ _ _ _ _ _ _ _ _ _ _ _ _ _ _ _ _ _ _ c.loop.invariant.0 _ c.is-over.ensures c.if1.false _ _ _ _ _ _ _ _ _ c.turn.ensures _ c.since.ensures _ _ _ _ _ _ _ c.settle-a.ensures _ _ c.in-On.is, c.turn.auto.1.1.0 ∙ c.loop.invariant.1, c.turn.auto.1.1.1.0 ∙ c.loop.invariant.2, c.settle-a.auto.cells ∙ c.turn.auto.1.1.1.1.0 ∙ c.loop.invariant.3, c.settle-a.auto.low ∙ c.turn.auto.1.1.1.1.1.0 ∙ c.loop.invariant.4, c.settle-a.auto.high ∙ c.turn.auto.1.1.1.1.1.1.0 ∙ c.loop.invariant.5, c.settle-a.auto.work ∙ c.turn.auto.1.1.1.1.1.1.1.0 ∙ c.loop.invariant.6, c.settle-a.auto.text ∙ c.turn.auto.1.1.1.1.1.1.1.1.0 ∙ c.loop.invariant.7, c.settle-a.auto.list ∙ c.turn.auto.1.1.1.1.1.1.1.1.1.0 ∙ c.loop.invariant.8)
+run_rows-loop-turns-preserved t c = (runs_more _ _ _ _ _ _ _ _ _ _ _ _ _ _ _ _ _ _ _ _ _ _ _ _ _ _ _ _ c.loop-turns.invariant.0 _ c.is_over.ensures c.if-is_over.false _ _ _ _ _ _ _ _ _ c.turn-t.ensures _ c.since-here.ensures _ _ _ _ _ _ _ c.settle-a.ensures _ _ c.in-On.is, c.turn-t.auto.rows ∙ c.loop-turns.invariant.1, c.turn-t.auto.names ∙ c.loop-turns.invariant.2, c.settle-a.auto.cells ∙ c.turn-t.auto.cells ∙ c.loop-turns.invariant.3, c.settle-a.auto.low ∙ c.turn-t.auto.low ∙ c.loop-turns.invariant.4, c.settle-a.auto.high ∙ c.turn-t.auto.high ∙ c.loop-turns.invariant.5, c.settle-a.auto.work ∙ c.turn-t.auto.work ∙ c.loop-turns.invariant.6, c.settle-a.auto.text ∙ c.turn-t.auto.text ∙ c.loop-turns.invariant.7, c.settle-a.auto.list ∙ c.turn-t.auto.list ∙ c.loop-turns.invariant.8)
 
 pub run_rows-shape_of-rows-in-End : goal.run_rows-shape_of-rows-in-End
-run_rows-shape_of-rows-in-End t c = c.turn.auto.1.1.0 ∙ c.loop.invariant.1
+run_rows-shape_of-rows-in-End t c = c.turn-t.auto.rows ∙ c.loop-turns.invariant.1
 
 pub run_rows-shape_of-names-in-End : goal.run_rows-shape_of-names-in-End
-run_rows-shape_of-names-in-End t c = c.turn.auto.1.1.1.0 ∙ c.loop.invariant.2
+run_rows-shape_of-names-in-End t c = c.turn-t.auto.names ∙ c.loop-turns.invariant.2
 
 pub run_rows-shape_of-cells-in-End : goal.run_rows-shape_of-cells-in-End
-run_rows-shape_of-cells-in-End t c = c.settle-a.auto.cells ∙ c.turn.auto.1.1.1.1.0 ∙ c.loop.invariant.3
+run_rows-shape_of-cells-in-End t c = c.settle-a.auto.cells ∙ c.turn-t.auto.cells ∙ c.loop-turns.invariant.3
 
 pub run_rows-shape_of-low-in-End : goal.run_rows-shape_of-low-in-End
-run_rows-shape_of-low-in-End t c = c.settle-a.auto.low ∙ c.turn.auto.1.1.1.1.1.0 ∙ c.loop.invariant.4
+run_rows-shape_of-low-in-End t c = c.settle-a.auto.low ∙ c.turn-t.auto.low ∙ c.loop-turns.invariant.4
 
 pub run_rows-shape_of-high-in-End : goal.run_rows-shape_of-high-in-End
-run_rows-shape_of-high-in-End t c = c.settle-a.auto.high ∙ c.turn.auto.1.1.1.1.1.1.0 ∙ c.loop.invariant.5
+run_rows-shape_of-high-in-End t c = c.settle-a.auto.high ∙ c.turn-t.auto.high ∙ c.loop-turns.invariant.5
 
 pub run_rows-shape_of-work-in-End : goal.run_rows-shape_of-work-in-End
-run_rows-shape_of-work-in-End t c = c.settle-a.auto.work ∙ c.turn.auto.1.1.1.1.1.1.1.0 ∙ c.loop.invariant.6
+run_rows-shape_of-work-in-End t c = c.settle-a.auto.work ∙ c.turn-t.auto.work ∙ c.loop-turns.invariant.6
 
 pub run_rows-shape_of-text-in-End : goal.run_rows-shape_of-text-in-End
-run_rows-shape_of-text-in-End t c = c.settle-a.auto.text ∙ c.turn.auto.1.1.1.1.1.1.1.1.0 ∙ c.loop.invariant.7
+run_rows-shape_of-text-in-End t c = c.settle-a.auto.text ∙ c.turn-t.auto.text ∙ c.loop-turns.invariant.7
 
 pub run_rows-shape_of-list-in-End : goal.run_rows-shape_of-list-in-End
-run_rows-shape_of-list-in-End t c = c.settle-a.auto.list ∙ c.turn.auto.1.1.1.1.1.1.1.1.1.0 ∙ c.loop.invariant.8
+run_rows-shape_of-list-in-End t c = c.settle-a.auto.list ∙ c.turn-t.auto.list ∙ c.loop-turns.invariant.8
 
 pub run_rows-returns-in-End : goal.run_rows-returns-in-End
-run_rows-returns-in-End t c = runs_end _ _ _ _ _ _ _ _ _ _ _ _ _ _ _ _ _ _ _ _ _ _ _ _ _ _ _ _ c.loop.invariant.0 _ c.is-over.ensures c.if1.false _ _ _ _ _ _ _ _ _ c.turn.ensures _ c.since.ensures _ _ _ _ _ _ _ c.settle-a.ensures _ c.in-End.is _ c.left_at-in-End.ensures
+run_rows-returns-in-End t c = runs_end _ _ _ _ _ _ _ _ _ _ _ _ _ _ _ _ _ _ _ _ _ _ _ _ _ _ _ _ c.loop-turns.invariant.0 _ c.is_over.ensures c.if-is_over.false _ _ _ _ _ _ _ _ _ c.turn-t.ensures _ c.since-here.ensures _ _ _ _ _ _ _ c.settle-a.ensures _ c.in-End.is _ c.left_at-in-End.ensures
 
 pub run_rows-shape_of-rows : goal.run_rows-shape_of-rows
 run_rows-shape_of-rows t c = c.loop-turns.invariant.1
@@ -275,10 +275,10 @@ pub run_source-shape_of-text-in-Good : goal.run_source-shape_of-text-in-Good
 run_source-shape_of-text-in-Good t c = c.run_rows.auto.text ∙ c.lead_out-l.auto.text
 
 pub run_source-returns-in-Good : goal.run_source-returns-in-Good
-run_source-returns-in-Good t c = source_runs _ _ _ _ _ _ _ _ _ _ _ _ _ _ _ c.body.ensures _ _ _ _ _ _ _ c.lead_out-l.ensures _ c.in-Good.is c.lead_out-l.auto.cells _ c.first_of.ensures _ _ _ _ _ _ _ _ _ c.run_rows.ensures
+run_source-returns-in-Good t c = source_runs _ _ _ _ _ _ _ _ _ _ _ _ _ _ _ c.body-s.ensures _ _ _ _ _ _ _ c.lead_out-l.ensures _ c.in-Good.is c.lead_out-l.auto.cells _ c.first_of.ensures _ _ _ _ _ _ _ _ _ c.run_rows.ensures
 
 pub run_source-returns-in-Bad : goal.run_source-returns-in-Bad
-run_source-returns-in-Bad t c = source_bad _ _ _ _ _ _ _ _ _ _ _ _ _ _ _ c.body.ensures _ _ _ _ _ _ _ c.lead_out-l.ensures _ _ c.in-Bad.is _ c.left_at.ensures
+run_source-returns-in-Bad t c = source_bad _ _ _ _ _ _ _ _ _ _ _ _ _ _ _ c.body-s.ensures _ _ _ _ _ _ _ c.lead_out-l.ensures _ _ c.in-Bad.is _ c.left_at.ensures
 
 pub turn-begin-requires : goal.turn-begin-requires
 turn-begin-requires t c = omega (arith, c.requires)
@@ -287,7 +287,7 @@ pub turn-returns-in-Begin : goal.turn-returns-in-Begin
 turn-returns-in-Begin t c = turn_begin _ _ _ _ _ _ _ _ _ _ _ _ _ _ _ _ _ c.in-Begin.is _ _ _ _ _ _ _ _ _ c.begin.ensures
 
 pub turn-returns-in-Again : goal.turn-returns-in-Again
-turn-returns-in-Again t c = turn_again _ _ _ _ _ _ _ _ _ _ _ _ _ _ _ _ _ c.next2.given.1 _ c.part-here.ensures _ _ _ _ _ _ _ c.into_again-t.ensures _ c.turned_at.ensures
+turn-returns-in-Again t c = turn_again _ _ _ _ _ _ _ _ _ _ _ _ _ _ _ _ _ c.in-Again.is _ c.part_here.ensures _ _ _ _ _ _ _ c.into_again-t.ensures _ c.turned_at.ensures
 
 pub turn-returns-in-Over : goal.turn-returns-in-Over
 turn-returns-in-Over t c = turn_over _ _ _ _ _ _ _ _ _ _ _ _ _ _ _ _ c.in-Over.is _

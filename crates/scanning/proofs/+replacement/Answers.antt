@@ -38,16 +38,16 @@ pub replace-returns-then-left-lt1 : goal.replace-returns-then-left-lt1
 replace-returns-then-left-lt1 t c = replace_deep _ _ _ _ _ _ _ _ _ _ _ _ _ _ _ _ _ _ c.if-left-lt1.true
 
 pub replace-rescan-z-requires : goal.replace-rescan-z-requires
-replace-rescan-z-requires t c = omega (arith, c.requires, c.if1.false)
+replace-rescan-z-requires t c = omega (arith, c.requires, c.if-left-lt1.false)
 
 pub replace-returns-then-is_rescanned : goal.replace-returns-then-is_rescanned
-replace-returns-then-is_rescanned t c = replace_rescanned _ _ _ _ _ _ _ _ _ _ _ _ _ _ _ _ _ _ c.if1.false _ c.name-at.ensures _ c.k.given.1 _ c.is-rescanned.ensures _ _ _ _ _ _ _ _ _ c.if2.true c.variable_value-g.ensures c.rescan-z.ensures c.variable_value-g.auto.work c.up_to.ensures
+replace-returns-then-is_rescanned t c = replace_rescanned _ _ _ _ _ _ _ _ _ _ _ _ _ _ _ _ _ _ c.if-left-lt1.false _ c.name_at-name.ensures _ c.in-Variable.is _ c.is_rescanned.ensures _ _ _ _ _ _ _ _ _ c.if-is_rescanned.true c.variable_value-g.ensures c.rescan-z.ensures c.variable_value-g.auto.work c.up_to.ensures
 
 pub replace-replace_entry-requires : goal.replace-replace_entry-requires
 replace-replace_entry-requires t c = omega (arith, c.requires, c.if-left-lt1.false)
 
 pub replace-returns-else-is_rescanned : goal.replace-returns-else-is_rescanned
-replace-returns-else-is_rescanned t c = replace_copied _ _ _ _ _ _ _ _ _ _ _ _ _ _ _ _ _ _ c.if1.false _ c.name-at.ensures _ c.k.given.1 _ c.is-rescanned.ensures _ _ _ _ c.if2.false c.copied_variable-z.ensures c.up_to-in-Variable.ensures
+replace-returns-else-is_rescanned t c = replace_copied _ _ _ _ _ _ _ _ _ _ _ _ _ _ _ _ _ _ c.if-left-lt1.false _ c.name_at-name.ensures _ c.in-Variable.is _ c.is_rescanned.ensures _ _ _ _ c.if-is_rescanned.false c.copied_variable-z.ensures c.up_to-in-Variable.ensures
 
 pub replace-returns-in-Is : goal.replace-returns-in-Is
 replace-returns-in-Is t c = replace_some _ _ _ _ _ _ _ _ _ _ _ _ _ _ _ _ _ _ c.if-left-lt1.false _ c.name_at-name.ensures _ c.in-EntryName.is _ c.callee_of-y.ensures _ _ _ _ _ _ _ c.in-Is.is c.replace_entry.ensures
@@ -65,19 +65,19 @@ pub replace_entry-returns-then-y-lt1 : goal.replace_entry-returns-then-y-lt1
 replace_entry-returns-then-y-lt1 t c = entry_plain _ _ _ _ _ _ _ _ _ _ _ _ _ _ _ _ _ _ _ _ _ _ _ _ _ _ c.if-y-lt1.true c.call_with-z.ensures c.up_to.ensures
 
 pub replace_entry-returns-then-count-y : goal.replace_entry-returns-then-count-y
-replace_entry-returns-then-count-y t c = entry_many _ _ _ _ _ _ _ _ _ _ _ _ _ _ _ _ _ _ c.if1.false _ c.list_of-l.ensures _ _ _ c.in-Upto.is c.if-count-y.true
+replace_entry-returns-then-count-y t c = entry_many _ _ _ _ _ _ _ _ _ _ _ _ _ _ _ _ _ _ c.if-y-lt1.false _ c.list_of-l.ensures _ _ _ c.in-Upto.is c.if-count-y.true
 
 pub replace_entry-call_with-z-requires-in-All : goal.replace_entry-call_with-z-requires-in-All
 replace_entry-call_with-z-requires-in-All t c = omega (arith, c.requires)
 
 pub replace_entry-returns-in-All : goal.replace_entry-returns-in-All
-replace_entry-returns-in-All t c = entry_called _ _ _ _ _ _ _ _ _ _ _ _ _ _ _ _ _ _ c.if1.false _ c.list_of-l.ensures _ _ _ c.in-Upto.is c.if-count-y.false _ _ _ _ _ _ _ c.scan_arguments-taken.ensures _ _ _ _ _ _ _ _ c.in-All.is c.call_with-z-in-All.ensures c.up_to-in-All.ensures
+replace_entry-returns-in-All t c = entry_called _ _ _ _ _ _ _ _ _ _ _ _ _ _ _ _ _ _ c.if-y-lt1.false _ c.list_of-l.ensures _ _ _ c.in-Upto.is c.if-count-y.false _ _ _ _ _ _ _ c.scan_arguments-taken.ensures _ _ _ _ _ _ _ _ c.in-All.is c.call_with-z-in-All.ensures c.up_to-in-All.ensures
 
 pub replace_entry-returns-in-Bad : goal.replace_entry-returns-in-Bad
-replace_entry-returns-in-Bad t c = entry_refused _ _ _ _ _ _ _ _ _ _ _ _ _ _ _ _ _ _ c.if1.false _ c.list_of-l.ensures _ _ _ c.in-Upto.is c.if-count-y.false _ _ _ _ _ _ _ c.scan_arguments-taken.ensures _ _ c.in-Bad.is
+replace_entry-returns-in-Bad t c = entry_refused _ _ _ _ _ _ _ _ _ _ _ _ _ _ _ _ _ _ c.if-y-lt1.false _ c.list_of-l.ensures _ _ _ c.in-Upto.is c.if-count-y.false _ _ _ _ _ _ _ c.scan_arguments-taken.ensures _ _ c.in-Bad.is
 
 pub replace_entry-returns-in-NoList : goal.replace_entry-returns-in-NoList
-replace_entry-returns-in-NoList t c = entry_none _ _ _ _ _ _ _ _ _ _ _ _ _ _ _ _ _ _ c.if1.false _ c.list_of-l.ensures c.in-NoList.is
+replace_entry-returns-in-NoList t c = entry_none _ _ _ _ _ _ _ _ _ _ _ _ _ _ _ _ _ _ c.if-y-lt1.false _ c.list_of-l.ensures c.in-NoList.is
 
 pub rescan-returns-in-Good : goal.rescan-returns-in-Good
 rescan-returns-in-Good t c = rescan_scanned _ _ _ _ _ _ _ _ _ _ _ _ _ _ _ _ _ c.as_text-x.ensures c.as_text-x.auto.work _ _ c.in-Good.is _ _ _ _ _ _ _ _ c.settled.ensures _ c.above-top.ensures c.scan-y.ensures
@@ -173,28 +173,28 @@ pub scan_arguments-scan-z-requires : goal.scan_arguments-scan-z-requires
 scan_arguments-scan-z-requires t c = omega (arith, c.requires)
 
 pub scan_arguments-shape_of-cells-in-Failed : goal.scan_arguments-shape_of-cells-in-Failed
-scan_arguments-shape_of-cells-in-Failed t c = c.scan-z.auto.cells ∙ c.loop.invariant.cells
+scan_arguments-shape_of-cells-in-Failed t c = c.scan-z.auto.cells ∙ c.loop-turns.invariant.cells
 
 pub scan_arguments-shape_of-low-in-Failed : goal.scan_arguments-shape_of-low-in-Failed
-scan_arguments-shape_of-low-in-Failed t c = c.scan-z.auto.low ∙ c.loop.invariant.low
+scan_arguments-shape_of-low-in-Failed t c = c.scan-z.auto.low ∙ c.loop-turns.invariant.low
 
 pub scan_arguments-shape_of-high-in-Failed : goal.scan_arguments-shape_of-high-in-Failed
-scan_arguments-shape_of-high-in-Failed t c = c.scan-z.auto.high ∙ c.loop.invariant.high
+scan_arguments-shape_of-high-in-Failed t c = c.scan-z.auto.high ∙ c.loop-turns.invariant.high
 
 pub scan_arguments-shape_of-work-in-Failed : goal.scan_arguments-shape_of-work-in-Failed
-scan_arguments-shape_of-work-in-Failed t c = c.converted-v.auto.work ∙ c.scan-z.auto.work ∙ c.loop.invariant.work
+scan_arguments-shape_of-work-in-Failed t c = c.converted-v.auto.work ∙ c.scan-z.auto.work ∙ c.loop-turns.invariant.work
 
 pub scan_arguments-shape_of-text-in-Failed : goal.scan_arguments-shape_of-text-in-Failed
-scan_arguments-shape_of-text-in-Failed t c = c.scan-z.auto.text ∙ c.loop.invariant.long
+scan_arguments-shape_of-text-in-Failed t c = c.scan-z.auto.text ∙ c.loop-turns.invariant.long
 
 pub scan_arguments-returns-in-Failed : goal.scan_arguments-returns-in-Failed
-scan_arguments-returns-in-Failed t c = arguing_failed _ _ _ _ _ _ _ _ _ _ _ _ _ _ _ _ _ _ _ _ _ _ _ _ _ _ _ _ c.loop.invariant c.loop-test.true _ c.body.ensures _ c.parameter-at.ensures _ c.end_of-to.ensures _ c.part_of.ensures _ c.into_work.ensures _ _ _ _ _ _ c.scan-z.ensures _ c.type_of.ensures _ _ c.converted-v.ensures c.converted-v.auto.work _ _ c.in-Failed.is
+scan_arguments-returns-in-Failed t c = arguing_failed _ _ _ _ _ _ _ _ _ _ _ _ _ _ _ _ _ _ _ _ _ _ _ _ _ _ _ _ c.loop-turns.invariant c.loop-turns-test.true _ c.body.ensures _ c.parameter_at-parameter.ensures _ c.end_of-to.ensures _ c.part_of.ensures _ c.into_work.ensures _ _ _ _ _ _ c.scan-z.ensures _ c.type_of.ensures _ _ c.converted-v.ensures c.converted-v.auto.work _ _ c.in-Failed.is
 
 pub scan_arguments-loop-turns-smaller : goal.scan_arguments-loop-turns-smaller
-scan_arguments-loop-turns-smaller t c = omega (arith, c.loop-test.true)
+scan_arguments-loop-turns-smaller t c = omega (arith, c.loop-turns-test.true)
 
 pub scan_arguments-loop-turns-preserved : goal.scan_arguments-loop-turns-preserved
-scan_arguments-loop-turns-preserved t c = arguing_more _ _ _ _ _ _ _ _ _ _ _ _ _ _ _ _ _ _ _ _ _ _ _ _ _ _ _ _ c.loop.invariant c.loop-test.true _ c.body.ensures _ c.parameter-at.ensures _ c.end_of-to.ensures _ c.part_of.ensures _ c.into_work.ensures _ _ _ _ _ _ c.scan-z.ensures _ c.type_of.ensures _ _ c.converted-v.ensures c.converted-v.auto.work _ _ _ _ _ _ _ _ _ c.in-Is.is c.with_held-held.ensures c.type_size.ensures c.above-top.ensures c.place_after-from.ensures c.next_of.ensures c.sum-i.ensures c.scan-z.auto.cells c.scan-z.auto.low c.scan-z.auto.high c.scan-z.auto.work c.scan-z.auto.text
+scan_arguments-loop-turns-preserved t c = arguing_more _ _ _ _ _ _ _ _ _ _ _ _ _ _ _ _ _ _ _ _ _ _ _ _ _ _ _ _ c.loop-turns.invariant c.loop-turns-test.true _ c.body.ensures _ c.parameter_at-parameter.ensures _ c.end_of-to.ensures _ c.part_of.ensures _ c.into_work.ensures _ _ _ _ _ _ c.scan-z.ensures _ c.type_of.ensures _ _ c.converted-v.ensures c.converted-v.auto.work _ _ _ _ _ _ _ _ _ c.in-Is.is c.with_held-held.ensures c.type_size.ensures c.above-top.ensures c.place_after-from.ensures c.next_of-listed.ensures c.sum-i.ensures c.scan-z.auto.cells c.scan-z.auto.low c.scan-z.auto.high c.scan-z.auto.work c.scan-z.auto.text
 
 pub scan_arguments-shape_of-cells : goal.scan_arguments-shape_of-cells
 scan_arguments-shape_of-cells t c = c.loop-turns.invariant.cells
@@ -218,7 +218,7 @@ pub token-replace-requires : goal.token-replace-requires
 token-replace-requires t c = omega (arith, c.requires)
 
 pub token-returns-in-NotActive : goal.token-returns-in-NotActive
-token-returns-in-NotActive t c = token_copied _ _ _ _ _ _ _ _ _ _ _ _ _ _ _ _ _ _ c.piece_of.ensures _ c.active_in-active.ensures _ _ _ c.in-NotActive.is c.copy_token.ensures
+token-returns-in-NotActive t c = token_copied _ _ _ _ _ _ _ _ _ _ _ _ _ _ _ _ _ _ c.piece_of-y.ensures _ c.active_in-active.ensures _ _ _ c.in-NotActive.is c.copy_token.ensures
 
 pub token-returns-in-IsActive : goal.token-returns-in-IsActive
-token-returns-in-IsActive t c = token_replaced _ _ _ _ _ _ _ _ _ _ _ _ _ _ _ _ _ _ c.piece_of.ensures _ c.active_in-active.ensures _ _ _ _ _ _ _ _ _ _ c.in-IsActive.is c.after.ensures c.waiting.ensures c.replace.ensures
+token-returns-in-IsActive t c = token_replaced _ _ _ _ _ _ _ _ _ _ _ _ _ _ _ _ _ _ c.piece_of-y.ensures _ c.active_in-active.ensures _ _ _ _ _ _ _ _ _ _ c.in-IsActive.is c.after.ensures c.waiting.ensures c.replace.ensures

@@ -1,5 +1,5 @@
 -- What is left ends where all of it does.
-use mathlib.Core.List.{◌∷◌}
+use mathlib.Core.List.{◌∷◌, []}
 use Rattle.statements.specs.declared.Each.TheVariants as Ea
 use Rattle.statements.proofs.Laws.{Listing}
 use Rattle.statements.proofs.names_in.Given as goal

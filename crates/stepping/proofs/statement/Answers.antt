@@ -5,19 +5,19 @@ use Rattle.stepping.proofs.Jumping.{row_goto}
 use Rattle.stepping.proofs.statement.Goals as goal
 
 pub returns-in-Assign : goal.returns-in-Assign
-returns-in-Assign c = row_assign _ _ _ _ _ _ _ _ _ _ _ _ _ _ _ _ _ c.row_at.ensures (search c.enum_told) _ c.scene.ensures _ _ _ _ c.assign-d.auto.cells c.assign-d.auto.work _ c.assign-d.ensures _ c.on_done.ensures
+returns-in-Assign c = row_assign _ _ _ _ _ _ _ _ _ _ _ _ _ _ _ _ _ c.row_at-r.ensures (search c.in-Assign) _ c.scene.ensures _ _ _ _ c.assign-d.auto.cells c.assign-d.auto.work _ c.assign-d.ensures _ c.on_done.ensures
 
 pub returns-in-Conditional : goal.returns-in-Conditional
-returns-in-Conditional c = row_test _ _ _ _ _ _ _ _ _ _ _ _ _ _ _ _ _ c.row_at.ensures (search c.enum-told2) _ c.scene-in-Conditional.ensures _ _ _ _ c.test-t.auto.cells c.test-t.auto.work _ c.test-t.ensures _ c.on_test.ensures
+returns-in-Conditional c = row_test _ _ _ _ _ _ _ _ _ _ _ _ _ _ _ _ _ c.row_at-r.ensures (search c.in-Conditional) _ c.scene-in-Conditional.ensures _ _ _ _ c.test-t.auto.cells c.test-t.auto.work _ c.test-t.ensures _ c.on_test.ensures
 
 pub returns-in-Iterated : goal.returns-in-Iterated
-returns-in-Iterated c = row_start _ _ _ _ _ _ _ _ _ _ _ _ _ _ _ _ _ c.row_at.ensures (search c.enum-told3) _ c.scene3.ensures _ _ _ _ c.start.auto.1.1.1.1.0 c.start.auto.1.1.1.1.1.1.1.0 _ c.start.ensures _ _ _ _ _ _ _ c.into_started.ensures
+returns-in-Iterated c = row_start _ _ _ _ _ _ _ _ _ _ _ _ _ _ _ _ _ c.row_at-r.ensures (search c.in-Iterated) _ c.scene-in-Iterated.ensures _ _ _ _ c.start-y.auto.cells c.start-y.auto.work _ c.start-y.ensures _ _ _ _ _ _ _ c.into_started.ensures
 
 pub returns-in-Group : goal.returns-in-Group
-returns-in-Group c = row_group _ _ _ _ _ _ _ _ _ _ _ _ _ _ _ _ _ c.row_at.ensures (search c.enum-told4) _ _ _ _ _ _ _ c.into.ensures
+returns-in-Group c = row_group _ _ _ _ _ _ _ _ _ _ _ _ _ _ _ _ _ c.row_at-r.ensures (search c.in-Group) _ _ _ _ _ _ _ c.into.ensures
 
 pub returns-in-Goto : goal.returns-in-Goto
-returns-in-Goto c = row_goto _ _ _ _ _ _ _ _ _ _ _ _ _ _ _ _ _ c.row_at.ensures (search c.enum-told5) _ c.jump_from-j.ensures _ c.on_jump.ensures
+returns-in-Goto c = row_goto _ _ _ _ _ _ _ _ _ _ _ _ _ _ _ _ _ c.row_at-r.ensures (search c.in-Goto) _ c.jump_from-j.ensures _ c.on_jump.ensures
 
 pub returns-in-Declare : goal.returns-in-Declare
 returns-in-Declare c = row_declare _ _ _ _ _ _ _ _ _ _ _ _ _ _ _ _ _ c.row_at-r.ensures (search c.in-Declare) _ _ c.declare_all-b.ensures _ c.on_activated.ensures

@@ -6,4 +6,4 @@ pub returns-then-o-lt1 : goal.returns-then-o-lt1
 returns-then-o-lt1 c = replacing_full _ _ _ _ _ _ _ _ _ _ _ _ _ _ _ _ _ _ c.sum-place.ensures _ _ c.if-o-lt1.true c.bad.ensures c.pass_to.ensures
 
 pub returns : goal.returns
-returns c = replacing_done _ _ _ _ _ _ _ _ _ _ _ _ _ _ _ _ _ _ c.sum.ensures _ _ _ _ _ _ _ _ _ c.if1.false c.scene.ensures c.replace.ensures c.replacement_out.ensures
+returns c = replacing_done _ _ _ _ _ _ _ _ _ _ _ _ _ _ _ _ _ _ c.sum-place.ensures _ _ _ _ _ _ _ _ _ c.if-o-lt1.false c.scene.ensures c.replace-r.ensures c.replacement_out.ensures

@@ -7,7 +7,7 @@ pub returns-then-not-paid : goal.returns-then-not-paid
 returns-then-not-paid c = turn_none _ _ _ _ _ _ _ _ _ _ _ _ _ _ _ _ c.sum-place.ensures _ c.charged-paid.ensures c.with_meter-g.ensures _ _ (not-true _ c.if-not-paid.true) c.bad.ensures c.pass_to.ensures
 
 pub returns-in-NotActive : goal.returns-in-NotActive
-returns-in-NotActive c = turn_copied _ _ _ _ _ _ _ _ _ _ _ _ _ _ _ _ c.sum.ensures _ c.charged.ensures c.with-meter.ensures _ _ c.piece_of.ensures c.active_in-active.ensures (not-false _ c.if1.false) _ _ _ _ _ c.in-NotActive.is c.sum.ensures c.token_out-r.ensures c.pass_to-in-NotActive.ensures
+returns-in-NotActive c = turn_copied _ _ _ _ _ _ _ _ _ _ _ _ _ _ _ _ c.sum-place.ensures _ c.charged-paid.ensures c.with_meter-g.ensures _ _ c.piece_of-y.ensures c.active_in-active.ensures (not-false _ c.if-not-paid.false) _ _ _ _ _ c.in-NotActive.is c.sum.ensures c.token_out-r.ensures c.pass_to-in-NotActive.ensures
 
 pub returns-in-IsActive : goal.returns-in-IsActive
-returns-in-IsActive c = turn_replaced _ _ _ _ _ _ _ _ _ _ _ _ _ _ _ _ c.sum.ensures _ c.charged.ensures c.with-meter.ensures _ _ c.piece_of.ensures c.active_in-active.ensures (not-false _ c.if1.false) _ _ _ _ _ _ _ _ _ c.in-IsActive.is c.replace_here.ensures
+returns-in-IsActive c = turn_replaced _ _ _ _ _ _ _ _ _ _ _ _ _ _ _ _ c.sum-place.ensures _ c.charged-paid.ensures c.with_meter-g.ensures _ _ c.piece_of-y.ensures c.active_in-active.ensures (not-false _ c.if-not-paid.false) _ _ _ _ _ _ _ _ _ c.in-IsActive.is c.replace_here.ensures
