@@ -28,6 +28,7 @@ use Rattle.flow.specs.Shown.{Shown, Around, parent, outer, FrameShown, Newest, n
 -- ---- the newest frame of a group
 newest_once : (g : ℕ) (d : D.Frame) (F : List D.Frame) → Newest g d F → d.is_once ≡ D.is_once g F
 unfolding D.is_once
+newest_once g d [] n = elim n [ ]
 newest_once g d (_ ∷ F) (newest_first _ e) = rw (eq-eqb d.group g e)
 newest_once g d (x ∷ F) (newest_later _ _ h n) = rw (ne_eqb x.group g h) (newest_once g d F n)
 
@@ -50,6 +51,7 @@ module _ {E : Type 0} (M : D.Machine E) where
   number_is (W.holds v) w f = refl
 
   frame_of_lem : (g : ℕ) (d : D.Frame) (F : List D.Frame) (f : D.Frame → Res Why Bool) (w : World) → Newest g d F → D.frame_of M g F f w ≡ f d
+  frame_of_lem g d [] f w n = elim n [ ]
   frame_of_lem g d (_ ∷ F) f w (newest_first _ e) = rw (eq-eqb d.group g e)
   frame_of_lem g d (x ∷ F) f w (newest_later _ _ h n) = rw (ne_eqb x.group g h) (frame_of_lem g d F f w n)
 

@@ -192,7 +192,7 @@ module _ (e : Event) (es : List Event) (o : Out) (t l t' l' : List ℕ) (k : ℕ
       → lines_of (e ∷ es) ≡ longer n ys → x ≡ record { kind = 2; member = m; offset = o.newest.offset; size = o.newest.size + n }
       → k + 1 ≡ o.lines → taken e es ≡ 0 → More e es o r t' l'
   unfolding grows_from
-  more_longer [] p m q g d y c tk = absurd (false≢true (rw (s.newest, p) at g))
+  more_longer [] p m q g d y c tk = absurd (false≢true (ap (λ (z : Line). grows_from z m q) (sym (s.newest ∙ ap top p)) ∙ g))
   more_longer (z ∷ zs) p m q g d y c tk =
       let a : line_in o.newest ≡ z = s.newest ∙ ap top p in
       let h = and3 (eqb o.newest.kind 2) (eqb o.newest.member m) (eqb (o.newest.offset + o.newest.size) q) (sym g) in
