@@ -36,7 +36,7 @@ pub arguments-loop-turns-smaller : goal.arguments-loop-turns-smaller
 arguments-loop-turns-smaller t c = omega (arith, c.loop-turns-test.true)
 
 pub arguments-loop-turns-preserved : goal.arguments-loop-turns-preserved
-arguments-loop-turns-preserved t c = taking_more _ _ _ _ _ _ _ _ _ _ _ _ _ _ _ _ _ _ _ _ _ _ _ _ _ _ c.loop-turns.invariant c.loop-turns-test.true _ c.wish_for-w.ensures _ _ _ _ c.inside-x.auto.work _ c.inside-x.ensures _ _ c.with_wish-y.ensures _ _ _ c.in-Is.is _ c.with_held-held.ensures _ c.first_kept-first.ensures _ _ c.type_size.ensures c.above-top.ensures _ c.token_at-next.ensures _ c.sum-i.ensures c.with_wish-y.auto.work c.inside-x.auto.cells c.inside-x.auto.low c.inside-x.auto.high
+arguments-loop-turns-preserved t c = taking_more _ _ _ _ _ _ _ _ _ _ _ _ _ _ _ _ _ _ _ _ _ _ _ _ _ _ c.loop-turns.invariant c.loop-turns-test.true _ c.wish_for-w.ensures _ _ _ _ c.inside-x.auto.work _ c.inside-x.ensures _ _ c.with_wish-y.ensures _ _ _ c.in-Is.is _ c.with_held-held.ensures _ c.first_kept-first.ensures _ _ c.size_of.ensures c.above-top.ensures _ c.token_at-next.ensures _ c.sum-i.ensures c.with_wish-y.auto.work c.inside-x.auto.cells c.inside-x.auto.low c.inside-x.auto.high
 
 pub arguments-shape_of-cells : goal.arguments-shape_of-cells
 arguments-shape_of-cells t c = c.loop-turns.invariant.cells_size
@@ -72,7 +72,7 @@ pub chain-loop-turns-smaller : goal.chain-loop-turns-smaller
 chain-loop-turns-smaller t c = omega (arith, c.loop-turns-test.true)
 
 pub chain-loop-turns-preserved : goal.chain-loop-turns-preserved
-chain-loop-turns-preserved t c = chaining_more _ _ _ _ _ _ _ _ _ _ _ _ _ _ _ _ _ _ _ _ _ _ _ c.loop-turns.invariant c.loop-turns-test.true _ c.infix_at-next.ensures _ _ c.in-Is.is _ _ c.type_size.ensures c.above-top.ensures _ _ _ _ c.levels-y.auto.work _ c.levels-y.ensures _ _ c.with_infix-z.ensures _ _ _ c.in-Is-z.is c.levels-y.auto.cells c.levels-y.auto.low c.levels-y.auto.high c.with_infix-z.auto.work
+chain-loop-turns-preserved t c = chaining_more _ _ _ _ _ _ _ _ _ _ _ _ _ _ _ _ _ _ _ _ _ _ _ c.loop-turns.invariant c.loop-turns-test.true _ c.infix_at-next.ensures _ _ c.in-Is.is _ _ c.size_of.ensures c.above-top.ensures _ _ _ _ c.levels-y.auto.work _ c.levels-y.ensures _ _ c.with_infix-z.ensures _ _ _ c.in-Is-z.is c.levels-y.auto.cells c.levels-y.auto.low c.levels-y.auto.high c.with_infix-z.auto.work
 
 pub chain-shape_of-cells-in-Failed : goal.chain-shape_of-cells-in-Failed
 chain-shape_of-cells-in-Failed t c = c.levels-y.auto.cells ∙ c.loop-turns.invariant.cells_size
@@ -87,7 +87,7 @@ pub chain-shape_of-work-in-Failed : goal.chain-shape_of-work-in-Failed
 chain-shape_of-work-in-Failed t c = c.with_infix-z.auto.work ∙ c.levels-y.auto.work ∙ c.loop-turns.invariant.work_size
 
 pub chain-returns-in-Failed : goal.chain-returns-in-Failed
-chain-returns-in-Failed t c = chaining_failed _ _ _ _ _ _ _ _ _ _ _ _ _ _ _ _ _ _ _ _ _ _ _ c.loop-turns.invariant c.loop-turns-test.true _ c.infix_at-next.ensures _ _ c.in-Is.is _ _ c.type_size.ensures c.above-top.ensures _ _ _ _ c.levels-y.auto.work _ c.levels-y.ensures _ _ c.with_infix-z.ensures _ _ c.in-Failed.is
+chain-returns-in-Failed t c = chaining_failed _ _ _ _ _ _ _ _ _ _ _ _ _ _ _ _ _ _ _ _ _ _ _ c.loop-turns.invariant c.loop-turns-test.true _ c.infix_at-next.ensures _ _ c.in-Is.is _ _ c.size_of.ensures c.above-top.ensures _ _ _ _ c.levels-y.auto.work _ c.levels-y.ensures _ _ c.with_infix-z.ensures _ _ c.in-Failed.is
 
 pub chain-shape_of-cells-in-Other : goal.chain-shape_of-cells-in-Other
 chain-shape_of-cells-in-Other t c = c.loop-turns.invariant.cells_size

@@ -194,7 +194,7 @@ pub scan_arguments-loop-turns-smaller : goal.scan_arguments-loop-turns-smaller
 scan_arguments-loop-turns-smaller t c = omega (arith, c.loop-turns-test.true)
 
 pub scan_arguments-loop-turns-preserved : goal.scan_arguments-loop-turns-preserved
-scan_arguments-loop-turns-preserved t c = arguing_more _ _ _ _ _ _ _ _ _ _ _ _ _ _ _ _ _ _ _ _ _ _ _ _ _ _ _ _ c.loop-turns.invariant c.loop-turns-test.true _ c.body.ensures _ c.parameter_at-parameter.ensures _ c.end_of-to.ensures _ c.part_of.ensures _ c.into_work.ensures _ _ _ _ _ _ c.scan-z.ensures _ c.type_of.ensures _ _ c.converted-v.ensures c.converted-v.auto.work _ _ _ _ _ _ _ _ _ c.in-Is.is c.with_held-held.ensures c.type_size.ensures c.above-top.ensures c.place_after-from.ensures c.next_of-listed.ensures c.sum-i.ensures c.scan-z.auto.cells c.scan-z.auto.low c.scan-z.auto.high c.scan-z.auto.work c.scan-z.auto.text
+scan_arguments-loop-turns-preserved t c = arguing_more _ _ _ _ _ _ _ _ _ _ _ _ _ _ _ _ _ _ _ _ _ _ _ _ _ _ _ _ c.loop-turns.invariant c.loop-turns-test.true _ c.body.ensures _ c.parameter_at-parameter.ensures _ c.end_of-to.ensures _ c.part_of.ensures _ c.into_work.ensures _ _ _ _ _ _ c.scan-z.ensures _ c.type_of.ensures _ _ c.converted-v.ensures c.converted-v.auto.work _ _ _ _ _ _ _ _ _ c.in-Is.is c.with_held-held.ensures c.size_of.ensures c.above-top.ensures c.place_after-from.ensures c.next_of-listed.ensures c.sum-i.ensures c.scan-z.auto.cells c.scan-z.auto.low c.scan-z.auto.high c.scan-z.auto.work c.scan-z.auto.text
 
 pub scan_arguments-shape_of-cells : goal.scan_arguments-shape_of-cells
 scan_arguments-shape_of-cells t c = c.loop-turns.invariant.cells
