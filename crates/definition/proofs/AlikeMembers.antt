@@ -16,7 +16,7 @@ use Rattle.definition.specs.Program.{Statement, null, Link, nowhere, row, listed
 use Rattle.definition.specs.Statements.{Opens, opens_nothing, opens_group, opens_body, opens_then, Clause, clause, Declaring}
 use Rattle.definition.specs.World.{row_of}
 use Rattle.definition.specs.Reading as R
-use Rattle.definition.specs.Reading.{Where, in_program, in_group, in_body_lem, in_then, in_else, Open, State, stretch, change, new_row, set_next, set_child, set_other, set_lead, set_text, linked, add_in, add_to, add_row, Mode, Turn, go, stop, finish, is_decided, Else, else_to, no_else, else_word, else_at, elsed, complete_in, complete, Labelled, is_name, add_label, labels_from, labels, opened, taken, untaken, take_read, take_declared, is_declare, is_procedure, is_none, is_inside, is_list, kind_of, do_at, common, in_list, outer, by_word, by_name, by_token, may_name, end_name, end_read, end_at, is_in_group, is_in_body, is_full, is_end, long_label, clause_from, texted, lead_in, not_end, procedure_end, begins, inner_at, depth, deep_enough, alternative_at, leading_text, text_behind, alternative, inner, turn, read_on, read_member}
+use Rattle.definition.specs.Reading.{Where, in_program, in_group, in_body, in_then, in_else, Open, State, stretch, change, new_row, set_next, set_child, set_other, set_lead, set_text, linked, add_in, add_to, add_row, Mode, Turn, go, stop, finish, is_decided, Else, else_to, no_else, else_word, else_at, elsed, complete_in, complete, Labelled, is_name, add_label, labels_from, labels, opened, taken, untaken, take_read, take_declared, is_declare, is_procedure, is_none, is_inside, is_list, kind_of, do_at, common, in_list, outer, by_word, by_name, by_token, may_name, end_name, end_read, end_at, is_in_group, is_in_body, is_full, is_end, long_label, clause_from, texted, lead_in, not_end, procedure_end, begins, inner_at, depth, deep_enough, alternative_at, leading_text, text_behind, alternative, inner, turn, read_on, read_member}
 use Rattle.definition.proofs.Choices.{when_both, cond_has}
 use Rattle.definition.proofs.Alike.{Alike, both, neither, then_alike, Names, name_of_lem, word_alike, Clauses, assignment_alike, if_alike, do_alike, goto_alike, include_alike, activate_alike, deactivate_alike, return_alike, Declares, declares, declares_not, declare_alike, procedure_alike}
 
@@ -57,7 +57,7 @@ module _ (Q : Stretch → Type 0) (none : Q (stretch 0 0)) where
   add_in_lem in_group o os x p st h =
       let n : ℕ = length st.rows in
       record { lead = h.lead; rows = more_fine (linked n o.last (change o.row (set_child n)) st.rows) (new_row x p (row o.row) listed) (linked_fine n o.last (change o.row (set_child n)) (child_fine o.row n) st.rows h.rows) (none, none) }
-  add_in_lem in_body_lem o os x p st h =
+  add_in_lem in_body o os x p st h =
       let n : ℕ = length st.rows in
       record { lead = h.lead; rows = more_fine (linked n o.last (change o.row (set_child n)) st.rows) (new_row x p (row o.row) listed) (linked_fine n o.last (change o.row (set_child n)) (child_fine o.row n) st.rows h.rows) (none, none) }
   add_in_lem in_then o os x p st h =
@@ -83,10 +83,10 @@ module _ (Q : Stretch → Type 0) (none : Q (stretch 0 0)) where
   lead_in_lem [] from p st h k = k
   lead_in_lem (o ∷ os) from p st h k = at_kind o.kind
     where
-      at_kind : (x : Where) → Fine ((elim x as (λ _. ℕ → State) [ in_program ↦ λ n. R.with_lead (stretch from p) st | in_group ↦ λ n. R.with_rows (change n (set_lead (stretch from p)) st.rows) st | in_body_lem ↦ λ n. st | in_then ↦ λ n. st | in_else ↦ λ n. st ]) o.row)
+      at_kind : (x : Where) → Fine ((elim x as (λ _. ℕ → State) [ in_program ↦ λ n. R.with_lead (stretch from p) st | in_group ↦ λ n. R.with_rows (change n (set_lead (stretch from p)) st.rows) st | in_body ↦ λ n. st | in_then ↦ λ n. st | in_else ↦ λ n. st ]) o.row)
       at_kind in_program = record { lead = h; rows = k.rows }
       at_kind in_group = record { lead = k.lead; rows = change_fine o.row (set_lead (stretch from p)) (λ r i. (h, i.1)) st.rows k.rows }
-      at_kind in_body_lem = k
+      at_kind in_body = k
       at_kind in_then = k
       at_kind in_else = k
 
@@ -141,7 +141,7 @@ module _ (α β : Letters) (s : List ℕ) (P : ℕ → Type 0) (tokens : (e : �
   complete_in_lem : (k : Where) (i : ℕ) (os : List Open) (n e : ℕ) (st : State) (f g : ℕ → Turn) → P e → F st → Turns (f i) (g i) → Turns (complete_in α k s i os n e st f) (complete_in β k s i os n e st g)
   complete_in_lem in_program i os n e st f g p h k = going p h
   complete_in_lem in_group i os n e st f g p h k = going p h
-  complete_in_lem in_body_lem i os n e st f g p h k = going p h
+  complete_in_lem in_body i os n e st f g p h k = going p h
   complete_in_lem in_then i os n e st f g p h k = elsed_alike (else_at_lem (is_inside st.scope) e p) i os st _ _ h k
   complete_in_lem in_else i os n e st f g p h k = k
 

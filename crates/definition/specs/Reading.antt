@@ -16,7 +16,7 @@ use Rattle.definition.specs.Statements.{Opens, opens_nothing, opens_group, opens
 pub data Where : Type 0 where
   in_program : Where
   in_group : Where
-  in_body_lem : Where
+  in_body : Where
   in_then : Where
   in_else : Where
 
@@ -33,7 +33,7 @@ opening k n ls = record { kind = k; row = n; last = nowhere; labels = ls }
 abbrev pub counts : Where → ℕ
 counts in_program = 0
 counts in_group = 1
-counts in_body_lem = 0
+counts in_body = 0
 counts in_then = 1
 counts in_else = 1
 
@@ -48,14 +48,14 @@ kind_of (o ∷ os) = o.kind
 abbrev pub is_in_group : Where → Bool
 is_in_group in_program = false
 is_in_group in_group = true
-is_in_group in_body_lem = false
+is_in_group in_body = false
 is_in_group in_then = false
 is_in_group in_else = false
 
 abbrev pub is_in_body : Where → Bool
 is_in_body in_program = false
 is_in_body in_group = false
-is_in_body in_body_lem = true
+is_in_body in_body = true
 is_in_body in_then = false
 is_in_body in_else = false
 
@@ -63,7 +63,7 @@ is_in_body in_else = false
 abbrev pub is_list : Where → Bool
 is_list in_program = true
 is_list in_group = true
-is_list in_body_lem = true
+is_list in_body = true
 is_list in_then = false
 is_list in_else = false
 
@@ -160,7 +160,7 @@ add_in in_group o os x p st =
     grown st st.first
     (linked n o.last (change o.row (set_child n)) st.rows ++ new_row x p (row o.row) listed ∷ [])
     (at_last o n ∷ os)
-add_in in_body_lem o os x p st =
+add_in in_body o os x p st =
     let n = length st.rows in
     grown st st.first
     (linked n o.last (change o.row (set_child n)) st.rows ++ new_row x p (row o.row) listed ∷ [])
@@ -234,7 +234,7 @@ behind (inside r) n = inner
 abbrev pub complete_in : Letters → Where → List ℕ → ℕ → List Open → ℕ → ℕ → State → (ℕ → Turn) → Turn
 complete_in α in_program s i os n e st up = go (behind st.scope n) e st
 complete_in α in_group s i os n e st up = go (behind st.scope n) e st
-complete_in α in_body_lem s i os n e st up = go (behind st.scope n) e st
+complete_in α in_body s i os n e st up = go (behind st.scope n) e st
 complete_in α in_then s i os n e st up = elsed (else_at α (is_inside st.scope) s e) i os st (λ _. up i)
 complete_in α in_else s i os n e st up = up i
 
@@ -284,7 +284,7 @@ opened α opens_nothing s n ns e st = complete α s st.opened n e st
 opened α opens_group s n ns e st =
     go (cond (is_inside st.scope) inner leading_text) e
     (with_opened (opening in_group n (spelled ns) ∷ st.opened) st.scope st)
-opened α opens_body s n ns e st = go inner e (with_opened (opening in_body_lem n (spelled ns) ∷ st.opened) (inside n) st)
+opened α opens_body s n ns e st = go inner e (with_opened (opening in_body n (spelled ns) ∷ st.opened) (inside n) st)
 opened α opens_then s n ns e st = go alternative e (with_opened (opening in_then n [] ∷ st.opened) st.scope st)
 
 -- labels before what opens a body are entry names
@@ -403,7 +403,7 @@ end_name α s ls at =
 abbrev pub scope_out : Where → Scope → Scope
 scope_out in_program k = k
 scope_out in_group k = k
-scope_out in_body_lem k = global
+scope_out in_body k = global
 scope_out in_then k = k
 scope_out in_else k = k
 
@@ -456,7 +456,7 @@ lead_in (o ∷ os) at p st = lead_of o.kind o.row
     lead_of : Where → ℕ → State
     lead_of in_program n = with_lead (stretch at p) st
     lead_of in_group n = with_rows (change n (set_lead (stretch at p)) st.rows) st
-    lead_of in_body_lem n = st
+    lead_of in_body n = st
     lead_of in_then n = st
     lead_of in_else n = st
 

@@ -40,8 +40,8 @@ then_word α true s at = expect_word α "THEN" s at
 then_word α false s at = then (expect_sign α "%" s at) λ e. expect_word α "THEN" s e
 
 unfoldable pub if_clause : Letters → Bool → List ℕ → ℕ → Reading Clause
-if_clause α in_body_lem s at =
-    then (whole_expression α s at) λ r. then (then_word α in_body_lem s r.to) λ e.
+if_clause α in_body s at =
+    then (whole_expression α s at) λ r. then (then_word α in_body s r.to) λ e.
     read (clause (conditional r.tree) opens_then e)
 
 -- (13) do-specification: BY and TO in either order, each at most once

@@ -156,7 +156,7 @@ pub record Deepening (o : Opened) (n i : ℕ) : Type 0 where
 counts_low : (k : D.Where) → D.counts k ≤ 1
 counts_low D.in_program = omega arith
 counts_low D.in_group = omega arith
-counts_low D.in_body_lem = omega arith
+counts_low D.in_body = omega arith
 counts_low D.in_then = omega arith
 counts_low D.in_else = omega arith
 
@@ -223,7 +223,7 @@ pub row_added : (k : D.Where) (o : D.Open) (os : List D.Open) (x : P.Statement) 
     ≡ D.grown st (first_in k st.first o.last (length st.rows)) (linked_in k o (length st.rows) st.rows ++ D.new_row x p (parent_in k o.row) (role_in k) ∷ []) (last_by k o (length st.rows) ∷ os)
 row_added D.in_program o os x p st = refl
 row_added D.in_group o os x p st = refl
-row_added D.in_body_lem o os x p st = refl
+row_added D.in_body o os x p st = refl
 row_added D.in_then o os x p st = refl
 row_added D.in_else o os x p st = refl
 

@@ -51,7 +51,7 @@ role_of Rl.ElsePart = P.else_part
 abbrev pub where_of : Where → D.Where
 where_of Wh.InProgram = D.in_program
 where_of Wh.InGroup = D.in_group
-where_of Wh.InBody = D.in_body_lem
+where_of Wh.InBody = D.in_body
 where_of Wh.InThen = D.in_then
 where_of Wh.InElse = D.in_else
 
@@ -115,7 +115,7 @@ pub record TopKind (o : Opened) (r : Where) : Type 0 where
 abbrev pub last_by : D.Where → D.Open → ℕ → D.Open
 last_by D.in_program o n = D.at_last o n
 last_by D.in_group o n = D.at_last o n
-last_by D.in_body_lem o n = D.at_last o n
+last_by D.in_body o n = D.at_last o n
 last_by D.in_then o n = o
 last_by D.in_else o n = o
 
@@ -134,28 +134,28 @@ pub record AtLast (o : Opened) (n : ℕ) (r : Opened) : Type 0 where
 abbrev pub parent_in : D.Where → ℕ → P.Link
 parent_in D.in_program n = P.nowhere
 parent_in D.in_group n = P.row n
-parent_in D.in_body_lem n = P.row n
+parent_in D.in_body n = P.row n
 parent_in D.in_then n = P.row n
 parent_in D.in_else n = P.row n
 
 abbrev pub role_in : D.Where → P.Role
 role_in D.in_program = P.listed
 role_in D.in_group = P.listed
-role_in D.in_body_lem = P.listed
+role_in D.in_body = P.listed
 role_in D.in_then = P.then_part
 role_in D.in_else = P.else_part
 
 abbrev pub first_in : D.Where → P.Link → P.Link → ℕ → P.Link
 first_in D.in_program f l n = D.first_of f l n
 first_in D.in_group f l n = f
-first_in D.in_body_lem f l n = f
+first_in D.in_body f l n = f
 first_in D.in_then f l n = f
 first_in D.in_else f l n = f
 
 abbrev pub linked_in : D.Where → D.Open → ℕ → List P.Row → List P.Row
 linked_in D.in_program o n rs = D.linked n o.last (λ xs. xs) rs
 linked_in D.in_group o n rs = D.linked n o.last (D.change o.row (D.set_child n)) rs
-linked_in D.in_body_lem o n rs = D.linked n o.last (D.change o.row (D.set_child n)) rs
+linked_in D.in_body o n rs = D.linked n o.last (D.change o.row (D.set_child n)) rs
 linked_in D.in_then o n rs = D.change o.row (D.set_child n) rs
 linked_in D.in_else o n rs = D.change o.row (D.set_other n) rs
 

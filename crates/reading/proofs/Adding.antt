@@ -120,7 +120,7 @@ pub add_in_lem : (w : D.Where) (o : D.Open) (os : List D.Open) (y : P.Statement)
     → D.add_in w o os y p st ≡ D.grown st (first_in w st.first o.last n) (linked_in w o n st.rows ++ D.new_row y p (parent_in w o.row) (role_in w) ∷ []) (last_by w o n ∷ os)
 add_in_lem D.in_program o os y p n st e = rw e
 add_in_lem D.in_group o os y p n st e = rw e
-add_in_lem D.in_body_lem o os y p n st e = rw e
+add_in_lem D.in_body o os y p n st e = rw e
 add_in_lem D.in_then o os y p n st e = rw e
 add_in_lem D.in_else o os y p n st e = rw e
 
@@ -144,7 +144,7 @@ stand_top n L o os h e = (subst (λ (z : List D.Open). Stand n z) e h).0
 inside_more : (w : D.Where) (k n : ℕ) → Inside w k n → Inside w k (suc n)
 inside_more D.in_program k n h = tt
 inside_more D.in_group k n h = omega (arith, h)
-inside_more D.in_body_lem k n h = omega (arith, h)
+inside_more D.in_body k n h = omega (arith, h)
 inside_more D.in_then k n h = omega (arith, h)
 inside_more D.in_else k n h = omega (arith, h)
 
@@ -158,7 +158,7 @@ low_more n o h = record { row = inside_more o.kind o.row n h.row; last = within_
 around_more : (w : D.Where) (A B : Type 0) → (A → B) → Around w A → Around w B
 around_more D.in_program A B f h = tt
 around_more D.in_group A B f h = f h
-around_more D.in_body_lem A B f h = f h
+around_more D.in_body A B f h = f h
 around_more D.in_then A B f h = f h
 around_more D.in_else A B f h = f h
 
@@ -170,7 +170,7 @@ pub stand_last : (w : D.Where) (k : ℕ) (l : P.Link) (bs : List (List ℕ)) (os
     → Stand (suc n) (last_by w (record { kind = w; row = k; last = l; labels = bs }) n ∷ os)
 stand_last D.in_program k l bs os n h = (record { row = tt; last = omega arith }, tt)
 stand_last D.in_group k l bs os n h = (record { row = omega (arith, h.0.row); last = omega arith }, stand_more n os h.1)
-stand_last D.in_body_lem k l bs os n h = (record { row = omega (arith, h.0.row); last = omega arith }, stand_more n os h.1)
+stand_last D.in_body k l bs os n h = (record { row = omega (arith, h.0.row); last = omega arith }, stand_more n os h.1)
 stand_last D.in_then k l bs os n h = stand_more n (record { kind = D.in_then; row = k; last = l; labels = bs } ∷ os) h
 stand_last D.in_else k l bs os n h = stand_more n (record { kind = D.in_else; row = k; last = l; labels = bs } ∷ os) h
 
@@ -235,7 +235,7 @@ last_stand s L M o n top hm h =
 counts_low : (w : D.Where) → D.counts w ≤ 1
 counts_low D.in_program = omega arith
 counts_low D.in_group = omega arith
-counts_low D.in_body_lem = omega arith
+counts_low D.in_body = omega arith
 counts_low D.in_then = omega arith
 counts_low D.in_else = omega arith
 
@@ -307,14 +307,14 @@ adds t u v x c p q e d o par ro a b m f z k hu hv ho hq he hd hk hp hr ha hb hm 
 abbrev lead_as : D.Where → ℕ → ℕ → ℕ → D.State → D.State
 lead_as D.in_program n a b st = D.with_lead (D.stretch a b) st
 lead_as D.in_group n a b st = D.with_rows (D.change n (D.set_lead (D.stretch a b)) st.rows) st
-lead_as D.in_body_lem n a b st = st
+lead_as D.in_body n a b st = st
 lead_as D.in_then n a b st = st
 lead_as D.in_else n a b st = st
 
 lead_as_lem : (w : D.Where) (n : ℕ) (l : P.Link) (bs : List (List ℕ)) (os : List D.Open) (a b : ℕ) (st : D.State) → D.lead_in (record { kind = w; row = n; last = l; labels = bs } ∷ os) a b st ≡ lead_as w n a b st
 lead_as_lem D.in_program n l bs os a b st = refl
 lead_as_lem D.in_group n l bs os a b st = refl
-lead_as_lem D.in_body_lem n l bs os a b st = refl
+lead_as_lem D.in_body n l bs os a b st = refl
 lead_as_lem D.in_then n l bs os a b st = refl
 lead_as_lem D.in_else n l bs os a b st = refl
 

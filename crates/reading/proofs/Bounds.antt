@@ -19,7 +19,7 @@ use Rattle.definition.specs.Program.{Bound, by, upto, Activation, Statement, nul
 use Rattle.definition.specs.Statements as S
 use Rattle.definition.specs.Statements.{Opens, opens_nothing, opens_group, opens_body, opens_then, Clause, clause, ended, assignment, then_word, if_clause, bound_at, do_bounds, do_clause, goto_clause, list_of, each_name, each_member, each_activation, include_clause, activate_clause, deactivate_clause, return_clause, Declaring, declared, undeclared, then_declare, means, names_at, attribute, declare_names, declare_next, declare_from, returns_type, procedure_head, procedure_clause}
 use Rattle.definition.specs.Reading as R
-use Rattle.definition.specs.Reading.{Where, in_program, in_group, in_body_lem, in_then, in_else, Open, State, Mode, Turn, go, stop, finish, Else, else_to, no_else, else_word, else_at, elsed, complete_in, complete, Labelled, is_name, add_label, labels_from, labels, opened, taken, take_read, take_declared, is_declare, is_procedure, is_none, is_inside, is_list, kind_of, do_at, common, in_list, outer, by_word, by_name, by_token, end_name, may_name, end_read, end_at, is_in_group, is_in_body, is_full, is_end, long_label, clause_from, clause_at, texted, not_end, procedure_end, begins, inner_at, depth, deep_enough, alternative_at, leading_text, text_behind, alternative, inner, turn}
+use Rattle.definition.specs.Reading.{Where, in_program, in_group, in_body, in_then, in_else, Open, State, Mode, Turn, go, stop, finish, Else, else_to, no_else, else_word, else_at, elsed, complete_in, complete, Labelled, is_name, add_label, labels_from, labels, opened, taken, take_read, take_declared, is_declare, is_procedure, is_none, is_inside, is_list, kind_of, do_at, common, in_list, outer, by_word, by_name, by_token, end_name, may_name, end_read, end_at, is_in_group, is_in_body, is_full, is_end, long_label, clause_from, clause_at, texted, not_end, procedure_end, begins, inner_at, depth, deep_enough, alternative_at, leading_text, text_behind, alternative, inner, turn}
 use Rattle.definition.proofs.Choices.{when_has, cond_has}
 use Rattle.definition.proofs.Ends.{token_at_lies, Past, Reads, reads, refuses, expression_end}
 use Rattle.tokens.proofs.Pieces.{percent_there}
@@ -252,7 +252,7 @@ module _ (s : List ℕ) where
   complete_by : (k : Where) (i : ℕ) (os : List Open) (n e : ℕ) (st : State) (f : ℕ → Turn) → In e → InTurn (f i) → InTurn (complete_in mixed k s i os n e st f)
   complete_by in_program i os n e st f k g = k
   complete_by in_group i os n e st f k g = k
-  complete_by in_body_lem i os n e st f k g = k
+  complete_by in_body i os n e st f k g = k
   complete_by in_then i os n e st f k g = elsed_in (else_at mixed (is_inside st.scope) s e) i os st _ (else_in (is_inside st.scope) e k) g
   complete_by in_else i os n e st f k g = g
 

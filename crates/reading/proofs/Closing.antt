@@ -74,7 +74,7 @@ module _ (s : List ℕ) (e : ℕ) where
   in_onward : (w : D.Where) (i : ℕ) (os : List D.Open) (n : ℕ) (st : D.State) (up : ℕ → D.Turn) → Onward st.declared (up i) → Onward st.declared (D.complete_in mixed w s i os n e st up)
   in_onward D.in_program i os n st up h = refl
   in_onward D.in_group i os n st up h = refl
-  in_onward D.in_body_lem i os n st up h = refl
+  in_onward D.in_body i os n st up h = refl
   in_onward D.in_then i os n st up h = elsed_onward (D.else_at mixed (D.is_inside st.scope) s e) i os st (λ _. up i) h
   in_onward D.in_else i os n st up h = h
 
@@ -91,7 +91,7 @@ entered_plain d n x ds n' y p h = record { book = h.book ∙ sym (whole_all x.me
 around_closed : (w : D.Where) (A : Type 0) → (D.is_in_group w || D.is_in_body w) ≡ true → Around w A → A
 around_closed D.in_program A e a = absurd (false≢true e)
 around_closed D.in_group A e a = a
-around_closed D.in_body_lem A e a = a
+around_closed D.in_body A e a = a
 around_closed D.in_then A e a = absurd (false≢true e)
 around_closed D.in_else A e a = absurd (false≢true e)
 

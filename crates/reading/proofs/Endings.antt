@@ -54,7 +54,7 @@ elsed_same D.no_else i os st f g e = e
 up_same : (w : D.Where) (s : List ℕ) (i : ℕ) (os : List D.Open) (n e : ℕ) (st : D.State) (A : Type 0) (f g : ℕ → D.Turn) → Around w A → (A → f i ≡ g i) → D.complete_in mixed w s i os n e st f ≡ D.complete_in mixed w s i os n e st g
 up_same D.in_program s i os n e st A f g a h = refl
 up_same D.in_group s i os n e st A f g a h = refl
-up_same D.in_body_lem s i os n e st A f g a h = refl
+up_same D.in_body s i os n e st A f g a h = refl
 up_same D.in_then s i os n e st A f g a h = elsed_same (D.else_at mixed (D.is_inside st.scope) s e) i os st f g (h a)
 up_same D.in_else s i os n e st A f g a h = h a
 
@@ -78,7 +78,7 @@ complete_step s L o k d n e st top ho hk c =
 up_around : (w : D.Where) (s : List ℕ) (i r : ℕ) (os : List D.Open) (n e : ℕ) (st : D.State) (A : Type 0) → ((up : ℕ → D.Turn) → D.complete_in mixed w s i os n e st up ≡ up r) → Around w A → A
 up_around D.in_program s i r os n e st A h a = let c : D.go (D.behind st.scope n) e st ≡ D.finish st = h (λ _. D.finish st) in let z : ◌≡◌ {A = ℕ} 0 1 = cc in absurd (omega arith)
 up_around D.in_group s i r os n e st A h a = a
-up_around D.in_body_lem s i r os n e st A h a = a
+up_around D.in_body s i r os n e st A h a = a
 up_around D.in_then s i r os n e st A h a = a
 up_around D.in_else s i r os n e st A h a = a
 
@@ -220,7 +220,7 @@ module _ (s : List ℕ) (x : State) (n labels e : ℕ) (r : Turned) where
     unfolding turn_of state_of
     body_by y hg hc hz hy hr = rw (hr, hy, hz) (record {
       is = λ t ds ns m a k l.
-          let w : opened_of s c ≡ D.opening D.in_body_lem n (D.spelled ns) ∷ opened_of s x.opened = hc.is k s ∙ rw (hg.is s, l) in
+          let w : opened_of s c ≡ D.opening D.in_body n (D.spelled ns) ∷ opened_of s x.opened = hc.is k s ∙ rw (hg.is s, l) in
           ap (λ (u : List D.Open). D.go D.inner e (D.with_opened u (P.inside n) (state_of s t ds x))) w;
       rows = refl;
       keeps = record { entered = refl; tally = refl; own = λ h. refl };
@@ -260,7 +260,7 @@ names_in_lem : (w : D.Where) (k : ℕ) (l : P.Link) (bs : List (List ℕ)) (os :
     → D.add_in w (record { kind = w; row = k; last = l; labels = bs }) os y p (D.with_names es st) ≡ D.with_names es (D.add_in w (record { kind = w; row = k; last = l; labels = bs }) os y p st)
 names_in_lem D.in_program k l bs os y p es st = refl
 names_in_lem D.in_group k l bs os y p es st = refl
-names_in_lem D.in_body_lem k l bs os y p es st = refl
+names_in_lem D.in_body k l bs os y p es st = refl
 names_in_lem D.in_then k l bs os y p es st = refl
 names_in_lem D.in_else k l bs os y p es st = refl
 

@@ -16,7 +16,7 @@ use Rattle.definition.specs.Tokens.{Token, word, integer, string, bits, sign, no
 use Rattle.definition.specs.Expressions.{Reading, read, refused, Named, name_of}
 use Rattle.definition.specs.Program.{Statement, null, Scope, global, inside, label, end_label, Declared, Source}
 use Rattle.definition.specs.Statements.{Opens, opens_nothing, opens_group, opens_body, opens_then, Clause, clause, assignment, Declaring, declared, undeclared, declare_from, procedure_clause, means}
-use Rattle.definition.specs.Reading.{Where, in_program, in_group, in_body_lem, in_then, in_else, Open, State, state, stretch, change, set_lead, add_in, add_to, add_row, with_names, with_rows, with_lead, with_opened, scope_out, Mode, Turn, go, stop, finish, Else, else_to, no_else, else_at, elsed, complete_in, complete, Labelled, labels, opened, taken, untaken, take_read, take_declared, label_meaning, is_declare, is_procedure, is_none, is_inside, is_list, kind_of, do_at, common, in_list, outer, by_word, by_name, by_token, end_name, end_read, end_at, is_in_group, is_in_body, is_full, is_end, long_label, named, clause_from, clause_at, texted, lead_in, not_end, procedure_end, begins, inner_at, depth, deep_enough, alternative_at, leading_text, text_behind, alternative, inner, turn, read_on}
+use Rattle.definition.specs.Reading.{Where, in_program, in_group, in_body, in_then, in_else, Open, State, state, stretch, change, set_lead, add_in, add_to, add_row, with_names, with_rows, with_lead, with_opened, scope_out, Mode, Turn, go, stop, finish, Else, else_to, no_else, else_at, elsed, complete_in, complete, Labelled, labels, opened, taken, untaken, take_read, take_declared, label_meaning, is_declare, is_procedure, is_none, is_inside, is_list, kind_of, do_at, common, in_list, outer, by_word, by_name, by_token, end_name, end_read, end_at, is_in_group, is_in_body, is_full, is_end, long_label, named, clause_from, clause_at, texted, lead_in, not_end, procedure_end, begins, inner_at, depth, deep_enough, alternative_at, leading_text, text_behind, alternative, inner, turn, read_on}
 
 -- a state with other declarations, and with some in front of its own
 abbrev pub with_declared : List Declared → State → State
@@ -49,7 +49,7 @@ module _ (s : List ℕ) (ds : List Declared) where
   add_in_lem : (k : Where) (o : Open) (os : List Open) (x : Statement) (p : ℕ) (st : State) → add_in k o os x p (behind ds st) ≡ behind ds (add_in k o os x p st)
   add_in_lem in_program o os x p st = refl
   add_in_lem in_group o os x p st = refl
-  add_in_lem in_body_lem o os x p st = refl
+  add_in_lem in_body o os x p st = refl
   add_in_lem in_then o os x p st = refl
   add_in_lem in_else o os x p st = refl
 
@@ -69,7 +69,7 @@ module _ (s : List ℕ) (ds : List Declared) where
   complete_in_lem : (k : Where) (i : ℕ) (os : List Open) (n e : ℕ) (st : State) (f g : ℕ → Turn) → f i ≡ prepend ds (g i) → complete_in mixed k s i os n e (behind ds st) f ≡ prepend ds (complete_in mixed k s i os n e st g)
   complete_in_lem in_program i os n e st f g h = refl
   complete_in_lem in_group i os n e st f g h = refl
-  complete_in_lem in_body_lem i os n e st f g h = refl
+  complete_in_lem in_body i os n e st f g h = refl
   complete_in_lem in_then i os n e st f g h = elsed_frame (else_at mixed (is_inside st.scope) s e) i os st (λ _. f i) (λ _. g i) h
   complete_in_lem in_else i os n e st f g h = h
 
@@ -181,11 +181,11 @@ module _ (s : List ℕ) (ds : List Declared) where
   lead_in_lem [] from p st = refl
   lead_in_lem (o ∷ os) from p st = at_kind o.kind
     where
-      at_kind : (x : Where) → (elim x as (λ _. ℕ → State) [ in_program ↦ λ n. with_lead (stretch from p) (behind ds st) | in_group ↦ λ n. with_rows (change n (set_lead (stretch from p)) st.rows) (behind ds st) | in_body_lem ↦ λ n. behind ds st | in_then ↦ λ n. behind ds st | in_else ↦ λ n. behind ds st ]) o.row
-          ≡ behind ds ((elim x as (λ _. ℕ → State) [ in_program ↦ λ n. with_lead (stretch from p) st | in_group ↦ λ n. with_rows (change n (set_lead (stretch from p)) st.rows) st | in_body_lem ↦ λ n. st | in_then ↦ λ n. st | in_else ↦ λ n. st ]) o.row)
+      at_kind : (x : Where) → (elim x as (λ _. ℕ → State) [ in_program ↦ λ n. with_lead (stretch from p) (behind ds st) | in_group ↦ λ n. with_rows (change n (set_lead (stretch from p)) st.rows) (behind ds st) | in_body ↦ λ n. behind ds st | in_then ↦ λ n. behind ds st | in_else ↦ λ n. behind ds st ]) o.row
+          ≡ behind ds ((elim x as (λ _. ℕ → State) [ in_program ↦ λ n. with_lead (stretch from p) st | in_group ↦ λ n. with_rows (change n (set_lead (stretch from p)) st.rows) st | in_body ↦ λ n. st | in_then ↦ λ n. st | in_else ↦ λ n. st ]) o.row)
       at_kind in_program = refl
       at_kind in_group = refl
-      at_kind in_body_lem = refl
+      at_kind in_body = refl
       at_kind in_then = refl
       at_kind in_else = refl
 

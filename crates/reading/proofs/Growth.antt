@@ -26,7 +26,7 @@ use Rattle.definition.specs.Program.{Bound, by, upto, Activation, Statement, nul
 use Rattle.definition.specs.Statements as S
 use Rattle.definition.specs.Statements.{Opens, opens_nothing, opens_group, opens_body, opens_then, Clause, clause, ended, assignment, then_word, if_clause, bound_at, do_bounds, do_clause, goto_clause, list_of, each_name, each_member, each_activation, include_clause, activate_clause, deactivate_clause, return_clause, Declaring, declared, undeclared, then_declare, means, names_at, attribute, declare_names, declare_next, declare_from, returns_type, procedure_head, procedure_clause}
 use Rattle.definition.specs.Reading as R
-use Rattle.definition.specs.Reading.{Where, in_program, in_group, in_body_lem, in_then, in_else, Open, State, change, new_row, set_next, set_child, set_other, set_lead, set_text, linked, add_in, add_to, add_row, with_names, Mode, Turn, go, stop, finish, Else, else_to, no_else, else_word, else_at, elsed, complete_in, complete, Labelled, is_name, add_label, labels_from, labels, opened, taken, untaken, take_read, take_declared, label_meaning, is_declare, is_procedure, is_none, is_inside, is_list, kind_of, do_at, common, in_list, outer, by_word, by_name, by_token, end_name, may_name, end_read, end_at, is_in_group, is_in_body, is_full, is_end, long_label, clause_from, clause_at, texted, lead_in, not_end, procedure_end, begins, inner_at, depth, deep_enough, alternative_at, leading_text, text_behind, alternative, inner, turn, places, read_on}
+use Rattle.definition.specs.Reading.{Where, in_program, in_group, in_body, in_then, in_else, Open, State, change, new_row, set_next, set_child, set_other, set_lead, set_text, linked, add_in, add_to, add_row, with_names, Mode, Turn, go, stop, finish, Else, else_to, no_else, else_word, else_at, elsed, complete_in, complete, Labelled, is_name, add_label, labels_from, labels, opened, taken, untaken, take_read, take_declared, label_meaning, is_declare, is_procedure, is_none, is_inside, is_list, kind_of, do_at, common, in_list, outer, by_word, by_name, by_token, end_name, may_name, end_read, end_at, is_in_group, is_in_body, is_full, is_end, long_label, clause_from, clause_at, texted, lead_in, not_end, procedure_end, begins, inner_at, depth, deep_enough, alternative_at, leading_text, text_behind, alternative, inner, turn, places, read_on}
 use Rattle.definition.proofs.Choices.{when_has, cond_has}
 use Rattle.definition.proofs.Keeping.{and_left}
 use Rattle.definition.proofs.Ends.{piece_at_past}
@@ -457,7 +457,7 @@ module _ (s : List ℕ) (p : ℕ) where
       let n : ℕ = length st.rows in
       put_places st.rows (linked n o.last (λ rs. rs) st.rows) (new_row x c nowhere listed) (linked_places n o.last (λ rs. rs) (λ rs. refl) st.rows)
   add_places in_group o os x c st = listed_places_lem o x c st
-  add_places in_body_lem o os x c st = listed_places_lem o x c st
+  add_places in_body o os x c st = listed_places_lem o x c st
   add_places in_then o os x c st =
       let n : ℕ = length st.rows in
       put_places st.rows (change o.row (set_child n) st.rows) (new_row x c (row o.row) then_part) (change_places o.row (set_child n) (λ r. refl) st.rows)
@@ -468,7 +468,7 @@ module _ (s : List ℕ) (p : ℕ) where
   add_names : (k : Where) (o : Open) (os : List Open) (x : Statement) (c : ℕ) (st : State) → (add_in k o os x c st).declared ≡ st.declared
   add_names in_program o os x c st = refl
   add_names in_group o os x c st = refl
-  add_names in_body_lem o os x c st = refl
+  add_names in_body o os x c st = refl
   add_names in_then o os x c st = refl
   add_names in_else o os x c st = refl
 
@@ -511,7 +511,7 @@ module _ (s : List ℕ) (p : ℕ) where
     complete_in_lem : (k : Where) (i : ℕ) (os : List Open) (n e : ℕ) (st : State) (f : ℕ → Turn) → p < e → 0 < length st.opened → Fine st → FineTurn (f i) → FineTurn (complete_in mixed k s i os n e st f)
     complete_in_lem in_program i os n e st f k l h g = going k l h
     complete_in_lem in_group i os n e st f k l h g = going k l h
-    complete_in_lem in_body_lem i os n e st f k l h g = going k l h
+    complete_in_lem in_body i os n e st f k l h g = going k l h
     complete_in_lem in_then i os n e st f k l h g = elsed_fine (else_at mixed (is_inside st.scope) s e) i os st _ (else_far (is_inside st.scope) e k) h g
     complete_in_lem in_else i os n e st f k l h g = g
 
@@ -523,7 +523,7 @@ module _ (s : List ℕ) (p : ℕ) where
     opened_fine : (o : Opens) (n : ℕ) (ns : List Named) (e : ℕ) (st : State) → p < e → Fine st → FineTurn (opened mixed o s n ns e st)
     opened_fine opens_nothing n ns e st k h = complete_fine st.opened n e st k h
     opened_fine opens_group n ns e st k h = opens_on (R.opening in_group n (R.spelled ns)) st.opened st.scope st k h
-    opened_fine opens_body n ns e st k h = opens_on (R.opening in_body_lem n (R.spelled ns)) st.opened (inside n) st k h
+    opened_fine opens_body n ns e st k h = opens_on (R.opening in_body n (R.spelled ns)) st.opened (inside n) st k h
     opened_fine opens_then n ns e st k h = opens_on (R.opening in_then n []) st.opened st.scope st k h
 
     -- ---- a sentence that begins at c
@@ -665,11 +665,11 @@ module _ (s : List ℕ) (p : ℕ) where
       lead_in_lem [] from q st h k = (h, k)
       lead_in_lem (o ∷ os) from q st h k = at_kind o.kind
         where
-          at_kind : (x : Where) → (0 < length ((elim x as (λ _. ℕ → State) [ in_program ↦ λ n. R.with_lead (R.stretch from q) st | in_group ↦ λ n. R.with_rows (change n (set_lead (R.stretch from q)) st.rows) st | in_body_lem ↦ λ n. st | in_then ↦ λ n. st | in_else ↦ λ n. st ]) o.row).opened)
-              × Fine ((elim x as (λ _. ℕ → State) [ in_program ↦ λ n. R.with_lead (R.stretch from q) st | in_group ↦ λ n. R.with_rows (change n (set_lead (R.stretch from q)) st.rows) st | in_body_lem ↦ λ n. st | in_then ↦ λ n. st | in_else ↦ λ n. st ]) o.row)
+          at_kind : (x : Where) → (0 < length ((elim x as (λ _. ℕ → State) [ in_program ↦ λ n. R.with_lead (R.stretch from q) st | in_group ↦ λ n. R.with_rows (change n (set_lead (R.stretch from q)) st.rows) st | in_body ↦ λ n. st | in_then ↦ λ n. st | in_else ↦ λ n. st ]) o.row).opened)
+              × Fine ((elim x as (λ _. ℕ → State) [ in_program ↦ λ n. R.with_lead (R.stretch from q) st | in_group ↦ λ n. R.with_rows (change n (set_lead (R.stretch from q)) st.rows) st | in_body ↦ λ n. st | in_then ↦ λ n. st | in_else ↦ λ n. st ]) o.row)
           at_kind in_program = (h, record { names = k.names; rows = k.rows })
           at_kind in_group = (h, record { names = k.names; rows = rw (change_places o.row (set_lead (R.stretch from q)) (λ r. refl) st.rows) k.rows })
-          at_kind in_body_lem = (h, k)
+          at_kind in_body = (h, k)
           at_kind in_then = (h, k)
           at_kind in_else = (h, k)
 

@@ -110,7 +110,7 @@ child_same n k rs = change_same k (D.set_child n) rs (record { statement = λ r.
 in_same : (w : D.Where) (o : D.Open) (n : ℕ) (rs : List P.Row) → Same rs (linked_in w o n rs)
 in_same D.in_program o n rs = linked_same n o.last (λ xs. xs) rs (same_self rs)
 in_same D.in_group o n rs = linked_same n o.last (D.change o.row (D.set_child n)) rs (child_same n o.row rs)
-in_same D.in_body_lem o n rs = linked_same n o.last (D.change o.row (D.set_child n)) rs (child_same n o.row rs)
+in_same D.in_body o n rs = linked_same n o.last (D.change o.row (D.set_child n)) rs (child_same n o.row rs)
 in_same D.in_then o n rs = child_same n o.row rs
 in_same D.in_else o n rs = change_same o.row (D.set_other n) rs (record { statement = λ r. refl; parent = λ r. refl })
 
@@ -163,7 +163,7 @@ module _ (f : ℕ → ℕ) where
   unfolding D.depth
   around_last rs D.in_program o os n h = h
   around_last rs D.in_group o os n h = h
-  around_last rs D.in_body_lem o os n h = h
+  around_last rs D.in_body o os n h = h
   around_last rs D.in_then o os n h = h
   around_last rs D.in_else o os n h = h
 
@@ -171,7 +171,7 @@ module _ (f : ℕ → ℕ) where
   unfolding D.depth
   depth_last D.in_program o os n = refl
   depth_last D.in_group o os n = refl
-  depth_last D.in_body_lem o os n = refl
+  depth_last D.in_body o os n = refl
   depth_last D.in_then o os n = refl
   depth_last D.in_else o os n = refl
 
@@ -215,7 +215,7 @@ module _ (f : ℕ → ℕ) where
     unfolding D.depth
     complete_in_lem D.in_program i l bs os n e st up h a r = record { rows = h; around = a }
     complete_in_lem D.in_group i l bs os n e st up h a r = record { rows = h; around = a }
-    complete_in_lem D.in_body_lem i l bs os n e st up h a r = record { rows = h; around = a }
+    complete_in_lem D.in_body i l bs os n e st up h a r = record { rows = h; around = a }
     complete_in_lem D.in_then i l bs os n e st up h a r =
         elsed_deep (D.else_at mixed (D.is_inside st.scope) s e) i os (D.with_opened (record { kind = D.in_then; row = i; last = l; labels = bs } ∷ os) st.scope st) (λ _. up i) h a.0 a.1 r
     complete_in_lem D.in_else i l bs os n e st up h a r = r
@@ -229,7 +229,7 @@ module _ (f : ℕ → ℕ) where
     parent_is : (w : D.Where) (n g : ℕ) → parent_in w n ≡ P.row g → n ≡ g
     parent_is D.in_program n g e = let z : ◌≡◌ {A = ℕ} 0 1 = cc in absurd (omega arith)
     parent_is D.in_group n g e = cc
-    parent_is D.in_body_lem n g e = cc
+    parent_is D.in_body n g e = cc
     parent_is D.in_then n g e = cc
     parent_is D.in_else n g e = cc
 
@@ -243,7 +243,7 @@ module _ (f : ℕ → ℕ) where
     opened_deep : (o : St.Opens) (n : ℕ) (ns : List Named) (e : ℕ) (st : D.State) → Deep f st → n < length st.rows → f n ≡ D.depth st.opened → (P.is_iterated (row_of st.rows n).statement ≡ true → o ≡ St.opens_group) → DeepTurn f (D.opened mixed o s n ns e st)
     opened_deep St.opens_nothing n ns e st h l q it = complete_deep st.opened n e st h.rows h.around
     opened_deep St.opens_group n ns e st h l q it = record { rows = h.rows; around = around_new D.in_group n (D.spelled ns) st.rows st.opened l q (λ z. refl) h.around }
-    opened_deep St.opens_body n ns e st h l q it = record { rows = h.rows; around = around_new D.in_body_lem n (D.spelled ns) st.rows st.opened l q (λ z. let y : St.opens_body ≡ St.opens_group = it z in let c : ◌≡◌ {A = ℕ} 0 1 = cc in absurd (omega arith)) h.around }
+    opened_deep St.opens_body n ns e st h l q it = record { rows = h.rows; around = around_new D.in_body n (D.spelled ns) st.rows st.opened l q (λ z. let y : St.opens_body ≡ St.opens_group = it z in let c : ◌≡◌ {A = ℕ} 0 1 = cc in absurd (omega arith)) h.around }
     opened_deep St.opens_then n ns e st h l q it = record { rows = h.rows; around = around_new D.in_then n [] st.rows st.opened l q (λ z. refl) h.around }
 
     -- ---- EVERY TURN

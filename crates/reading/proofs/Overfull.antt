@@ -37,7 +37,7 @@ more xs rs r h = places_append xs r ∙ ap (λ (z : List ℕ). z ++ r.place ∷ 
 add_in_lem : (w : D.Where) (o : D.Open) (os : List D.Open) (y : P.Statement) (p : ℕ) (st : D.State) → D.places (D.add_in w o os y p st).rows ≡ D.places st.rows ++ p ∷ []
 add_in_lem D.in_program o os y p st = more (D.linked (length st.rows) o.last (λ rs. rs) st.rows) st.rows (D.new_row y p P.nowhere P.listed) (places_linked (length st.rows) o.last (λ rs. rs) st.rows refl)
 add_in_lem D.in_group o os y p st = more (D.linked (length st.rows) o.last (D.change o.row (D.set_child (length st.rows))) st.rows) st.rows (D.new_row y p (P.row o.row) P.listed) (places_linked (length st.rows) o.last (D.change o.row (D.set_child (length st.rows))) st.rows (places_change o.row (D.set_child (length st.rows)) (λ r. refl) st.rows))
-add_in_lem D.in_body_lem o os y p st = more (D.linked (length st.rows) o.last (D.change o.row (D.set_child (length st.rows))) st.rows) st.rows (D.new_row y p (P.row o.row) P.listed) (places_linked (length st.rows) o.last (D.change o.row (D.set_child (length st.rows))) st.rows (places_change o.row (D.set_child (length st.rows)) (λ r. refl) st.rows))
+add_in_lem D.in_body o os y p st = more (D.linked (length st.rows) o.last (D.change o.row (D.set_child (length st.rows))) st.rows) st.rows (D.new_row y p (P.row o.row) P.listed) (places_linked (length st.rows) o.last (D.change o.row (D.set_child (length st.rows))) st.rows (places_change o.row (D.set_child (length st.rows)) (λ r. refl) st.rows))
 add_in_lem D.in_then o os y p st = more (D.change o.row (D.set_child (length st.rows)) st.rows) st.rows (D.new_row y p (P.row o.row) P.then_part) (places_change o.row (D.set_child (length st.rows)) (λ r. refl) st.rows)
 add_in_lem D.in_else o os y p st = more (D.change o.row (D.set_other (length st.rows)) st.rows) st.rows (D.new_row y p (P.row o.row) P.else_part) (places_change o.row (D.set_other (length st.rows)) (λ r. refl) st.rows)
 
@@ -57,7 +57,7 @@ module _ (s : List ℕ) (e : ℕ) where
   in_kept : (w : D.Where) (i : ℕ) (os : List D.Open) (n : ℕ) (st : D.State) (up : ℕ → D.Turn) → Kept st.rows (up i) → Kept st.rows (D.complete_in mixed w s i os n e st up)
   in_kept D.in_program i os n st up h = (refl, refl)
   in_kept D.in_group i os n st up h = (refl, refl)
-  in_kept D.in_body_lem i os n st up h = (refl, refl)
+  in_kept D.in_body i os n st up h = (refl, refl)
   in_kept D.in_then i os n st up h = elsed_kept (D.else_at mixed (D.is_inside st.scope) s e) i os st (λ _. up i) h
   in_kept D.in_else i os n st up h = h
 

@@ -16,7 +16,7 @@ use Rattle.definition.specs.Program.{Statement, Link, nowhere, row, listed, then
 use Rattle.definition.specs.Statements as S
 use Rattle.definition.specs.Statements.{Opens, opens_nothing, opens_group, opens_body, opens_then, Clause, Declaring, declared, then_declare, means, names_at, attribute, declare_names, declare_next, declare_from, procedure_clause}
 use Rattle.definition.specs.Reading as R
-use Rattle.definition.specs.Reading.{Where, in_program, in_group, in_body_lem, in_then, in_else, Open, State, change, new_row, set_next, set_child, set_other, linked, add_in, add_to, add_row, with_names, Mode, Turn, go, stop, finish, Else, else_to, no_else, else_at, elsed, complete_in, complete, labels, opened, taken, untaken, label_meaning, is_inside, turn}
+use Rattle.definition.specs.Reading.{Where, in_program, in_group, in_body, in_then, in_else, Open, State, change, new_row, set_next, set_child, set_other, linked, add_in, add_to, add_row, with_names, Mode, Turn, go, stop, finish, Else, else_to, no_else, else_at, elsed, complete_in, complete, labels, opened, taken, untaken, label_meaning, is_inside, turn}
 use Rattle.definition.specs.Names as N
 use Rattle.definition.proofs.Choices.{when_has}
 use Rattle.entering.specs.Book.{Book, book_whole}
@@ -114,7 +114,7 @@ add_length in_program o os x c st =
 add_length in_group o os x c st =
     let n : ℕ = length st.rows in
     put_length (linked n o.last (change o.row (set_child n)) st.rows) st.rows (new_row x c (row o.row) listed) (linked_length n o.last (change o.row (set_child n)) (change_length o.row (set_child n)) st.rows)
-add_length in_body_lem o os x c st =
+add_length in_body o os x c st =
     let n : ℕ = length st.rows in
     put_length (linked n o.last (change o.row (set_child n)) st.rows) st.rows (new_row x c (row o.row) listed) (linked_length n o.last (change o.row (set_child n)) (change_length o.row (set_child n)) st.rows)
 add_length in_then o os x c st =
@@ -127,7 +127,7 @@ add_length in_else o os x c st =
 add_names : (k : Where) (o : Open) (os : List Open) (x : Statement) (c : ℕ) (st : State) → (add_in k o os x c st).declared ≡ st.declared
 add_names in_program o os x c st = refl
 add_names in_group o os x c st = refl
-add_names in_body_lem o os x c st = refl
+add_names in_body o os x c st = refl
 add_names in_then o os x c st = refl
 add_names in_else o os x c st = refl
 
@@ -169,7 +169,7 @@ module _ (s : List ℕ) (low : ℕ) where
   complete_in_lem : (k : Where) (i : ℕ) (os : List Open) (n e : ℕ) (st : State) (f : ℕ → Turn) → 0 < length st.opened → Kept low st → OwnTurn low (f i) → OwnTurn low (complete_in mixed k s i os n e st f)
   complete_in_lem in_program i os n e st f l h g = going l h
   complete_in_lem in_group i os n e st f l h g = going l h
-  complete_in_lem in_body_lem i os n e st f l h g = going l h
+  complete_in_lem in_body i os n e st f l h g = going l h
   complete_in_lem in_then i os n e st f l h g = elsed_own (else_at mixed (is_inside st.scope) s e) i os st _ h g
   complete_in_lem in_else i os n e st f l h g = g
 
@@ -181,7 +181,7 @@ module _ (s : List ℕ) (low : ℕ) where
   opened_own : (o : Opens) (n : ℕ) (ns : List Named) (e : ℕ) (st : State) → Kept low st → OwnTurn low (opened mixed o s n ns e st)
   opened_own opens_nothing n ns e st h = complete_own st.opened n e st h
   opened_own opens_group n ns e st h = opens_on (R.opening in_group n (R.spelled ns)) st.opened st.scope st h
-  opened_own opens_body n ns e st h = opens_on (R.opening in_body_lem n (R.spelled ns)) st.opened (inside n) st h
+  opened_own opens_body n ns e st h = opens_on (R.opening in_body n (R.spelled ns)) st.opened (inside n) st h
   opened_own opens_then n ns e st h = opens_on (R.opening in_then n []) st.opened st.scope st h
 
   -- labels are no parameters

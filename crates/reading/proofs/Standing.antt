@@ -75,7 +75,7 @@ add_in_lem : (w : D.Where) (k : ℕ) (l : P.Link) (bs : List (List ℕ)) (os : L
 unfolding D.depth
 add_in_lem D.in_program k l bs os y p st = record { rows = add_length D.in_program (record { kind = D.in_program; row = k; last = l; labels = bs }) os y p st; stand = stand_last D.in_program k l bs os (length st.rows); depth = refl; count = refl; scope = refl }
 add_in_lem D.in_group k l bs os y p st = record { rows = add_length D.in_group (record { kind = D.in_group; row = k; last = l; labels = bs }) os y p st; stand = stand_last D.in_group k l bs os (length st.rows); depth = refl; count = refl; scope = refl }
-add_in_lem D.in_body_lem k l bs os y p st = record { rows = add_length D.in_body_lem (record { kind = D.in_body_lem; row = k; last = l; labels = bs }) os y p st; stand = stand_last D.in_body_lem k l bs os (length st.rows); depth = refl; count = refl; scope = refl }
+add_in_lem D.in_body k l bs os y p st = record { rows = add_length D.in_body (record { kind = D.in_body; row = k; last = l; labels = bs }) os y p st; stand = stand_last D.in_body k l bs os (length st.rows); depth = refl; count = refl; scope = refl }
 add_in_lem D.in_then k l bs os y p st = record { rows = add_length D.in_then (record { kind = D.in_then; row = k; last = l; labels = bs }) os y p st; stand = stand_last D.in_then k l bs os (length st.rows); depth = refl; count = refl; scope = refl }
 add_in_lem D.in_else k l bs os y p st = record { rows = add_length D.in_else (record { kind = D.in_else; row = k; last = l; labels = bs }) os y p st; stand = stand_last D.in_else k l bs os (length st.rows); depth = refl; count = refl; scope = refl }
 
@@ -106,7 +106,7 @@ module _ (s : List ℕ) where
   unfolding D.depth
   complete_in_lem D.in_program i l bs os n e st f few low h c d r = (record { few = few; stand = h; count = c }, behind_well st.scope n (D.with_opened (record { kind = D.in_program; row = i; last = l; labels = bs } ∷ os) st.scope st) d low)
   complete_in_lem D.in_group i l bs os n e st f few low h c d r = (record { few = few; stand = h; count = c }, behind_well st.scope n (D.with_opened (record { kind = D.in_group; row = i; last = l; labels = bs } ∷ os) st.scope st) d low)
-  complete_in_lem D.in_body_lem i l bs os n e st f few low h c d r = (record { few = few; stand = h; count = c }, behind_well st.scope n (D.with_opened (record { kind = D.in_body_lem; row = i; last = l; labels = bs } ∷ os) st.scope st) d low)
+  complete_in_lem D.in_body i l bs os n e st f few low h c d r = (record { few = few; stand = h; count = c }, behind_well st.scope n (D.with_opened (record { kind = D.in_body; row = i; last = l; labels = bs } ∷ os) st.scope st) d low)
   complete_in_lem D.in_then i l bs os n e st f few low h c d r =
       elsed_well 0 i l bs os n e (D.with_opened (record { kind = D.in_then; row = i; last = l; labels = bs } ∷ os) st.scope st) f few low (D.else_at mixed (D.is_inside st.scope) s e) i h.0.row h.1 c d (r h.0.row h.1 (omega (arith, c)) (omega (arith, d)))
   complete_in_lem D.in_else i l bs os n e st f few low h c d r = r h.0.row h.1 (omega (arith, c)) (omega (arith, d))
@@ -159,7 +159,7 @@ module _ (s : List ℕ) where
       → WellTurn (D.complete mixed s os k e (D.with_opened os (D.scope_out w st.scope) (D.with_names (St.means st.scope (P.end_label k) ns) st)))
   end_in_lem D.in_program k l bs os ns e st x few h c d = absurd x
   end_in_lem D.in_group k l bs os ns e st x few h c d = complete_well os k e (D.with_opened os st.scope (D.with_names (St.means st.scope (P.end_label k) ns) st)) few h.0.row h.1 (omega (arith, c)) (omega (arith, d))
-  end_in_lem D.in_body_lem k l bs os ns e st x few h c d = complete_well os k e (D.with_opened os P.global (D.with_names (St.means st.scope (P.end_label k) ns) st)) few h.0.row h.1 (omega (arith, c, few_procedures st.scope)) (omega (arith, d))
+  end_in_lem D.in_body k l bs os ns e st x few h c d = complete_well os k e (D.with_opened os P.global (D.with_names (St.means st.scope (P.end_label k) ns) st)) few h.0.row h.1 (omega (arith, c, few_procedures st.scope)) (omega (arith, d))
   end_in_lem D.in_then k l bs os ns e st x few h c d = absurd x
   end_in_lem D.in_else k l bs os ns e st x few h c d = absurd x
 

@@ -69,7 +69,7 @@ add_declared (o ∷ os) y p st = by o.kind
     by : (w : D.Where) → (D.add_in w o os y p st).declared ≡ st.declared
     by D.in_program = refl
     by D.in_group = refl
-    by D.in_body_lem = refl
+    by D.in_body = refl
     by D.in_then = refl
     by D.in_else = refl
 

@@ -103,7 +103,7 @@ Within (P.row k) n = k < n
 abbrev pub Inside : D.Where → ℕ → ℕ → Type 0
 Inside D.in_program k n = Unit {0}
 Inside D.in_group k n = k < n
-Inside D.in_body_lem k n = k < n
+Inside D.in_body k n = k < n
 Inside D.in_then k n = k < n
 Inside D.in_else k n = k < n
 
@@ -114,7 +114,7 @@ pub record Low (n : ℕ) (o : D.Open) : Type 0 where
 abbrev pub Around : D.Where → Type 0 → Type 0
 Around D.in_program A = Unit {0}
 Around D.in_group A = A
-Around D.in_body_lem A = A
+Around D.in_body A = A
 Around D.in_then A = A
 Around D.in_else A = A
 

@@ -78,7 +78,7 @@ module _ (n : ℕ) (p : P.Link) (rs : List P.Row) where
 pub in_linked : (w : D.Where) (o : D.Open) (n : ℕ) (rs : List P.Row) → ((l : ℕ) → o.last ≡ P.row l → (row_of rs l).parent ≡ parent_in w o.row) → AllRelinked n (parent_in w o.row) rs (linked_in w o n rs)
 in_linked D.in_program o n rs h = last_linked n P.nowhere rs o.last (λ xs. xs) h (all_self n P.nowhere rs)
 in_linked D.in_group o n rs h = last_linked n (P.row o.row) rs o.last (D.change o.row (D.set_child n)) h (child_linked n (P.row o.row) rs o.row refl)
-in_linked D.in_body_lem o n rs h = last_linked n (P.row o.row) rs o.last (D.change o.row (D.set_child n)) h (child_linked n (P.row o.row) rs o.row refl)
+in_linked D.in_body o n rs h = last_linked n (P.row o.row) rs o.last (D.change o.row (D.set_child n)) h (child_linked n (P.row o.row) rs o.row refl)
 in_linked D.in_then o n rs h = child_linked n (P.row o.row) rs o.row refl
 in_linked D.in_else o n rs h = other_linked n (P.row o.row) rs o.row refl
 

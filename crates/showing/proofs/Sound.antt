@@ -89,7 +89,7 @@ module _ (rs qs : List P.Row) (g : Grows rs qs) where
   around_by : (w : D.Where) (A B : Type 0) → (A → B) → Around w A → Around w B
   around_by D.in_program A B f h = tt
   around_by D.in_group A B f h = f h
-  around_by D.in_body_lem A B f h = f h
+  around_by D.in_body A B f h = f h
   around_by D.in_then A B f h = f h
   around_by D.in_else A B f h = f h
 
@@ -142,7 +142,7 @@ first_stands : (w : D.Where) (k : ℕ) (f l : P.Link) (n m : ℕ) (qs : List P.R
 first_stands D.in_program k f P.nowhere n m qs e h i = subst (λ (z : ℕ). StandsIn qs z P.nowhere) (row_is n m e) i
 first_stands D.in_program k f (P.row l) n m qs e h i = h e
 first_stands D.in_group k f l n m qs e h i = h e
-first_stands D.in_body_lem k f l n m qs e h i = h e
+first_stands D.in_body k f l n m qs e h i = h e
 first_stands D.in_then k f l n m qs e h i = h e
 first_stands D.in_else k f l n m qs e h i = h e
 
@@ -150,7 +150,7 @@ held_last : (w : D.Where) (k : ℕ) (l : P.Link) (bs : List (List ℕ)) (os : Li
     → Held qs (record { kind = w; row = k; last = l; labels = bs } ∷ os) → Held qs (last_by w (record { kind = w; row = k; last = l; labels = bs }) n ∷ os)
 held_last D.in_program k l bs os n qs i h = (record { last = λ m e. subst (λ (z : ℕ). StandsIn qs z P.nowhere) (row_is n m e) i; row = h.0.row }, h.1)
 held_last D.in_group k l bs os n qs i h = (record { last = λ m e. subst (λ (z : ℕ). StandsIn qs z (P.row k)) (row_is n m e) i; row = h.0.row }, h.1)
-held_last D.in_body_lem k l bs os n qs i h = (record { last = λ m e. subst (λ (z : ℕ). StandsIn qs z (P.row k)) (row_is n m e) i; row = h.0.row }, h.1)
+held_last D.in_body k l bs os n qs i h = (record { last = λ m e. subst (λ (z : ℕ). StandsIn qs z (P.row k)) (row_is n m e) i; row = h.0.row }, h.1)
 held_last D.in_then k l bs os n qs i h = h
 held_last D.in_else k l bs os n qs i h = h
 
@@ -216,7 +216,7 @@ module _ (s : List ℕ) where
       → (Held st.rows os → SoundTurn (up i)) → SoundTurn (D.complete_in mixed w s i os n e (D.with_opened (record { kind = w; row = i; last = l; labels = bs } ∷ os) st.scope st) up)
   complete_in_lem D.in_program i l bs os n e st up h a r = record { core = opened_core (record { kind = D.in_program; row = i; last = l; labels = bs } ∷ os) st.scope st h; held = a }
   complete_in_lem D.in_group i l bs os n e st up h a r = record { core = opened_core (record { kind = D.in_group; row = i; last = l; labels = bs } ∷ os) st.scope st h; held = a }
-  complete_in_lem D.in_body_lem i l bs os n e st up h a r = record { core = opened_core (record { kind = D.in_body_lem; row = i; last = l; labels = bs } ∷ os) st.scope st h; held = a }
+  complete_in_lem D.in_body i l bs os n e st up h a r = record { core = opened_core (record { kind = D.in_body; row = i; last = l; labels = bs } ∷ os) st.scope st h; held = a }
   complete_in_lem D.in_then i l bs os n e st up h a r =
       let L : List D.Open = record { kind = D.in_then; row = i; last = l; labels = bs } ∷ os in
       elsed_sound (D.else_at mixed (D.is_inside st.scope) s e) i os (D.with_opened L st.scope st) (λ _. up i) (opened_core L st.scope st h) (a.0.row i refl) a.1 (r a.1)
@@ -233,14 +233,14 @@ module _ (s : List ℕ) where
       by : (w : D.Where) (g : ℕ) → parent_in w n ≡ P.row g → g < length rs
       by D.in_program g e = nowhere_not g e
       by D.in_group g e = subst (λ (z : ℕ). z < length rs) (row_is n g e) l
-      by D.in_body_lem g e = subst (λ (z : ℕ). z < length rs) (row_is n g e) l
+      by D.in_body g e = subst (λ (z : ℕ). z < length rs) (row_is n g e) l
       by D.in_then g e = subst (λ (z : ℕ). z < length rs) (row_is n g e) l
       by D.in_else g e = subst (λ (z : ℕ). z < length rs) (row_is n g e) l
 
   opened_sound : (o : St.Opens) (n : ℕ) (ns : List Named) (e : ℕ) (st : D.State) → Sound st → n < length st.rows → SoundTurn (D.opened mixed o s n ns e st)
   opened_sound St.opens_nothing n ns e st h l = complete_sound st.opened n e st h.core h.held
   opened_sound St.opens_group n ns e st h l = record { core = opened_core (D.opening D.in_group n (D.spelled ns) ∷ st.opened) st.scope st h.core; held = held_new D.in_group n (D.spelled ns) st.rows st.opened l h.held }
-  opened_sound St.opens_body n ns e st h l = record { core = opened_core (D.opening D.in_body_lem n (D.spelled ns) ∷ st.opened) (P.inside n) st h.core; held = held_new D.in_body_lem n (D.spelled ns) st.rows st.opened l h.held }
+  opened_sound St.opens_body n ns e st h l = record { core = opened_core (D.opening D.in_body n (D.spelled ns) ∷ st.opened) (P.inside n) st h.core; held = held_new D.in_body n (D.spelled ns) st.rows st.opened l h.held }
   opened_sound St.opens_then n ns e st h l = record { core = opened_core (D.opening D.in_then n [] ∷ st.opened) st.scope st h.core; held = held_new D.in_then n [] st.rows st.opened l h.held }
 
   -- THE STATEMENT that is taken

@@ -65,7 +65,7 @@ last_texts n (P.row k) f rs h i = change_texts k (D.set_next n) (λ r t. t) rs h
 linked_texts : (w : D.Where) (o : D.Open) (n : ℕ) (rs : List P.Row) → AllTexts rs → AllTexts (linked_in w o n rs)
 linked_texts D.in_program o n rs h = last_texts n o.last (λ xs. xs) rs h h
 linked_texts D.in_group o n rs h = last_texts n o.last (D.change o.row (D.set_child n)) rs h (change_texts o.row (D.set_child n) (λ r t. t) rs h)
-linked_texts D.in_body_lem o n rs h = last_texts n o.last (D.change o.row (D.set_child n)) rs h (change_texts o.row (D.set_child n) (λ r t. t) rs h)
+linked_texts D.in_body o n rs h = last_texts n o.last (D.change o.row (D.set_child n)) rs h (change_texts o.row (D.set_child n) (λ r t. t) rs h)
 linked_texts D.in_then o n rs h = change_texts o.row (D.set_child n) (λ r t. t) rs h
 linked_texts D.in_else o n rs h = change_texts o.row (D.set_other n) (λ r t. t) rs h
 
@@ -88,7 +88,7 @@ module _ (s : List ℕ) where
   in_texts : (w : D.Where) (i : ℕ) (os : List D.Open) (n e : ℕ) (st : D.State) (up : ℕ → D.Turn) → Texts st → TextsIn (up i) → TextsIn (D.complete_in mixed w s i os n e st up)
   in_texts D.in_program i os n e st up h k = h
   in_texts D.in_group i os n e st up h k = h
-  in_texts D.in_body_lem i os n e st up h k = h
+  in_texts D.in_body i os n e st up h k = h
   in_texts D.in_then i os n e st up h k = elsed_texts (D.else_at mixed (D.is_inside st.scope) s e) i os st (λ _. up i) h k
   in_texts D.in_else i os n e st up h k = k
 
@@ -155,7 +155,7 @@ module _ (s : List ℕ) where
   lead_by_lem : (w : D.Where) (i : ℕ) (k : P.Link) (bs : List (List ℕ)) (os : List D.Open) (a b : ℕ) (st : D.State) → a ≤ b → Texts st → Texts (D.lead_in (record { kind = w; row = i; last = k; labels = bs } ∷ os) a b st)
   lead_by_lem D.in_program i k bs os a b st l h = (l, h.1)
   lead_by_lem D.in_group i k bs os a b st l h = (h.0, change_texts i (D.set_lead (D.stretch a b)) (λ r t. (l, t.1)) st.rows h.1)
-  lead_by_lem D.in_body_lem i k bs os a b st l h = h
+  lead_by_lem D.in_body i k bs os a b st l h = h
   lead_by_lem D.in_then i k bs os a b st l h = h
   lead_by_lem D.in_else i k bs os a b st l h = h
 

@@ -23,7 +23,7 @@ use Rattle.definition.specs.Expressions.{Reading, read, refused, then, Tree, Par
 use Rattle.definition.specs.Program.{Bound, by, upto, Statement, activate, deactivate, include, Link, nowhere, row, listed, then_part, else_part, Row, Scope, global, inside, Meaning, label, Declared, Fault, sound, faulty, Source}
 use Rattle.definition.specs.Statements.{Opens, opens_nothing, opens_group, opens_body, opens_then, Clause, clause, ended, assignment, then_word, if_clause, bound_at, do_bounds, do_clause, goto_clause, list_of, each_name, each_member, include_clause, deactivate_clause, each_activation, activate_clause, return_clause, Declaring, declared, undeclared, then_declare, means, names_at, is_character, attribute, declare_names, declare_next, declare_from, returns_type, procedure_head, procedure_clause}
 use Rattle.definition.specs.Reading as R
-use Rattle.definition.specs.Reading.{Where, in_program, in_group, in_body_lem, in_then, in_else, Open, kind_of, is_in_group, is_in_body, is_list, State, is_inside, depth, change, set_next, set_child, set_other, set_lead, set_text, new_row, linked, add_in, add_to, add_row, Mode, leading_text, text_behind, alternative, inner, Turn, go, stop, finish, is_decided, Else, else_to, no_else, else_word, else_at, elsed, complete_in, complete, Labelled, label_meaning, is_name, add_label, labels_from, labels, opened, taken, untaken, take_read, take_declared, is_none, is_declare, is_procedure, do_at, common, in_list, outer, by_word, by_name, by_token, may_name, end_name, end_read, end_at, is_full, is_end, long_label, clause_from, texted, lead_in, not_end, procedure_end, begins, inner_at, deep_enough, alternative_at, turn, places, read_on, read_member}
+use Rattle.definition.specs.Reading.{Where, in_program, in_group, in_body, in_then, in_else, Open, kind_of, is_in_group, is_in_body, is_list, State, is_inside, depth, change, set_next, set_child, set_other, set_lead, set_text, new_row, linked, add_in, add_to, add_row, Mode, leading_text, text_behind, alternative, inner, Turn, go, stop, finish, is_decided, Else, else_to, no_else, else_word, else_at, elsed, complete_in, complete, Labelled, label_meaning, is_name, add_label, labels_from, labels, opened, taken, untaken, take_read, take_declared, is_none, is_declare, is_procedure, do_at, common, in_list, outer, by_word, by_name, by_token, may_name, end_name, end_read, end_at, is_full, is_end, long_label, clause_from, texted, lead_in, not_end, procedure_end, begins, inner_at, deep_enough, alternative_at, turn, places, read_on, read_member}
 use Rattle.definition.proofs.Choices.{when_has, cond_has}
 use Rattle.definition.proofs.Ends.{token_at_lies}
 
@@ -365,7 +365,7 @@ module _ (s : List ℕ) where
       let n : ℕ = length st.rows in
       let rs : List Row = linked n o.last (change o.row (set_child n)) st.rows in
       record { rows = row_more rs (new_row x p (row o.row) listed) (linked_in_lem n o.last (change o.row (set_child n)) (child_in o.row n) st.rows h.rows) i; names = h.names }
-  add_in_lem in_body_lem o os x p st i h =
+  add_in_lem in_body o os x p st i h =
       let n : ℕ = length st.rows in
       let rs : List Row = linked n o.last (change o.row (set_child n)) st.rows in
       record { rows = row_more rs (new_row x p (row o.row) listed) (linked_in_lem n o.last (change o.row (set_child n)) (child_in o.row n) st.rows h.rows) i; names = h.names }
@@ -416,7 +416,7 @@ module _ (s : List ℕ) where
   complete_in_lem : (k : Where) (i : ℕ) (os : List Open) (n e : ℕ) (st : State) (f : ℕ → Turn) → In e → Tidy st → Turns (f i) → Turns (complete_in mixed k s i os n e st f)
   complete_in_lem in_program i os n e st f j h k = going j h
   complete_in_lem in_group i os n e st f j h k = going j h
-  complete_in_lem in_body_lem i os n e st f j h k = going j h
+  complete_in_lem in_body i os n e st f j h k = going j h
   complete_in_lem in_then i os n e st f j h k = elsed_turns (else_at_lem (is_inside st.scope) e j) i os st _ h k
   complete_in_lem in_else i os n e st f j h k = k
 
@@ -587,10 +587,10 @@ module _ (s : List ℕ) where
   lead_in_lem [] from p st h = h
   lead_in_lem (o ∷ os) from p st h = at_kind o.kind
     where
-      at_kind : (x : Where) → Tidy ((elim x as (λ _. ℕ → State) [ in_program ↦ λ n. R.with_lead (R.stretch from p) st | in_group ↦ λ n. R.with_rows (change n (set_lead (R.stretch from p)) st.rows) st | in_body_lem ↦ λ n. st | in_then ↦ λ n. st | in_else ↦ λ n. st ]) o.row)
+      at_kind : (x : Where) → Tidy ((elim x as (λ _. ℕ → State) [ in_program ↦ λ n. R.with_lead (R.stretch from p) st | in_group ↦ λ n. R.with_rows (change n (set_lead (R.stretch from p)) st.rows) st | in_body ↦ λ n. st | in_then ↦ λ n. st | in_else ↦ λ n. st ]) o.row)
       at_kind in_program = record { rows = h.rows; names = h.names }
       at_kind in_group = record { rows = change_in o.row (set_lead (R.stretch from p)) (λ r i. i) st.rows h.rows; names = h.names }
-      at_kind in_body_lem = h
+      at_kind in_body = h
       at_kind in_then = h
       at_kind in_else = h
 
