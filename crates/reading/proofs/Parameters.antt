@@ -215,7 +215,7 @@ almost_listed N.listing i ps p b c h = almost_twice (N.is_listed i ps) p b c h
 pub whole_almost : (m : ℕ) (ps : List W.Identifier) (ds : List Declared) (b c : Book) → Almost b c → Almost (book_whole m ps ds b) (book_all m ds c)
 unfolding book_whole book_all
 whole_almost m ps [] b c h = h
-whole_almost m ps (d ∷ ds) b c h = whole_almost m _ ds _ _ (almost_listed (N.new_of m d.meaning) (N.identifier_of m d) ps d.place b c h)
+whole_almost m ps (d ∷ ds) b c h = whole_almost m (listed_one (N.new_of m d.meaning) (N.identifier_of m d) ps) ds _ _ (almost_listed (N.new_of m d.meaning) (N.identifier_of m d) ps d.place b c h)
 
 -- where the reading stops, which does not matter
 faulty_either : (x y : Mark) (w : Why) (q : ℕ) → twice_or x (Faulty w q) ≡ twice_or y (Faulty w q)
