@@ -1,4 +1,6 @@
 // ACTIVATE, DEACTIVATE, and DECLARE outside procedures: the names of a list, one after the other, as the statement was read.
+#![tactic(auto)]
+
 ghost use Rattle.std.specs.Prelude.{◌≡◌};
 ghost use Rattle.names.specs.Table.{denotation_of};
 ghost use Rattle.activating.specs.Lists.{past_sign, behind_comma, declared_next, next_in, activity_behind};

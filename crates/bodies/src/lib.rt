@@ -1,6 +1,8 @@
 // What the statements of a body do with what was evaluated, and where control goes behind them. `u` is the bytes of the unfinished
 // values that wait in the work room.
 // Parts: statements that evaluate, the numbers of DO, another test of a group, where control goes, GOTO.
+#![tactic(auto)]
+
 ghost use Rattle.std.specs.Prelude.{◌≡◌, cond, ◌+◌};
 ghost use Rattle.fixed.specs.Signed.{stored_of};
 ghost use Rattle.names.specs.Table.{denotation_of, name_in};

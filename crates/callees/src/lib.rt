@@ -1,6 +1,8 @@
 // What a name means in an expression, and what a call needs to know of its procedure: its parameters, the arguments that wait for
 // it, and which procedures are running.
 // Parts: what a name means, procedures that run, parameters, arguments that wait, values of variables.
+#![tactic(auto)]
+
 ghost use Rattle.std.specs.Prelude.{◌≡◌, cond, not, ◌&&◌, eqb, length, ◌-◌};
 ghost use Rattle.definition.specs.Bytes.{mixed, folded};
 ghost use Rattle.definition.specs.Tokens.{token_at, is_sign};

@@ -1,4 +1,6 @@
 // Card images: a deck whose bodies are 80-column records, joined to a plain one.
+#![tactic(auto)]
+
 ghost use Rattle.std.specs.Prelude.{◌≡◌, ◌%◌};
 ghost use Rattle.definition.specs.Room.{over};
 ghost use Rattle.definition.specs.Deck.{line_place, line_at, lines_from};

@@ -1,6 +1,8 @@
 // Answers for many decks: each record has its flags (1 if the bodies are card images, else 0), the bytes of the text room, of the list
 // room, the steps and the deck's length, four bytes each, and then the deck. What is printed for each is what the program prints.
 // A room of more than 1,048,576 bytes is one of so many.
+#![tactic(auto)]
+
 ghost use Rattle.std.specs.Prelude.{◌≤◌, length};
 
 use definition::Layout;

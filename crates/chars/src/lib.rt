@@ -1,4 +1,6 @@
 // Letters and what else names are made of, and names as they are compared.
+#![tactic(auto)]
+
 ghost use Rattle.std.specs.Prelude.{◌≡◌, ◌&&◌, leb};
 ghost use Rattle.definition.specs.Text.{bytes_of};
 ghost use Rattle.definition.specs.Lists.{part, same, among};

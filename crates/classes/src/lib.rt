@@ -1,4 +1,6 @@
 // The class of each byte, by one table of 256.
+#![tactic(auto)]
+
 ghost use Rattle.std.specs.Prelude.{◌≡◌};
 ghost use Rattle.definition.specs.Bytes.{mixed, class_of};
 

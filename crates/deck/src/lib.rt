@@ -1,5 +1,7 @@
 // The deck: bytes to contents, or malformed; a line's numbers; the line of a member that is sought. Lines are of 16 bytes, or
 // with libraries of 24 (C-14); who looks through these functions does not see which.
+#![tactic(auto)]
+
 ghost use Rattle.std.specs.Prelude.{◌≡◌, ◌&&◌, ◌+◌, ◌-◌, ◌*◌, ◌≤◌, length};
 ghost use Rattle.definition.specs.Lists.{part, all};
 ghost use Rattle.definition.specs.Bytes.{mixed, is_blank};

@@ -1,4 +1,5 @@
 // The definition stands in specs/; here are the plain types that it and the code both name.
+#![tactic(auto)]
 
 // The class of a byte.
 #[derive(Clone, Copy)]

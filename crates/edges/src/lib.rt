@@ -1,5 +1,7 @@
 // Record edges of card images: a token that is copied goes out in pieces, one for each record that it lies in, and each piece has
 // its own line.
+#![tactic(auto)]
+
 ghost use Rattle.std.specs.Prelude.{◌≡◌, ◌%◌};
 ghost use Rattle.definition.specs.Cards as C;
 ghost use Rattle.edges.specs.Pieces.{PieceIs, PiecesFine};

@@ -1,5 +1,7 @@
 // Declaring names: what a declaration makes of a name, the limit on names, and the name that is declared twice. A refusal ends the
 // run, so the names of a member are declared while it is read; which refusal comes first is decided when the member is read.
+#![tactic(auto)]
+
 ghost use Rattle.std.specs.Prelude.{◌≡◌, ◌-◌};
 ghost use Rattle.definition.specs.Names as N;
 ghost use Rattle.names.specs.Table.{denotation_of};

@@ -1,5 +1,7 @@
 // The value of an expression, which is read again from the source, and the procedures that it calls. `u` is the bytes of the
 // unfinished values that wait in the work room. The statements that evaluate, and the bodies of procedures, stand in `deeds`.
+#![tactic(auto)]
+
 pub mod deeds;
 
 ghost use Rattle.std.specs.Prelude.{◌-◌};

@@ -2,6 +2,8 @@
 // `cards` as its first argument says that the bodies of the deck are card images. Behind it, or without it, `steps`, `text` and
 // `list` may stand in any order, each once and with a number behind it: how many steps the deck may take, and how many bytes the
 // text room and the list room have. What is not said is 01's. Other words are told on standard error, and nothing is answered.
+#![tactic(auto)]
+
 ghost use Rattle.std.specs.Prelude.{◌≤◌};
 
 use definition::Layout;

@@ -1,5 +1,7 @@
 // THE EXPANDER: any bytes, any rooms. Its numbers, its text and its list are the definition's, and every working room ends zero.
 // Parts: the numbers of an answer, the rooms, the expansion, the same for C and Rust.
+#![tactic(auto)]
+
 ghost use Rattle.std.specs.Prelude.{◌≡◌};
 ghost use Rattle.definition.specs.Bytes.{mixed};
 ghost use Rattle.definition.specs.Refusal.{number_of};

@@ -1,5 +1,7 @@
 // The syntax of an expression: which operator stands next, a sign or a name that must follow, and where the whole ends.
 // Parts: operators, a sign or a name that must follow, prefix operators, the check of a whole expression.
+#![tactic(auto)]
+
 ghost use Rattle.std.specs.Prelude.{◌≡◌, length};
 ghost use Rattle.definition.specs.Bytes.{mixed};
 ghost use Rattle.definition.specs.Tokens.{token_at, sign};

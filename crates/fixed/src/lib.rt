@@ -1,5 +1,7 @@
 // FIXED, document 01's signed whole number, and its arithmetic. Any value of the type may go in: each result is made
 // at 64 bits, where it cannot overflow, and then held to the range.
+#![tactic(auto)]
+
 ghost use Rattle.std.specs.Prelude.{◌≡◌, not, nat_abs};
 ghost use Rattle.std.specs.Int.Signed.{lt_z, non_neg};
 ghost use Rattle.definition.specs.Fixed.{in_range, ranged, sum, difference, product, negative, quotient};

@@ -1,6 +1,8 @@
 // Where control goes in rows: behind a statement, into a group, to a label. It is the same for members and procedures; what a
 // member puts out on the way is not done here.
 // Parts: frames of groups, behind a statement, GOTO.
+#![tactic(auto)]
+
 ghost use Rattle.std.specs.Prelude.{◌≡◌, ◌+◌};
 ghost use Rattle.fixed.specs.Answer.{result_of};
 ghost use Rattle.fixed.specs.Signed.{from_stored};

@@ -1,4 +1,6 @@
 // GOTO outside procedures: to a label of the member that runs, or of one that runs below it.
+#![tactic(auto)]
+
 ghost use Rattle.std.specs.Prelude.{◌≡◌};
 ghost use Rattle.leaving.specs.Places.{below_of, row_for, NoneBelow, WithBelow};
 ghost use Rattle.leaving.specs.Leads.{away_to, label_to, JumpIs};

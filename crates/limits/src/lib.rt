@@ -1,5 +1,7 @@
 // The limits of records, names, values, sentences, nesting, levels and rooms, each named on the type that it bounds, with its test.
 // FIXED, the deck and the meter have theirs on their own types.
+#![tactic(auto)]
+
 ghost use Rattle.std.specs.Prelude.{◌≡◌, leb};
 ghost use Rattle.definition.specs.Limits.{name_length, member_sentences, entered_sentences, declared_names, open_parentheses, open_groups};
 ghost use Rattle.definition.specs.Limits.{include_levels, replacement_levels, running_procedures, text_bytes, unfinished_bytes, program_text, program_list};

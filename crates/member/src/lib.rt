@@ -1,4 +1,6 @@
 // The member view: the deck's bytes together with one line of the contents.
+#![tactic(auto)]
+
 ghost use Rattle.std.specs.Prelude.{◌≡◌};
 ghost use Rattle.member.specs.Body.{body_bytes};
 

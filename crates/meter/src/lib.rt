@@ -1,4 +1,6 @@
 // The meter of steps. It is charged in place; whoever holds it by value lends a local.
+#![tactic(auto)]
+
 ghost use Rattle.std.specs.Prelude.{◌≡◌};
 ghost use Rattle.definition.specs.Limits.{program_steps};
 ghost use Rattle.meter.specs.Charges.{Charges};

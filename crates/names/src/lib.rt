@@ -1,6 +1,8 @@
 // The names that are declared: a table of records, one for each address. Identifiers and addresses are kept apart: only
 // the environment, `find` and `seen_from`, leads from one to the other.
 // Parts: a record that is read, the search, a record that is written.
+#![tactic(auto)]
+
 ghost use Rattle.std.specs.Prelude.{◌≡◌, ◌∷◌, [], ◌+◌, ◌*◌, ◌-◌, ◌≤◌, eqb};
 ghost use Rattle.definition.specs.Bytes.{mixed, folded};
 ghost use Rattle.definition.specs.Lists.{part};

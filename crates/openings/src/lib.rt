@@ -1,6 +1,8 @@
 // What is open while a member is read, and how a sentence begins and ends: labels, the word that begins a statement, ELSE and END.
 // Nothing is lent here to be written.
 // Parts: what is open, labels, the word that a statement begins with, ELSE and END, texts.
+#![tactic(auto)]
+
 ghost use Rattle.std.specs.Prelude.{◌≡◌, ◌&&◌, [], ◌-◌, ltb, get_or};
 ghost use Rattle.definition.specs.Bytes.{mixed, folded};
 ghost use Rattle.definition.specs.Lists.{part, same, is_one_of};

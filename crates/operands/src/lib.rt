@@ -1,6 +1,8 @@
 // What an expression is made of: constants, operators with their sides, names without a list, and what the arguments of a list are
 // made. `u` is the bytes of the unfinished values that wait in the work room.
 // Parts: constants, operators, arguments, names without a list.
+#![tactic(auto)]
+
 ghost use Rattle.std.specs.Prelude.{◌≡◌, cond, ◌+◌, leb, ltb};
 ghost use Rattle.tokens.specs.Answer.{written, content};
 ghost use Rattle.operands.specs.Answer.{evaluated_for, with_end, WithInfix, PrefixesDone, ConstantIs, IntegerIs, string_tree, ClosedIs, PlainIs};

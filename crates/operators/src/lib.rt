@@ -1,6 +1,8 @@
 // Values among those that are unfinished, and the operators on them. A CHARACTER or BIT value lies in the work room at a place u,
 // above the bytes of those that wait; the second side of an operator lies directly above the first. A result lies at u again.
 // Parts: the work room, conversions, prefix operators, infix operators, SUBSTR.
+#![tactic(auto)]
+
 ghost use Rattle.std.specs.Prelude.{◌≡◌, ◌∷◌, [], ◌+◌, leb};
 ghost use Rattle.definition.specs.Lists.{part};
 ghost use Rattle.definition.specs.Room.{over};

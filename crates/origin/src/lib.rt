@@ -1,5 +1,7 @@
 // What is put out, by its place in the deck as given: of a plain deck as it stands, of card images by record and column. Both rooms
 // then show the event of the definition.
+#![tactic(auto)]
+
 ghost use Rattle.std.specs.Prelude.{◌≡◌, ◌%◌, ◌-◌, length};
 ghost use Rattle.definition.specs.Lists.{part};
 ghost use Rattle.definition.specs.Events.{blank, copied};

@@ -1,6 +1,8 @@
 // What scanning is made of: the text that is scanned, a stretch of a body or of the work room, given by numbers, since the work
 // room is read and written at once; the names in it that are active; where outcomes go; and argument lists.
 // Parts: the text that is scanned, outcomes, argument lists, values, the copy under NORESCAN.
+#![tactic(auto)]
+
 ghost use Rattle.std.specs.Prelude.{◌≡◌, ◌&&◌, ◌+◌, eqb};
 ghost use Rattle.definition.specs.Bytes.{mixed, folded};
 ghost use Rattle.definition.specs.Lists.{part};

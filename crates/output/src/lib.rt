@@ -1,4 +1,6 @@
 // The text room and the list room: what is put out goes into both, if both have room.
+#![tactic(auto)]
+
 ghost use Rattle.std.specs.Prelude.{◌≡◌, length, leb, cond};
 ghost use Rattle.definition.specs.Limits.{text_bytes};
 ghost use Rattle.definition.specs.Lists.{part};

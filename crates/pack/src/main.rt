@@ -6,6 +6,8 @@
 // behind -L, which stands before the members, or else MAIN. Where no deck can be made, one line on standard error says why
 // and nothing is written.
 // Parts: refusals, names, files, the deck.
+#![tactic(auto)]
+
 ghost use Rattle.std.specs.Prelude.{◌≤◌, length};
 ghost use Rattle.io.specs.Counts.{IsPrefixLen};
 

@@ -1,5 +1,7 @@
 // What the program prints of an answer is the six numbers, the lines, the text and a line feed. The numbers, and some lines at a
 // time, are put onto a page; what would go past its end is lost, and counted. The text is printed from its room as it stands.
+#![tactic(auto)]
+
 ghost use Rattle.std.specs.Prelude.{◌≡◌, ◌∷◌, [], ◌+◌, ◌*◌, ◌-◌, ◌%◌, ◌≤◌, take};
 ghost use Rattle.definition.specs.Lists.{part};
 ghost use Rattle.definition.specs.Values.{decimal_on};

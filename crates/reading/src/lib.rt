@@ -1,6 +1,8 @@
 // A member is read once, from left to right, with a list of what is open: its sentences become rows, its names are declared.
 // Parts: what has been read, a new row, what comes behind a statement, labels, the statement that was read, END, one clause,
 // texts, the inside of a procedure, the member.
+#![tactic(auto)]
+
 ghost use Rattle.std.specs.Prelude.{◌≡◌, ◌&&◌, ◌%◌};
 ghost use Rattle.definition.specs.Bytes.{mixed};
 ghost use Rattle.definition.specs.Text.{bytes_of};

@@ -1,4 +1,6 @@
 // Lent rooms: zeroed, copied, compared, and numbers read and written in them; each function answers for every length and place.
+#![tactic(auto)]
+
 ghost use Rattle.std.specs.Prelude.{◌≡◌, ◌∷◌, [], ◌+◌, ◌-◌, length, get_or};
 ghost use Rattle.definition.specs.Lists.{part, number, bytes, same};
 ghost use Rattle.definition.specs.Room.{over, zeros};

@@ -1,6 +1,8 @@
 // The rows of the members that were read: a table of records, one for each sentence, alternative and procedure statement. The rows
 // of a member are a part of it, in which they are numbered from 0 on.
 // Parts: numbers of kinds and links, a row, the part of the table that a member has.
+#![tactic(auto)]
+
 ghost use Rattle.std.specs.Prelude.{◌≡◌, ◌∷◌, [], ◌+◌, ◌*◌};
 ghost use Rattle.definition.specs.Room.{over};
 ghost use Rattle.rows.specs.Table as T;

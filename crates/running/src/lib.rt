@@ -1,5 +1,7 @@
 // Members are read, entered and run, one inside the other by INCLUDE; what a statement of a member does is below, in `stepping`.
 // Parts: where members stand, a member that is read, INCLUDE, turns, a member that runs.
+#![tactic(auto)]
+
 ghost use Rattle.std.specs.Prelude.{◌≡◌, ◌-◌};
 ghost use Rattle.definition.specs.Room.{over, zeros};
 ghost use Rattle.rows.specs.Parts.{start_in};

@@ -1,5 +1,7 @@
 // Values and arguments scanned: their tokens are copied or replaced.
 // Parts: what a conversion gives, the cycle.
+#![tactic(auto)]
+
 ghost use Rattle.std.specs.Prelude.{◌≡◌};
 ghost use Rattle.scanning.specs.Cycle.{type_for, next_for, ConvertedIs, given_for, meter_for, RescanIs, TakenIs, CallWith, EntryIs, ReplaceIs, TokenIs, Scans};
 

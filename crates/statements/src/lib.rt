@@ -1,5 +1,7 @@
 // What each statement is, from behind its first word to behind its semicolon, or of an IF to behind THEN.
 // Parts: statements of one clause, DECLARE, PROCEDURE.
+#![tactic(auto)]
+
 ghost use Rattle.std.specs.Prelude.{◌≡◌, ◌||◌, true, false, ◌∷◌, [], length};
 ghost use Rattle.definition.specs.Bytes.{mixed};
 ghost use Rattle.definition.specs.Text.{bytes_of};

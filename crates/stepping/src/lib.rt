@@ -1,5 +1,7 @@
 // A statement of a member that runs, and where control goes behind it, with the texts on the way. INCLUDE is above, in `running`.
 // Parts: where control goes and what is put out on the way, statements, what comes of a turn.
+#![tactic(auto)]
+
 ghost use Rattle.std.specs.Prelude.{◌≡◌};
 ghost use Rattle.stepping.specs.Stage.{part_here};
 ghost use Rattle.stepping.specs.Ways.{is_listed, is_include, is_over, turned_by, refused_at, done_to, tested_to, jumped_to, activated_to, went_to};

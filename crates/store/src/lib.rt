@@ -1,5 +1,7 @@
 // The values of variables by address: FIXED numbers in `cells`, CHARACTER values in `low` and `high` with their lengths in
 // `cells`. Whatever reads or writes a value goes through here.
+#![tactic(auto)]
+
 ghost use Rattle.std.specs.Prelude.{◌≡◌, [], ◌∷◌, ◌+◌};
 ghost use Rattle.definition.specs.Lists.{part};
 ghost use Rattle.definition.specs.Room.{over};

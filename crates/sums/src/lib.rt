@@ -1,4 +1,6 @@
 // Sums and differences of places and lengths that stop at the ends of their type, so that no caller owes an order or a bound.
+#![tactic(auto)]
+
 ghost use Rattle.std.specs.Prelude.{◌≡◌, ◌-◌};
 ghost use Rattle.sums.specs.Numbers.{greatest, sum_to};
 

@@ -1,5 +1,7 @@
 // Program text is put out and scanned: its tokens are copied, or replaced where they are active names. A refusal gets its place here.
 // Parts: what a run has done so far, program text.
+#![tactic(auto)]
+
 ghost use Rattle.std.specs.Prelude.{◌≡◌, ◌%◌, ◌-◌, length};
 ghost use Rattle.definition.specs.Lists.{part};
 ghost use Rattle.definition.specs.Events.{blank, copied};

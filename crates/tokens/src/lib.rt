@@ -1,6 +1,8 @@
 // The tokens of a statement and of a text: where each begins and ends, and of what kind it is.
 // Parts: spaces and comments, where constants and words end, the token of a statement, what a constant holds, the pieces of a
 // text.
+#![tactic(auto)]
+
 ghost use Rattle.std.specs.Prelude.{◌≡◌, ◌&&◌, false, ◌∷◌, [], suc, ◌+◌, ◌-◌, eqb, length, drop};
 ghost use Rattle.definition.specs.Lists.{leading, same};
 ghost use Rattle.definition.specs.Bytes.{mixed, is_alphameric, is_digit};

@@ -1,4 +1,6 @@
 // The number of a type, by which tables keep it.
+#![tactic(auto)]
+
 ghost use Rattle.std.specs.Prelude.{◌≡◌};
 ghost use Rattle.types.specs.Kept.{type_number, type_in};
 

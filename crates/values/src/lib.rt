@@ -1,6 +1,8 @@
 // Values where they stand: conversions, comparison, bit operations and SUBSTR's test. A CHARACTER or BIT value is n bytes at a
 // place of a slice, each 0 past the slice's end; a bit is the byte of its digit.
 // Parts: tests of bytes, comparison, to FIXED, from FIXED, bit operations, SUBSTR.
+#![tactic(auto)]
+
 ghost use Rattle.std.specs.Prelude.{◌≡◌, [], ◌+◌, ◌-◌, ◌%◌, nat_abs, length, get_or, replicate};
 ghost use Rattle.definition.specs.Lists.{part, all};
 ghost use Rattle.definition.specs.Room.{over};

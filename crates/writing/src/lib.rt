@@ -1,5 +1,7 @@
 // What the programs share: rooms as large as they lend them, and writing what is printed of an answer, the six numbers, the
 // lines, the text and a line feed. It goes out piece by piece, so that no page has to be as long as an answer can be.
+#![tactic(auto)]
+
 ghost use Rattle.std.specs.Prelude.{◌<◌, ◌≡◌, length};
 
 use libc::STDOUT_FILENO;
