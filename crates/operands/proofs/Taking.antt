@@ -242,7 +242,10 @@ module _ (w : List ℕ) (f : Value) (k : Held) (j t : ℕ) (g : Ev.Wish) (gs : L
   last_by_lem Ev.as_subject (a, b, d) = (a, rw b at d, (refl, rw b, refl))
 
   pub path_more : (i u : ℕ) (ws : List Ev.Wish) (vs : List Val.Value) → Path w f k i u ws vs j t (g ∷ gs) → Path w f k i u ws (vs ++ v ∷ []) (suc j) (t + z) gs
-  path_more i u ws [] (a, b, c) = rw (a, b, c) (last_by_lem g one)
+  path_more i u ws [] (a, b, c) =
+      subst (λ (x : ℕ). Path w f k x u ws (v ∷ []) (suc j) (t + z) gs) (sym a)
+      (subst (λ (x : ℕ). Path w f k j x ws (v ∷ []) (suc j) (t + z) gs) (sym b)
+      (subst (λ (x : List Ev.Wish). Path w f k j t x (v ∷ []) (suc j) (t + z) gs) (sym c) (last_by_lem g one)))
   path_more i u [] (x ∷ vs) p = absurd p
   path_more i u (Ev.as_type q ∷ ws) (x ∷ vs) (a, c, d, p) = (a, c, d, path_more (suc i) (u + held_size k i q) ws vs p)
   path_more i u (Ev.as_subject ∷ ws) (x ∷ vs) (a, d, p) = (a, d, path_more (suc i) (u + size_for f) ws vs p)
