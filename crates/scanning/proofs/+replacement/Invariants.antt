@@ -31,8 +31,8 @@ invariant-scan-loop-turns l = Scanning l.deck l.s l.rows l.names l.initial.cells
 abbrev pub decreases-scan-loop-turns : goal.decreases-scan-loop-turns
 decreases-scan-loop-turns l = l.turns
 
-abbrev pub invariant-scan-loop-turns : goal.invariant-scan-loop-turns
-invariant-scan-loop-turns l = Arguing l.deck l.s l.rows l.names l.initial.cells l.initial.low l.initial.high l.initial.work l.initial.text l.x l.first l.u l.n l.c l.initial.m l.p l.initial.listed l.initial.turns l.held l.from l.listed l.top l.m l.i l.turns l.cells l.low l.high l.work l.text
+abbrev pub invariant-scan_arguments-loop-turns : goal.invariant-scan_arguments-loop-turns
+invariant-scan_arguments-loop-turns l = Arguing l.deck l.s l.rows l.names l.initial.cells l.initial.low l.initial.high l.initial.work l.initial.text l.x l.first l.u l.n l.c l.initial.m l.p l.initial.listed l.initial.turns l.held l.from l.listed l.top l.m l.i l.turns l.cells l.low l.high l.work l.text
 
-abbrev pub decreases-scan-loop-turns : goal.decreases-scan-loop-turns
-decreases-scan-loop-turns l = l.turns
+abbrev pub decreases-scan_arguments-loop-turns : goal.decreases-scan_arguments-loop-turns
+decreases-scan_arguments-loop-turns l = l.turns
