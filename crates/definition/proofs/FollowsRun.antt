@@ -12,7 +12,7 @@ use Rattle.definition.specs.Bytes.{mixed}
 use Rattle.definition.specs.Choice.{when}
 use Rattle.definition.specs.Limits.{running_procedures, replacement_levels}
 use Rattle.definition.specs.Refusal.{Why, room_full, declared_twice}
-use Rattle.definition.specs.Program.{Statement, null, declare, procedure, assign, conditional, group, iterated, goto, include, activate, deactivate, return, row, Stretch, Row, Activation, Declared, Fault, sound, faulty, Source}
+use Rattle.definition.specs.Program.{Statement, null, declare, procedure, assign, conditional, group, iterated, goto, include, activate, deactivate, return, Stretch, Row, Activation, Declared, Fault, sound, faulty, Source}
 use Rattle.definition.specs.Values.{Value}
 use Rattle.definition.specs.World as W
 use Rattle.definition.specs.World.{Denotation, variable_of, entry_of, label_at, builtin_name, Identifier, Address, address, unknown, Activity, inactive, rescanned, copied_only, Pass, World, Res, good, bad, bind, placed, with_event, address_of, row_of, rows_of}

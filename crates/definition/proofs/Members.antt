@@ -10,7 +10,7 @@ use lib.ListN.{length}
 use borrow.Author.Tests.{leb-true, leb-false}
 use Rattle.definition.specs.Bytes.{mixed}
 use Rattle.definition.specs.Limits.{running_procedures, replacement_levels}
-use Rattle.definition.specs.Program.{Statement, null, declare, procedure, assign, conditional, group, iterated, goto, include, activate, deactivate, return, row, Stretch, Row, Activation, Source}
+use Rattle.definition.specs.Program.{Statement, null, declare, procedure, assign, conditional, group, iterated, goto, include, activate, deactivate, return, Stretch, Row, Activation, Source}
 use Rattle.definition.specs.Values.{Value}
 use Rattle.definition.specs.World as W
 use Rattle.definition.specs.World.{Denotation, variable_of, entry_of, label_at, builtin_name, Address, address, unknown, Activity, inactive, rescanned, Pass, World, Res, bind}

@@ -1,6 +1,6 @@
 -- 01, "Reading": "Binding, loosest first, from 000 3.2.1: `|`; `&`; comparisons; `||`; `+ -`; `* /`; prefix `+ - ^`.
 -- Infix goes left to right. Parentheses and argument lists nest expressions to depth 16." 000, 3.2.1 (18) to (27).
-use Rattle.std.specs.Prelude.{ℕ, zero, suc, Bool, cond, ◌||◌, List, leb, length}
+use Rattle.std.specs.Prelude.{ℕ, zero, suc, Bool, cond, List, leb, length}
 use Prim.Native.String.{String}
 pub use Rattle.definition.specs.declared.Operator.{Operator}
 pub use Rattle.definition.specs.declared.Operator.TheVariants.{OrOp as or_op, AndOp as and_op, Greater as greater, GreaterEqual as greater_equal, Equal as equal, Less as less, LessEqual as less_equal, NotGreater as not_greater, NotEqual as not_equal, NotLess as not_less, CatOp as cat_op, Plus as plus, Minus as minus, Times as times, Divided as divided}

@@ -10,7 +10,7 @@ use Rattle.definition.specs.Lists.{part}
 use Rattle.definition.specs.Refusal.{Why, wrong_name, wrong_goto, unknown_member, too_deep, room_full}
 use Rattle.definition.specs.Deck as Deck
 use Rattle.definition.specs.Tokens.{Piece, piece_at}
-use Rattle.definition.specs.Program.{Activation, Statement, null, declare, procedure, assign, conditional, group, iterated, goto, include, activate, deactivate, return, row, Stretch, Row, Source}
+use Rattle.definition.specs.Program.{Activation, Statement, null, declare, procedure, assign, conditional, group, iterated, goto, include, activate, deactivate, return, Stretch, Row, Source}
 use Rattle.definition.specs.Reading.{read_member}
 use Rattle.definition.specs.Events.{Event, blank, copied, replaced, bytes_in, joins}
 use Rattle.definition.specs.Cards.{takes}

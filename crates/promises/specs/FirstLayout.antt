@@ -1,7 +1,7 @@
 -- 02, C-14, and what stays, with 01's letters: a deck of 01's layout is looked at as 01 says, and INCLUDE is read as 01 says
 -- but for a `(` behind a name. (What C-15's letters leave as it was is in LowerCase.) Nothing else of the definition knows of
 -- layouts or libraries: a run looks at a deck through `isSound`, `lines`, `line_at`, `count` and `find` alone.
-use Rattle.std.specs.Prelude.{ℕ, zero, suc, ◌+◌, ◌*◌, ◌≤◌, Bool, true, false, cond, ◌&&◌, not, List, [], ◌∷◌, ◌++◌, ◌≡◌, leb, length}
+use Rattle.std.specs.Prelude.{ℕ, zero, suc, ◌+◌, ◌*◌, ◌≤◌, Bool, true, false, cond, ◌&&◌, not, List, [], ◌∷◌, ◌≡◌, leb, length}
 use Rattle.definition.specs.declared.Why.TheVariants.{Syntax as syntax}
 use Rattle.definition.specs.Bytes.{capitals}
 use Rattle.definition.specs.Limits.{deck_bytes, deck_lines, member_name_length}

@@ -1,5 +1,4 @@
 -- The records that are left make the room what it is to be.
-use Prim.Native.Nat.{◌-◌}
 use Rattle.cards.proofs.Laws.{cards_start, cards_more, cards_done}
 use Rattle.cards.proofs.put_columns.Goals as goal
 

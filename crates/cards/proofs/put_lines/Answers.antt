@@ -1,6 +1,5 @@
 -- The lines that are left make the room what it is to be.
 use Rattle.std.proofs.Common.{rules}
-use Prim.Native.Nat.{◌-◌}
 use Rattle.cards.proofs.Laws.{lining_start, lining_more, lining_done}
 use Rattle.cards.proofs.put_lines.Goals as goal
 

@@ -1,5 +1,4 @@
 -- What is left to look at decides.
-use Prim.Native.Nat.{◌-◌}
 use Rattle.cards.proofs.Laws.{looking_start, looking_more, looking_here, looking_none}
 use Rattle.cards.proofs.uneven.Goals as goal
 

@@ -1,5 +1,4 @@
 -- What is left to compare of the folded bytes decides.
-use Prim.Native.Nat.{◌-◌}
 use Rattle.rooms.proofs.Laws.{comparing_start}
 use Rattle.chars.proofs.Laws.{spelling_more, spelling_differ, spelling_done}
 use Rattle.chars.proofs.spells.Goals as goal

@@ -1,5 +1,4 @@
 -- What is left to look at decides.
-use Prim.Native.Nat.{◌-◌}
 use Rattle.deck.proofs.Laws.{naming_start, naming_more, naming_no, naming_done}
 use Rattle.deck.proofs.are_named.Goals as goal
 

@@ -1,5 +1,4 @@
 -- What is left to look at decides.
-use Prim.Native.Nat.{◌-◌}
 use Rattle.deck.proofs.Laws.{finding_start, finding_more, finding_here, finding_none}
 use Rattle.deck.proofs.find.Goals as goal
 

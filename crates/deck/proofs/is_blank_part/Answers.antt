@@ -1,5 +1,4 @@
 -- What is left to look at decides.
-use Prim.Native.Nat.{◌-◌}
 use Rattle.deck.proofs.Laws.{blanks_start, blanks_more, blanks_other, blanks_done}
 use Rattle.deck.proofs.is_blank_part.Goals as goal
 

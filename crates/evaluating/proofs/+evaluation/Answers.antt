@@ -2,7 +2,6 @@
 -- levels from an operator to its sides; bodies come above their statements, and these above expressions.
 use Rattle.std.proofs.Common.{arith, refl, rules, ◌∙◌}
 use borrow.Fn.PlainCycle.{is}
-use Prim.Native.Nat.{◌-◌}
 use Rattle.rows.specs.declared.Statement.TheVariants as S
 use Rattle.evaluating.proofs.Cycle.{levels_operand, levels_chain, levels_failed, chaining_start, chaining_more, chaining_failed, chaining_done, chaining_end, operand_done, inside_over, inside_some, primitive_word, primitive_integer, primitive_string, primitive_bits, primitive_sign, primitive_nothing, primitive_wrong, whole, reference_listed, reference_plain, named_variable, named_substr, named_none}
 use Rattle.evaluating.proofs.Entries.{entry_called, entry_many, entry_fails}

@@ -1,6 +1,6 @@
 -- The procedures that may still be started fall from a call to its body, the parentheses from an argument to what is inside, the
 -- levels from an operator to its sides; bodies come above their statements, and these above expressions.
-use Prim.Native.Nat.{◌+◌, ◌*◌, ◌-◌}
+use Prim.Native.Nat.{◌+◌, ◌*◌}
 use Rattle.evaluating.proofs.Cycle.{Chaining}
 use Rattle.evaluating.proofs.Arguing.{Taking}
 use Rattle.evaluating.proofs.Looping.{Runs}

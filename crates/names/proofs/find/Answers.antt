@@ -1,6 +1,5 @@
 -- What is left to look at decides.
 use Rattle.std.proofs.Common.{refl}
-use Prim.Native.Nat.{◌-◌}
 use Rattle.names.proofs.Laws.{search_start, search_more, search_here, search_none}
 use Rattle.names.proofs.find.Goals as goal
 

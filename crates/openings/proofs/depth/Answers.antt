@@ -1,6 +1,5 @@
 -- The sum so far is the depth of what was counted.
 use Rattle.openings.proofs.Stacked.{deep_start, deep_more, deep_done}
-use Prim.Native.Nat.{◌-◌}
 use Rattle.openings.proofs.depth.Goals as goal
 
 pub loop-i-init : goal.loop-i-init

@@ -1,6 +1,5 @@
 -- Those that were read and those that are left are all.
 use Rattle.openings.proofs.Labelling.{labelling_start, labelling_more, labelling_none, labelling_over}
-use Prim.Native.Nat.{◌-◌}
 use Rattle.openings.proofs.labels_at.Goals as goal
 
 pub loop-count-init : goal.loop-count-init

@@ -1,5 +1,4 @@
 -- The first j bytes are there.
-use Prim.Native.Nat.{◌-◌}
 use Rattle.operators.proofs.Room.{lowering_start, lowering_more, lowering_done}
 use Rattle.operators.proofs.move_down.Goals as goal
 

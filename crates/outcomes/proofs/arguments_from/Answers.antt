@@ -1,5 +1,4 @@
 -- What was counted, with what is left, is all.
-use Prim.Native.Nat.{◌-◌}
 use Rattle.outcomes.proofs.Cutting.{counting_start, counting_more, counting_close, counting_open, counting_end}
 use Rattle.outcomes.proofs.arguments_from.Goals as goal
 

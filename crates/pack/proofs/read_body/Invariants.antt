@@ -1,5 +1,5 @@
 -- The deck keeps its length; the turns left fall.
-use Rattle.std.proofs.Common.{◌≡◌, ◌-◌, length}
+use Rattle.std.proofs.Common.{◌≡◌, length}
 use Rattle.pack.proofs.read_body.Given as goal
 
 abbrev pub invariant-loop-turns : goal.invariant-loop-turns

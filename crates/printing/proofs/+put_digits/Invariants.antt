@@ -1,5 +1,4 @@
 -- One digit less at each call.
-
 use Rattle.printing.proofs.+put_digits.Given as goal
 
 abbrev pub decreases-put_digits : goal.decreases-put_digits

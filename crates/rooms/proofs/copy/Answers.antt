@@ -1,5 +1,4 @@
 -- The first j bytes are copied.
-use Prim.Native.Nat.{◌-◌}
 use Rattle.rooms.proofs.Laws.{copied_start, copied_more, copied_all}
 use Rattle.rooms.proofs.copy.Goals as goal
 

@@ -1,5 +1,4 @@
 -- The numbers from the place to i are zero.
-use Prim.Native.Nat.{◌-◌}
 use Rattle.rooms.proofs.Laws.{cleared_start, cleared_more, cleared_all}
 use Rattle.rooms.proofs.zero_from.Goals as goal
 

@@ -1,5 +1,4 @@
 -- The first i numbers are zero.
-use Prim.Native.Nat.{◌-◌}
 use Rattle.rooms.proofs.Laws.{zeroing}
 use Rattle.rooms.proofs.zero_u32.Goals as goal
 

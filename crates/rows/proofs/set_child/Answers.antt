@@ -1,5 +1,4 @@
 -- One number, where the record has it.
-
 use Rattle.rows.proofs.set_child.Goals as goal
 
 pub returns : goal.returns

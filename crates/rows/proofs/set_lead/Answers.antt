@@ -1,5 +1,4 @@
 -- Two numbers, where the record has them.
-
 use Rattle.rows.proofs.set_lead.Goals as goal
 
 pub returns : goal.returns

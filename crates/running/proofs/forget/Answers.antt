@@ -1,5 +1,4 @@
 -- The first cells from the place on are zero.
-use Prim.Native.Nat.{◌-◌}
 use Rattle.running.proofs.Values.{forget_start, forget_more, forget_done, forget_size}
 use Rattle.running.proofs.forget.Goals as goal
 

@@ -1,5 +1,4 @@
 -- The stored number.
-
 use Rattle.store.proofs.store_number.Goals as goal
 
 pub returns : goal.returns

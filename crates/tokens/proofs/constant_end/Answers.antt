@@ -1,6 +1,5 @@
 -- What is left to look at decides, with the bytes so far.
 use Rattle.std.proofs.Common.{arith}
-use Prim.Native.Nat.{◌-◌}
 use Rattle.tokens.proofs.Laws.{quoting_start, quoting_more, quoting_last, quoting_open, width_inside}
 use Rattle.tokens.proofs.constant_end.Goals as goal
 

@@ -1,5 +1,4 @@
 -- What is left to look at decides.
-use Prim.Native.Nat.{◌-◌}
 use Rattle.tokens.proofs.Laws.{seeking_start, seeking_more, seeking_here, seeking_never}
 use Rattle.tokens.proofs.quote_end.Goals as goal
 

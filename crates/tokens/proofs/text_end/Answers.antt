@@ -1,6 +1,5 @@
 -- What is left to look at decides, with turns enough to reach the end.
 use Rattle.std.proofs.Common.{arith}
-use Prim.Native.Nat.{◌-◌}
 use Rattle.tokens.proofs.Pieces.{texting_start, texting_more, texting_further, texting_percent, texting_open, texting_end}
 use Rattle.tokens.proofs.text_end.Goals as goal
 

@@ -1,5 +1,4 @@
 -- What is left to look at decides.
-use Prim.Native.Nat.{◌-◌}
 use Rattle.values.proofs.Bytes.{seeking_start, seeking_more, seeking_found, seeking_done}
 use Rattle.values.proofs.any_one.Goals as goal
 

@@ -1,5 +1,4 @@
 -- What is left to look at decides.
-use Prim.Native.Nat.{◌-◌}
 use Rattle.values.proofs.Bytes.{testing_start, testing_more, testing_no, testing_done}
 use Rattle.values.proofs.are_blanks.Goals as goal
 

@@ -1,5 +1,4 @@
 -- What is left to read decides; a number past the range stays past it.
-use Prim.Native.Nat.{◌-◌}
 use Rattle.values.proofs.Numbers.{reading_start, times_fits, next_fits, reading_more, reading_over, reading_done}
 use Rattle.values.proofs.capped_number.Goals as goal
 

@@ -1,5 +1,4 @@
 -- The first j bits are joined, and the others as they were.
-use Prim.Native.Nat.{◌-◌}
 use Rattle.values.proofs.Bits.{filling_start, combining_more, combining_done}
 use Rattle.values.proofs.combine.Goals as goal
 

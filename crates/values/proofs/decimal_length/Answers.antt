@@ -1,5 +1,4 @@
 -- What is left to count decides.
-use Prim.Native.Nat.{◌-◌}
 use Rattle.values.proofs.Written.{counting_start, counting_stop, counting_more, counting_done}
 use Rattle.values.proofs.decimal_length.Goals as goal
 
