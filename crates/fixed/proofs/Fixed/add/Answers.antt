@@ -1,5 +1,6 @@
 -- `Fixed::add` meets its contract: at 64 bits the sum is exact.
 use Rattle.std.proofs.Common.{ap, ◌∙◌}
+use lib.IntN.{◌+ℤ◌}
 use Rattle.definition.specs.Fixed.{ranged, sum}
 use Rattle.fixed.proofs.Laws.{op_fits, op_read, sum_size}
 use Rattle.fixed.proofs.Fixed.add.Goals as goal

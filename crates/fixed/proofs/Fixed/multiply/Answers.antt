@@ -1,5 +1,6 @@
 -- `Fixed::multiply` meets its contract: at 64 bits the product is exact.
 use Rattle.std.proofs.Common.{ap, ◌∙◌}
+use lib.IntN.{◌*ℤ◌}
 use Rattle.definition.specs.Fixed.{ranged, product}
 use Rattle.fixed.proofs.Laws.{op_fits, op_read, product_size}
 use Rattle.fixed.proofs.Fixed.multiply.Goals as goal

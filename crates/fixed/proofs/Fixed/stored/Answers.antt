@@ -1,7 +1,7 @@
 -- `Fixed::stored` meets its contract: what is in range is not negative once it is shifted.
 use Rattle.std.proofs.Common.{ap}
 use lib.Dec.{lit≤}
-use lib.IntN.{nat_abs}
+use lib.IntN.{nat_abs, ◌+ℤ◌}
 use Rattle.fixed.proofs.Laws.{op_fits, sum_size, wide_literal, stored_read, stored_fits, stored_out}
 use Rattle.fixed.proofs.Fixed.stored.Goals as goal
 

@@ -1,5 +1,6 @@
 -- `Fixed::subtract` meets its contract: at 64 bits the difference is exact.
 use Rattle.std.proofs.Common.{ap, ◌∙◌}
+use lib.IntN.{◌-ℤ◌}
 use Rattle.definition.specs.Fixed.{ranged, difference}
 use Rattle.fixed.proofs.Laws.{op_fits, op_read, difference_size}
 use Rattle.fixed.proofs.Fixed.subtract.Goals as goal
