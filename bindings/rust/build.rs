@@ -1,4 +1,4 @@
-//! Says where the archive is that `rt staticlib expander` makes: MUHAREGODEN_LIB, or target/staticlib of this repository.
+//! Says where the archive is that `tools/archive.sh` makes: MUHAREGODEN_LIB, or target/staticlib of this repository.
 
 use std::env;
 

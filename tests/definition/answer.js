@@ -9,9 +9,9 @@ const { Worker, isMainThread, workerData } = require('worker_threads');
 
 // What is taken from the definition: the expansion of a deck, the letters in force, the layout by its number, and what the
 // program prints.
-const EXPANSION = 'Expansion.expansionOf';
+const EXPANSION = 'Expansion.expansion_of';
 const LETTERS = process.env.LETTERS || 'Bytes.mixed';
-const LAYOUT = 'Cards.layoutFor';
+const LAYOUT = 'Cards.layout_for';
 const PRINTED = 'Printed.printed';
 // The bytes of a record before its deck.
 const HEADER = 20;

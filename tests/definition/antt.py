@@ -25,6 +25,10 @@ class Token:
     column: int
     first: bool    # whether it is the first of its line
 
+    @property
+    def end(self):
+        return self.column + len(self.text)
+
 
 def tokens_of(source, file):
     """The tokens of a file, without remarks."""
@@ -350,12 +354,14 @@ class Field:
 
 
 class Parser:
-    """Expressions and patterns. `fixity` gives the strength and side of an operator, or None where a word is none."""
+    """Expressions and patterns. `fixity` gives the strength and side of an operator, or None where a word is none;
+    `modules` are the names of whole modules: a dot behind another name projects."""
 
-    def __init__(self, tokens, fixity, after):
+    def __init__(self, tokens, fixity, modules, after):
         self.tokens = tokens
         self.at = 0
         self.fixity = fixity
+        self.modules = modules
         self.after = after    # the token to name where the tokens end too soon
 
     def peek(self):
@@ -387,7 +393,7 @@ class Parser:
             token = self.next()
             strength, side = fixity
             right = self.operators(strength + (side == 'left'))
-            left = Apply(token, Name(token, '_%s_' % token.text), [left, right])
+            left = Apply(token, Name(token, '◌%s◌' % token.text), [left, right])
         return left
 
     def application(self):
@@ -400,10 +406,7 @@ class Parser:
             text = self.peek()
             if text == 'λ':
                 return applied(function, self.abstraction())
-            if text.startswith('.') and len(text) > 1:
-                function = Field(self.next(), function, text[1:])
-            else:
-                function = applied(function, self.atom())
+            function = applied(function, self.atom())
         return function
 
     def ends(self, text):
@@ -415,24 +418,42 @@ class Parser:
         if text == '(':
             inner = self.operators(0)
             self.expect(')')
-            return inner
+            return self.projected(inner)
         if text == 'record':
-            return self.record(token)
+            return self.projected(self.record(token))
         if text.startswith('"'):
             return Text(token, unquoted(token))
         if text.isdigit():
             return Number(token, int(text))
         if text in NO_NAMES or text in '{});,' or text.startswith(('λ', '.')) or '@' in text:
             raise Trouble(token, 'the translator does not know %s here' % text)
-        return Name(token, text)
+        first, *fields = text.split('.')
+        if first in self.modules and len(fields) == 1 and fields[0]:
+            return Name(token, text)
+        return fields_of(token, Name(token, first), fields)
+
+    def projected(self, of):
+        """What is projected out of an expression in brackets: `(f x).size`, with no space."""
+        bracket = self.tokens[self.at - 1]
+        if self.peek() is None or not self.peek().startswith('.'):
+            return of
+        token = self.tokens[self.at]
+        if (token.line, token.column) != (bracket.line, bracket.end):
+            return of
+        return fields_of(self.next(), of, token.text[1:].split('.'))
 
     def let(self):
         token = self.next()
-        name = self.next()
+        name = self.new_name(self.next())
         self.expect('=')
         value = self.operators(0)
         self.expect('in')
         return Let(token, name.text, value, self.operators(0))
+
+    def new_name(self, token):
+        if '.' in token.text or token.text in self.modules:
+            raise Trouble(token, 'the translator does not know %s as a new name' % token.text)
+        return token
 
     def abstraction(self):
         token = self.next()
@@ -440,7 +461,7 @@ class Parser:
         while True:
             name = self.next()
             text = name.text[:-1] if name.text.endswith('.') else name.text
-            if not text or '.' in text or text in ('(', '{', '[]'):
+            if not text or '.' in text or text in ('(', '{', '[]') or text in self.modules:
                 raise Trouble(name, 'the translator knows only names behind λ')
             names.append(text)
             if name.text.endswith('.'):
@@ -463,6 +484,14 @@ class Parser:
         while self.peek() is not None:
             found.append(self.atom())
         return found
+
+
+def fields_of(token, of, fields):
+    for name in fields:
+        if not name:
+            raise Trouble(token, 'the translator does not know what is projected by %s' % token.text)
+        of = Field(token, of, name)
+    return of
 
 
 def applied(function, argument):

@@ -149,7 +149,7 @@ class Program:
     def use(self, module, d):
         source = '.'.join(d.path)
         if d.names is None:
-            if not d.path[0].startswith('Rattle'):
+            if not is_own(d.path):
                 raise Trouble(d.token, 'the translator knows no whole module of the library: %s' % source)
             module.whole[d.called] = self.load(d.path[-1], d.token)
             return
@@ -157,7 +157,7 @@ class Program:
             self.name(module, called, self.used(d.path, source, token), token, d.is_public)
 
     def used(self, path, source, token):
-        if path[0].startswith('Rattle'):
+        if is_own(path):
             found = self.declared(path, token) if 'declared' in path else self.load(path[-1], token).public.get(token.text)
         elif source in LIBRARY:
             found = LIBRARY[source].get(token.text)
@@ -175,7 +175,7 @@ class Program:
             return None
         if len(path) == place + 2:
             return TypeName(token.text)
-        if path[place + 2:] != ['the-variants'] or token.text not in enum:
+        if path[place + 2:] != ['TheVariants'] or token.text not in enum:
             return None
         if enum[token.text] is None:
             enum[token.text] = self.constructor(token.text, 0)
@@ -185,7 +185,7 @@ class Program:
 
     def fixity_in(self, module):
         def fixity(word):
-            meant = module.names.get('_%s_' % word)
+            meant = module.names.get('◌%s◌' % word)
             return None if meant is None else FIXITY[meant.name]
         return fixity
 
@@ -200,10 +200,11 @@ class Program:
 
     def note_uses(self, definition, clause):
         for token in clause.right:
-            meant = definition.module.names.get(token.text)
-            if meant is None and '.' in token.text[1:-1]:
-                first, second = token.text.split('.', 1)
-                meant = definition.module.whole[first].public.get(second) if first in definition.module.whole else None
+            first, dot, second = token.text.partition('.')
+            if dot and first in definition.module.whole:
+                meant = definition.module.whole[first].public.get(second)
+            else:
+                meant = definition.module.names.get(first if second else token.text)    # `f.size` uses f; `f.` is behind a λ
             if isinstance(meant, Definition):
                 definition.uses.add(meant)
         for local in clause.local:
@@ -213,10 +214,10 @@ class Program:
     def equation(self, module, clause, outer=()):
         fixity = self.fixity_in(module)
         patterns = [antt.Name(clause.token, p) for p in outer]
-        patterns += antt.Parser(clause.patterns, fixity, clause.token).patterns()
+        patterns += antt.Parser(clause.patterns, fixity, module.whole, clause.token).patterns()
         if not clause.right:
             raise Trouble(clause.token, 'an equation without a right side')
-        right = antt.Parser(clause.right, fixity, clause.right[-1]).whole()
+        right = antt.Parser(clause.right, fixity, module.whole, clause.right[-1]).whole()
         return Equation(clause.token, patterns, right, self.local_definitions(module, clause), words_of(clause))
 
     def local_definitions(self, module, clause):
@@ -248,8 +249,14 @@ class Program:
                 definition.is_recursive = reaches(definition, definition)
 
 
+def is_own(path):
+    """Whether a path leads to a module of the specs, and not to one of the library."""
+    return path[:1] == ['Rattle'] and path[1:2] != ['std']
+
+
 def words_of(clause):
-    words = [t.text for t in clause.right]
+    """The words of an equation's right side; of what is projected, its name."""
+    words = [t.text if t.text[0] == '.' or t.text[-1] == '.' else t.text.partition('.')[0] for t in clause.right]
     for local in clause.local:
         if isinstance(local, antt.Clause):
             words += words_of(local)

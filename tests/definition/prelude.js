@@ -1,5 +1,5 @@
 'use strict';
-// The primitive things of antt's library: numbers, lists, functions. Everything is a value that never changes; where
+// The primitive things of the library: numbers, lists, functions. Everything is a value that never changes; where
 // something is changed in place (an array that grows, a table of known results) nobody can see it.
 
 // ---- numbers: a JavaScript number as long as it is exact, else a BigInt, so that equal numbers are `===`
@@ -109,7 +109,7 @@ function behind(list, n) {
   for (; n > 0; n--) at = tail(at);
   return at;
 }
-function getD(list, n, other) {
+function getOr(list, n, other) {
   if (n >= list.length) return other;
   return list.items === null ? head(behind(list, n)) : list.items[list.from + n];
 }

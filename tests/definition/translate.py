@@ -407,7 +407,7 @@ class Writer:
             meant = env.module.names.get(head.name) or ALWAYS.get(head.name)
         if isinstance(meant, Constructor):
             return meant
-        if dot:
+        if dot or head.name in env.module.whole:
             raise Trouble(head.token, '%s is no constructor' % head.name)
         return None
 
@@ -417,7 +417,7 @@ class Writer:
         if head.name in bound:
             raise Trouble(head.token, '%s stands twice in the patterns of one equation' % head.name)
         if isinstance(atom, str) and not atom.isidentifier() and not atom.replace('$', '').isidentifier():
-            if head.name in equation.words or any(w.startswith(head.name + '.') for w in equation.words):
+            if head.name in equation.words:
                 name = self.fresh(head.name)
                 before.append('const %s = %s;' % (name, atom))
                 atom = name
