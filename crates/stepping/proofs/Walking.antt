@@ -81,7 +81,11 @@ module _ (deck s part rows names c l h w t ls : List ℕ) (n : ℕ) (here : Here
 
   pub behind_no_text : (b : Bool) → b ≡ is_listed r.role → b ≡ false → TextBehindIs deck s part rows names c l h w t ls n here g c l h w t ls (Rn.Good g)
   behind_no_text b eb q = record {
-    is = λ B st i e inner on lt. record { world = B; stage = st.onstage; goes = goes_none B; is = out_none _ _ _ (row_in part n).role (role_is eb q); tabled = refl; named = refl };
+    is = λ B st i e inner on lt.
+        let M : F.Machine Run.Stop = machine_of inner deck here.member on in
+        let none : out_behind M (row_in part n).role (F.at M n).text (world_in B c l h g.meter.used) ≡ good tt (world_in B c l h g.meter.used) =
+        out_none M (F.at M n).text (world_in B c l h g.meter.used) (row_in part n).role (role_is eb q) in
+        record { world = B; stage = st.onstage; goes = goes_none B; is = none; tabled = refl; named = refl };
   }
 
 -- ---- THE INVARIANT: where the walk leads from here is where it led from the first row; a walk up has turns for all rows before it
