@@ -1,11 +1,24 @@
 -- The include levels that are left fall from an INCLUDE to its member.
 use Rattle.std.proofs.Common.{arith, refl, ◌∙◌}
 use borrow.Fn.PlainCycle.{is}
-use Rattle.running.proofs.Turning.{turn_begin, turn_again, turn_over}
+use borrow.Author.Tests.{not-true, not-false}
+use Rattle.running.proofs.Turning.{begin_due, begin_include, begin_statement, turn_begin, turn_again, turn_over}
 use Rattle.running.proofs.Looping.{runs_start, runs_out, runs_over, runs_more, runs_end, source_runs, source_bad}
 use Rattle.running.proofs.Entering.{enter_runs, enter_refused}
 use Rattle.running.proofs.Naming.{include_unknown, include_deep, include_enters, going_start, going_more, all_went, all_stopped, all_ran, all_turned}
 use Rattle.running.proofs.+member_run.Goals as goal
+
+pub begin-returns-then-not-paid : goal.begin-returns-then-not-paid
+begin-returns-then-not-paid t c = begin_due _ _ _ _ _ _ _ _ _ _ _ _ _ _ _ _ _ c.part_here.ensures _ c.row_at-r.ensures _ c.charged-paid.ensures _ c.with_meter-g.ensures (not-true _ c.if-not-paid.true) _ c.refused-t.ensures _ c.turned_at.ensures
+
+pub begin-include_all-e-requires : goal.begin-include_all-e-requires
+begin-include_all-e-requires t c = omega (arith, c.requires)
+
+pub begin-returns-then-is_include : goal.begin-returns-then-is_include
+begin-returns-then-is_include t c = begin_include _ _ _ _ _ _ _ _ _ _ _ _ _ _ _ _ _ c.part_here.ensures _ c.row_at-r.ensures _ c.charged-paid.ensures _ c.with_meter-g.ensures (not-false _ c.if-not-paid.false) _ c.is_include.ensures c.if-is_include.true _ _ _ _ _ _ _ _ _ c.include_all-e.ensures _ c.on_ended.ensures
+
+pub begin-returns : goal.begin-returns
+begin-returns t c = begin_statement _ _ _ _ _ _ _ _ _ _ _ _ _ _ _ _ _ c.part_here.ensures _ c.row_at-r.ensures _ c.charged-paid.ensures _ c.with_meter-g.ensures (not-false _ c.if-not-paid.false) _ c.is_include.ensures c.if-is_include.false _ c.part_here-2.ensures _ _ _ _ _ _ _ _ c.statement-t.ensures _ c.turned_at-2.ensures
 
 pub enter_and_run-run_source-requires : goal.enter_and_run-run_source-requires
 enter_and_run-run_source-requires t c = omega (arith, c.requires)
