@@ -8,14 +8,29 @@
 // Parts: refusals, names, files, the deck.
 #![tactic(auto)]
 
-ghost use Rattle.std.specs.Prelude.{◌≤◌, length};
-ghost use Rattle.io.specs.Counts.{IsPrefixLen};
+ghost use Rattle.std.specs.Prelude.{◌≡◌, ◌≤◌, length, take};
 
 use chars::{is_alphameric, is_letter};
 use deck::{Contents, Deck, Found, Sought, Spelled, has_libraries, line_place, name_place};
-use libc::{STDERR_FILENO, STDOUT_FILENO};
 use rooms::{byte, copy, is_same, put_byte, put_u16, put_u32};
+use std::env::FillError;
+use std::fs::File;
+use std::io::{ErrorKind, Read, Write};
+use std::rt::{Env, Files};
+use std::{io, str};
 use sums::sum;
+use writing::{argument, argument_count};
+
+// A buffer for an argument, or for what one read brings.
+const BUFFER: usize = 4_096;
+
+// A buffer for the words of an error.
+const WORDS: usize = 256;
+
+// Linux's numbers of two errors: there is no such argument, and one is too long.
+const INVALID: i32 = 22;
+
+const TOO_LONG: i32 = 36;
 
 // Where the deck ends so far, or that there is none; then its reason has been said.
 #[derive(Clone, Copy)]
@@ -40,19 +55,44 @@ struct Order {
     libraries: bool,
 }
 
+// Writes to standard error; where that fails there is nowhere to say so.
+fn say(log: &impl Print, words: &[u8]) {
+    let _ = log.write_all(words);
+}
+
 // Says in one line why there is no deck.
-fn refuse(what: &[u8], why: &[u8]) {
-    io::write_all(STDERR_FILENO, b"pack: ");
-    io::write_all(STDERR_FILENO, what);
-    io::write_all(STDERR_FILENO, b": ");
-    io::write_all(STDERR_FILENO, why);
-    io::write_all(STDERR_FILENO, b"\n");
+fn refuse(log: &impl Print, what: &[u8], why: &[u8]) {
+    say(log, b"pack: ");
+    say(log, what);
+    say(log, b": ");
+    say(log, why);
+    say(log, b"\n");
 }
 
 // The same where the system says why.
-fn refuse_for_system(what: &[u8]) {
-    io::write_all(STDERR_FILENO, b"pack: ");
-    os::fail(what);
+fn refuse_for_system(log: &impl Print, what: &[u8], error: &io::Error) {
+    let mut room = [0u8; WORDS];
+    put_words(&mut room, error);
+    refuse(log, what, &room[..words_length(&room)]);
+}
+
+// Puts what an error says at the start of the room.
+fn put_words(room: &mut [u8], error: &io::Error) {
+    let mut rest = room;
+    let _ = write!(rest, "{error}");
+}
+
+// How long the words of an error are, without the number of the system's error that stands in brackets behind them.
+fn words_length(room: &[u8]) -> usize
+    ensures { result ≤ length room.now }
+{
+    let n = length_before(room, 0, b'(');
+    if 0 < n {
+        if byte(room, 0, n - 1) == b' ' {
+            return n - 1;
+        }
+    }
+    n
 }
 
 // Where the path begins: behind the first `=` if no `/` stands before it, so that a path may hold a `=` too.
@@ -88,7 +128,9 @@ fn base_place(path: &[u8]) -> usize {
 }
 
 // How many bytes from a place on stand before a certain one, or the end, where a byte reads as 0.
-fn length_before(arg: &[u8], from: usize, stop: u8) -> usize {
+fn length_before(arg: &[u8], from: usize, stop: u8) -> usize
+    ensures { result ≤ length arg.now }
+{
     let mut n = 0;
     while n < arg.len() {
         let b = byte(arg, from, n);
@@ -209,7 +251,14 @@ fn write_library(deck: &mut [u8], at: usize, arg: &[u8], path: usize, library: &
 }
 
 // Puts the library of line k, where lines have one, and answers whether the line can have it.
-fn add_library(deck: &mut [u8], k: u16, arg: &[u8], path: usize, library: &[u8]) -> bool {
+fn add_library(
+    log: &impl Print,
+    deck: &mut [u8],
+    k: u16,
+    arg: &[u8],
+    path: usize,
+    library: &[u8],
+) -> bool {
     if !has_libraries(deck) {
         return true;
     }
@@ -218,18 +267,18 @@ fn add_library(deck: &mut [u8], k: u16, arg: &[u8], path: usize, library: &[u8])
     if is_identifier(deck, at, n) {
         return true;
     }
-    refuse(arg, b"the library is no identifier of at most 8 bytes");
+    refuse(log, arg, b"the library is no identifier of at most 8 bytes");
     false
 }
 
 // Puts the member's name of line k, and answers whether the line can have it.
-fn add_name(deck: &mut [u8], k: u16, arg: &[u8], path: usize) -> bool {
+fn add_name(log: &impl Print, deck: &mut [u8], k: u16, arg: &[u8], path: usize) -> bool {
     let at = name_place(deck, k);
     let n = write_name(deck, at, arg, path);
     if is_identifier(deck, at, n) {
         return true;
     }
-    refuse(arg, b"the name is no identifier of at most 8 bytes");
+    refuse(log, arg, b"the name is no identifier of at most 8 bytes");
     false
 }
 
@@ -263,16 +312,16 @@ fn is_written_alike(deck: &[u8], j: u16, k: u16) -> bool {
 }
 
 // Says that line j, which stands before line k, has its names.
-fn refuse_repeated(deck: &[u8], j: u16, k: u16, arg: &[u8]) {
+fn refuse_repeated(log: &impl Print, deck: &[u8], j: u16, k: u16, arg: &[u8]) {
     if is_written_alike(deck, j, k) {
-        refuse(arg, b"an earlier member has that name");
+        refuse(log, arg, b"an earlier member has that name");
         return;
     }
-    refuse(arg, b"an earlier member has that name but for case");
+    refuse(log, arg, b"an earlier member has that name but for case");
 }
 
 // Whether no line before line k has its names. The first number says how many lines `find` looks at.
-fn is_new(deck: &mut [u8], k: u16, arg: &[u8]) -> bool {
+fn is_new(log: &impl Print, deck: &mut [u8], k: u16, arg: &[u8]) -> bool {
     if k == 0 {
         return true;
     }
@@ -281,7 +330,7 @@ fn is_new(deck: &mut [u8], k: u16, arg: &[u8]) -> bool {
     let earlier = deck::find(deck, names);
     match earlier {
         Found::Line(j) => {
-            refuse_repeated(deck, j, k, arg);
+            refuse_repeated(log, deck, j, k, arg);
             false
         }
         Found::Nothing => true,
@@ -289,14 +338,21 @@ fn is_new(deck: &mut [u8], k: u16, arg: &[u8]) -> bool {
 }
 
 // Reads once, and puts what came into the deck from a place on.
-fn read_some(fd: i32, path: &[u8], deck: &mut [u8], at: u32) -> Came {
-    let mut chunk = io::buffer();
-    let got = libc::read(fd, &mut chunk);
-    if got < 0 {
-        refuse_for_system(path);
-        return Came::Refused;
-    }
-    let n = io::count(got, &chunk);
+fn read_some(
+    log: &impl Print,
+    file: &mut impl Read,
+    path: &[u8],
+    deck: &mut [u8],
+    at: u32,
+) -> Came {
+    let mut chunk = [0u8; BUFFER];
+    let n = match file.read(&mut chunk) {
+        Ok(n) => n,
+        Err(error) => {
+            refuse_for_system(log, path, &error);
+            return Came::Refused;
+        }
+    };
     if n == 0 {
         return Came::Nothing;
     }
@@ -307,16 +363,22 @@ fn read_some(fd: i32, path: &[u8], deck: &mut [u8], at: u32) -> Came {
             return Came::To((from + n) as u32);
         }
     }
-    refuse(path, b"with it the deck would pass 65,536 bytes");
+    refuse(log, path, b"with it the deck would pass 65,536 bytes");
     Came::Refused
 }
 
 // Reads to the end of a file. Each turn but the last brings a byte, so a deck is full before the turns are used up.
-fn read_body(fd: i32, path: &[u8], deck: &mut [u8], from: u32) -> Packed {
+fn read_body(
+    log: &impl Print,
+    file: &mut impl Read,
+    path: &[u8],
+    deck: &mut [u8],
+    from: u32,
+) -> Packed {
     let mut at = from;
     let mut turns = Deck::BYTES;
     while 0 < turns {
-        let came = read_some(fd, path, deck, at);
+        let came = read_some(log, file, path, deck, at);
         match came {
             Came::To(next) => {
                 at = next;
@@ -333,15 +395,22 @@ fn read_body(fd: i32, path: &[u8], deck: &mut [u8], from: u32) -> Packed {
     Packed::Refused
 }
 
-fn read_file(path: &[u8], deck: &mut [u8], from: u32) -> Packed {
-    let fd = os::open_read(path);
-    if fd < 0 {
-        refuse_for_system(path);
-        return Packed::Refused;
+// Opens a file. A path has to be UTF-8.
+fn open_file<R: Files>(rt: &R, path: &[u8]) -> io::Result<R::File> {
+    match str::from_utf8(path) {
+        Ok(text) => File::open(rt, text),
+        Err(_) => Err(io::Error::from(ErrorKind::InvalidFilename)),
     }
-    let packed = read_body(fd, path, deck, from);
-    libc::close(fd);
-    packed
+}
+
+fn read_file(rt: &impl Files, log: &impl Print, path: &[u8], deck: &mut [u8], from: u32) -> Packed {
+    match open_file(rt, path) {
+        Ok(mut file) => read_body(log, &mut file, path, deck, from),
+        Err(error) => {
+            refuse_for_system(log, path, &error);
+            Packed::Refused
+        }
+    }
 }
 
 // Puts offset and length of a body into line k.
@@ -352,33 +421,58 @@ fn put_place(deck: &mut [u8], k: u16, from: u32, end: u32) {
 }
 
 // Adds the member of an argument as line k, its body from a place on.
-fn add_member(deck: &mut [u8], k: u16, arg: &[u8], library: &[u8], from: u32) -> Packed {
+fn add_member(
+    rt: &impl Files,
+    log: &impl Print,
+    deck: &mut [u8],
+    k: u16,
+    arg: &[u8],
+    library: &[u8],
+    from: u32,
+) -> Packed {
     let path = path_place(arg);
-    if !add_library(deck, k, arg, path, library) {
+    if !add_library(log, deck, k, arg, path, library) {
         return Packed::Refused;
     }
-    if !add_name(deck, k, arg, path) {
+    if !add_name(log, deck, k, arg, path) {
         return Packed::Refused;
     }
-    if !is_new(deck, k, arg) {
+    if !is_new(log, deck, k, arg) {
         return Packed::Refused;
     }
-    let packed = read_file(&arg[path..], deck, from);
+    let packed = read_file(rt, log, &arg[path..], deck, from);
     if let Packed::To(end) = packed {
         put_place(deck, k, from, end);
     }
     packed
 }
 
-// Adds the member that an argument names, as line k.
-fn add_argument(deck: &mut [u8], k: u16, argument: usize, library: &[u8], from: u32) -> Packed {
-    let mut arg = io::buffer();
-    let n = os::arg(argument, &mut arg);
-    if os::errno() != 0 {
-        refuse_for_system(b"an argument");
-        return Packed::Refused;
+// What the system says where argument i is not there whole.
+fn error_of(error: FillError) -> io::Error {
+    match error {
+        FillError::NotPresent => io::Error::from_raw_os_error(INVALID),
+        FillError::TooLong => io::Error::from_raw_os_error(TOO_LONG),
     }
-    add_member(deck, k, &arg[..n], library, from)
+}
+
+// Adds the member that an argument names, as line k.
+fn add_argument(
+    rt: &(impl Env + Files),
+    log: &impl Print,
+    deck: &mut [u8],
+    k: u16,
+    place: usize,
+    library: &[u8],
+    from: u32,
+) -> Packed {
+    let mut arg = [0u8; BUFFER];
+    match rt.arg(place, &mut arg) {
+        Ok(n) => add_member(rt, log, deck, k, &arg[..n], library, from),
+        Err(error) => {
+            refuse_for_system(log, b"an argument", &error_of(error));
+            Packed::Refused
+        }
+    }
 }
 
 // Puts the first number: the count, or with libraries the count and 256.
@@ -391,12 +485,18 @@ fn put_first(deck: &mut [u8], members: u16, libraries: bool) {
 }
 
 // Packs the members that the arguments name; the first number is put again at the end, since `is_new` uses its place.
-fn pack(deck: &mut [u8], order: Order, library: &[u8]) -> Packed {
+fn pack(
+    rt: &(impl Env + Files),
+    log: &impl Print,
+    deck: &mut [u8],
+    order: Order,
+    library: &[u8],
+) -> Packed {
     put_first(deck, order.members, order.libraries);
     let mut end = (line_place(deck, order.members) % 65_536) as u32;
     let mut k = 0;
     while k < order.members {
-        let packed = add_argument(deck, k, sum(order.first, k as usize), library, end);
+        let packed = add_argument(rt, log, deck, k, sum(order.first, k as usize), library, end);
         match packed {
             Packed::To(next) => {
                 end = next;
@@ -414,19 +514,19 @@ fn pack(deck: &mut [u8], order: Order, library: &[u8]) -> Packed {
 // ---- what the arguments ask for
 
 // Whether an argument names a library.
-fn names_library(argument: usize) -> bool {
-    let mut arg = io::buffer();
-    let n = os::arg(argument, &mut arg);
+fn names_library(env: &impl Env, place: usize) -> bool {
+    let mut arg = [0u8; BUFFER];
+    let n = argument(env, place, &mut arg);
     let path = path_place(&arg[..n]);
     0 < library_length(&arg[..n], path)
 }
 
 // Whether one of the arguments from one on does.
-fn is_library_named(first: usize) -> bool {
-    let n = os::arg_count();
+fn is_library_named(env: &impl Env, first: usize) -> bool {
+    let n = argument_count(env);
     let mut k = first;
     while k < n {
-        if names_library(k) {
+        if names_library(env, k) {
             return true;
         }
         k += 1;
@@ -435,20 +535,21 @@ fn is_library_named(first: usize) -> bool {
 }
 
 // Whether -L stands before the members.
-fn is_library_given() -> bool {
-    let mut arg = io::buffer();
-    if os::arg(1, &mut arg) == 2 {
+fn is_library_given(env: &impl Env) -> bool {
+    let mut arg = [0u8; BUFFER];
+    if argument(env, 1, &mut arg) == 2 {
         return is_same(&arg, 0, b"-L", 0, 2);
     }
     false
 }
 
 // Puts the library of members that name none into the room, and answers its length.
-fn standing_library(room: &mut [u8], is_given: bool) -> usize
-    ensures { IsPrefixLen result room.new }
+fn standing_library(env: &impl Env, room: &mut [u8], is_given: bool) -> usize
+    ensures in_bounds { result ≤ length room.new }
+    ensures counts { result ≡ length (take result room.new) }
 {
     if is_given {
-        return os::arg(2, room);
+        return argument(env, 2, room);
     }
     if room.len() < 4 {
         return 0;
@@ -458,67 +559,74 @@ fn standing_library(room: &mut [u8], is_given: bool) -> usize
 }
 
 // How many members the arguments from one on name, or 0 where that is none or too many.
-fn member_count(first: usize) -> u16 {
-    let n = os::arg_count();
+fn member_count(env: &impl Env, log: &impl Print, first: usize) -> u16 {
+    let n = argument_count(env);
     if n <= first {
         refuse(
+            log,
             b"no member",
             b"usage: pack [-L LIBRARY] [[LIBRARY(]NAME[)]=]FILE ..",
         );
         return 0;
     }
     if (Deck::LINES as usize) < n - first {
-        refuse(b"too many members", b"a deck has at most 32");
+        refuse(log, b"too many members", b"a deck has at most 32");
         return 0;
     }
     (n - first) as u16
 }
 
 // Writes the deck, once the proved reader of decks calls it sound.
-fn write_deck(room: &[u8], size: usize) {
+fn write_deck(out: &impl Print, log: &impl Print, room: &[u8], size: usize) {
     if size <= room.len() {
         let made = &room[0..size];
         let contents = Deck::of(made);
         if let Contents::Sound(_) = contents {
-            if !io::write_all(STDOUT_FILENO, made) {
-                refuse_for_system(b"standard output");
+            if let Err(error) = out.write_all(made) {
+                refuse_for_system(log, b"standard output", &error);
             }
             return;
         }
     }
-    refuse(b"the deck", b"it came out malformed");
+    refuse(log, b"the deck", b"it came out malformed");
 }
 
 // What the arguments ask for, from the first member on.
-fn order_from(first: usize, is_given: bool) -> Order {
+fn order_from(env: &impl Env, log: &impl Print, first: usize, is_given: bool) -> Order {
     let libraries = if is_given {
         true
     } else {
-        is_library_named(first)
+        is_library_named(env, first)
     };
     Order {
         first,
-        members: member_count(first),
+        members: member_count(env, log, first),
         libraries,
     }
 }
 
 // Packs and writes what is asked for.
-fn write_packed(order: Order, library: &[u8]) {
+fn write_packed(rt: &(impl Env + Files + Print), log: &impl Print, order: Order, library: &[u8]) {
     if order.members == 0 {
         return;
     }
-    let mut room = io::large_buffer();
-    let packed = pack(&mut room, order, library);
+    let mut room = [0u8; Deck::BYTES];
+    let packed = pack(rt, log, &mut room, order, library);
     if let Packed::To(size) = packed {
-        write_deck(&room, size as usize);
+        write_deck(rt, log, &room, size as usize);
     }
 }
 
-fn main() {
-    let is_given = is_library_given();
+fn main(rt: HostRuntime) {
+    let log = rt.stderr();
+    let is_given = is_library_given(&rt);
     let first = if is_given { 3 } else { 1 };
-    let mut library = io::buffer();
-    let n = standing_library(&mut library, is_given);
-    write_packed(order_from(first, is_given), &library[..n]);
+    let mut library = [0u8; BUFFER];
+    let n = standing_library(&rt, &mut library, is_given);
+    write_packed(
+        &rt,
+        &log,
+        order_from(&rt, &log, first, is_given),
+        &library[..n],
+    );
 }

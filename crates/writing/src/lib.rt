@@ -1,12 +1,54 @@
-// What the programs share: rooms as large as they lend them, and writing what is printed of an answer, the six numbers, the
-// lines, the text and a line feed. It goes out piece by piece, so that no page has to be as long as an answer can be.
+// What the programs share: their arguments and their input, rooms as large as they lend them, and writing what is printed of an
+// answer, the six numbers, the lines, the text and a line feed. It goes out piece by piece, so that no page has to be as long as
+// an answer can be.
 #![tactic(auto)]
 
-ghost use Rattle.std.specs.Prelude.{◌<◌, ◌≡◌, length};
+ghost use Rattle.std.specs.Prelude.{◌<◌, ◌≡◌, ◌≤◌, length};
 
-use libc::STDOUT_FILENO;
 use printing::{put_lines, put_numbers, used};
 use rooms::number32;
+use std::env::FillError;
+use std::io::Read;
+use std::rt::Env;
+
+// How many arguments there are; argument 0 is the program's own name.
+pub fn argument_count(env: &impl Env) -> usize {
+    let mut room = [0u8; 1];
+    for i in 0..usize::MAX {
+        if let Err(FillError::NotPresent) = env.arg(i, &mut room) {
+            return i;
+        }
+    }
+    usize::MAX
+}
+
+// Puts argument i at the start of the room, and answers its length, or 0 where there is none or it does not fit.
+pub fn argument(env: &impl Env, i: usize, room: &mut [u8]) -> usize
+    ensures { result ≤ length room.new }
+{
+    match env.arg(i, room) {
+        Ok(n) => n,
+        Err(_) => 0,
+    }
+}
+
+// Reads until the room is full, the input ends or a read fails, and answers how many bytes it put at the start of the room.
+pub fn read_full(input: &mut impl Read, room: &mut [u8]) -> usize
+    ensures { result ≤ length room.new }
+{
+    let mut done = 0;
+    while done < room.len() {
+        match input.read(&mut room[done..]) {
+            Ok(0) | Err(_) => {
+                return done;
+            }
+            Ok(n) => {
+                done += n;
+            }
+        }
+    }
+    done
+}
 
 // A text room or a list room; what is asked for is a part of it. Its length alone is told, so that no proof counts its bytes.
 pub fn large_room() -> [u8; 1_048_576]
@@ -31,12 +73,17 @@ fn next_piece(i: u32, lines: u32) -> u32
     i + LINES
 }
 
-fn write_lines(page: &mut [u8], list: &[u8], lines: u32) -> bool {
+// Whether all of the bytes were written.
+fn is_written(out: &impl Print, bytes: &[u8]) -> bool {
+    out.write_all(bytes).is_ok()
+}
+
+fn write_lines(out: &impl Print, page: &mut [u8], list: &[u8], lines: u32) -> bool {
     let mut i = 0;
     while i < lines {
         let end = next_piece(i, lines);
         let n = put_lines(page, list, i, end);
-        if !io::write_all(STDOUT_FILENO, used(page, n)) {
+        if !is_written(out, used(page, n)) {
             return false;
         }
         i = end;
@@ -44,22 +91,22 @@ fn write_lines(page: &mut [u8], list: &[u8], lines: u32) -> bool {
     true
 }
 
-fn write_numbers(page: &mut [u8], numbers: &[u32]) -> bool {
+fn write_numbers(out: &impl Print, page: &mut [u8], numbers: &[u32]) -> bool {
     let n = put_numbers(page, numbers);
-    io::write_all(STDOUT_FILENO, used(page, n))
+    is_written(out, used(page, n))
 }
 
 // Writes the answer of six numbers with the rooms that hold its text and list: whether all of it was written.
-pub fn write_answer(numbers: &[u32], text: &[u8], list: &[u8]) -> bool {
+pub fn write_answer(out: &impl Print, numbers: &[u32], text: &[u8], list: &[u8]) -> bool {
     let mut page = [0u8; PAGE];
-    if !write_numbers(&mut page, numbers) {
+    if !write_numbers(out, &mut page, numbers) {
         return false;
     }
-    if !write_lines(&mut page, list, number32(numbers, 0, 5)) {
+    if !write_lines(out, &mut page, list, number32(numbers, 0, 5)) {
         return false;
     }
-    if !io::write_all(STDOUT_FILENO, used(text, number32(numbers, 0, 4) as usize)) {
+    if !is_written(out, used(text, number32(numbers, 0, 4) as usize)) {
         return false;
     }
-    io::write_all(STDOUT_FILENO, b"\n")
+    is_written(out, b"\n")
 }

@@ -1,7 +1,6 @@
 -- As long as it was made, without counting.
-use Rattle.std.proofs.Common.{sym}
-use Prim.Native.Nat.{ℕ}
-use lib.ListN.{length-replicate}
+use Rattle.std.proofs.Common.{sym, ℕ}
+use Rattle.std.proofs.lemmas.List.{length-replicate}
 use Rattle.writing.proofs.large_room.Goals as goal
 
 pub returns : goal.returns

@@ -1,2 +1,0 @@
--- What bytes at the start of a room are counted.
-mod Counting
