@@ -8,7 +8,8 @@ ghost use Rattle.std.specs.Prelude.{◌≤◌, length};
 use definition::Layout;
 use expander::expand;
 use rooms::get_u32;
-use writing::{large_room, write_answer};
+use std::io::Read;
+use writing::{large_room, read_full, write_answer};
 
 fn least(n: usize, most: usize) -> usize
     ensures { result ≤ most }
@@ -24,10 +25,10 @@ fn number(head: &[u8], at: usize) -> usize {
 }
 
 // Reads n bytes of a deck: whether all were there.
-fn read_deck(deck: &mut [u8], n: usize) -> bool
+fn read_deck(input: &mut impl Read, deck: &mut [u8], n: usize) -> bool
     requires { n ≤ length deck.old }
 {
-    io::read_full(libc::STDIN_FILENO, &mut deck[0..n]) == n
+    read_full(input, &mut deck[0..n]) == n
 }
 
 fn layout_of(flags: u32) -> Layout {
@@ -40,6 +41,7 @@ fn layout_of(flags: u32) -> Layout {
 // The answer for a deck with the layout, the rooms and the steps of a record's head: whether it was written. Only the part of a
 // room that is asked for is lent, so that a small record does not clear a large room.
 fn answer_deck(
+    out: &impl Print,
     head: &[u8],
     deck: &[u8],
     text: &mut [u8],
@@ -71,11 +73,13 @@ fn answer_deck(
         steps,
     );
     let numbers = [x.number, x.member, x.offset, x.steps, x.text, x.lines];
-    write_answer(&numbers, text, list)
+    write_answer(out, &numbers, text, list)
 }
 
 // One record: whether there was one. One with other flags is none, as one that is cut short.
 fn answer_one(
+    input: &mut impl Read,
+    out: &impl Print,
     deck: &mut [u8],
     text: &mut [u8],
     list: &mut [u8],
@@ -88,15 +92,16 @@ fn answer_one(
     joined: &mut [u8],
 ) -> bool {
     let mut head = [0u8; 20];
-    if io::read_full(libc::STDIN_FILENO, &mut head) < 20 {
+    if read_full(input, &mut head) < 20 {
         return false;
     }
     if 1 < get_u32(&head, 0) {
         return false;
     }
     let n = least(number(&head, 16), deck.len());
-    if read_deck(deck, n) {
+    if read_deck(input, deck, n) {
         return answer_deck(
+            out,
             &head,
             &deck[0..n],
             text,
@@ -116,6 +121,8 @@ fn answer_one(
 // All records. A proved loop has to end, and nothing says that the input does: the turns are counted down, from a number that no
 // run uses up.
 fn answer_all(
+    input: &mut impl Read,
+    out: &impl Print,
     deck: &mut [u8],
     text: &mut [u8],
     list: &mut [u8],
@@ -130,7 +137,7 @@ fn answer_all(
     let mut turns = u64::MAX;
     while 0 < turns {
         if !answer_one(
-            deck, text, list, rows, names, cells, low, high, work, joined,
+            input, out, deck, text, list, rows, names, cells, low, high, work, joined,
         ) {
             return;
         }
@@ -138,7 +145,8 @@ fn answer_all(
     }
 }
 
-fn main() {
+fn main(rt: HostRuntime) {
+    let mut input = rt.stdin();
     let mut deck = [0u8; 131_072];
     let mut text = large_room();
     let mut list = large_room();
@@ -150,6 +158,8 @@ fn main() {
     let mut work = [0u8; 65_536];
     let mut joined = [0u8; 65_536];
     answer_all(
+        &mut input,
+        &rt,
         &mut deck,
         &mut text,
         &mut list,

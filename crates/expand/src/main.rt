@@ -8,15 +8,19 @@ ghost use Rattle.std.specs.Prelude.{◌≤◌};
 
 use definition::Layout;
 use expander::expand;
-use libc::STDERR_FILENO;
 use limits::Rooms;
 use meter::Meter;
 use printing::used;
 use rooms::{byte, is_same};
-use writing::{large_room, write_answer};
+use std::io::Read;
+use std::rt::Env;
+use writing::{argument, argument_count, large_room, read_full, write_answer};
 
 // As large as a room can be made.
 const LARGEST: u32 = 1_048_576;
+
+// A buffer for an argument.
+const BUFFER: usize = 4_096;
 
 // What was said of a limit so far; if it was wrong, the reason has been told.
 #[derive(Clone, Copy)]
@@ -47,13 +51,18 @@ enum Asked {
     Nothing,
 }
 
+// Writes to standard error; where that fails there is nowhere to say so.
+fn say(log: &impl Print, words: &[u8]) {
+    let _ = log.write_all(words);
+}
+
 // Says in one line why there is no answer.
-fn refuse(what: &[u8], why: &[u8]) {
-    io::write_all(STDERR_FILENO, b"expand: ");
-    io::write_all(STDERR_FILENO, what);
-    io::write_all(STDERR_FILENO, b": ");
-    io::write_all(STDERR_FILENO, why);
-    io::write_all(STDERR_FILENO, b"\n");
+fn refuse(log: &impl Print, what: &[u8], why: &[u8]) {
+    say(log, b"expand: ");
+    say(log, what);
+    say(log, b": ");
+    say(log, why);
+    say(log, b"\n");
 }
 
 // ---- words
@@ -66,9 +75,9 @@ fn is_word(word: &[u8], other: &[u8]) -> bool {
 }
 
 // Whether argument i is this word; argument 0 is the program's own name.
-fn is_argument(i: usize, other: &[u8]) -> bool {
-    let mut word = io::buffer();
-    let n = os::arg(i, &mut word);
+fn is_argument(env: &impl Env, i: usize, other: &[u8]) -> bool {
+    let mut word = [0u8; BUFFER];
+    let n = argument(env, i, &mut word);
     is_word(used(&word, n), other)
 }
 
@@ -106,44 +115,45 @@ fn number_of(word: &[u8], most: u32) -> Said {
 // ---- limits
 
 // What is said of a limit with a number; it may be said once.
-fn limit_of(word: &[u8], before: Said, number: &[u8], most: u32) -> Said {
+fn limit_of(log: &impl Print, word: &[u8], before: Said, number: &[u8], most: u32) -> Said {
     if let Said::Number(_) = before {
-        refuse(word, b"it is said twice");
+        refuse(log, word, b"it is said twice");
         return Said::Wrong;
     }
     let said = number_of(number, most);
     if let Said::Wrong = said {
-        refuse_number(word, most);
+        refuse_number(log, word, most);
     }
     said
 }
 
-fn refuse_number(word: &[u8], most: u32) {
+fn refuse_number(log: &impl Print, word: &[u8], most: u32) {
     if most == LARGEST {
-        refuse(word, b"it takes a number from 0 to 1048576");
+        refuse(log, word, b"it takes a number from 0 to 1048576");
         return;
     }
-    refuse(word, b"it takes a number from 0 to 4294967295");
+    refuse(log, word, b"it takes a number from 0 to 4294967295");
 }
 
 // The order with what a word and the one behind it say.
-fn with_limit(order: Order, word: &[u8], number: &[u8]) -> Order {
+fn with_limit(log: &impl Print, order: Order, word: &[u8], number: &[u8]) -> Order {
     let steps = order.steps;
     let text = order.text;
     let list = order.list;
     if is_word(word, b"steps") {
-        let steps = limit_of(word, steps, number, u32::MAX);
+        let steps = limit_of(log, word, steps, number, u32::MAX);
         return Order { steps, text, list };
     }
     if is_word(word, b"text") {
-        let text = limit_of(word, text, number, LARGEST);
+        let text = limit_of(log, word, text, number, LARGEST);
         return Order { steps, text, list };
     }
     if is_word(word, b"list") {
-        let list = limit_of(word, list, number, LARGEST);
+        let list = limit_of(log, word, list, number, LARGEST);
         return Order { steps, text, list };
     }
     refuse(
+        log,
         word,
         b"it is none of steps, text and list, or of cards in front of them",
     );
@@ -152,12 +162,12 @@ fn with_limit(order: Order, word: &[u8], number: &[u8]) -> Order {
 }
 
 // The same of two arguments; a missing one reads as an empty word.
-fn with_arguments(order: Order, i: usize, k: usize) -> Order {
-    let mut word = io::buffer();
-    let mut number = io::buffer();
-    let n = os::arg(i, &mut word);
-    let m = os::arg(k, &mut number);
-    with_limit(order, used(&word, n), used(&number, m))
+fn with_arguments(env: &impl Env, log: &impl Print, order: Order, i: usize, k: usize) -> Order {
+    let mut word = [0u8; BUFFER];
+    let mut number = [0u8; BUFFER];
+    let n = argument(env, i, &mut word);
+    let m = argument(env, k, &mut number);
+    with_limit(log, order, used(&word, n), used(&number, m))
 }
 
 fn is_wrong(said: Said) -> bool {
@@ -195,8 +205,8 @@ fn limits_of(order: Order) -> Limits {
 }
 
 // What the arguments from one on ask for.
-fn read_limits(first: usize) -> Asked {
-    let count = os::arg_count();
+fn read_limits(env: &impl Env, log: &impl Print, first: usize) -> Asked {
+    let count = argument_count(env);
     let mut order = Order {
         steps: Said::Nothing,
         text: Said::Nothing,
@@ -205,7 +215,7 @@ fn read_limits(first: usize) -> Asked {
     let mut i = first;
     while i < count {
         let k = i + 1;
-        order = with_arguments(order, i, k);
+        order = with_arguments(env, log, order, i, k);
         if is_order_wrong(order) {
             return Asked::Nothing;
         }
@@ -229,7 +239,14 @@ fn least(n: usize, most: usize) -> usize
 }
 
 // Answers the deck, with as much of the two rooms as the limits say.
-fn answer_deck(layout: Layout, limits: Limits, text: &mut [u8], list: &mut [u8]) {
+fn answer_deck(
+    input: &mut impl Read,
+    out: &impl Print,
+    layout: Layout,
+    limits: Limits,
+    text: &mut [u8],
+    list: &mut [u8],
+) {
     // one byte more than a deck may have, so that a longer one is seen to be longer
     let mut deck = [0u8; 65_537];
     let mut rows = [0u16; 32_768];
@@ -239,7 +256,7 @@ fn answer_deck(layout: Layout, limits: Limits, text: &mut [u8], list: &mut [u8])
     let mut high = [0u8; 65_536];
     let mut work = [0u8; 65_536];
     let mut joined = [0u8; 65_536];
-    let n = io::read_full(libc::STDIN_FILENO, &mut deck);
+    let n = read_full(input, &mut deck);
     let t = least(limits.text, text.len());
     let l = least(limits.list, list.len());
     let x = expand(
@@ -257,23 +274,31 @@ fn answer_deck(layout: Layout, limits: Limits, text: &mut [u8], list: &mut [u8])
         limits.steps,
     );
     let numbers = [x.number, x.member, x.offset, x.steps, x.text, x.lines];
-    write_answer(&numbers, text, list);
+    write_answer(out, &numbers, text, list);
 }
 
 // Answers if the arguments from one on are limits.
-fn answer(layout: Layout, first: usize) {
-    let asked = read_limits(first);
+fn answer(
+    rt: &(impl Env + Print),
+    input: &mut impl Read,
+    log: &impl Print,
+    layout: Layout,
+    first: usize,
+) {
+    let asked = read_limits(rt, log, first);
     if let Asked::Run(limits) = asked {
         let mut text = large_room();
         let mut list = large_room();
-        answer_deck(layout, limits, &mut text, &mut list);
+        answer_deck(input, rt, layout, limits, &mut text, &mut list);
     }
 }
 
-fn main() {
-    if is_argument(1, b"cards") {
-        answer(Layout::Cards, 2);
+fn main(rt: HostRuntime) {
+    let mut input = rt.stdin();
+    let log = rt.stderr();
+    if is_argument(&rt, 1, b"cards") {
+        answer(&rt, &mut input, &log, Layout::Cards, 2);
         return;
     }
-    answer(Layout::Plain, 1);
+    answer(&rt, &mut input, &log, Layout::Plain, 1);
 }
