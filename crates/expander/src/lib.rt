@@ -422,9 +422,8 @@ fn layout_for(cards: u32) -> Layout
     Layout::Cards
 }
 
-// The expansion for C and Rust, with a room for the six numbers: docs/CALLING.md.
-#[unsafe(no_mangle)]
-pub extern "C" fn muharegoden_expand(
+// The expansion for C and Rust, with a room for the six numbers: docs/CALLING.md. The crate expander_c exports it.
+pub fn muharegoden_expand(
     cards: u32,
     deck: &[u8],
     text: &mut [u8],
