@@ -52,7 +52,8 @@ def unfoldable():
     """The definitions that a computation passes through, by module."""
     found = {}
     for path in sorted(glob.glob(os.path.join(SPECS, '*.antt'))):
-        source = open(path).read()
+        with open(path, encoding='utf-8') as file:
+            source = file.read()
         names = re.findall(r'^ *unfoldable pub (\S+) :', source, re.M)
         for block in re.findall(r'^unfoldable mutual\n((?:  .*\n|\n)+)', source, re.M):
             names += re.findall(r'^  pub (\S+) :', block, re.M)
@@ -65,64 +66,65 @@ def listed(numbers):
     return ' ∷ '.join([str(n) for n in numbers] + ['[]'])
 
 
-def statement(k, case):
+def statement(k, case, unfolded):
     name, text_room, list_room, steps, deck, six, lines, text, _ = case
     rows = ' ∷ '.join(['line %d %d %d %d' % tuple(l) for l in reversed(lines)] + ['[]'])
     return f'''
 -- {name}
-case{k} : expansion true ({listed(deck)}) {text_room} {list_room} {steps}
+case{k} : expansion mixed true ({listed(deck)}) {text_room} {list_room} {steps}
     ≡ record {{ number = {six[0]}; member = {six[1]}; offset = {six[2]}; steps = {six[3]}; text = {listed(text)}; lines = {rows} }}
-unfolding ALL
+unfolding {unfolded}
 case{k} = refl
 '''
 
 
 def source_of(batch):
-    found = unfoldable()
     all_names = []
     uses = ''
-    for module, names in found.items():
-        renamed = []
-        for n in names:
-            renamed.append(n if (n == 'expansion') else f'{n} as {module}·{n}')
-            all_names.append(n if n == 'expansion' else f'{module}·{n}')
-        uses += f'use Rattle·definition.specs.{module}.{{{", ".join(renamed)}}}\n'
+    for module, names in unfoldable().items():
+        renamed = {n: n if n == 'expansion' else f'{module}_{n}' for n in names}
+        all_names += renamed.values()
+        uses += f'use Rattle.definition.specs.{module}.{{%s}}\n' % ', '.join(
+            n if n == called else f'{n} as {called}' for n, called in renamed.items())
     head = '''-- Cases, each proved by computing.
-use mathlib.Core.Path.{_≡_, refl}
-use mathlib.Core.Bool.{true}
-use mathlib.Core.List.{[], _∷_}
-use Rattle·definition.specs.Events.{line}
+use mathlib.Core.Path.{◌≡◌, refl}
+use Rattle.std.specs.Prelude.{true, [], ◌∷◌}
+use Rattle.definition.specs.Bytes.{mixed}
+use Rattle.definition.specs.Events.{line}
 ''' + uses
-    body = ''.join(statement(k, c) for k, c in batch)
-    return (head + body).replace('unfolding ALL', 'unfolding ' + ' '.join(all_names))
+    return head + ''.join(statement(k, c, ' '.join(all_names)) for k, c in batch)
+
+
+def write(path, text):
+    os.makedirs(os.path.dirname(path), exist_ok=True)
+    with open(path, 'w', encoding='utf-8') as file:
+        file.write(text)
 
 
 def repository(folder, batches):
-    """A repository of the definition and a crate for each batch."""
-    os.makedirs(os.path.join(folder, 'crates'))
-    shutil.copytree(os.path.join(ROOT, 'crates', 'definition'), os.path.join(folder, 'crates', 'definition'))
-    names = open(os.path.join(folder, 'crates.txt'), 'w')
-    names.write('definition:\n')
+    """A repository of the definition, without its lemmas, and a crate for each batch."""
+    own = os.path.join(ROOT, 'crates', 'definition')
+    for part in ('src', 'specs'):
+        shutil.copytree(os.path.join(own, part), os.path.join(folder, 'crates', 'definition', part))
     for number, batch in enumerate(batches):
         crate = os.path.join(folder, 'crates', f'cases{number}')
-        os.makedirs(os.path.join(crate, 'src'))
-        os.makedirs(os.path.join(crate, 'specs'))
-        open(os.path.join(crate, 'src', 'lib.rt'), 'w').write('pub fn none() {}\n')
-        open(os.path.join(crate, 'specs', 'Lib.antt'), 'w').write(source_of(batch))
-        names.write(f'cases{number}: definition\n')
+        write(os.path.join(crate, 'src', 'lib.rt'), '#![tactic(auto)]\n\npub fn none() {}\n')
+        write(os.path.join(crate, 'proofs', 'Lib.antt'), 'mod Cases\n')
+        write(os.path.join(crate, 'proofs', 'Cases.antt'), source_of(batch))
+    write(os.path.join(folder, 'crates.txt'),
+          'definition:\n' + ''.join(f'cases{number}: definition\n' for number in range(len(batches))))
 
 
 def prove(folder, batches):
     """The names of the cases that the checker does not accept."""
-    subprocess.run(['rt', 'check'], cwd=folder, env=dict(os.environ, RT_CUT='0'), capture_output=True)
     wrong = []
     for number, batch in enumerate(batches):
-        log = os.path.join(folder, 'target', 'log', f'cases{number}.out')
-        out = open(log).read() if os.path.exists(log) else 'no log'
-        if 'logic=proved' in out:
+        done = subprocess.run(['rt', 'check'], cwd=os.path.join(folder, 'crates', f'cases{number}'), capture_output=True, text=True)
+        if done.returncode == 0 and 'logic=proved' in done.stdout:
             continue
-        found = [c[0] for k, c in batch if f'`case{k}`' in out]
-        wrong += found or [f'all of batch {number}: {out[-500:]}']
+        said = done.stdout + done.stderr
+        found = [c[0] for k, c in batch if f'`case{k}`' in said]
+        wrong += found or [f'all of batch {number}: {said[-500:]}']
     return wrong
 
 
