@@ -83,7 +83,7 @@ def example_words():
     if other_program():
         return [other_program()]
     if not os.path.exists(program_path(house.ROOT, PROGRAM)):
-        raise unittest.SkipTest('crates/cases/out/cases is not built: the examples are not looked at in a browser')
+        raise unittest.SkipTest('target/bin/cases is not built: the examples are not looked at in a browser')
     return on_this_machine(program_path(house.ROOT, PROGRAM))
 
 
