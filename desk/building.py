@@ -3,6 +3,7 @@ import collections
 import contextlib
 import fcntl
 import os
+import shutil
 import subprocess
 
 from desk import sources
@@ -23,6 +24,15 @@ Mark = collections.namedtuple('Mark', 'sources kit program')
 
 def program_path(root, name):
     return os.path.join(root, 'target', 'bin', name)
+
+
+def crate_path(root, name):
+    return os.path.join(root, 'crates', name)
+
+
+def made_path(root, name):
+    """Where rt leaves the program that it has built."""
+    return os.path.join(crate_path(root, name), 'out', name)
 
 
 def mark_path(root, name):
@@ -120,37 +130,29 @@ def lock(root):
 
 # ---- the build
 
-def forget(root, name, wanted):
-    """Removes the mark of a program that is to be built: a build that is stopped may leave a program that is not whole.
-    rt does not build again what it has stamped as proved, also where the program is gone or damaged."""
-    mark = read_mark(root, name)
-    is_damaged = mark and mark._replace(program='') == wanted._replace(program='')
-    if is_damaged or not wanted.program:
-        remove(os.path.join(root, 'target', 'stamp', name))
-        remove(program_path(root, name))
-    remove(mark_path(root, name))
-
-
 def prove(root, names, log):
-    """Has rt prove and build programs, showing how far it is; returns its status."""
+    """Has rt prove and build programs, showing how far it is; returns its status. rt runs what it has built, on no input,
+    and builds again a program of its own that is gone or damaged."""
     progress = Progress(sources.plan(sources.read_crates(root), names), log)
     say(f'proving and building {" ".join(names)}, {len(progress.plan)} crates; the first time this takes many minutes')
     say('what is proved is kept: if this is stopped, the next call goes on from there')
     try:
         with open(log, 'wb') as output:
-            status = wait_showing(root, [toolchain(), 'check', *names], output, progress)
+            status = 0
+            for name in names:
+                status = status or wait_showing(crate_path(root, name), [toolchain(), 'run'], output, progress)
     except Interrupted:
         progress.close()
         raise Interrupted('what is proved is kept, and the next call goes on from there') from None
     progress.show()
-    progress.close()
+    progress.close(status == 0)
     if status == 0:
         say(f'built, {progress.spent()}')
     return status
 
 
-def wait_showing(root, words, output, progress):
-    with started(words, is_group=True, cwd=root, stdin=subprocess.DEVNULL, stdout=output,
+def wait_showing(folder, words, output, progress):
+    with started(words, is_group=True, cwd=folder, stdin=subprocess.DEVNULL, stdout=output,
                  stderr=subprocess.STDOUT) as child:
         while child.poll() is None:
             progress.show()
@@ -162,7 +164,7 @@ def wait_showing(root, words, output, progress):
 def build(root, names):
     before = wanted_marks(root, names)
     for name in names:
-        forget(root, name, before[name])
+        remove(mark_path(root, name))
     log = os.path.join(root, 'target', 'building.log')
     status = prove(root, names, log)
     if status != 0:
@@ -175,11 +177,24 @@ def fail(status, log):
     with open(log, 'rb') as file:
         show(b''.join(file.readlines()[-LAST_LINES:]))
     reason = '' if status > 0 else f': rt {how_ended(status)}'
-    raise Stop(f'the build failed{reason}; target/log has what was said of each crate')
+    raise Stop(f'the build failed{reason}; target/building.log has what was said of each crate')
+
+
+def take(root, name):
+    """Puts the program that rt has built where it is run from."""
+    path = program_path(root, name)
+    os.makedirs(os.path.dirname(path), exist_ok=True)
+    try:
+        shutil.copy(made_path(root, name), path + '.new')
+    except FileNotFoundError:
+        raise Stop(f'crates/{name}/out is not whole; remove it and try again') from None
+    os.replace(path + '.new', path)
 
 
 def keep(root, names, before):
     """Marks programs as built from what was there before the build."""
+    for name in names:
+        take(root, name)
     after = wanted_marks(root, names)
     for name in names:
         if after[name].sources != before[name].sources:

@@ -5,23 +5,16 @@ import time
 
 from desk import standard
 
-# what rt says when it has ended with a crate
-ENDED = re.compile(rb'^rt: (\S+) (?:proved \(|NOT )', re.MULTILINE)
+# what rt says when it begins with a crate, of most crates, and when it has ended with one
+SAID = re.compile(rb'^rt: (?:(\S+): begins |chose --jobs \d+ for (\S+)$)|^crate (\S+): modules ', re.MULTILINE)
 WIDTH = 75
-
-
-def jobs():
-    """How many crates rt proves at a time."""
-    given = os.environ.get('RT_JOBS', '')
-    return int(given) if given.isdecimal() else min(os.cpu_count() or 1, 4)
 
 
 class Progress:
     def __init__(self, plan, log):
         self.plan = plan
-        self.names = {os.fsencode(crate) for crate, _ in plan}
+        self.places = {os.fsencode(crate): place for place, crate in enumerate(plan)}
         self.log = log
-        self.jobs = jobs()
         self.told = 0
         self.began = time.monotonic()
         self.is_terminal = os.isatty(standard.ERRORS)
@@ -31,39 +24,36 @@ class Progress:
         return f'{minutes} min {seconds} s' if minutes else f'{seconds} s'
 
     def ended(self):
-        """How many crates rt has ended with."""
+        """How many crates rt has ended with: it proves one behind another, and says nothing of those that it has proved."""
         with open(self.log, 'rb') as file:
-            return sum(name in self.names for name in ENDED.findall(file.read()))
-
-    def reached(self, ended):
-        """How many crates rt has begun: it proves several of one level at a time, and reports them together."""
-        last = ended
-        while last < min(len(self.plan), ended + self.jobs) and self.plan[last][1] == self.plan[ended][1]:
-            last += 1
-        return last
+            said = SAID.findall(file.read())
+        begun = [self.places.get(name or other, 0) for name, other, _ in said]
+        ended = [self.places.get(name, -1) + 1 for _, _, name in said]
+        return max(begun + ended, default=0)
 
     def show(self):
         ended = self.ended()
-        last = self.reached(ended)
         if self.is_terminal:
-            self.change_line(ended, last)
+            self.change_line(ended)
         else:
-            self.add_lines(last)
+            self.add_lines(ended)
 
     def left(self, ended):
         return f'{self.spent()}, {len(self.plan) - ended} of {len(self.plan)} crates left'
 
-    def change_line(self, ended, last):
-        now = ' and '.join(crate for crate, _ in self.plan[ended:last])
-        line = f'{standard.COMMAND}: {self.left(ended)}' + (f', proving {now}' if now else '')
+    def change_line(self, ended):
+        now = ''.join(f', proving {crate}' for crate in self.plan[ended:ended + 1])
+        line = f'{standard.COMMAND}: {self.left(ended)}{now}'
         standard.tell(f'\r{line[:WIDTH]:{WIDTH}}')
 
-    def add_lines(self, last):
-        for crate, _ in self.plan[self.told:last]:
+    def add_lines(self, ended):
+        for crate in self.plan[self.told:ended + 1]:
             standard.say(f'{self.left(self.told)}, proving {crate}')
             self.told += 1
 
-    def close(self):
-        """Ends the line that changes."""
+    def close(self, is_whole=False):
+        """Ends the line that changes, where all is built with none left."""
         if self.is_terminal:
+            if is_whole:
+                self.change_line(len(self.plan))
             standard.tell('\n')

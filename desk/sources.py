@@ -9,35 +9,32 @@ PARTS = ('src', 'specs', 'proofs')
 
 
 def read_crates(root):
-    """The crates of crates.txt, each with those that it stands on. What it does not list (io, libc, os) is the
-    toolchain's."""
+    """The crates of crates.txt, each with those that it stands on. What it does not list is the toolchain's."""
     crates = {}
     with open(os.path.join(root, 'crates.txt'), encoding='utf-8') as file:
         for line in file:
-            name, colon, needs = line.partition('#')[0].partition(':')
-            if colon:
-                crates[name.strip()] = needs.split()
+            head, colon, needs = line.partition('#')[0].partition(':')
+            if colon and head.strip():
+                crates[head.split()[0]] = needs.split()    # a word behind the name says what is made of it
     return crates
 
 
-def visit(crate, crates, levels):
-    """Enters a crate into levels behind those that it stands on, one above the highest of them."""
-    if crate in levels or crate not in crates:
+def visit(crate, crates, seen, order):
+    """Puts a crate behind those that it stands on."""
+    if crate in seen or crate not in crates:
         return
-    levels[crate] = 0    # a circle ends here; rt says that there is one
+    seen.add(crate)    # a circle ends here; rt says that there is one
     for below in crates[crate]:
-        visit(below, crates, levels)
-    own = max((levels[below] + 1 for below in crates[crate] if below in levels), default=0)
-    del levels[crate]
-    levels[crate] = own
+        visit(below, crates, seen, order)
+    order.append(crate)
 
 
 def plan(crates, programs):
-    """The crates that programs need with their levels, in the order in which rt proves them."""
-    levels = {}
+    """The crates that programs need, in the order in which rt proves them."""
+    seen, order = set(), []
     for program in programs:
-        visit(program, crates, levels)
-    return sorted(levels.items(), key=lambda entry: entry[1])
+        visit(program, crates, seen, order)
+    return order
 
 
 def files_of(folder):
@@ -66,12 +63,12 @@ def digests(root, programs):
     less: a checkout of an older state makes them new."""
     try:
         crates = read_crates(root)
-        own = {crate: digest_of_crate(root, crate) for crate, _ in plan(crates, programs)}
+        own = {crate: digest_of_crate(root, crate) for crate in plan(crates, programs)}
     except OSError as error:
         raise Stop(f'the sources cannot be read: {error.filename}: {error.strerror}') from None
     return {program: digest_of_plan(crates, own, program) for program in programs}
 
 
 def digest_of_plan(crates, own, program):
-    said = ''.join(f'{crate}: {" ".join(crates[crate])} {own[crate]}\n' for crate, _ in plan(crates, [program]))
+    said = ''.join(f'{crate}: {" ".join(crates[crate])} {own[crate]}\n' for crate in plan(crates, [program]))
     return hashlib.sha256(said.encode()).hexdigest()

@@ -121,22 +121,24 @@ while at < len(records):
 with open(os.environ['ROOM'] + '/processes', 'a') as file:
     file.write('%d\\n' % count)
 '''
-# rt: notes each check, waits while there is a file hold, and builds the programs whose sources are not those of its stamp
+# rt, in a program's folder: notes each call, waits while there is a file hold, and builds the program if its sources are not
+# those of its stamp, or if it is gone or damaged
 RT = '''#!/bin/sh
 if [ "$1" = version ]; then cat "$ROOM/kit-id"; exit; fi
-echo "$*" >>"$ROOM/checks"
-shift
-mkdir -p target/bin target/stamp
-echo 'rt: base proved (0 s)'
+name=${PWD##*/}
+cd ../..
+echo "$* $name" >>"$ROOM/checks"
+echo 'rt: chose --jobs 2 for base'
+echo 'crate base: modules loaded=0 checked=1'
 while [ -f "$ROOM/hold" ]; do sleep 0.1; done
 [ ! -f "$ROOM/meanwhile" ] || . "$ROOM/meanwhile"
 [ ! -f "$ROOM/fails" ] || exit 1
 sources=$(cat "$ROOM/kit-id" crates/*/src/lib.rt | cksum)
-for name; do
-    [ "$(cat "target/stamp/$name" 2>/dev/null)" != "$sources" ] || continue
-    cp "$ROOM/stubs/$name" "target/bin/$name"
-    echo "$sources" >"target/stamp/$name"
-done
+out=crates/$name/out
+mkdir -p "$out"
+[ "$(cat "$out/$name.stamp" 2>/dev/null)" != "$sources $(cat "$out/$name" 2>/dev/null | cksum)" ] || exit 0
+cp "$ROOM/stubs/$name" "$out/$name"
+echo "$sources $(cat "$out/$name" | cksum)" >"$out/$name.stamp"
 '''
 # the emulator of a kit, for processors other than x86-64: the stubs are scripts
 EMULATOR = '''#!/bin/sh
@@ -222,7 +224,7 @@ class Clone:
         """Starts a subcommand; standard output and error are pipes unless said otherwise."""
         how.setdefault('stdout', subprocess.PIPE)
         how.setdefault('stderr', subprocess.PIPE)
-        environment = dict(os.environ, ROOM=self.room, RATTLE_HOME=self.path('kit'), RT_JOBS='2',
+        environment = dict(os.environ, ROOM=self.room, RATTLE_HOME=self.path('kit'),
                            PATH=path or self.path('stub') + os.pathsep + os.environ['PATH'])
         environment.pop('PLIDESK_PROGRAM', None)
         environment.update(how.pop('environment', {}))

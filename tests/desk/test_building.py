@@ -30,7 +30,7 @@ class Building(unittest.TestCase):
 
     def built(self, *checks):
         """How often rt was asked, and for what."""
-        self.assertEqual(self.clone.checks(), [f'check {names}' for names in checks])
+        self.assertEqual(self.clone.checks(), [f'run {names}' for names in checks])
 
     def in_clone(self, *parts):
         return os.path.join(self.clone.root, *parts)
@@ -108,7 +108,7 @@ class Sources(Building):
 class Programs(Building):
     def test_built_by_hand(self):
         """What rt has built without this command is asked about once."""
-        subprocess.run([self.clone.path('stub/rt'), 'check', 'cases'], cwd=self.clone.root, check=True,
+        subprocess.run([self.clone.path('stub/rt'), 'run'], cwd=self.in_clone('crates', 'cases'), check=True,
                        env=dict(os.environ, ROOM=self.clone.room), stdout=subprocess.DEVNULL)
         self.expands()
         self.expands()
@@ -127,11 +127,19 @@ class Programs(Building):
         self.expands()
         self.built('cases', 'cases')
 
+    def test_program_of_rt_left_out(self):
+        """What rt has built is needed no more once it was taken."""
+        self.expands()
+        shutil.rmtree(self.in_clone('crates', 'cases', 'out'))
+        self.expands()
+        self.built('cases')
+
     def test_program_of_other_sources(self):
         """rt by hand over changed sources, which are then changed back."""
         self.expands()
         house.write(self.in_clone('target', 'bin', 'cases'), '#!/bin/sh\n', 0o755)
-        house.write(self.in_clone('target', 'stamp', 'cases'), 'of other sources')
+        house.write(self.in_clone('crates', 'cases', 'out', 'cases'), '#!/bin/sh\n', 0o755)
+        house.write(self.in_clone('crates', 'cases', 'out', 'cases.stamp'), 'of other sources')
         self.expands()
         self.built('cases', 'cases')
 
@@ -174,7 +182,7 @@ class Programs(Building):
 
     def test_rt_that_builds_nothing(self):
         self.clone.put('meanwhile', 'exit 0')
-        self.fails('target/bin is not whole')
+        self.fails('crates/cases/out is not whole; remove it and try again')
 
     def test_target_that_is_no_folder(self):
         house.write(self.in_clone('target'), '')
@@ -262,7 +270,6 @@ class Together(Building):
         second = self.clone.start()
         second.stderr.readline()
         shutil.rmtree(self.in_clone('target'))
-        self.clone.put('meanwhile', 'mkdir -p target/bin target/stamp')
         self.clone.drop('hold')
         first.communicate(timeout=30)
         self.assertEqual((second.communicate(timeout=30)[0], second.returncode), (WHOLE, 0))
