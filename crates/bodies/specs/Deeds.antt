@@ -21,7 +21,6 @@ use Rattle.definition.proofs.Ranges.{Fine}
 use Rattle.meter.specs.declared.Meter.{Meter}
 use Rattle.names.specs.Table.{owner_of}
 use Rattle.tokens.specs.declared.Lexeme.{Lexeme}
-use Rattle.operators.specs.declared.Value.{Value}
 use Rattle.operators.specs.Stands.{value_in}
 use Rattle.callees.specs.Shown.{names_world, world_in, Slots}
 use Rattle.operands.specs.declared.Scene.{Scene}

@@ -21,8 +21,7 @@ use Rattle.definition.specs.declared.Why.{Why}
 use Rattle.definition.specs.declared.Why.TheVariants.{WrongName, OverLimit}
 use Rattle.definition.proofs.Ends.{Past, Lies, token_at_lies, reads_it, name_at_past}
 use Rattle.tokens.specs.declared.Lexeme.{Lexeme}
-use Rattle.tokens.specs.declared.Kind.TheVariants.{String, Nothing, Wrong}
-use Rattle.tokens.specs.Answer.{written, Lexed, is_sign_in, kind_of, lexeme_for, spelling, content, token_for}
+use Rattle.tokens.specs.Answer.{written, Lexed, is_sign_in, kind_of, lexeme_for, content, token_for}
 use Rattle.tokens.proofs.Lexemes as L
 use Rattle.names.specs.declared.Place.{Place}
 use Rattle.names.specs.declared.Body.{Body}

@@ -26,7 +26,6 @@ use Rattle.names.specs.declared.Entry.{Entry}
 use Rattle.names.specs.declared.Label.{Label}
 use Rattle.names.specs.declared.Owner.{Owner}
 use Rattle.names.specs.declared.Owner.TheVariants.{Procedure}
-use Rattle.names.specs.declared.Denotation.{Denotation}
 use Rattle.names.specs.declared.Denotation.TheVariants.{Variable, EntryName, LabelName, Builtin}
 use Rattle.names.specs.declared.Name.{Name}
 use Rattle.names.specs.declared.Found.{Found}

@@ -28,7 +28,6 @@ use Rattle.names.specs.declared.Entry.{Entry}
 use Rattle.names.specs.declared.Place.{Place}
 use Rattle.names.specs.declared.Owner.{Owner}
 use Rattle.names.specs.declared.Body.{Body}
-use Rattle.names.specs.declared.Body.TheVariants as Body
 use Rattle.names.specs.declared.Activity.TheVariants.{Inactive}
 use Rattle.names.specs.declared.Address.{Address}
 use Rattle.names.specs.declared.Found.{Found}

@@ -14,7 +14,7 @@ use printing::used;
 use rooms::{byte, is_same};
 use std::io::Read;
 use std::rt::Env;
-use writing::{argument, argument_count, large_room, read_full, write_answer};
+use writing::{argument, argument_count, large_room, read_full, say, write_answer};
 
 // As large as a room can be made.
 const LARGEST: u32 = 1_048_576;
@@ -49,11 +49,6 @@ struct Limits {
 enum Asked {
     Run(Limits),
     Nothing,
-}
-
-// Writes to standard error; where that fails there is nowhere to say so.
-fn say(log: &impl Print, words: &[u8]) {
-    let _ = log.write_all(words);
 }
 
 // Says in one line why there is no answer.

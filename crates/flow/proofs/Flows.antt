@@ -19,12 +19,9 @@ use Rattle.fixed.specs.Signed.{from_stored}
 use Rattle.rows.specs.declared.Statement.{Statement}
 use Rattle.rows.specs.declared.Statement.TheVariants.{Null, Declare, Procedure, Assign, Conditional, Group, Iterated, Goto, Include, Activate, Deactivate, Return}
 use Rattle.rows.specs.declared.Role.{Role}
-use Rattle.rows.specs.declared.Link.{Link}
 use Rattle.rows.specs.declared.Link.TheVariants.{Nowhere, To}
-use Rattle.rows.specs.declared.Row.{Row}
 use Rattle.rows.specs.Table.{row_in}
 use Rattle.rows.specs.Tabled.{kind_of}
-use Rattle.flow.specs.declared.Next.{Next}
 use Rattle.flow.specs.declared.Next.TheVariants.{Again}
 use Rattle.flow.specs.declared.Walk.{Walk}
 use Rattle.flow.specs.declared.Walk.TheVariants.{To as Arrives, Up}

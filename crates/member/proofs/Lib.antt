@@ -1,3 +1,2 @@
--- What the proofs share: Held those by hand, Laws that of `part`.
-pub mod Held
+-- Laws of `part`.
 pub mod Laws

@@ -25,7 +25,7 @@ pub fn part(deck: &[u8], offset: usize, size: usize) -> &[u8]
     &deck[offset..to]
 }
 
-// The view of a line. This and the next are thin, since whatever has a struct that holds a slice is proved by hand.
+// The view of a line.
 pub fn view<'a>(deck: &'a [u8], offset: usize, size: usize) -> Member<'a>
     ensures { result ≡ record { deck = deck.entry; offset = offset; size = size } }
 {
@@ -39,7 +39,7 @@ pub fn bytes<'a>(m: Member<'a>) -> &'a [u8]
     part(m.deck, m.offset, m.size)
 }
 
-// The view from plain parameters: whoever calls it needs no proof by hand.
+// The body that a view of plain parameters shows.
 pub fn body_of(deck: &[u8], offset: usize, size: usize) -> &[u8]
     ensures { result.now ≡ body_bytes deck.now offset size }
 {

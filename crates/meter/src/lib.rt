@@ -56,7 +56,7 @@ impl Meter {
         }
     }
 
-    // Through `charge`, for whoever holds the meter by value: a caller that lent its own would need a proof by hand.
+    // Through `charge`, for whoever holds the meter by value.
     pub fn charged(self) -> Charged
         ensures { Charges self result }
     {
@@ -66,7 +66,7 @@ impl Meter {
     }
 }
 
-// Every step is charged here, in place. Thin, with no branch, since whatever is lent a struct is proved by hand.
+// Every step is charged here, in place.
 pub fn charge(m: &mut Meter) -> bool
     ensures { Charges m.old (record { paid = result; meter = m.new }) }
 {

@@ -9,7 +9,6 @@ use Rattle.names.specs.declared.Place.{Place}
 use Rattle.names.specs.declared.Owner.{Owner}
 use Rattle.names.specs.declared.Owner.TheVariants.{Everyone, Procedure}
 use Rattle.names.specs.declared.Body.{Body}
-use Rattle.names.specs.declared.Body.TheVariants as Body
 use Rattle.names.specs.declared.Denotation.{Denotation}
 use Rattle.names.specs.declared.Denotation.TheVariants.{Variable, EntryName, LabelName, Builtin}
 use Rattle.names.specs.declared.Activity.{Activity}

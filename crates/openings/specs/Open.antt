@@ -28,7 +28,7 @@ use Rattle.entering.specs.Book.{first_of}
 use Rattle.statements.specs.declared.Keyword.{Keyword}
 use Rattle.statements.specs.declared.Keyword.TheVariants as K
 use Rattle.statements.specs.declared.Read.{Read}
-use Rattle.statements.specs.Clauses.{Own, scope_of, is_inside, go_clause, read_for}
+use Rattle.statements.specs.Clauses.{Own, scope_of, go_clause, read_for}
 use Rattle.openings.specs.declared.Where.{Where}
 use Rattle.openings.specs.declared.Where.TheVariants as Wh
 use Rattle.openings.specs.declared.Open.{Open}

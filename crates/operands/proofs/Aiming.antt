@@ -2,13 +2,13 @@
 -- Assumes nothing.
 use mathlib.Core.Path.{◌≡◌, refl, sym, ap, ◌∙◌}
 use mathlib.Core.List.{List, [], ◌∷◌}
-use Prim.Native.Nat.{ℕ, ◌+◌, ◌-◌, ◌<◌, ◌≤◌}
+use Prim.Native.Nat.{ℕ, ◌+◌, ◌<◌, ◌≤◌}
 use native.Mathlib.Omega.{arith}
 use borrow.Author.Tests.{lt-ltb, le-ltb}
 use lib.ListN.{length}
 use Rattle.definition.specs.Values as Val
 use Rattle.definition.specs.World.{ask}
-use Rattle.definition.specs.Evaluate.{put, count}
+use Rattle.definition.specs.Evaluate.{put}
 use Rattle.definition.specs.declared.Why.{Why}
 use Rattle.definition.specs.declared.Why.TheVariants.{WrongName}
 use Rattle.definition.specs.declared.ValueType.{ValueType}
@@ -25,7 +25,6 @@ use Rattle.callees.specs.declared.Callee.{Callee}
 use Rattle.callees.specs.Shown.{world_in}
 use Rattle.callees.specs.Answer.{FixedHeld}
 use Rattle.operands.specs.declared.Evaluated.{Evaluated}
-use Rattle.operands.specs.declared.Evaluated.TheVariants.{Is}
 use Rattle.operands.specs.declared.Target.TheVariants as T
 use Rattle.operands.specs.Answer.{size_of, evaluated_for}
 use Rattle.operands.specs.Takes.{substr_values, SubstrDone}

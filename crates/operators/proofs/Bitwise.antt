@@ -19,7 +19,6 @@ use Rattle.definition.specs.Values as D
 use Rattle.definition.proofs.Parts.{length_part}
 use Rattle.definition.proofs.Rooms.{length_over, over_nil}
 use Rattle.fixed.specs.declared.Fixed.{Fixed}
-use Rattle.fixed.specs.declared.Answer.{Answer}
 use Rattle.values.specs.declared.Logic.{Logic}
 use Rattle.values.specs.Bits.{longer, logic_of}
 use Rattle.values.specs.Digits.{Wrote}

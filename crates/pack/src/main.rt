@@ -19,7 +19,7 @@ use std::io::{ErrorKind, Read, Write};
 use std::rt::{Env, Files};
 use std::{io, str};
 use sums::sum;
-use writing::{argument, argument_count};
+use writing::{argument, argument_count, say};
 
 // A buffer for an argument, or for what one read brings.
 const BUFFER: usize = 4_096;
@@ -53,11 +53,6 @@ struct Order {
     first: usize,
     members: u16,
     libraries: bool,
-}
-
-// Writes to standard error; where that fails there is nowhere to say so.
-fn say(log: &impl Print, words: &[u8]) {
-    let _ = log.write_all(words);
 }
 
 // Says in one line why there is no deck.

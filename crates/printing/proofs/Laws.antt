@@ -5,7 +5,6 @@ use mathlib.Core.Bool.{Bool, true, false}
 use mathlib.Core.List.{List, [], ◌∷◌, ◌++◌, append_assoc, append-nil}
 use Prim.Native.Nat.{ℕ, zero, suc, ◌+◌, ◌*◌, ◌-◌, ◌/◌, ◌%◌, ◌<◌, ◌≤◌}
 use native.Mathlib.Nat.{add-zero, sub-zero, mod-eq_of_lt}
-use native.Mathlib.Numerals.{add-one}
 use native.Mathlib.Omega.{arith}
 use borrow.Author.Tests.{lt-ltb, le-ltb, ne_eqb}
 use lib.Dec.{ltb}
@@ -17,7 +16,7 @@ use Rattle.definition.specs.Room.{over}
 use Rattle.definition.specs.Values.{decimal_on}
 use Rattle.definition.specs.Printed.{decimal, line_rest, letter, origin_line, origin_lines}
 use Rattle.definition.proofs.Rooms.{over_nil, over_next_at}
-use Rattle.definition.proofs.Parts.{length_part, part_more}
+use Rattle.definition.proofs.Parts.{part_more}
 use Rattle.printing.specs.Page.{Puts, six_line, line_at, lines_from}
 
 -- ---- one behind the other

@@ -14,7 +14,6 @@ use Rattle.rows.specs.declared.Link.{Link}
 use Rattle.rows.specs.declared.Link.TheVariants as L
 use Rattle.rows.specs.declared.Role.{Role}
 use Rattle.rows.specs.declared.Stretch.{Stretch}
-use Rattle.rows.specs.declared.Statement.{Statement}
 use Rattle.rows.specs.declared.Row.{Row}
 use Rattle.rows.specs.Table.{link_number, stretch_numbers, numbers_of, row_in}
 use Rattle.rows.proofs.Laws.{Kept, kept, Links, row_other}

@@ -14,13 +14,11 @@ use Rattle.definition.specs.Limits.{entered_sentences, declared_names}
 use Rattle.definition.specs.declared.Why.{Why}
 use Rattle.definition.specs.declared.Why.TheVariants.{OverLimit}
 use Rattle.definition.specs.Program.{Row, Declared, Fault, sound, faulty, Source}
-use Rattle.definition.specs.Statements.{declared}
 use Rattle.definition.specs.Reading as R
 use Rattle.definition.specs.Reading.{State, clause_at, places, read_on}
 use Rattle.definition.specs.World as W
 use Rattle.definition.specs.Names as N
 use Rattle.definition.proofs.Choices.{when_has}
-use Rattle.definition.proofs.Ends.{Past}
 use Rattle.entering.specs.declared.Mark.{Mark}
 use Rattle.entering.specs.declared.Mark.TheVariants.{Unmarked, Marked}
 use Rattle.entering.specs.declared.Fault.TheVariants.{Faulty}

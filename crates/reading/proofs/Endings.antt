@@ -21,7 +21,6 @@ use Rattle.statements.specs.declared.Read.{Read}
 use Rattle.statements.specs.declared.Read.TheVariants as Rd
 use Rattle.rows.specs.Tabled.{kind_of}
 use Rattle.statements.specs.Clauses.{scope_of, is_inside, opens_for, Own, type_in}
-use Rattle.openings.specs.declared.Where.{Where}
 use Rattle.openings.specs.declared.Where.TheVariants as Wh
 use Rattle.openings.specs.declared.Open.{Open}
 use Rattle.openings.specs.declared.Opened.{Opened}

@@ -36,7 +36,6 @@ use Rattle.reading.specs.declared.Mode.{Mode}
 use Rattle.reading.specs.declared.Mode.TheVariants as Md
 use Rattle.reading.specs.declared.Next.{Next}
 use Rattle.reading.specs.declared.Next.TheVariants as Nx
-use Rattle.reading.specs.State as T
 use Rattle.reading.specs.State.{rows_from, state_of, mode_of, next_of, turn_of, state_in, Typed, Sits, Goes, Stops, Does, Over, Counts, early, last, Fits, Way, does, stops, Takes, from_state, Follows, Turns, Begins, Enough, source_of}
 use Rattle.reading.specs.Members.{names_of, base_of, Fresh, Membered, Members}
 use Rattle.reading.proofs.Rows.{rows_length}

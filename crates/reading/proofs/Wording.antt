@@ -37,14 +37,13 @@ use Rattle.entering.specs.declared.Mark.TheVariants.{Unmarked, Marked}
 use Rattle.entering.specs.Book.{Book, Roomy, Entered, book_all, book_whole, book_of}
 use Rattle.statements.specs.declared.Keyword.{Keyword}
 use Rattle.statements.specs.declared.Keyword.TheVariants as K
-use Rattle.statements.specs.declared.Clause.{Clause}
 use Rattle.statements.specs.declared.Read.{Read}
 use Rattle.statements.specs.declared.Read.TheVariants as Rd
 use Rattle.statements.specs.declared.Declaring.{Declaring}
 use Rattle.statements.specs.Clauses.{scope_of, is_inside, Own, read_for, read_procedure, is_read, plain_for, do_kind, go_clause, clause_in, names_in, parameter_twice, tally_twice, procedure_tally, DeclaresIf, Declares, Heads}
 use Rattle.statements.specs.Again.{statement_at}
 use Rattle.statements.proofs.Rereading.{again_goto, again_include, again_activate, again_deactivate, again_return, again_do, again_go, again_if, again_assign}
-use Rattle.openings.specs.Open.{labelled, opens_by, other_at, other_for, by_keyword, Deep}
+use Rattle.openings.specs.Open.{opens_by, other_at, other_for, by_keyword, Deep}
 use Rattle.openings.proofs.Laws.{name_kind}
 use Rattle.openings.proofs.Ends.{inside_is}
 use Rattle.openings.proofs.Keywords.{OpensSo, DeclaresSo, NoBody, type_plain, if_so, do_so, goto_so, go_so, include_so, deactivate_so, activate_so, return_so, other_so, declare_so, procedure_so}

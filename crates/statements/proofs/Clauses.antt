@@ -3,7 +3,7 @@
 use mathlib.Core.Path.{◌≡◌, refl, sym, ◌∙◌}
 use mathlib.Core.Bool.{Bool, true, false, cond, ◌||◌}
 use mathlib.Core.List.{List, [], ◌∷◌, ◌++◌}
-use Prim.Native.Nat.{ℕ, zero, suc, ◌+◌, ◌-◌}
+use Prim.Native.Nat.{ℕ, zero, suc}
 use Prim.Native.String as Str
 use native.Mathlib.Omega.{arith}
 use lib.ListN.{length}
@@ -20,10 +20,9 @@ use Rattle.definition.specs.declared.ValueType.TheVariants.{FixedType, Character
 use Rattle.definition.specs.declared.Why.{Why}
 use Rattle.definition.specs.declared.Why.TheVariants.{Syntax}
 use Rattle.tokens.specs.declared.Lexeme.{Lexeme}
-use Rattle.tokens.specs.Answer.{Lexed, spelling, is_sign_in, is_word_in}
+use Rattle.tokens.specs.Answer.{Lexed, is_sign_in, is_word_in}
 use Rattle.expressions.specs.declared.Expected.{Expected}
 use Rattle.expressions.specs.declared.Expected.TheVariants.{Past, Refused}
-use Rattle.expressions.specs.declared.NamedAt.TheVariants as N
 use Rattle.expressions.specs.Check.{expect_for, expected, is_worded, expected_word, end_for}
 use Rattle.expressions.proofs.Laws.{told}
 use Rattle.expressions.proofs.Reading.{expected_is, expected_word_is}
@@ -32,11 +31,9 @@ use Rattle.rows.specs.declared.Statement.TheVariants as S
 use Rattle.entering.specs.declared.Meaning.{Meaning}
 use Rattle.entering.specs.declared.Meaning.TheVariants as M
 use Rattle.statements.specs.declared.Each.TheVariants as Ea
-use Rattle.statements.specs.declared.Opens.{Opens}
 use Rattle.statements.specs.declared.Opens.TheVariants as O
 use Rattle.statements.specs.declared.Keyword.{Keyword}
 use Rattle.statements.specs.declared.Keyword.TheVariants as K
-use Rattle.statements.specs.declared.Clause.{Clause}
 use Rattle.statements.specs.declared.Read.{Read}
 use Rattle.statements.specs.declared.Read.TheVariants as R
 use Rattle.statements.specs.declared.Attribute.{Attribute}

@@ -36,7 +36,6 @@ use Rattle.entering.specs.declared.Mark.TheVariants.{Unmarked, Marked}
 use Rattle.entering.specs.Book.{tally_second}
 use Rattle.definition.specs.Lists.{part}
 use Rattle.entering.specs.declared.Tally.{Tally}
-use Rattle.statements.specs.declared.Declaring.{Declaring}
 use Rattle.statements.proofs.Laws.{sign_in_lem, word_spelled}
 use Rattle.statements.proofs.Items.{names_at_lem, after_names}
 

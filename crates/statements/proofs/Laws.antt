@@ -19,7 +19,7 @@ use Rattle.definition.specs.declared.Why.TheVariants.{Syntax}
 use Rattle.tokens.specs.declared.Kind.{Kind}
 use Rattle.tokens.specs.declared.Kind.TheVariants as Kd
 use Rattle.tokens.specs.declared.Lexeme.{Lexeme}
-use Rattle.tokens.specs.Answer.{written, Lexed, spelling, content, is_sign_in, is_sign_kind, is_word_in, is_word_kind, token_for}
+use Rattle.tokens.specs.Answer.{written, Lexed, content, is_sign_in, is_sign_kind, is_word_in, is_word_kind, token_for}
 use Rattle.tokens.proofs.Lexemes.{token_is}
 use Rattle.expressions.specs.declared.Expected.{Expected}
 use Rattle.expressions.specs.declared.Expected.TheVariants.{Past, Refused}
@@ -34,7 +34,6 @@ use Rattle.statements.specs.declared.Keyword.TheVariants as K
 use Rattle.statements.specs.declared.Read.TheVariants as R
 use Rattle.statements.specs.declared.Each.{Each}
 use Rattle.statements.specs.declared.Each.TheVariants as Ea
-use Rattle.statements.specs.declared.Attribute.TheVariants as A
 use Rattle.statements.specs.declared.Itemized.{Itemized}
 use Rattle.statements.specs.declared.Itemized.TheVariants as I
 use Rattle.statements.specs.Clauses.{other_by, keyword_by, clause_of, read_up_to, then_sign, then_word, then_expression, bound_past, bounds_past, name_end, rescan_past, member_past, item_past, list_next, list_end, names_end, meaning_in}

@@ -9,7 +9,6 @@ use native.Mathlib.Numerals.{sub-one}
 use lib.ListN.{length}
 use Rattle.definition.specs.Bytes.{mixed, folded}
 use Rattle.definition.specs.Choice.{when}
-use Rattle.definition.specs.Lists.{same}
 use Rattle.definition.specs.Tokens.{Token, token_at}
 use Rattle.definition.specs.Expressions.{Reading, read, refused, Named, name_at}
 use Rattle.definition.specs.Program as P
@@ -21,14 +20,11 @@ use Rattle.tokens.specs.declared.Kind.TheVariants as Kd
 use Rattle.tokens.specs.declared.Lexeme.{Lexeme}
 use Rattle.tokens.specs.Answer.{Lexed, written, spelling, content, is_sign_in, token_for}
 use Rattle.tokens.proofs.Lexemes.{token_is}
-use Rattle.expressions.specs.declared.Expected.TheVariants.{Refused}
 use Rattle.expressions.specs.declared.NamedAt.{NamedAt}
 use Rattle.expressions.specs.declared.NamedAt.TheVariants as N
 use Rattle.expressions.specs.Check.{named_for}
 use Rattle.entering.specs.declared.Meaning.{Meaning}
 use Rattle.entering.specs.declared.Meaning.TheVariants as M
-use Rattle.statements.specs.declared.Read.TheVariants as R
-use Rattle.statements.specs.declared.Attribute.TheVariants as A
 use Rattle.statements.specs.Clauses.{names_next, names_read, scope_of, Lies, Own, Ready, NamedIf}
 use borrow.Author.Tests.{leb-true}
 use lib.Dec.{leb}

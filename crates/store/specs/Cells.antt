@@ -8,7 +8,6 @@ use Rattle.definition.specs.Values.{fixed, characters}
 use Rattle.definition.specs.World as W
 use Rattle.definition.specs.declared.ValueType.{ValueType}
 use Rattle.definition.specs.declared.ValueType.TheVariants.{FixedType, CharacterType}
-use Rattle.fixed.specs.declared.Fixed.{Fixed}
 use Rattle.fixed.specs.Signed.{from_stored}
 use Rattle.store.specs.declared.Number.{Number}
 use Rattle.store.specs.declared.Number.TheVariants.{NoNumber, Holds}

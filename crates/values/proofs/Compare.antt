@@ -18,7 +18,6 @@ use Rattle.definition.specs.Values.{Value, order_of, bytes_order, numbers_order,
 use Rattle.definition.proofs.Parts.{length_part}
 use Rattle.values.specs.Answers.{order_for, order_in, is_wanted, operator_of}
 use Rattle.values.specs.Bits.{longer}
-use Rattle.values.specs.declared.Order.{Order}
 use Rattle.values.specs.declared.Order.TheVariants.{Below, Alike, Above}
 use Rattle.values.specs.declared.Comparison.{Comparison}
 use Rattle.values.specs.declared.Comparison.TheVariants.{Greater, GreaterEqual, Equal, Less, LessEqual, NotGreater, NotEqual, NotLess}

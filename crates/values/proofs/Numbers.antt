@@ -15,7 +15,7 @@ use mir.Val.{Fits}
 use Rattle.definition.specs.Lists.{part, all, past, leading}
 use Rattle.definition.specs.Bytes.{is_digit, is_blank}
 use Rattle.definition.specs.Fixed as F
-use Rattle.definition.specs.Values.{Answer, gives, from_fixed, signed_by, written, unsigned, number_in, to_fixed, characters, bit_value, constant}
+use Rattle.definition.specs.Values.{gives, from_fixed, signed_by, written, unsigned, number_in, to_fixed, characters, bit_value, constant}
 use Rattle.definition.proofs.Parts.{length_part}
 use Rattle.fixed.specs.Answer.{result_of}
 use Rattle.fixed.specs.declared.Answer as A

@@ -1,9 +1,10 @@
-// What the programs share: their arguments and their input, rooms as large as they lend them, and writing what is printed of an
-// answer, the six numbers, the lines, the text and a line feed. It goes out piece by piece, so that no page has to be as long as
-// an answer can be.
+// What the programs share: their arguments and their input, rooms as large as they lend them, saying something on standard error,
+// and writing what is printed of an answer, the six numbers, the lines, the text and a line feed. It goes out piece by piece, so
+// that no page has to be as long as an answer can be.
 #![tactic(auto)]
 
-ghost use Rattle.std.specs.Prelude.{◌<◌, ◌≡◌, ◌≤◌, length};
+ghost use Rattle.std.specs.Prelude.{◌<◌, ◌≡◌, ◌≤◌, length, take};
+ghost use Rattle.std.specs.Io.KnownBytes.{Consumes};
 
 use printing::{put_lines, put_numbers, used};
 use rooms::number32;
@@ -32,9 +33,11 @@ pub fn argument(env: &impl Env, i: usize, room: &mut [u8]) -> usize
     }
 }
 
-// Reads until the room is full, the input ends or a read fails, and answers how many bytes it put at the start of the room.
-pub fn read_full(input: &mut impl Read, room: &mut [u8]) -> usize
-    ensures { result ≤ length room.new }
+// Reads until the room is full, the input ends or a read fails, and answers how many bytes it put at the start of the room: the next
+// of the input, in their order.
+pub fn read_full<R: Read>(input: &mut R, room: &mut [u8]) -> usize
+    ensures within { result ≤ length room.new }
+    ensures bytes { Consumes (R.remaining input.old) (R.remaining input.new) (take result room.new) }
 {
     let mut done = 0;
     while done < room.len() {
@@ -71,6 +74,11 @@ fn next_piece(i: u32, lines: u32) -> u32
         return lines;
     }
     i + LINES
+}
+
+// Writes to standard error; where that fails there is nowhere to say so.
+pub fn say(log: &impl Print, words: &[u8]) {
+    let _ = log.write_all(words);
 }
 
 // Whether all of the bytes were written.

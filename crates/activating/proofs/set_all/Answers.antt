@@ -1,4 +1,3 @@
--- What is left to set does the same as what was to set.
 use Rattle.activating.proofs.Walks.{setting_start, setting_done, setting_wrong, setting_end, setting_on}
 use Rattle.activating.proofs.set_all.Goals as goal
 

@@ -1,4 +1,3 @@
--- What is left of the list, with those that were counted, is all.
 use Rattle.callees.proofs.Listing.{counting_start, counting_more, counting_last, counting_wrong, counting_end}
 use Rattle.callees.proofs.counted.Goals as goal
 

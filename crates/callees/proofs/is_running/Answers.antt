@@ -1,4 +1,3 @@
--- What is left to look at decides.
 use Rattle.callees.proofs.Starting.{looking_start, looking_more, looking_here, looking_done}
 use Rattle.callees.proofs.is_running.Goals as goal
 

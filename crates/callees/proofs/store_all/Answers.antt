@@ -1,4 +1,3 @@
--- What is left to store, after what was stored, is all.
 use Rattle.std.proofs.Common.{arith, rules}
 use Rattle.callees.proofs.Storing.{storing_start, storing_more, storing_wrong, storing_done}
 use Rattle.callees.proofs.store_all.Goals as goal

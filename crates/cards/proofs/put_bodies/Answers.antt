@@ -1,4 +1,3 @@
--- The bodies that are left make the room what it is to be.
 use Rattle.std.proofs.Common.{rules}
 use Rattle.cards.proofs.Laws.{joining_start, joining_more, joining_done}
 use Rattle.cards.proofs.put_bodies.Goals as goal

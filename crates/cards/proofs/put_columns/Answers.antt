@@ -1,4 +1,3 @@
--- The records that are left make the room what it is to be.
 use Rattle.cards.proofs.Laws.{cards_start, cards_more, cards_done}
 use Rattle.cards.proofs.put_columns.Goals as goal
 

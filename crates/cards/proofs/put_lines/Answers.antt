@@ -1,4 +1,3 @@
--- The lines that are left make the room what it is to be.
 use Rattle.std.proofs.Common.{rules}
 use Rattle.cards.proofs.Laws.{lining_start, lining_more, lining_done}
 use Rattle.cards.proofs.put_lines.Goals as goal

@@ -1,4 +1,3 @@
--- What is left to look at decides.
 use Rattle.cards.proofs.Laws.{looking_start, looking_more, looking_here, looking_none}
 use Rattle.cards.proofs.uneven.Goals as goal
 

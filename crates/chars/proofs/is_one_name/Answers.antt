@@ -1,4 +1,3 @@
--- What is left to compare of the folded bytes decides.
 use Rattle.rooms.proofs.Laws.{comparing_start}
 use Rattle.chars.proofs.Laws.{naming_more, naming_differ, naming_done}
 use Rattle.chars.proofs.is_one_name.Goals as goal

@@ -1,4 +1,3 @@
--- What is left to compare of the folded bytes decides.
 use Rattle.rooms.proofs.Laws.{comparing_start}
 use Rattle.chars.proofs.Laws.{spelling_more, spelling_differ, spelling_done}
 use Rattle.chars.proofs.spells.Goals as goal

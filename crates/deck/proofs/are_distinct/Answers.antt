@@ -1,4 +1,3 @@
--- What is left to look at decides.
 use Rattle.deck.proofs.Laws.{differing_start, differing_more, differing_no, differing_done}
 use Rattle.deck.proofs.are_distinct.Goals as goal
 

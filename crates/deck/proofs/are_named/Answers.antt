@@ -1,4 +1,3 @@
--- What is left to look at decides.
 use Rattle.deck.proofs.Laws.{naming_start, naming_more, naming_no, naming_done}
 use Rattle.deck.proofs.are_named.Goals as goal
 

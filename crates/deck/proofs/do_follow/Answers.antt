@@ -1,4 +1,3 @@
--- What is left to follow decides.
 use Rattle.std.proofs.Common.{rules}
 use Rattle.deck.proofs.Laws.{following_start, following_more, following_no, following_done}
 use Rattle.deck.proofs.do_follow.Goals as goal

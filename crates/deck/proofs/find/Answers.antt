@@ -1,4 +1,3 @@
--- What is left to look at decides.
 use Rattle.deck.proofs.Laws.{finding_start, finding_more, finding_here, finding_none}
 use Rattle.deck.proofs.find.Goals as goal
 

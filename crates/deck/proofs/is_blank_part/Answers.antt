@@ -1,4 +1,3 @@
--- What is left to look at decides.
 use Rattle.deck.proofs.Laws.{blanks_start, blanks_more, blanks_other, blanks_done}
 use Rattle.deck.proofs.is_blank_part.Goals as goal
 

@@ -1,4 +1,3 @@
--- What is left to look at decides.
 use Rattle.deck.proofs.Laws.{repeating_start, repeating_more, repeating_here, repeating_none}
 use Rattle.deck.proofs.is_repeated.Goals as goal
 

@@ -1,4 +1,3 @@
--- What is past the bytes from j on is what is past them all.
 use Rattle.deck.proofs.Laws.{passing_start, passing_more, passing_stop, passing_done}
 use Rattle.deck.proofs.word_length.Goals as goal
 

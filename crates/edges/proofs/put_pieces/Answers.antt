@@ -1,4 +1,3 @@
--- What is left of the bytes gives what all of them give.
 use Rattle.std.proofs.Common.{arith, rules, ◌∙◌}
 use Rattle.edges.proofs.Piecing.{piecing_start, piecing_end, piecing_more, piecing_full}
 use Rattle.edges.proofs.put_pieces.Goals as goal

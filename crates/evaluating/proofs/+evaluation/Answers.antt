@@ -1,5 +1,3 @@
--- The procedures that may still be started fall from a call to its body, the parentheses from an argument to what is inside, the
--- levels from an operator to its sides; bodies come above their statements, and these above expressions.
 use Rattle.std.proofs.Common.{arith, refl, rules, ◌∙◌}
 use borrow.Fn.PlainCycle.{is}
 use Rattle.rows.specs.declared.Statement.TheVariants as S
@@ -288,10 +286,10 @@ pub levels-returns-then-n-lt1 : goal.levels-returns-then-n-lt1
 levels-returns-then-n-lt1 t c = search (levels_operand, c.if-n-lt1.true, c.operand.ensures)
 
 pub levels-returns-in-Is : goal.levels-returns-in-Is
-levels-returns-in-Is t c = search (levels_chain, c.if-n-lt1.false, c.levels-first.ensures, c.in-Is, c.in-Is.known_told-1-own, c.levels-first.auto.work, c.chain.ensures)
+levels-returns-in-Is t c = search (levels_chain, c.if-n-lt1.false, c.levels-first.ensures, c.in-Is, c.levels-first.auto.work, c.chain.ensures)
 
 pub levels-returns-in-Failed : goal.levels-returns-in-Failed
-levels-returns-in-Failed t c = search (levels_failed, c.if-n-lt1.false, c.levels-first.ensures, c.in-Failed, c.in-Failed.known_told-in-Failed-1-own)
+levels-returns-in-Failed t c = search (levels_failed, c.if-n-lt1.false, c.levels-first.ensures, c.in-Failed)
 
 pub listed-call-v-requires : goal.listed-call-v-requires
 listed-call-v-requires t c = omega (arith, c.requires)

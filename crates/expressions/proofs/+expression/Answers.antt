@@ -1,6 +1,5 @@
--- The measure falls from a level to the one below, to an operand, to its arguments, and to an expression inside a parenthesis.
 -- Each way out is one law of `Reading`, whose premises `search` finds in what the code has shown.
-use Rattle.definition.specs.Expressions.{primitive as primitiveOf}
+use Rattle.definition.specs.Expressions.{primitive as primitive_of}
 use Rattle.expressions.specs.Check.{end_for}
 use Rattle.expressions.proofs.Reading.{chaining_start, chaining_more, chaining_refused, chaining_done, chaining_end, levels_none, levels_more, levels_refused, inside_none, inside_some, arguing_start, arguing_more, arguing_done, arguing_refused, arguing_end, reference_call, reference_name, reference_refused, by_name_lem, by_kind, not_open, open_refused, open_closed, operand_ends}
 use Rattle.expressions.proofs.+expression.Goals as goal
@@ -66,26 +65,26 @@ pub primitive-returns-in-Word : goal.primitive-returns-in-Word
 primitive-returns-in-Word t c = search by_name_lem
 
 pub primitive-returns-in-Integer : goal.primitive-returns-in-Integer
-unfolding primitiveOf end_for
+unfolding primitive_of end_for
 primitive-returns-in-Integer t c = search by_kind
 
 pub primitive-returns-in-String : goal.primitive-returns-in-String
-unfolding primitiveOf end_for
+unfolding primitive_of end_for
 primitive-returns-in-String t c = search by_kind
 
 pub primitive-returns-in-Bits : goal.primitive-returns-in-Bits
-unfolding primitiveOf end_for
+unfolding primitive_of end_for
 primitive-returns-in-Bits t c = search by_kind
 
 pub primitive-returns-in-Sign : goal.primitive-returns-in-Sign
 primitive-returns-in-Sign t c = search by_kind
 
 pub primitive-returns-in-Nothing : goal.primitive-returns-in-Nothing
-unfolding primitiveOf end_for
+unfolding primitive_of end_for
 primitive-returns-in-Nothing t c = search by_kind
 
 pub primitive-returns-in-Wrong : goal.primitive-returns-in-Wrong
-unfolding primitiveOf end_for
+unfolding primitive_of end_for
 primitive-returns-in-Wrong t c = search by_kind
 
 pub reference-returns-then-is_sign : goal.reference-returns-then-is_sign

@@ -1,5 +1,4 @@
 -- The measure falls from a level to the one below, to an operand, to its arguments, and to an expression inside a parenthesis.
--- Each way out is one law of `Reading`, whose premises `search` finds in what the code has shown.
 use Prim.Native.Nat.{◌+◌, ◌*◌}
 use Rattle.expressions.specs.Check.{inside_of, levels_in}
 use Rattle.expressions.proofs.Reading.{Chaining, Arguing}

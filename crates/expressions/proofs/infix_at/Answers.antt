@@ -18,4 +18,4 @@ pub returns-in-4 : goal.returns-in-4
 returns-in-4 c = of_level c.args.level 4 c.args.s.now c.args.at c.and_at.result c.in-4.is c.and_at.ensures
 
 pub returns-in_default : goal.returns-in_default
-returns-in_default c = of_rest c.args.level c.args.s.now c.args.at c.or_at.result c.in_default.in_default-own.rest.0.0.0.0.1 c.in_default.in_default-own.rest.0.0.0.1 c.in_default.in_default-own.rest.0.0.1 c.in_default.in_default-own.rest.0.1 c.in_default.in_default-own.rest.1 c.or_at.ensures
+returns-in_default c = search of_rest

@@ -1,4 +1,3 @@
--- The prefix operators that are left, with those that were passed, are all.
 use Rattle.expressions.proofs.Reading.{passing_start, passing_more, passing_stop, passing_end}
 use Rattle.expressions.proofs.past_prefixes.Goals as goal
 

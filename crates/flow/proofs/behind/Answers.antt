@@ -1,4 +1,3 @@
--- What is behind from here is what is behind the row.
 use Rattle.flow.proofs.Steps.{walking_start, walking_done, walking_there, walking_up}
 use Rattle.flow.proofs.behind.Goals as goal
 

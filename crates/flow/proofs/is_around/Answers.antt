@@ -1,4 +1,3 @@
--- What is left to look at decides.
 use Rattle.flow.proofs.Steps.{looking_start, looking_done, looking_none, looking_there, looking_up}
 use Rattle.flow.proofs.is_around.Goals as goal
 

@@ -1,4 +1,3 @@
--- What is left to look at decides.
 use Rattle.flow.proofs.Steps.{going_start, going_done, going_out, going_not, going_up}
 use Rattle.flow.proofs.may_go.Goals as goal
 

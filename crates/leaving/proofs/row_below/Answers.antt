@@ -1,4 +1,3 @@
--- What is left to look at decides.
 use Rattle.leaving.proofs.Standing.{looking_start, looking_done, looking_free, looking_here, looking_on}
 use Rattle.leaving.proofs.row_below.Goals as goal
 

@@ -1,4 +1,3 @@
--- What is left to look at decides.
 use Rattle.std.proofs.Common.{refl}
 use Rattle.names.proofs.Laws.{search_start, search_more, search_here, search_none}
 use Rattle.names.proofs.find.Goals as goal

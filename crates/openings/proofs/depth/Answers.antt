@@ -1,4 +1,3 @@
--- The sum so far is the depth of what was counted.
 use Rattle.openings.proofs.Stacked.{deep_start, deep_more, deep_done}
 use Rattle.openings.proofs.depth.Goals as goal
 

@@ -1,4 +1,3 @@
--- What is left decides.
 use Rattle.openings.proofs.Labelling.{seeking_start, seeking_more, seeking_found, seeking_none, seeking_over}
 use Rattle.openings.proofs.is_label.Goals as goal
 

@@ -1,4 +1,3 @@
--- Those that were read and those that are left are all.
 use Rattle.openings.proofs.Labelling.{labelling_start, labelling_more, labelling_none, labelling_over}
 use Rattle.openings.proofs.labels_at.Goals as goal
 

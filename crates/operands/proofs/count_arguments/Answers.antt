@@ -1,4 +1,3 @@
--- What is left of the list, with those that were counted, is all.
 use Rattle.operands.proofs.Prefixing.{counting_start, counting_more, counting_last, counting_refused, counting_end}
 use Rattle.operands.proofs.count_arguments.Goals as goal
 

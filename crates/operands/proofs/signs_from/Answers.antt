@@ -1,4 +1,3 @@
--- Those that were taken are there, and those that are left are the rest.
 use Rattle.std.proofs.Common.{rules}
 use Rattle.operands.proofs.Prefixing.{signing_start, signing_more, signing_full, signing_stop, signing_end}
 use Rattle.operands.proofs.signs_from.Goals as goal

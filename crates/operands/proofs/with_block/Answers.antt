@@ -1,4 +1,3 @@
--- What was applied is the end of the block.
 use Rattle.operands.proofs.Prefixing.{blocking_start, block_more, block_fails, block_done}
 use Rattle.operands.proofs.with_block.Goals as goal
 

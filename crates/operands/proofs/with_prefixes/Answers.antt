@@ -1,4 +1,3 @@
--- What was applied is the end of the list.
 use Rattle.operands.proofs.Prefixing.{prefixing_start, prefixing_next, prefixing_stop, prefixing_done}
 use Rattle.operands.proofs.with_prefixes.Goals as goal
 

@@ -1,4 +1,3 @@
--- The first j bytes are there.
 use Rattle.operators.proofs.Room.{lowering_start, lowering_more, lowering_done}
 use Rattle.operators.proofs.move_down.Goals as goal
 

@@ -1,4 +1,3 @@
--- The bytes from j on are there.
 use Rattle.operators.proofs.Room.{raising_start, raising_more, raising_done}
 use Rattle.operators.proofs.move_up.Goals as goal
 

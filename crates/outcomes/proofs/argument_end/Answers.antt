@@ -1,4 +1,3 @@
--- What is left from here is what was to cut, with turns enough to reach the end.
 use Rattle.outcomes.proofs.Cutting.{ending_start, ending_past, ending_none, ending_close, ending_comma, ending_opened, ending_closed, ending_piece}
 use Rattle.outcomes.proofs.argument_end.Goals as goal
 

@@ -1,4 +1,3 @@
--- What was counted, with what is left, is all.
 use Rattle.outcomes.proofs.Cutting.{counting_start, counting_more, counting_close, counting_open, counting_end}
 use Rattle.outcomes.proofs.arguments_from.Goals as goal
 

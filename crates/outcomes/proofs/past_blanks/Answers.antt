@@ -1,4 +1,3 @@
--- What is left to pass is passed.
 use Rattle.tokens.proofs.Laws.{passing_start, passing_more}
 use Rattle.outcomes.proofs.Cutting.{blanks_stop, blanks_end}
 use Rattle.outcomes.proofs.past_blanks.Goals as goal

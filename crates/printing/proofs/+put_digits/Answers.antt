@@ -1,4 +1,3 @@
--- One digit less at each call.
 use Rattle.printing.proofs.Laws.{digits_none, digits_one, digits_more}
 use Rattle.printing.proofs.+put_digits.Goals as goal
 

@@ -1,4 +1,3 @@
--- The lines before i stand on the page.
 use Rattle.std.proofs.Common.{rules}
 use Rattle.printing.proofs.Laws.{listing_start, listing_room, listing_more, listing_done}
 use Rattle.printing.proofs.put_lines.Goals as goal

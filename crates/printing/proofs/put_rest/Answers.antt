@@ -1,4 +1,3 @@
--- The first j numbers stand on the page.
 use Rattle.std.proofs.Common.{rules}
 use Rattle.printing.proofs.Laws.{wording_start, wording_room, wording_last, wording_more, wording_done}
 use Rattle.printing.proofs.put_rest.Goals as goal

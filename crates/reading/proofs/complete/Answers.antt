@@ -1,4 +1,3 @@
--- What is left to do is what was to do.
 use Rattle.std.proofs.Common.{rules}
 use Rattle.reading.proofs.Endings.{complete_starts, complete_none, complete_on, complete_else, complete_up}
 use Rattle.reading.proofs.complete.Goals as goal

@@ -1,4 +1,3 @@
--- Those that were declared and those that are left are the labels.
 use Rattle.reading.proofs.Labelling.{labels_start, labels_more, labels_end, labels_last}
 use Rattle.reading.proofs.declare_labels.Goals as goal
 

@@ -1,4 +1,3 @@
--- Turn by turn, as the definition; the turns left get fewer.
 use Rattle.std.proofs.Common.{rules}
 use Rattle.reading.proofs.Membering.{loop_start, loop_again as again, loop_out, loop_stop, loop_finish}
 use Rattle.reading.proofs.read_member.Goals as goal

@@ -1,4 +1,3 @@
--- The first j bytes are copied.
 use Rattle.rooms.proofs.Laws.{copied_start, copied_more, copied_all}
 use Rattle.rooms.proofs.copy.Goals as goal
 

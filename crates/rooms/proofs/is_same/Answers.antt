@@ -1,4 +1,3 @@
--- What is left to compare decides.
 use Rattle.rooms.proofs.Laws.{comparing_start, comparing_more, comparing_differ, comparing_done}
 use Rattle.rooms.proofs.is_same.Goals as goal
 

@@ -1,4 +1,3 @@
--- The numbers from the place to i are zero.
 use Rattle.rooms.proofs.Laws.{cleared_start, cleared_more, cleared_all}
 use Rattle.rooms.proofs.zero_from.Goals as goal
 

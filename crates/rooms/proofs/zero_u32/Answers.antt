@@ -1,4 +1,3 @@
--- The first i numbers are zero.
 use Rattle.rooms.proofs.Laws.{zeroing}
 use Rattle.rooms.proofs.zero_u32.Goals as goal
 

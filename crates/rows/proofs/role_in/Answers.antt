@@ -11,4 +11,4 @@ pub returns-in-1 : goal.returns-in-1
 returns-in-1 c = ap role_in (sym c.in-1.is)
 
 pub returns-in_default : goal.returns-in_default
-returns-in_default c = no_role c.args.k c.in_default.in_default-own.rest.0.1 c.in_default.in_default-own.rest.1
+returns-in_default c = search no_role

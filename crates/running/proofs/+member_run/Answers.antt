@@ -1,4 +1,3 @@
--- The include levels that are left fall from an INCLUDE to its member.
 use Rattle.std.proofs.Common.{arith, refl, ◌∙◌}
 use borrow.Fn.PlainCycle.{is}
 use borrow.Author.Tests.{not-true, not-false}

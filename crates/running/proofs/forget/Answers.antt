@@ -1,4 +1,3 @@
--- The first cells from the place on are zero.
 use Rattle.running.proofs.Values.{forget_start, forget_more, forget_done, forget_size}
 use Rattle.running.proofs.forget.Goals as goal
 

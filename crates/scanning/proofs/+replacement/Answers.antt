@@ -1,4 +1,3 @@
--- The levels of replacement that are left fall from a name to what is scanned for it.
 use Rattle.std.proofs.Common.{arith, ◌∙◌}
 use borrow.Fn.PlainCycle.{is}
 use borrow.Author.Tests.{not-true, not-false}

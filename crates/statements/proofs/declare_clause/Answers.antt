@@ -1,4 +1,3 @@
--- What is left to read, with what was entered, is what the definition reads.
 use Rattle.std.proofs.Common.{◌∙◌}
 use Rattle.statements.proofs.Items.{if_start, if_more, if_done, if_refused, if_none}
 use Rattle.statements.proofs.declare_clause.Goals as goal

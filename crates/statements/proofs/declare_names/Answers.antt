@@ -1,4 +1,3 @@
--- Those that were declared and those that are left are all that can be read.
 use Rattle.statements.proofs.Listed.{if_start, if_more, if_done, if_refused, if_none}
 use Rattle.statements.proofs.declare_names.Goals as goal
 

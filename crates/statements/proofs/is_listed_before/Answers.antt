@@ -1,4 +1,3 @@
--- What is left decides.
 use Rattle.statements.proofs.Heads.{before_start, before_end, before_own, before_there, before_more}
 use Rattle.statements.proofs.is_listed_before.Goals as goal
 

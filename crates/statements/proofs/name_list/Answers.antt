@@ -1,4 +1,3 @@
--- What is left ends where all of it does.
 use Rattle.statements.proofs.Laws.{listing_start, listing_more, listing_done, listing_refused, listing_end}
 use Rattle.statements.proofs.name_list.Goals as goal
 

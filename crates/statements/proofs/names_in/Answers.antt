@@ -1,4 +1,3 @@
--- What is left ends where all of it does.
 use Rattle.statements.proofs.Laws.{listing_start, listing_end, naming_more, naming_done, naming_refused}
 use Rattle.statements.proofs.names_in.Goals as goal
 

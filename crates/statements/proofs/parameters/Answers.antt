@@ -1,4 +1,3 @@
--- What is left decides.
 use Rattle.statements.proofs.Heads.{twice_start, twice_end, twice_there, twice_more, twice_none}
 use Rattle.statements.proofs.parameters.Goals as goal
 

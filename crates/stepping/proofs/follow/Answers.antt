@@ -1,4 +1,3 @@
--- Where the walk leads from here is where it led from the first row.
 use Rattle.std.proofs.Common.{arith, ◌∙◌}
 use Rattle.stepping.proofs.Walking.{follow_start, follow_arrived, follow_out, follow_bad, follow_more}
 use Rattle.stepping.proofs.follow.Goals as goal

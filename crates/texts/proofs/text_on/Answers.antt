@@ -1,4 +1,3 @@
--- What is left of the text gives what all of it gives.
 use Rattle.std.proofs.Common.{arith, ◌∙◌}
 use Rattle.texts.proofs.Looping.{texting_start, texting_end, texting_out, texting_bad, texting_more}
 use Rattle.texts.proofs.text_on.Goals as goal

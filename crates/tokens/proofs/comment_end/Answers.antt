@@ -1,4 +1,3 @@
--- What is left to look at decides.
 use Rattle.tokens.proofs.Laws.{closing_start, closing_more, closing_here, closing_never}
 use Rattle.tokens.proofs.comment_end.Goals as goal
 

@@ -1,4 +1,3 @@
--- What is left to look at decides, with the bytes so far.
 use Rattle.std.proofs.Common.{arith}
 use Rattle.tokens.proofs.Laws.{quoting_start, quoting_more, quoting_last, quoting_open, width_inside}
 use Rattle.tokens.proofs.constant_end.Goals as goal

@@ -1,4 +1,3 @@
--- What is left to look at decides, with the bytes so far.
 use Rattle.std.proofs.Common.{arith}
 use Rattle.tokens.proofs.Laws.{width_inside}
 use Rattle.tokens.proofs.Contents.{counting_start, counting_more, counting_last, counting_open, content_past}

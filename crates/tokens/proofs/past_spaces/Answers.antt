@@ -1,4 +1,3 @@
--- What is left to step over decides, with turns enough to reach the end.
 use Rattle.std.proofs.Common.{arith}
 use Rattle.tokens.proofs.Laws.{spacing_start, step_further, spacing_more, spacing_stop, spacing_open, spacing_end}
 use Rattle.tokens.proofs.past_spaces.Goals as goal

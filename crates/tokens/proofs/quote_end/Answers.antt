@@ -1,4 +1,3 @@
--- What is left to look at decides.
 use Rattle.tokens.proofs.Laws.{seeking_start, seeking_more, seeking_here, seeking_never}
 use Rattle.tokens.proofs.quote_end.Goals as goal
 

@@ -1,4 +1,3 @@
--- What is left to look at decides, with turns enough to reach the end.
 use Rattle.std.proofs.Common.{arith}
 use Rattle.tokens.proofs.Pieces.{texting_start, texting_more, texting_further, texting_percent, texting_open, texting_end}
 use Rattle.tokens.proofs.text_end.Goals as goal

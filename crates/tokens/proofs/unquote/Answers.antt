@@ -1,4 +1,3 @@
--- What is left to look at decides, with the bytes so far in the room.
 use Rattle.std.proofs.Common.{arith}
 use Rattle.tokens.proofs.Laws.{width_inside}
 use Rattle.tokens.proofs.Contents.{copying_start, copying_more, copying_last, copying_never, content_inside, unquoted_none}

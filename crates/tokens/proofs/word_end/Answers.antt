@@ -1,4 +1,3 @@
--- What is left to pass is passed.
 use Rattle.tokens.proofs.Laws.{passing_start, passing_more, passing_stop, passing_end}
 use Rattle.tokens.proofs.word_end.Goals as goal
 

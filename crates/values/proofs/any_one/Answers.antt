@@ -1,4 +1,3 @@
--- What is left to look at decides.
 use Rattle.values.proofs.Bytes.{seeking_start, seeking_more, seeking_found, seeking_done}
 use Rattle.values.proofs.any_one.Goals as goal
 

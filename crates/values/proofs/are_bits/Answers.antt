@@ -1,4 +1,3 @@
--- What is left to look at decides.
 use Rattle.values.proofs.Bytes.{testing_first, testing_more, testing_no, testing_done}
 use Rattle.values.proofs.are_bits.Goals as goal
 

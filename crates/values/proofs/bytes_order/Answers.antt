@@ -1,4 +1,3 @@
--- What is left of both sides decides.
 use Rattle.definition.specs.Lists.{part}
 use Rattle.values.proofs.Compare.{comparing_start, comparing_below, comparing_above, comparing_more, comparing_done}
 use Rattle.values.proofs.bytes_order.Goals as goal

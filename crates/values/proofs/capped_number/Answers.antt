@@ -1,4 +1,3 @@
--- What is left to read decides; a number past the range stays past it.
 use Rattle.values.proofs.Numbers.{reading_start, times_fits, next_fits, reading_more, reading_over, reading_done}
 use Rattle.values.proofs.capped_number.Goals as goal
 

@@ -1,4 +1,3 @@
--- The first j bits are joined, and the others as they were.
 use Rattle.values.proofs.Bits.{filling_start, combining_more, combining_done}
 use Rattle.values.proofs.combine.Goals as goal
 

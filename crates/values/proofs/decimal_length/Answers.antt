@@ -1,4 +1,3 @@
--- What is left to count decides.
 use Rattle.values.proofs.Written.{counting_start, counting_stop, counting_more, counting_done}
 use Rattle.values.proofs.decimal_length.Goals as goal
 

@@ -1,4 +1,3 @@
--- The first j bits are inverted, and the others as they were.
 use Rattle.values.proofs.Bits.{filling_start, inverting_more, inverting_done}
 use Rattle.values.proofs.invert.Goals as goal
 

@@ -1,4 +1,3 @@
--- What is past the bytes from j on is what is past them all.
 use Rattle.values.proofs.Bytes.{running_start, running_more, running_stop, running_done}
 use Rattle.values.proofs.past_digits.Goals as goal
 

@@ -1,4 +1,3 @@
--- The blanks before place j are there.
 use Rattle.values.proofs.Written.{blanking_start, blanking_more, blanking_done}
 use Rattle.values.proofs.put_blanks.Goals as goal
 

@@ -1,4 +1,3 @@
--- The digits after place j are there.
 use Rattle.values.proofs.Written.{putting_start, putting_more, putting_done, base_some}
 use Rattle.values.proofs.put_digits.Goals as goal
 
