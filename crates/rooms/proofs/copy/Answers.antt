@@ -2,10 +2,10 @@ use Rattle.rooms.proofs.Laws.{copied_start, copied_more, copied_all}
 use Rattle.rooms.proofs.copy.Goals as goal
 
 pub loop-j-init : goal.loop-j-init
-loop-j-init c = copied_start _ _ _ _ _
+loop-j-init c = copied_start _ _ _ _
 
 pub loop-j-preserved : goal.loop-j-preserved
-loop-j-preserved c = copied_more _ _ _ _ _ _ _ _ _ c.loop-j.invariant c.loop-j-test.true c.byte.ensures c.put_byte.ensures
+loop-j-preserved c = search copied_more
 
 pub returns : goal.returns
-returns c = copied_all _ _ _ _ _ _ _ c.loop-j.invariant c.loop-j-test.false
+returns c = search copied_all

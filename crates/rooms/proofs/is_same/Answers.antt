@@ -1,14 +1,13 @@
-use Rattle.rooms.proofs.Laws.{comparing_start, comparing_more, comparing_differ, comparing_done}
+-- The closure tests a byte of each side.
+use Rattle.std.proofs.Common.{rules, ◌+◌, get_or, ◌∙◌}
+use borrow.Author.Tests.{tests}
+use lib.Dec.{eqb}
+use Rattle.rooms.proofs.Ranges.{all_is}
+use Rattle.rooms.proofs.Laws.{same_is}
 use Rattle.rooms.proofs.is_same.Goals as goal
 
-pub loop-j-init : goal.loop-j-init
-loop-j-init c = comparing_start _ _ _ _ _
-
-pub returns-then-byte : goal.returns-then-byte
-returns-then-byte c = search comparing_differ
-
-pub loop-j-preserved : goal.loop-j-preserved
-loop-j-preserved c = search comparing_more
-
 pub returns : goal.returns
-returns c = search comparing_done
+returns c =
+    all_is _ _ _ c.all.result (λ j. eqb (get_or c.args.a.now (c.args.i + j) 0) (get_or c.args.b.now (c.args.k + j) 0))
+    c.all.ensures.ran (λ x q k. search (rules, tests)) (λ x q k. search (rules, tests))
+    ∙ same_is c.args.a.now c.args.b.now c.args.i c.args.k c.args.n

@@ -1,6 +1,8 @@
 -- The bytes go out one after the other, the least first.
-use Rattle.rooms.proofs.Laws.{put2}
+use Rattle.std.proofs.Common.{ap, ◌∙◌}
+use Rattle.definition.specs.Lists.{part}
+use Rattle.definition.specs.Room.{over}
 use Rattle.rooms.proofs.put_u16.Goals as goal
 
 pub returns : goal.returns
-returns c = search put2
+returns c = c.copy.ensures ∙ ap (over c.args.room.now c.args.at) (ap (part 2 0) c.to_le_bytes.ensures)
