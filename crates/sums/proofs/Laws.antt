@@ -1,9 +1,11 @@
 -- Sums that stop at the most: within it, and at it.
 -- Assumes nothing.
 use mathlib.Core.Path.{◌≡◌, sym}
-use Prim.Native.Nat.{ℕ, suc, ◌+◌, ◌-◌, ◌<◌, ◌≤◌}
+use mathlib.Core.Logic.{inl, inr}
+use Prim.Native.Nat.{ℕ, ◌+◌, ◌<◌, ◌≤◌, min}
 use native.Mathlib.Omega.{arith}
 use borrow.Author.Tests.{le-leb, lt-leb}
+use Rattle.std.proofs.lemmas.Bool.{cases_lt}
 use Rattle.sums.specs.Numbers.{greatest, sum_to}
 
 pub sum_in : (most a b : ℕ) → a + b ≤ most → a + b ≡ sum_to most a b
@@ -14,12 +16,9 @@ pub sum_out : (most a b : ℕ) → most < a + b → most ≡ sum_to most a b
 unfolding sum_to
 sum_out most a b h = rw (lt-leb (a + b) most h)
 
--- by the test against what is left
-pub sum_is : (most a b : ℕ) → a < suc most → b ≤ most - a → a + b ≡ sum_to most a b
-sum_is most a b h g = sum_in most a b (omega (arith, h, g))
-
-pub sum_most : (most a b : ℕ) → most - a < b → most ≡ sum_to most a b
-sum_most most a b h = sum_out most a b (omega (arith, h))
+-- by the smaller of the two
+pub sum_is : (most a b r : ℕ) → r ≡ min (a + b) most → r ≡ sum_to most a b
+sum_is most a b r e = elim (cases_lt most (a + b)) [ inl h ↦ omega (arith, sum_out most a b h) | inr h ↦ omega (arith, sum_in most a b h) ]
 
 -- places and lengths in rooms stay far below the most
 pub sum_fits : (a b : ℕ) → a + b ≤ greatest → sum_to greatest a b ≡ a + b

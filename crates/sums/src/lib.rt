@@ -8,22 +8,18 @@ ghost use Rattle.sums.specs.Numbers.{greatest, sum_to};
 pub fn less(a: usize, b: usize) -> usize
     ensures { result ≡ a - b }
 {
-    if a < b { 0 } else { a - b }
+    usize::saturating_sub(a, b)
 }
 
 // A sum that stops at the most.
 pub fn sum(a: usize, b: usize) -> usize
     ensures { result ≡ sum_to greatest a b }
 {
-    if b <= usize::MAX - a {
-        a + b
-    } else {
-        usize::MAX
-    }
+    usize::saturating_add(a, b)
 }
 
 pub fn sum32(a: u32, b: u32) -> u32
     ensures { result ≡ sum_to 4294967295 a b }
 {
-    if b <= u32::MAX - a { a + b } else { u32::MAX }
+    u32::saturating_add(a, b)
 }
