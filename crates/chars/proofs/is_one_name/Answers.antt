@@ -1,15 +1,12 @@
-use Rattle.rooms.proofs.Laws.{comparing_start}
-use Rattle.chars.proofs.Laws.{naming_more, naming_differ, naming_done}
+-- The closure tests a byte of each side.
+use Rattle.std.proofs.Common.{rules, ◌∙◌}
+use borrow.Author.Tests.{tests}
+use Rattle.rooms.proofs.Ranges.{all_is}
+use Rattle.chars.proofs.Laws.{is_named, named_is}
 use Rattle.chars.proofs.is_one_name.Goals as goal
 
-pub loop-j-init : goal.loop-j-init
-loop-j-init c = comparing_start _ _ _ _ _
-
-pub returns-then-capital : goal.returns-then-capital
-returns-then-capital c = search naming_differ
-
-pub loop-j-preserved : goal.loop-j-preserved
-loop-j-preserved c = naming_more _ _ _ _ _ _ c.loop-j.invariant c.byte.result c.capital.result c.byte-in-loop-j.result c.capital-in-loop-j.result c.loop-j-test.true c.byte.ensures c.capital.ensures c.byte-in-loop-j.ensures c.capital-in-loop-j.ensures c.if-capital.false
-
 pub returns : goal.returns
-returns c = search naming_done
+returns c =
+    all_is _ _ _ c.all.result (is_named c.args.a.now c.args.b.now c.args.i c.args.k)
+    c.all.ensures.ran (λ x q k. search (rules, tests)) (λ x q k. search (rules, tests))
+    ∙ named_is c.args.a.now c.args.b.now c.args.i c.args.k c.args.n

@@ -1,15 +1,12 @@
-use Rattle.rooms.proofs.Laws.{comparing_start}
-use Rattle.chars.proofs.Laws.{spelling_more, spelling_differ, spelling_done}
+-- The closure tests a byte of each side.
+use Rattle.std.proofs.Common.{rules, ◌∙◌}
+use borrow.Author.Tests.{tests}
+use Rattle.rooms.proofs.Ranges.{all_is}
+use Rattle.chars.proofs.Laws.{is_spelled, spelled_is}
 use Rattle.chars.proofs.spells.Goals as goal
 
-pub loop-j-init : goal.loop-j-init
-loop-j-init c = comparing_start _ _ _ _ _
-
-pub returns-then-capital-byte : goal.returns-then-capital-byte
-returns-then-capital-byte c = search spelling_differ
-
-pub loop-j-preserved : goal.loop-j-preserved
-loop-j-preserved c = search spelling_more
-
 pub returns : goal.returns
-returns c = search spelling_done
+returns c =
+    all_is _ _ _ c.all.result (is_spelled c.args.a.now c.args.w.now c.args.i c.args.k)
+    c.all.ensures.ran (λ x q k. search (rules, tests)) (λ x q k. search (rules, tests))
+    ∙ spelled_is c.args.a.now c.args.w.now c.args.i c.args.k c.args.n
