@@ -36,26 +36,6 @@ impl Meter {
         Meter::new(Meter::STEPS)
     }
 
-    // A step with none left is not counted.
-    fn after_step(self) -> Charged
-        ensures { Charges self result }
-    {
-        if self.used < self.limit {
-            Charged {
-                paid: true,
-                meter: Meter {
-                    limit: self.limit,
-                    used: self.used + 1,
-                },
-            }
-        } else {
-            Charged {
-                paid: false,
-                meter: self,
-            }
-        }
-    }
-
     // Through `charge`, for whoever holds the meter by value.
     pub fn charged(self) -> Charged
         ensures { Charges self result }
@@ -66,12 +46,14 @@ impl Meter {
     }
 }
 
-// Every step is charged here, in place.
+// Every step is charged here, in place. A step with none left is not counted.
+#[tactic(auto, unfolding(definition::specs::Steps::is_left, definition::specs::Steps::used_after))]
 pub fn charge(m: &mut Meter) -> bool
     ensures { Charges m.old (record { paid = result; meter = m.new }) }
 {
-    let before = *m;
-    let after = before.after_step();
-    *m = after.meter;
-    after.paid
+    let paid = m.used < m.limit;
+    if paid {
+        m.used += 1;
+    }
+    paid
 }
