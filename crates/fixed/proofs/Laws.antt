@@ -7,14 +7,14 @@ use mathlib.Core.Path.{◌≡◌, refl, sym, ap, ◌∙◌}
 use borrow.Author.Tests.{eq-eqb, ne_eqb}
 use lib.Dec.{T, eqb, lit≤}
 use lib.IntN.{ℤ, pos, negsuc, neg_ℤ, nat_abs, ◌+ℤ◌, ◌-ℤ◌, ◌*ℤ◌, +ℤ_idl}
-use lib.Signed.{mag, nat_abs-le, non_neg, le_z, lt_z, quot_z}
+use lib.Signed.{mag, nat_abs-le, non_neg, le_z, quot_z}
 use mir.Syntax.{w32, w64}
 use mir.Val.{Fits, SFits, to_z, of_z}
 use mir.Facts.{to_z-of_z}
 use Rattle.definition.specs.Limits.{least_fixed, most_fixed}
 use Rattle.definition.specs.Fixed.{Result, is, out_of_range, zero_divisor, in_range, ranged, quotient}
 use Rattle.fixed.specs.Signed.{eq_z, stored_zero, stored_of, Narrow, Widened}
-use Rattle.fixed.proofs.Magnitude.{size_mag, size_negative, size_sum, size_product, size_quotient, size_above, size_below, range_size, stored_is, eq_z_same, eq_z_true}
+use Rattle.fixed.proofs.Magnitude.{size_mag, size_negative, size_sum, size_product, size_quotient, range_size, stored_is, eq_z_same, eq_z_true}
 
 -- ---- 32 bits
 
@@ -100,15 +100,6 @@ module _ (m n : ℕ) (p : m < 4294967296) (q : n < 4294967296) where
 -- a cast to an unsigned number of 32 bits
 pub cast_fits : {z : ℤ} {n : ℕ} → z ≡ pos n → n < 4294967296 → T (non_neg z) × Fits w32 (nat_abs z)
 cast_fits p h = rw p (tt, record { fits = h })
-
--- ---- the sign
-
-module _ {a x : ℤ} (u : Widened x a) where
-  pub above_read : lt_z (read a) (pos 0) ≡ false → read a ≡ pos (nat_abs x)
-  above_read e = read_wide u ∙ size_above x (rw (read_wide u) at e)
-
-  pub below_read : lt_z (read a) (pos 0) ≡ true → read (pos 0 -ℤ read a) ≡ pos (nat_abs x)
-  below_read e = negative_read u ∙ size_below x (rw (read_wide u) at e)
 
 -- ---- the range
 

@@ -1,10 +1,10 @@
 -- Facts on whole numbers as facts on their magnitudes, which omega reads: how large a result can be, what is in range, and the stored form.
 use Prim.Native.Nat.{ℕ, zero, suc, ◌+◌, ◌-◌, ◌*◌, ◌≤◌}
-use native.Mathlib.Nat.{le_refl, div-le_self, not-suc-le-zero}
+use native.Mathlib.Nat.{le_refl, div-le_self}
 use native.Mathlib.Omega.{arith}
 use mathlib.Core.Bool.{Bool, true, false, not, cond, ◌&&◌}
 use mathlib.Core.Path.{◌≡◌, refl, sym, ap, ◌∙◌}
-use borrow.Author.Tests.{le-ltb, ltb-true, leb-true, eqb-true, eq-eqb}
+use borrow.Author.Tests.{le-ltb, leb-true, eqb-true, eq-eqb}
 use lib.Dec.{leb, ltb, leb-suc-suc}
 use lib.IntN.{ℤ, pos, negsuc, neg_ℤ, nat_abs, sub_ℕ, ◌+ℤ◌, ◌-ℤ◌, ◌*ℤ◌, +ℤ-neg_ℤ_cancel}
 use lib.Signed.{mag, lt_z, non_neg, quot_z}
@@ -65,14 +65,6 @@ range_size z e = leb-true (nat_abs z) 99999 (sym (in_range_lem z) ∙ e)
 pub below_zero : (z : ℤ) → lt_z z (pos 0) ≡ not (non_neg z)
 below_zero (pos n) = le-ltb n 0 (omega arith)
 below_zero (negsuc n) = refl
-
-pub size_above : (z : ℤ) → lt_z z (pos 0) ≡ false → z ≡ pos (nat_abs z)
-size_above (pos n) e = refl
-size_above (negsuc n) e = cc
-
-pub size_below : (z : ℤ) → lt_z z (pos 0) ≡ true → neg_ℤ z ≡ pos (nat_abs z)
-size_below (pos n) e = absurd (not-suc-le-zero (ltb-true n 0 e))
-size_below (negsuc n) e = refl
 
 pub eq_z_same : (z : ℤ) → eq_z z z ≡ true
 eq_z_same (pos n) = eq-eqb n n refl

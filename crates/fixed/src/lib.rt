@@ -52,6 +52,7 @@ impl Fixed {
     }
 
     // At 64 bits no operation on two such values overflows.
+    // stays: with `i64::from` here, and on u32 below, the proofs of what the machine reads back (`wide_is`, `unsigned_read`) did not close.
     fn wide(self) -> i64
         ensures { Widened self.value result }
     {
@@ -102,12 +103,7 @@ impl Fixed {
     pub fn magnitude(self) -> u32
         ensures { result ≡ nat_abs self.value }
     {
-        let wide = self.wide();
-        if wide < 0 {
-            (-wide) as u32
-        } else {
-            wide as u32
-        }
+        self.value.unsigned_abs()
     }
 
     pub fn of_magnitude(negative: bool, magnitude: u32) -> Answer
