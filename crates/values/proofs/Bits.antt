@@ -1,9 +1,9 @@
 -- The bit operations, where the bits stand: what is written goes behind what is still to be read.
 -- Assumes nothing.
 use mathlib.Core.Path.{◌≡◌, refl, sym, ap, ◌∙◌}
-use mathlib.Core.Bool.{Bool, true, false, not, cond, ◌&&◌, ◌||◌}
+use mathlib.Core.Bool.{Bool, true, false, not, cond}
 use mathlib.Core.List.{List, [], ◌∷◌}
-use Prim.Native.Nat.{ℕ, zero, suc, ◌+◌, ◌<◌, ◌≤◌}
+use Prim.Native.Nat.{ℕ, zero, suc, ◌+◌, ◌<◌, ◌≤◌, max}
 use native.Mathlib.Nat.{not-suc-le-zero, le_of_suc-le-suc}
 use native.Mathlib.Numerals.{add-one}
 use native.Mathlib.Omega.{arith}
@@ -17,16 +17,9 @@ use Rattle.definition.specs.Values.{bit_of, is_one, bitwise, inverted}
 use Rattle.definition.proofs.Parts.{length_part}
 use Rattle.definition.proofs.Rooms.{length_over, over_nil, over_next_at}
 use Rattle.values.specs.declared.Logic.{Logic}
-use Rattle.values.specs.declared.Logic.TheVariants.{And, Or}
 use Rattle.values.specs.Bits.{longer, logic_of}
 use Rattle.values.specs.Digits.{Wrote}
 use Rattle.values.proofs.Bytes.{part_at, part_past}
-
-pub one_is : (t : Bool) → t ≡ true → 49 ≡ bit_of t
-one_is t e = rw e
-
-pub zero_is : (t : Bool) → t ≡ false → 48 ≡ bit_of t
-zero_is t e = rw e
 
 -- ---- a list goes over a room from its first number to its last
 -- from the end of what was written on, the room is as it was
@@ -88,6 +81,14 @@ module _ (r₀ : List ℕ) (at n : ℕ) (r : List ℕ) (j : ℕ) (c : Filling (i
   inverting_done h = filling_done _ r₀ at r j c (omega (arith, size))
 
 -- ---- two strings
+longer_is : (n m : ℕ) → max n m ≡ longer n m
+unfolding longer
+longer_is n m = go (ltb n m) refl
+  where
+    go : (t : Bool) → ltb n m ≡ t → max n m ≡ cond t m n
+    go true e = omega (arith, ltb-true n m e)
+    go false e = omega (arith, ltb-false n m e)
+
 longer_suc : (n m : ℕ) → longer (suc n) (suc m) ≡ suc (longer n m)
 unfolding longer
 longer_suc n m = rw leb-suc-suc (go (ltb n m))
@@ -134,9 +135,9 @@ part_kept n p j d r r₀ e = go (ltb j n) refl
 abbrev pub both : Logic → List ℕ → ℕ → ℕ → ℕ → List ℕ
 both op r at n m = bitwise (logic_of op) (part n at r) (part m (at + n) r)
 
-module _ (op : Logic) (r₀ : List ℕ) (at n m most : ℕ) (r : List ℕ) (j : ℕ) (c : Filling (both op r₀ at n m) r₀ at r j) (l : most ≡ longer n m) where
+module _ (op : Logic) (r₀ : List ℕ) (at n m most : ℕ) (r : List ℕ) (j : ℕ) (c : Filling (both op r₀ at n m) r₀ at r j) (l : most ≡ max n m) where
   both_size : most ≡ length (both op r₀ at n m)
-  both_size = rw (length_bitwise, length_part, length_part) l
+  both_size = rw (length_bitwise, length_part, length_part) (l ∙ longer_is n m)
 
   pub combining_more : (r' : List ℕ) (x y b : ℕ) (v : Bool) → j < most → x ≡ get_or (part n at r) j 48 → y ≡ get_or (part m (at + n) r) j 48
       → v ≡ logic_of op (is_one x) (is_one y) → b ≡ bit_of v → r' ≡ over r (at + j) (b ∷ []) → Filling (both op r₀ at n m) r₀ at r' (j + 1)
@@ -153,10 +154,3 @@ module _ (op : Logic) (r₀ : List ℕ) (at n m most : ℕ) (r : List ℕ) (j : 
 -- ---- a byte past two lengths
 pub far_past : (s : List ℕ) (at n k : ℕ) → length s ≤ at + n → 0 ≡ get_or s (at + n + k) 0
 far_past s at n k h = sym (get_or-eq_default s 0 {n = at + n + k} (omega arith))
-
--- ---- the operators' own functions
-pub and_is : logic_of And ≡ λ a b. a && b
-and_is = refl
-
-pub or_is : logic_of Or ≡ λ a b. a || b
-or_is = refl

@@ -1,21 +1,20 @@
--- Bytes at a place: the loops that test them, with what is left as the invariant.
+-- Bytes at a place, and the tests of them.
 -- Assumes nothing.
-use mathlib.Core.Path.{◌≡◌, refl, sym, ap, ◌∙◌}
-use mathlib.Core.Bool.{Bool, true, false}
-use mathlib.Core.List.{List, [], ◌∷◌, ◌++◌, append_assoc, append-nil}
+use mathlib.Core.Path.{◌≡◌, refl, ap, ◌∙◌}
+use mathlib.Core.Bool.{Bool, true, false, ◌&&◌, ◌||◌}
+use mathlib.Core.List.{List, [], ◌∷◌}
 use Prim.Native.Nat.{ℕ, zero, suc, ◌+◌, ◌-◌, ◌<◌, ◌≤◌}
-use native.Mathlib.Nat.{add-zero, sub_self, not-suc-le-zero, le_of_suc-le-suc}
+use native.Mathlib.Nat.{add-zero, zero-add, suc-add, add-suc, add_assoc, not-suc-le-zero, le_of_suc-le-suc}
 use native.Mathlib.Omega.{arith}
-use borrow.Author.Rules.{rules}
-use borrow.Author.Tests.{eq-eqb, ne_eqb, lt-ltb, le-ltb, le-leb, lt-leb}
 use lib.Dec.{eqb}
 use lib.ListN.{get_or, get_or-eq_default}
+use Rattle.std.proofs.Common.{Option, Some, None, unwrap_or}
+use Rattle.std.specs.Option.{MatchOption}
+use Rattle.std.specs.List.{list_all, list_any, range_with_len}
 use Rattle.definition.specs.Lists.{part, all, past, leading}
 use Rattle.definition.specs.Values.{any_one}
-use Rattle.definition.proofs.Parts.{part_first, part_more, length_part}
+use Rattle.definition.proofs.Parts.{part_first, length_part}
 use Rattle.values.specs.Digits.{Run}
-
-pub ruleset tests = (rules, lt-ltb, le-ltb, le-leb, lt-leb, eq-eqb, ne_eqb)
 
 -- the first of the bytes from j to n past a place, and the others
 pub next : (s : List ℕ) (at n j : ℕ) → j < n → part (n - j) (at + j) s ≡ get_or s (at + j) 0 ∷ part (n - (j + 1)) (at + (j + 1)) s
@@ -38,88 +37,43 @@ part_at (suc n) at (suc j) d s h = part_at n (suc at) j d s (le_of_suc-le-suc h)
 pub part_past : (n at j d : ℕ) (s : List ℕ) → n ≤ j → get_or (part n at s) j d ≡ d
 part_past n at j d s h = get_or-eq_default (part n at s) d (rw length_part h)
 
--- ---- whether all bytes pass a test
-pub record Testing (p : ℕ → Bool) (whole : Bool) (s : List ℕ) (at n j : ℕ) : Type 0 where
-  pub is : all p (part (n - j) (at + j) s) ≡ whole
+-- ---- a test of all bytes, of any, and the run of those that pass
+pub all_part : (p : ℕ → Bool) (s : List ℕ) (at i n : ℕ) → list_all (λ j. p (get_or s (at + j) 0)) (range_with_len i n) ≡ all p (part n (at + i) s)
+all_part p s at i zero = refl
+all_part p s at i (suc n) =
+    let e : at + (i + 1) ≡ suc (at + i) = omega arith in
+    ap (λ t. p (get_or s (at + i) 0) && t) (all_part p s at (i + 1) n ∙ rw e)
 
-pub testing_start : (p : ℕ → Bool) (s : List ℕ) (at i n : ℕ) → Testing p (all p (part (n - i) (at + i) s)) s at n i
-testing_start p s at i n = record { is = refl }
+pub any_part : (s : List ℕ) (at i n : ℕ) → list_any (λ j. eqb (get_or s (at + j) 0) 49) (range_with_len i n) ≡ any_one (part n (at + i) s)
+unfolding any_one
+any_part s at i zero = refl
+any_part s at i (suc n) =
+    let e : at + (i + 1) ≡ suc (at + i) = omega arith in
+    ap (λ t. eqb (get_or s (at + i) 0) 49 || t) (any_part s at (i + 1) n ∙ rw e)
 
-pub testing_first : (p : ℕ → Bool) (s : List ℕ) (at n : ℕ) → Testing p (all p (part n at s)) s at n 0
-testing_first p s at n = record { is = ap (all p) (from_first s at n) }
+run_at : (p : ℕ → Bool) (s : List ℕ) (m n at : ℕ) → ((k : ℕ) → k < m → p (get_or s (at + k) 0) ≡ true) → (0 < n → p (get_or s (at + m) 0) ≡ false)
+    → (part m at s ≡ leading p (part (m + n) at s)) × (part n (at + m) s ≡ past p (part (m + n) at s))
+run_at p s zero zero at b a = (refl, refl)
+run_at p s zero (suc n) at b a =
+    let e : p (get_or s at 0) ≡ false = rw add-zero at (a (omega arith)) in
+    rw (zero-add, add-zero, e) (refl, refl)
+run_at p s (suc m) n at b a =
+    let e : p (get_or s at 0) ≡ true = rw add-zero at (b 0 (omega arith)) in
+    let r = run_at p s m n (suc at) (λ k h. rw (suc-add, ← add-suc) (b (suc k) (omega arith))) (λ h. rw (suc-add, ← add-suc) (a h)) in
+    rw (suc-add, e, add-suc, ← suc-add) (ap (λ (t : List ℕ). get_or s at 0 ∷ t) r.0, r.1)
 
-module _ (p : ℕ → Bool) (whole : Bool) (s : List ℕ) (at n j : ℕ) (k : Testing p whole s at n j) where
-  pub testing_more : (b : ℕ) (t : Bool) → j < n → b ≡ get_or s (at + j) 0 → t ≡ p b → t ≡ true → Testing p whole s at n (j + 1)
-  testing_more b t h e f g = record { is = rw (next s at n j h, ← e, ← f, g) at k.is }
+run_to : (p : ℕ → Bool) (s : List ℕ) (at i n r : ℕ) → i ≤ r → r ≤ n → ((k : ℕ) → i ≤ k → k < r → p (get_or s (at + k) 0) ≡ true)
+    → (r < n → p (get_or s (at + r) 0) ≡ false) → Run p s at i n r
+run_to p s at i n r h k b a =
+    let e : r - i + (n - r) ≡ n - i = omega arith in
+    let f : at + i + (r - i) ≡ at + r = omega arith in
+    let x = run_at p s (r - i) (n - r) (at + i) (λ j l. rw add_assoc (b (i + j) (omega arith) (omega arith))) (λ l. rw f (a (omega arith))) in
+    record { low = h; passed = rw e at x.0; rest = rw (f, e) at x.1 }
 
-  pub testing_no : (b : ℕ) (t : Bool) → j < n → b ≡ get_or s (at + j) 0 → t ≡ p b → t ≡ false → false ≡ whole
-  testing_no b t h e f g = rw (next s at n j h, ← e, ← f, g) at k.is
-
-  pub testing_done : n ≤ j → true ≡ whole
-  testing_done h = rw (nothing s at n j h) at k.is
-
--- ---- whether a bit is 1
-pub record Seeking (s : List ℕ) (at n j : ℕ) : Type 0 where
-  pub is : any_one (part (n - j) (at + j) s) ≡ any_one (part n at s)
-
-pub seeking_start : (s : List ℕ) (at n : ℕ) → Seeking s at n 0
-seeking_start s at n = record { is = ap any_one (from_first s at n) }
-
-module _ (s : List ℕ) (at n j : ℕ) (k : Seeking s at n j) where
-  pub seeking_more : (b : ℕ) → j < n → b ≡ get_or s (at + j) 0 → (b ≡ 49 → ⊥) → Seeking s at n (j + 1)
-  unfolding any_one
-  seeking_more b h e f =
-      let g : eqb (get_or s (at + j) 0) 49 ≡ false = ne_eqb _ _ (λ q. f (e ∙ q)) in
-      record { is = rw (next s at n j h, g) at k.is }
-
-  pub seeking_found : (b : ℕ) → j < n → b ≡ get_or s (at + j) 0 → b ≡ 49 → true ≡ any_one (part n at s)
-  unfolding any_one
-  seeking_found b h e f =
-      let g : eqb (get_or s (at + j) 0) 49 ≡ true = eq-eqb _ _ (sym e ∙ f) in
-      rw (next s at n j h, g) at k.is
-
-  pub seeking_done : n ≤ j → false ≡ any_one (part n at s)
-  unfolding any_one
-  seeking_done h = rw (nothing s at n j h) at k.is
-
--- ---- the run of bytes that pass a test
-pub record Running (p : ℕ → Bool) (s : List ℕ) (at i n j : ℕ) : Type 0 where
-  pub low : i ≤ j
-  pub passed : part (j - i) (at + i) s ++ leading p (part (n - j) (at + j) s) ≡ leading p (part (n - i) (at + i) s)
-  pub rest : past p (part (n - j) (at + j) s) ≡ past p (part (n - i) (at + i) s)
-
-pub running_start : (p : ℕ → Bool) (s : List ℕ) (at i n : ℕ) → Running p s at i n i
-running_start p s at i n = record { low = omega arith; passed = rw sub_self; rest = refl }
-
-module _ (p : ℕ → Bool) (s : List ℕ) (at i n j : ℕ) (k : Running p s at i n j) where
-  one_more : (i ≤ j) → part (j + 1 - i) (at + i) s ≡ part (j - i) (at + i) s ++ (get_or s (at + j) 0 ∷ [])
-  one_more h =
-      let e : j + 1 - i ≡ j - i + 1 = omega arith in
-      let f : at + i + (j - i) ≡ at + j = omega arith in
-      rw e (part_more (j - i) (at + i) s ∙ rw f)
-
-  pub running_more : (b : ℕ) (t : Bool) → j < n → b ≡ get_or s (at + j) 0 → t ≡ p b → t ≡ true → Running p s at i n (j + 1)
-  running_more b t h e f g =
-      let q : p (get_or s (at + j) 0) ≡ true = ap p (sym e) ∙ sym f ∙ g in
-      record {
-        low = omega (arith, k.low);
-        passed = rw (one_more k.low, append_assoc) (rw (next s at n j h, q) at k.passed);
-        rest = rw (next s at n j h, q) at k.rest;
-      }
-
-  pub running_stop : (b : ℕ) (t : Bool) → j < n → b ≡ get_or s (at + j) 0 → t ≡ p b → t ≡ false → Run p s at i n j
-  running_stop b t h e f g =
-      let q : p (get_or s (at + j) 0) ≡ false = ap p (sym e) ∙ sym f ∙ g in
-      let u : past p (part (n - j) (at + j) s) ≡ part (n - j) (at + j) s = rw (next s at n j h, q) in
-      record {
-        low = k.low;
-        passed = rw (next s at n j h, q, append-nil) at k.passed;
-        rest = sym u ∙ k.rest;
-      }
-
-  pub running_done : n ≤ j → Run p s at i n j
-  running_done h = record {
-    low = k.low;
-    passed = rw (nothing s at n j h, append-nil) at k.passed;
-    rest = rw (nothing s at n j h) (rw (nothing s at n j h) at k.rest);
-  }
+-- by the first that fails, if there is one
+pub run_found : (p : ℕ → Bool) (s : List ℕ) (at i n : ℕ) (o : Option ℕ) (r : ℕ) → i ≤ n
+    → MatchOption o ((k : ℕ) → i ≤ k → k < n → p (get_or s (at + k) 0) ≡ true)
+    (λ m. (i ≤ m) × (m < n) × (p (get_or s (at + m) 0) ≡ false) × ((k : ℕ) → i ≤ k → k < m → p (get_or s (at + k) 0) ≡ true))
+    → r ≡ unwrap_or o n → Run p s at i n r
+run_found p s at i n None r h f e = rw e (run_to p s at i n n h (omega arith) f (λ k. absurd (omega arith)))
+run_found p s at i n (Some m) r h f e = rw e (run_to p s at i n m f.0 (omega (arith, f.1)) f.3 (λ k. f.2))

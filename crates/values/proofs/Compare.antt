@@ -1,14 +1,13 @@
 -- Comparison: what is left of both sides decides.
 -- Assumes nothing.
 use mathlib.Core.Path.{◌≡◌, refl, sym, ap, ◌∙◌}
-use mathlib.Core.Bool.{Bool, true, false, cond}
+use mathlib.Core.Bool.{Bool, true, false}
 use mathlib.Core.List.{List, [], ◌∷◌}
-use Prim.Native.Nat.{ℕ, zero, suc, ◌+◌, ◌<◌, ◌≤◌}
+use Prim.Native.Nat.{ℕ, zero, suc, ◌+◌, ◌<◌, ◌≤◌, max}
 use native.Mathlib.Nat.{le_refl}
 use native.Mathlib.Numerals.{add-one}
 use native.Mathlib.Omega.{arith}
-use borrow.Author.Tests.{lt-ltb, le-ltb, ltb-true, ltb-false}
-use lib.Dec.{ltb}
+use borrow.Author.Tests.{lt-ltb, le-ltb}
 use lib.IntN.{ℤ}
 use lib.ListN.{get_or, drop, drop_of_length-le}
 use lib.Signed.{lt_z}
@@ -17,28 +16,10 @@ use Rattle.definition.specs.Values as D
 use Rattle.definition.specs.Values.{Value, order_of, bytes_order, numbers_order, infixed, comparing}
 use Rattle.definition.proofs.Parts.{length_part}
 use Rattle.values.specs.Answers.{order_for, order_in, is_wanted, operator_of}
-use Rattle.values.specs.Bits.{longer}
 use Rattle.values.specs.declared.Order.TheVariants.{Below, Alike, Above}
 use Rattle.values.specs.declared.Comparison.{Comparison}
 use Rattle.values.specs.declared.Comparison.TheVariants.{Greater, GreaterEqual, Equal, Less, LessEqual, NotGreater, NotEqual, NotLess}
 use Rattle.values.proofs.Bytes.{part_at, part_past}
-
--- the longer of two lengths is no less than either
-pub longer_first : (n m : ℕ) → n ≤ longer n m
-unfolding longer
-longer_first n m = go (ltb n m) refl
-  where
-    go : (t : Bool) → ltb n m ≡ t → n ≤ cond t m n
-    go true e = omega (arith, ltb-true n m e)
-    go false e = le_refl n
-
-pub longer_second : (n m : ℕ) → m ≤ longer n m
-unfolding longer
-longer_second n m = go (ltb n m) refl
-  where
-    go : (t : Bool) → ltb n m ≡ t → m ≤ cond t m n
-    go true e = le_refl m
-    go false e = ltb-false n m e
 
 -- ---- a byte or what the shorter side is filled with
 pub byte_in : (s : List ℕ) (at n j d b : ℕ) → j < n → b ≡ get_or s (at + j) 0 → b ≡ get_or (part n at s) j d
@@ -87,11 +68,11 @@ module _ (pad : ℕ) (xs ys : List ℕ) (j : ℕ) (c : Comparing pad xs ys j) (x
   comparing_more h k = record { is = rw add-one (rw (le-ltb x y h, le-ltb y x k) at step) }
 
 pub comparing_done : (pad : ℕ) (s : List ℕ) (a n : ℕ) (t : List ℕ) (b m j most : ℕ)
-    → Comparing pad (part n a s) (part m b t) j → most ≡ longer n m → most ≤ j → Alike ≡ order_for (bytes_order pad (part n a s) (part m b t))
+    → Comparing pad (part n a s) (part m b t) j → most ≡ max n m → most ≤ j → Alike ≡ order_for (bytes_order pad (part n a s) (part m b t))
 unfolding bytes_order
 comparing_done pad s a n t b m j most c e h =
-    let p : drop j (part n a s) ≡ [] = drop_of_length-le (part n a s) {i = j} (rw length_part (omega (arith, longer_first n m))) in
-    let q : drop j (part m b t) ≡ [] = drop_of_length-le (part m b t) {i = j} (rw length_part (omega (arith, longer_second n m))) in
+    let p : drop j (part n a s) ≡ [] = drop_of_length-le (part n a s) {i = j} (rw length_part (omega arith)) in
+    let q : drop j (part m b t) ≡ [] = drop_of_length-le (part m b t) {i = j} (rw length_part (omega arith)) in
     ap order_for (rw (p, q) at c.is)
 
 -- ---- numbers

@@ -1,6 +1,7 @@
 -- CHARACTER and BIT to FIXED: the digits are read up to what no FIXED has, and what is left of them decides.
 -- Assumes nothing.
 use mathlib.Core.Path.{◌≡◌, refl, sym, ap, ◌∙◌}
+use mathlib.Core.Logic.{◌⊎◌, inl, inr}
 use mathlib.Core.Bool.{Bool, true, false, cond, ◌&&◌}
 use mathlib.Core.List.{List, [], ◌∷◌}
 use Prim.Native.Nat.{ℕ, ◌+◌, ◌*◌, ◌-◌, ◌<◌, ◌≤◌}
@@ -106,11 +107,9 @@ module _ (negative : Bool) (m : ℕ) (a : A.Answer) (g : result_of a ≡ F.range
   pub number_is : (x : Fixed) → a ≡ W.Is x → answer_of (Is x) ≡ from_fixed (F.ranged (signed_by negative m))
   number_is x e = ap from_fixed (rw e at given)
 
-  pub number_past : a ≡ W.OutOfRange → answer_of OutOfRange ≡ from_fixed (F.ranged (signed_by negative m))
-  number_past e = ap from_fixed (rw e at given)
-
-  pub number_never : a ≡ W.ZeroDivisor → answer_of OutOfRange ≡ from_fixed (F.ranged (signed_by negative m))
-  number_never e = absurd (never_zero _ (sym (rw e at given)))
+  pub number_past : (a ≡ W.OutOfRange) ⊎ (a ≡ W.ZeroDivisor) → answer_of OutOfRange ≡ from_fixed (F.ranged (signed_by negative m))
+  number_past (inl e) = ap from_fixed (rw e at given)
+  number_past (inr e) = absurd (never_zero _ (sym (rw e at given)))
 
 -- ---- digits and blanks
 and_false : (t : Bool) → (t && false) ≡ false
@@ -159,8 +158,8 @@ module _ (s : List ℕ) (at n i : ℕ) (run : Run is_blank s at 0 n i) where
     pub minus_number : b ≡ 45 → answer_of r ≡ digits_in true (part (n - (i + 1)) (at + (i + 1)) s) → answer_of r ≡ to_fixed (characters (part n at s))
     minus_number f g = rw (begins, eq-eqb b 45 f) g
 
-    pub plus_number : (b ≡ 45 → ⊥) → b ≡ 43 → answer_of r ≡ digits_in false (part (n - (i + 1)) (at + (i + 1)) s) → answer_of r ≡ to_fixed (characters (part n at s))
-    plus_number k f g = rw (begins, ne_eqb b 45 k, eq-eqb b 43 f) g
+    pub plus_number : b ≡ 43 → answer_of r ≡ digits_in false (part (n - (i + 1)) (at + (i + 1)) s) → answer_of r ≡ to_fixed (characters (part n at s))
+    plus_number f g = rw (begins, ne_eqb b 45 (λ q. omega (arith, f, q)), eq-eqb b 43 f) g
 
     pub bare_number : (b ≡ 45 → ⊥) → (b ≡ 43 → ⊥) → answer_of r ≡ digits_in false (part (n - i) (at + i) s) → answer_of r ≡ to_fixed (characters (part n at s))
     bare_number k f g =

@@ -1,6 +1,7 @@
 -- SUBSTR's test, and that it is the definition's.
 -- Assumes nothing.
 use mathlib.Core.Path.{◌≡◌, refl, sym, ap, ◌∙◌}
+use mathlib.Core.Logic.{inl, inr}
 use mathlib.Core.Bool.{Bool, true, false, not, cond}
 use mathlib.Core.List.{List, [], ◌∷◌}
 use Prim.Native.Nat.{ℕ, zero, suc, ◌+◌, ◌-◌, ◌<◌, ◌≤◌}
@@ -11,6 +12,7 @@ use lib.Dec.{leb}
 use lib.IntN.{ℤ, pos, negsuc, nat_abs}
 use lib.ListN.{get_or, take, drop}
 use lib.Signed.{non_neg}
+use Rattle.std.proofs.lemmas.Bool.{cases_lt}
 use Rattle.definition.specs.Lists.{part}
 use Rattle.definition.specs.declared.Why.TheVariants.{SubstrOutside as substr_outside}
 use Rattle.definition.specs.Values.{Value, gives, fails, size_of, as_number, piece, cut_out, start_from, length_from, substr}
@@ -19,27 +21,16 @@ use Rattle.values.specs.declared.Cut.TheVariants.{Stretch, Outside}
 use Rattle.values.specs.Substr.{stretch, cut_at, cut_part, cut_rest, piece_for}
 
 -- ---- by places counted from 1
-pub cut_none : (size i n : ℕ) → i ≡ 0 → Outside ≡ cut_at size i n
-unfolding cut_at
-cut_none size i n e = rw e
-
-module _ (size i n : ℕ) (h : i ≡ 0 → ⊥) where
-  cut_is : cut_at size i n ≡ cond (leb (i - 1 + n) size) (Stretch (i - 1) n) Outside
+module _ (size : ℕ) where
+  pub cut_not : (i n : ℕ) → (0 < i → i - 1 + n ≤ size → ⊥) → Outside ≡ cut_at size i n
   unfolding cut_at stretch
-  cut_is = go i h
-    where
-      go : (k : ℕ) → (k ≡ 0 → ⊥) → cut_at size k n ≡ cond (leb (k - 1 + n) size) (Stretch (k - 1) n) Outside
-      go zero g = absurd (g refl)
-      go (suc k) g = let e : suc k - 1 ≡ k = omega arith in rw e
+  cut_not zero n h = refl
+  cut_not (suc i) n h = rw (lt-leb (i + n) size (elim (cases_lt size (i + n)) [ inl l ↦ l | inr l ↦ absurd (h (omega arith) (omega arith)) ]))
 
-  pub cut_start : size < i - 1 → Outside ≡ cut_at size i n
-  cut_start l = rw (cut_is, lt-leb (i - 1 + n) size (omega arith))
-
-  pub cut_end : i - 1 ≤ size → size - (i - 1) < n → Outside ≡ cut_at size i n
-  cut_end k l = rw (cut_is, lt-leb (i - 1 + n) size (omega arith))
-
-  pub cut_in : i - 1 ≤ size → n ≤ size - (i - 1) → Stretch (i - 1) n ≡ cut_at size i n
-  cut_in k l = rw (cut_is, le-leb (i - 1 + n) size (omega arith))
+  pub cut_in : (i n : ℕ) → 0 < i → i - 1 + n ≤ size → Stretch (i - 1) n ≡ cut_at size i n
+  unfolding cut_at stretch
+  cut_in zero n h l = absurd (omega arith)
+  cut_in (suc i) n h l = let e : suc i - 1 ≡ i = omega arith in rw (e, le-leb (i + n) size (omega arith))
 
 -- ---- by numbers
 from_below : (size : ℕ) (z w : ℤ) → not (non_neg z) ≡ true → Outside ≡ cut_part size z w
@@ -76,17 +67,15 @@ module _ (size : ℕ) (z : ℤ) (t : Bool) (e : t ≡ not (non_neg z)) where
   pub rest_from : t ≡ true → Outside ≡ cut_rest size z
   rest_from f = rest_under size z (sym e ∙ f)
 
-  pub rest_is : (m i n : ℕ) (c : Cut) → t ≡ false → m ≡ nat_abs z → i ≡ m → n ≡ size - (i - 1) → c ≡ cut_at size i n → c ≡ cut_rest size z
-  rest_is m i n c f p q r k =
-      let g : i ≡ nat_abs z = q ∙ p in
-      k ∙ rw (r, g) (sym (rest_above size z (sym e ∙ f)))
+  pub rest_is : (i k n : ℕ) (c : Cut) → t ≡ false → i ≡ nat_abs z → k ≡ i - 1 → n ≡ size - k → c ≡ cut_at size i n → c ≡ cut_rest size z
+  rest_is i k n c f p q r g = g ∙ rw (r, q, p) (sym (rest_above size z (sym e ∙ f)))
 
   module _ (w : ℤ) (u : Bool) (d : u ≡ not (non_neg w)) where
     pub part_count : u ≡ true → Outside ≡ cut_part size z w
     part_count f = count_below size z w (sym d ∙ f)
 
-    pub part_is : (m i l n : ℕ) (c : Cut) → t ≡ false → u ≡ false → m ≡ nat_abs z → i ≡ m → l ≡ nat_abs w → n ≡ l → c ≡ cut_at size i n → c ≡ cut_part size z w
-    part_is m i l n c f g p q r s k = k ∙ rw (q, p, s, r) (sym (both_above size z w (sym e ∙ f) (sym d ∙ g)))
+    pub part_is : (i n : ℕ) (c : Cut) → t ≡ false → u ≡ false → i ≡ nat_abs z → n ≡ nat_abs w → c ≡ cut_at size i n → c ≡ cut_part size z w
+    part_is i n c f g p q k = k ∙ rw (p, q) (sym (both_above size z w (sym e ∙ f) (sym d ∙ g)))
 
 -- ---- the definition's SUBSTR takes what the cut takes
 either : (v : Value) (i n : ℕ) (t : Bool) → cond t (gives (piece v i n)) (fails substr_outside) ≡ piece_for v (cond t (Stretch i n) Outside)

@@ -113,11 +113,12 @@ module _ (n k rest : ℕ) (c : Counting n k rest) where
         is = subst (λ (f : ℕ). decimal_on f (rest / 10) ((48 + rest % 10) ∷ c.done) ≡ decimal_on 6 n []) e (rw (le-ltb rest 10 h) at c.is);
       }
 
-  pub counting_done : 6 ≤ k → k ≡ length (decimal_on 6 n [])
+  pub counting_done : 6 ≤ k → 6 ≡ length (decimal_on 6 n [])
   unfolding decimal_on
   counting_done h =
       let e : c.left ≡ 0 = omega (arith, c.turns) in
-      sym c.size ∙ go (ltb rest 10) ∙ ap length (rw e at c.is)
+      let f : 6 ≡ k = omega (arith, c.turns) in
+      f ∙ sym c.size ∙ go (ltb rest 10) ∙ ap length (rw e at c.is)
     where
       go : (t : Bool) → suc (length c.done) ≡ length (when t (λ _. (48 + rest) ∷ c.done) (λ _. (48 + rest % 10) ∷ c.done))
       go true = refl

@@ -3,7 +3,7 @@
 // Parts: tests of bytes, comparison, to FIXED, from FIXED, bit operations, SUBSTR.
 #![tactic(auto)]
 
-ghost use Rattle.std.specs.Prelude.{◌≡◌, [], ◌+◌, ◌-◌, ◌%◌, nat_abs, length, get_or, replicate};
+ghost use Rattle.std.specs.Prelude.{◌≡◌, [], ◌+◌, ◌-◌, ◌%◌, ◌≤◌, nat_abs, length, get_or, replicate};
 ghost use Rattle.definition.specs.Lists.{part, all};
 ghost use Rattle.definition.specs.Room.{over};
 ghost use Rattle.definition.specs.Bytes.{is_digit, is_blank};
@@ -12,7 +12,7 @@ ghost use Rattle.definition.specs.Fixed.{ranged};
 ghost use Rattle.definition.specs.Values.{any_one, bytes_order, numbers_order, from_fixed, signed_by, to_fixed, characters, bit_value, constant, written, decimal_on, fixed_text, binary, bitwise, inverted, bit_of};
 ghost use Rattle.values.specs.Answers.{order_for, is_wanted, answer_of};
 ghost use Rattle.values.specs.Digits.{base_of, capped, last_digits, digits_in, Run, Wrote};
-ghost use Rattle.values.specs.Bits.{longer, logic_of};
+ghost use Rattle.values.specs.Bits.{logic_of};
 ghost use Rattle.values.specs.Substr.{cut_at, cut_part, cut_rest};
 
 use chars::{is_bit, is_blank, is_digit};
@@ -20,7 +20,7 @@ use fixed::{Answer, Fixed};
 use rooms::{byte, put_byte};
 
 // How two values lie to each other.
-#[derive(Clone, Copy)]
+#[derive(Clone, Copy, PartialEq, Eq)]
 pub enum Order {
     Below,
     Alike,
@@ -82,74 +82,37 @@ const BITS: usize = 17;
 pub fn any_one(s: &[u8], at: usize, n: usize) -> bool
     ensures { result ≡ any_one (part n at s.now) }
 {
-    let mut j = 0;
-    while j < n {
-        if byte(s, at, j) == b'1' {
-            return true;
-        }
-        j += 1;
-    }
-    false
+    (0..n).any(|j| byte(s, at, j) == b'1')
 }
 
 // Whether the bytes at a place can be made BIT.
 pub fn are_bits(s: &[u8], at: usize, n: usize) -> bool
     ensures { result ≡ all is_bit (part n at s.now) }
 {
-    let mut j = 0;
-    while j < n {
-        if is_bit(byte(s, at, j)) {
-            j += 1;
-        } else {
-            return false;
-        }
-    }
-    true
+    (0..n).all(|j| is_bit(byte(s, at, j)))
 }
 
 // Whether the bytes from i to n past a place are blanks.
 fn are_blanks(s: &[u8], at: usize, i: usize, n: usize) -> bool
     ensures { result ≡ all is_blank (part (n - i) (at + i) s.now) }
 {
-    let mut j = i;
-    while j < n {
-        if is_blank(byte(s, at, j)) {
-            j += 1;
-        } else {
-            return false;
-        }
-    }
-    true
+    (i..n).all(|j| is_blank(byte(s, at, j)))
 }
 
 // ---- comparison
-
-fn longer_of(n: usize, m: usize) -> usize
-    ensures { result ≡ longer n m }
-{
-    if n < m {
-        return m;
-    }
-    n
-}
 
 // Byte j of the n bytes at a place, or what the shorter side is filled with.
 fn byte_or(s: &[u8], at: usize, n: usize, j: usize, pad: u8) -> u8
     ensures { result ≡ get_or (part n at s.now) j pad }
 {
-    if j < n {
-        return byte(s, at, j);
-    }
-    pad
+    if j < n { byte(s, at, j) } else { pad }
 }
 
 // How the n bytes at place a lie to the m bytes at place b, the shorter side filled with a byte.
 pub fn bytes_order(s: &[u8], a: usize, n: usize, t: &[u8], b: usize, m: usize, pad: u8) -> Order
     ensures { result ≡ order_for (bytes_order pad (part n a s.now) (part m b t.now)) }
 {
-    let most = longer_of(n, m);
-    let mut j = 0;
-    while j < most {
+    for j in 0..n.max(m) {
         let x = byte_or(s, a, n, j, pad);
         let y = byte_or(t, b, m, j, pad);
         if x < y {
@@ -158,7 +121,6 @@ pub fn bytes_order(s: &[u8], a: usize, n: usize, t: &[u8], b: usize, m: usize, p
         if y < x {
             return Order::Above;
         }
-        j += 1;
     }
     Order::Alike
 }
@@ -167,41 +129,11 @@ pub fn numbers_order(x: Fixed, y: Fixed) -> Order
     ensures { result ≡ order_for (numbers_order x.value y.value) }
 {
     if x.is_less(y) {
-        return Order::Below;
-    }
-    if y.is_less(x) {
-        return Order::Above;
-    }
-    Order::Alike
-}
-
-fn is_below(o: Order) -> bool
-    ensures { result ≡ is_wanted Comparison.Less o }
-{
-    match o {
-        Order::Below => true,
-        Order::Alike => false,
-        Order::Above => false,
-    }
-}
-
-fn is_alike(o: Order) -> bool
-    ensures { result ≡ is_wanted Comparison.Equal o }
-{
-    match o {
-        Order::Below => false,
-        Order::Alike => true,
-        Order::Above => false,
-    }
-}
-
-fn is_above(o: Order) -> bool
-    ensures { result ≡ is_wanted Comparison.Greater o }
-{
-    match o {
-        Order::Below => false,
-        Order::Alike => false,
-        Order::Above => true,
+        Order::Below
+    } else if y.is_less(x) {
+        Order::Above
+    } else {
+        Order::Alike
     }
 }
 
@@ -210,14 +142,12 @@ pub fn is_wanted(c: Comparison, o: Order) -> bool
     ensures { result ≡ is_wanted c o }
 {
     match c {
-        Comparison::Greater => is_above(o),
-        Comparison::GreaterEqual => !is_below(o),
-        Comparison::Equal => is_alike(o),
-        Comparison::Less => is_below(o),
-        Comparison::LessEqual => !is_above(o),
-        Comparison::NotGreater => !is_above(o),
-        Comparison::NotEqual => !is_alike(o),
-        Comparison::NotLess => !is_below(o),
+        Comparison::Greater => o == Order::Above,
+        Comparison::GreaterEqual | Comparison::NotLess => o != Order::Below,
+        Comparison::Equal => o == Order::Alike,
+        Comparison::Less => o == Order::Below,
+        Comparison::LessEqual | Comparison::NotGreater => o != Order::Above,
+        Comparison::NotEqual => o != Order::Alike,
     }
 }
 
@@ -225,32 +155,18 @@ pub fn is_wanted(c: Comparison, o: Order) -> bool
 
 // Where the blanks end among the bytes from i to n past a place.
 fn past_blanks(s: &[u8], at: usize, i: usize, n: usize) -> usize
+    requires { i ≤ n }
     ensures { Run is_blank s.now at i n result }
 {
-    let mut j = i;
-    while j < n {
-        if is_blank(byte(s, at, j)) {
-            j += 1;
-        } else {
-            return j;
-        }
-    }
-    j
+    (i..n).find(|&j| !is_blank(byte(s, at, j))).unwrap_or(n)
 }
 
 // Where the digits end among the bytes from i to n past a place.
 fn past_digits(s: &[u8], at: usize, i: usize, n: usize) -> usize
+    requires { i ≤ n }
     ensures { Run is_digit s.now at i n result }
 {
-    let mut j = i;
-    while j < n {
-        if is_digit(byte(s, at, j)) {
-            j += 1;
-        } else {
-            return j;
-        }
-    }
-    j
+    (i..n).find(|&j| !is_digit(byte(s, at, j))).unwrap_or(n)
 }
 
 fn base_number(base: Base) -> u32
@@ -265,10 +181,7 @@ fn base_number(base: Base) -> u32
 fn digit(b: u8) -> u32
     ensures { result ≡ b - 48 }
 {
-    if b < b'0' {
-        return 0;
-    }
-    (b - b'0') as u32
+    u32::from(b.saturating_sub(b'0'))
 }
 
 // The number that the digits from i to n past a place write; 512 digits write more than any integer holds, so it stops at OVER.
@@ -276,14 +189,12 @@ fn capped_number(base: Base, s: &[u8], at: usize, i: usize, n: usize) -> u32
     ensures { result ≡ capped (written (base_of base) 0 (part (n - i) (at + i) s.now)) }
 {
     let mut value: u32 = 0;
-    let mut j = i;
-    while j < n {
+    for j in i..n {
         let next = base_number(base) * value + digit(byte(s, at, j));
         if OVER <= next {
             return OVER;
         }
         value = next;
-        j += 1;
     }
     value
 }
@@ -294,23 +205,20 @@ fn number_of(negative: bool, magnitude: u32) -> NumberAnswer
 {
     match Fixed::of_magnitude(negative, magnitude) {
         Answer::Is(x) => NumberAnswer::Is(x),
-        Answer::OutOfRange => NumberAnswer::OutOfRange,
-        Answer::ZeroDivisor => NumberAnswer::OutOfRange,
+        Answer::OutOfRange | Answer::ZeroDivisor => NumberAnswer::OutOfRange,
     }
 }
 
 // The number that the bytes from i to n past a place write: the form of them all first, and then the range.
 fn unsigned_number(negative: bool, s: &[u8], at: usize, i: usize, n: usize) -> NumberAnswer
+    requires { i ≤ n }
     ensures { answer_of result ≡ digits_in negative (part (n - i) (at + i) s.now) }
 {
     let end = past_digits(s, at, i, n);
-    if end == i {
+    if end == i || !are_blanks(s, at, end, n) {
         return NumberAnswer::NoConversion;
     }
-    if are_blanks(s, at, end, n) {
-        return number_of(negative, capped_number(Base::Ten, s, at, i, end));
-    }
-    NumberAnswer::NoConversion
+    number_of(negative, capped_number(Base::Ten, s, at, i, end))
 }
 
 // CHARACTER to FIXED.
@@ -321,14 +229,11 @@ pub fn number_in(s: &[u8], at: usize, n: usize) -> NumberAnswer
     if n <= i {
         return NumberAnswer::Is(Fixed { value: 0 });
     }
-    let sign = byte(s, at, i);
-    if sign == b'-' {
-        return unsigned_number(true, s, at, i + 1, n);
+    match byte(s, at, i) {
+        b'-' => unsigned_number(true, s, at, i + 1, n),
+        b'+' => unsigned_number(false, s, at, i + 1, n),
+        _ => unsigned_number(false, s, at, i, n),
     }
-    if sign == b'+' {
-        return unsigned_number(false, s, at, i + 1, n);
-    }
-    unsigned_number(false, s, at, i, n)
 }
 
 // BIT to FIXED.
@@ -350,8 +255,7 @@ pub fn constant_number(s: &[u8], at: usize, n: usize) -> NumberAnswer
 fn last_digit(base: Base, n: u32) -> u8
     ensures { result ≡ 48 + n % base_of base }
 {
-    let least = n % base_number(base);
-    b'0' + least as u8
+    b'0' + (n % base_number(base)) as u8
 }
 
 // Writes the last k digits of n, from the last to the first.
@@ -359,11 +263,9 @@ fn put_digits(base: Base, n: u32, k: usize, room: &mut [u8], at: usize)
     ensures { room.new ≡ over room.old at (last_digits (base_of base) k n) }
 {
     let mut rest = n;
-    let mut j = k;
-    while 0 < j {
-        j -= 1;
+    for j in (0..k).rev() {
         put_byte(room, at, j, last_digit(base, rest));
-        rest = rest / base_number(base);
+        rest /= base_number(base);
     }
 }
 
@@ -378,26 +280,22 @@ pub fn put_bits(x: Fixed, room: &mut [u8], at: usize)
 fn decimal_length(n: u32) -> usize
     ensures { result ≡ length (decimal_on 6 n []) }
 {
-    let mut k = 1;
     let mut rest = n;
-    while k < DECIMALS {
+    for k in 1..DECIMALS {
         if rest < 10 {
             return k;
         }
-        rest = rest / 10;
-        k += 1;
+        rest /= 10;
     }
-    k
+    DECIMALS
 }
 
 // Writes n blanks.
 fn put_blanks(room: &mut [u8], at: usize, n: usize)
     ensures { room.new ≡ over room.old at (replicate n 32) }
 {
-    let mut j = 0;
-    while j < n {
+    for j in 0..n {
         put_byte(room, at, j, b' ');
-        j += 1;
     }
 }
 
@@ -419,21 +317,16 @@ pub fn put_fixed(x: Fixed, room: &mut [u8], at: usize)
 pub fn bit_of(t: bool) -> u8
     ensures { result ≡ bit_of t }
 {
-    if t {
-        return b'1';
-    }
-    b'0'
+    if t { b'1' } else { b'0' }
 }
 
 // Inverts the bits at a place, where they stand.
 pub fn invert(room: &mut [u8], at: usize, n: usize)
     ensures { room.new ≡ over room.old at (inverted (part n at room.old)) }
 {
-    let mut j = 0;
-    while j < n {
+    for j in 0..n {
         let b = byte(room, at, j);
         put_byte(room, at, j, bit_of(b != b'1'));
-        j += 1;
     }
 }
 
@@ -441,22 +334,18 @@ pub fn invert(room: &mut [u8], at: usize, n: usize)
 fn far_byte(s: &[u8], at: usize, n: usize, k: usize) -> u8
     ensures { result ≡ get_or s.now (at + n + k) 0 }
 {
-    if at < s.len() {
-        if n < s.len() - at {
-            return byte(s, at + n, k);
-        }
+    if at < s.len() && n < s.len() - at {
+        byte(s, at + n, k)
+    } else {
+        0
     }
-    0
 }
 
 // Bit j of the m bits that stand n places past `at`; the shorter side is filled with zeros.
 fn far_byte_or(s: &[u8], at: usize, n: usize, m: usize, j: usize) -> u8
     ensures { result ≡ get_or (part m (at + n) s.now) j 48 }
 {
-    if j < m {
-        return far_byte(s, at, n, j);
-    }
-    b'0'
+    if j < m { far_byte(s, at, n, j) } else { b'0' }
 }
 
 fn apply(op: Logic, x: bool, y: bool) -> bool
@@ -472,13 +361,11 @@ fn apply(op: Logic, x: bool, y: bool) -> bool
 pub fn combine(op: Logic, room: &mut [u8], at: usize, n: usize, m: usize) -> usize
     ensures { Wrote (bitwise (logic_of op) (part n at room.old) (part m (at + n) room.old)) room.old at room.new result }
 {
-    let most = longer_of(n, m);
-    let mut j = 0;
-    while j < most {
+    let most = n.max(m);
+    for j in 0..most {
         let x = byte_or(room, at, n, j, b'0');
         let y = far_byte_or(room, at, n, m, j);
         put_byte(room, at, j, bit_of(apply(op, x == b'1', y == b'1')));
-        j += 1;
     }
     most
 }
@@ -489,49 +376,20 @@ pub fn combine(op: Logic, room: &mut [u8], at: usize, n: usize, m: usize) -> usi
 fn cut_at(size: usize, from: usize, count: usize) -> Cut
     ensures { result ≡ cut_at size from count }
 {
-    if from == 0 {
+    if from == 0 || size < from - 1 || size - (from - 1) < count {
         return Cut::Outside;
     }
-    let start = from - 1;
-    if size < start {
-        return Cut::Outside;
-    }
-    if size - start < count {
-        return Cut::Outside;
-    }
-    Cut::Stretch(start, count)
-}
-
-fn wide(n: u32) -> usize
-    ensures { result ≡ n }
-{
-    n as usize
+    Cut::Stretch(from - 1, count)
 }
 
 // What SUBSTR with a third argument takes.
 pub fn cut_part(size: usize, from: Fixed, count: Fixed) -> Cut
     ensures { result ≡ cut_part size from.value count.value }
 {
-    if from.is_negative() {
+    if from.is_negative() || count.is_negative() {
         return Cut::Outside;
     }
-    if count.is_negative() {
-        return Cut::Outside;
-    }
-    cut_at(size, wide(from.magnitude()), wide(count.magnitude()))
-}
-
-// How many places are left from the place `from` on, counted from 1.
-fn left_from(size: usize, from: usize) -> usize
-    ensures { result ≡ size - (from - 1) }
-{
-    if from == 0 {
-        return size;
-    }
-    if size < from {
-        return 0;
-    }
-    size - (from - 1)
+    cut_at(size, from.magnitude() as usize, count.magnitude() as usize)
 }
 
 // What SUBSTR without a third argument takes.
@@ -541,6 +399,6 @@ pub fn cut_rest(size: usize, from: Fixed) -> Cut
     if from.is_negative() {
         return Cut::Outside;
     }
-    let first = wide(from.magnitude());
-    cut_at(size, first, left_from(size, first))
+    let first = from.magnitude() as usize;
+    cut_at(size, first, size.saturating_sub(first.saturating_sub(1)))
 }

@@ -1,14 +1,14 @@
-use Rattle.values.proofs.Bytes.{seeking_start, seeking_more, seeking_found, seeking_done}
+-- The closure tests a byte.
+use Rattle.std.proofs.Common.{rules, ◌+◌, ◌-◌, get_or, ap, ◌∙◌}
+use borrow.Author.Tests.{tests}
+use lib.Dec.{eqb}
+use Rattle.definition.specs.Values.{any_one}
+use Rattle.rooms.proofs.Ranges.{any_is}
+use Rattle.values.proofs.Bytes.{any_part, from_first}
 use Rattle.values.proofs.any_one.Goals as goal
 
-pub loop-j-init : goal.loop-j-init
-loop-j-init c = seeking_start _ _ _
-
-pub returns-then-byte-eq49 : goal.returns-then-byte-eq49
-returns-then-byte-eq49 c = search seeking_found
-
-pub loop-j-preserved : goal.loop-j-preserved
-loop-j-preserved c = search seeking_more
-
 pub returns : goal.returns
-returns c = search seeking_done
+returns c =
+    any_is _ _ _ c.any.result (λ j. eqb (get_or c.args.s.now (c.args.at + j) 0) 49)
+    c.any.ensures.ran (λ x q k. search (rules, tests)) (λ x q k. search (rules, tests))
+    ∙ any_part c.args.s.now c.args.at 0 (c.args.n - 0) ∙ ap any_one (from_first c.args.s.now c.args.at c.args.n)

@@ -1,14 +1,13 @@
-use Rattle.values.proofs.Bytes.{testing_start, testing_more, testing_no, testing_done}
+-- The closure tests a byte.
+use Rattle.std.proofs.Common.{rules, ◌+◌, ◌-◌, get_or, ◌∙◌}
+use borrow.Author.Tests.{tests}
+use Rattle.definition.specs.Bytes.{is_blank}
+use Rattle.rooms.proofs.Ranges.{all_is}
+use Rattle.values.proofs.Bytes.{all_part}
 use Rattle.values.proofs.are_blanks.Goals as goal
 
-pub loop-j-init : goal.loop-j-init
-loop-j-init c = testing_start _ _ _ _ _
-
-pub loop-j-preserved : goal.loop-j-preserved
-loop-j-preserved c = search testing_more
-
-pub returns-else-is_blank : goal.returns-else-is_blank
-returns-else-is_blank c = search testing_no
-
 pub returns : goal.returns
-returns c = search testing_done
+returns c =
+    all_is _ _ _ c.all.result (λ j. is_blank (get_or c.args.s.now (c.args.at + j) 0))
+    c.all.ensures.ran (λ x q k. search (rules, tests)) (λ x q k. search (rules, tests))
+    ∙ all_part is_blank c.args.s.now c.args.at c.args.i (c.args.n - c.args.i)

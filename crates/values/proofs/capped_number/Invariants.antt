@@ -1,10 +1,6 @@
 -- What is left to read decides; a number past the range stays past it.
-use Prim.Native.Nat.{◌-◌}
 use Rattle.values.proofs.Numbers.{Reading}
 use Rattle.values.proofs.capped_number.Given as goal
 
 abbrev pub invariant-loop-j : goal.invariant-loop-j
 invariant-loop-j l = Reading l.base l.s l.at l.i l.n l.value l.j
-
-abbrev pub decreases-loop-j : goal.decreases-loop-j
-decreases-loop-j l = l.n - l.j

@@ -3,8 +3,5 @@ use Rattle.std.proofs.Common.{arith}
 use Rattle.values.proofs.Bits.{far_past}
 use Rattle.values.proofs.far_byte.Goals as goal
 
-pub returns-else-n-s : goal.returns-else-n-s
-returns-else-n-s c = far_past c.args.s.now c.args.at c.args.n c.args.k (omega arith)
-
 pub returns-else-at-s : goal.returns-else-at-s
 returns-else-at-s c = far_past c.args.s.now c.args.at c.args.n c.args.k (omega arith)

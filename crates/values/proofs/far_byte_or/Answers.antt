@@ -5,5 +5,5 @@ use Rattle.values.proofs.far_byte_or.Goals as goal
 pub returns-then-j-m : goal.returns-then-j-m
 returns-then-j-m c = search byte_in
 
-pub returns : goal.returns
-returns c = search byte_out
+pub returns-else-j-m : goal.returns-else-j-m
+returns-else-j-m c = search byte_out

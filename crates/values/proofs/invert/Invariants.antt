@@ -1,5 +1,4 @@
 -- The first j bits are inverted, and the others as they were.
-use Prim.Native.Nat.{◌-◌}
 use Rattle.definition.specs.Lists.{part}
 use Rattle.definition.specs.Values.{inverted}
 use Rattle.values.proofs.Bits.{Filling}
@@ -7,6 +6,3 @@ use Rattle.values.proofs.invert.Given as goal
 
 abbrev pub invariant-loop-j : goal.invariant-loop-j
 invariant-loop-j l = Filling (inverted (part l.n l.at l.initial.room)) l.initial.room l.at l.room l.j
-
-abbrev pub decreases-loop-j : goal.decreases-loop-j
-decreases-loop-j l = l.n - l.j

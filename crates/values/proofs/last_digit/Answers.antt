@@ -3,8 +3,8 @@ use Rattle.std.proofs.Common.{arith}
 use Rattle.values.proofs.Written.{base_some, digit_small}
 use Rattle.values.proofs.last_digit.Goals as goal
 
-pub nonzero_rem-least : goal.nonzero_rem-least
-nonzero_rem-least c = base_some c.args.base _ c.base_number.ensures
+pub nonzero_rem-result : goal.nonzero_rem-result
+nonzero_rem-result c = base_some c.args.base _ c.base_number.ensures
 
 pub overflow_cast-result : goal.overflow_cast-result
 overflow_cast-result c = omega (arith, digit_small c.args.base c.args.n _ c.base_number.ensures)

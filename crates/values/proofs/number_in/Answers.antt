@@ -5,11 +5,11 @@ use Rattle.values.proofs.number_in.Goals as goal
 pub returns-then-n-i : goal.returns-then-n-i
 returns-then-n-i c = search blank_number
 
-pub returns-then-sign-eq45 : goal.returns-then-sign-eq45
-returns-then-sign-eq45 c = minus_number c.args.s.now c.args.at c.args.n c.past_blanks-i.result c.past_blanks-i.ensures c.if-n-i.false c.byte-sign.result c.byte-sign.ensures c.unsigned_number.result c.if-sign-eq45.true c.unsigned_number.ensures
+pub returns-in-45 : goal.returns-in-45
+returns-in-45 c = search minus_number
 
-pub returns-then-sign-eq43 : goal.returns-then-sign-eq43
-returns-then-sign-eq43 c = plus_number c.args.s.now c.args.at c.args.n c.past_blanks-i.result c.past_blanks-i.ensures c.if-n-i.false c.byte-sign.result c.byte-sign.ensures c.unsigned_number-then-sign-eq43.result c.if-sign-eq45.false c.if-sign-eq43.true c.unsigned_number-then-sign-eq43.ensures
+pub returns-in-43 : goal.returns-in-43
+returns-in-43 c = search plus_number
 
-pub returns : goal.returns
-returns c = bare_number c.args.s.now c.args.at c.args.n c.past_blanks-i.result c.past_blanks-i.ensures c.if-n-i.false c.byte-sign.result c.byte-sign.ensures c.unsigned_number-2.result c.if-sign-eq45.false c.if-sign-eq43.false c.unsigned_number-2.ensures
+pub returns-in_default : goal.returns-in_default
+returns-in_default c = search bare_number

@@ -1,5 +1,5 @@
 -- The checked constructor never answers with a zero divisor.
-use Rattle.values.proofs.Numbers.{number_is, number_past, number_never}
+use Rattle.values.proofs.Numbers.{number_is, number_past}
 use Rattle.values.proofs.number_of.Goals as goal
 
 pub returns-in-Is : goal.returns-in-Is
@@ -7,6 +7,3 @@ returns-in-Is c = search number_is
 
 pub returns-in-OutOfRange : goal.returns-in-OutOfRange
 returns-in-OutOfRange c = search number_past
-
-pub returns-in-ZeroDivisor : goal.returns-in-ZeroDivisor
-returns-in-ZeroDivisor c = search number_never

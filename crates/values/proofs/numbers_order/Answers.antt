@@ -8,5 +8,5 @@ returns-then-is_less c = search numbers_below
 pub returns-then-is_less-2 : goal.returns-then-is_less-2
 returns-then-is_less-2 c = search numbers_above
 
-pub returns : goal.returns
-returns c = search numbers_alike
+pub returns-else-is_less-2 : goal.returns-else-is_less-2
+returns-else-is_less-2 c = search numbers_alike

@@ -1,14 +1,14 @@
-use Rattle.values.proofs.Bytes.{running_start, running_more, running_stop, running_done}
+-- By the first that fails, if there is one.
+use Rattle.std.proofs.Common.{rules, ◌≡◌, ◌+◌, get_or, true, false}
+use borrow.Author.Tests.{tests}
+use Rattle.std.proofs.lemmas.Iterator.{first_from_Range}
+use Rattle.definition.specs.Bytes.{is_digit}
+use Rattle.values.proofs.Bytes.{run_found}
 use Rattle.values.proofs.past_digits.Goals as goal
 
-pub loop-j-init : goal.loop-j-init
-loop-j-init c = running_start _ _ _ _ _
-
-pub loop-j-preserved : goal.loop-j-preserved
-loop-j-preserved c = search running_more
-
-pub returns-else-is_digit : goal.returns-else-is_digit
-returns-else-is_digit c = search running_stop
-
 pub returns : goal.returns
-returns c = search running_done
+returns c =
+    run_found is_digit c.args.s.now c.args.at c.args.i c.args.n c.find.result c.unwrap_or.result c.requires
+    (first_from_Range _ _ _ c.find.result (λ j. is_digit (get_or c.args.s.now (c.args.at + j) 0) ≡ false) (λ j. is_digit (get_or c.args.s.now (c.args.at + j) 0) ≡ true)
+    c.find.ensures.ran (λ x q k. search (rules, tests)) (λ x q k. search (rules, tests)))
+    c.unwrap_or.ensures

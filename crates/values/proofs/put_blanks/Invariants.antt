@@ -1,10 +1,6 @@
 -- The blanks before place j are there.
-use Prim.Native.Nat.{◌-◌}
 use Rattle.values.proofs.Written.{Blanking}
 use Rattle.values.proofs.put_blanks.Given as goal
 
 abbrev pub invariant-loop-j : goal.invariant-loop-j
 invariant-loop-j l = Blanking l.n l.initial.room l.at l.room l.j
-
-abbrev pub decreases-loop-j : goal.decreases-loop-j
-decreases-loop-j l = l.n - l.j

@@ -4,6 +4,3 @@ use Rattle.values.proofs.put_digits.Given as goal
 
 abbrev pub invariant-loop-j : goal.invariant-loop-j
 invariant-loop-j l = Putting l.base l.n l.k l.initial.room l.at l.room l.rest l.j
-
-abbrev pub decreases-loop-j : goal.decreases-loop-j
-decreases-loop-j l = l.j
