@@ -1,9 +1,10 @@
 -- One law for each way out of a function on values; what is stored is read back.
 -- Assumes nothing.
 use mathlib.Core.Path.{◌≡◌, refl, sym, ap, ◌∙◌}
+use mathlib.Core.Logic.{◌⊎◌, inl, inr}
 use mathlib.Core.Bool.{true}
 use mathlib.Core.List.{List, [], ◌∷◌}
-use Prim.Native.Nat.{ℕ, zero, suc, ◌+◌, ◌*◌, ◌-◌, ◌<◌, ◌≤◌}
+use Prim.Native.Nat.{ℕ, zero, suc, ◌+◌, ◌-◌, ◌<◌, ◌≤◌}
 use native.Mathlib.Nat.{add-zero}
 use native.Mathlib.Omega.{arith}
 use borrow.Author.Tests.{lt-ltb, le-ltb}
@@ -14,59 +15,65 @@ use Rattle.definition.specs.Fixed as F
 use Rattle.definition.specs.Values.{fixed}
 use Rattle.definition.specs.World as W
 use Rattle.definition.specs.declared.ValueType.TheVariants.{FixedType}
+use Rattle.definition.proofs.Parts.{length_part}
 use Rattle.definition.proofs.Rooms.{get_d_over_at}
 use Rattle.fixed.specs.declared.Fixed.{Fixed}
 use Rattle.fixed.specs.declared.Answer.{Answer}
+use Rattle.fixed.specs.declared.Answer.TheVariants.{Is, OutOfRange, ZeroDivisor}
 use Rattle.fixed.specs.Answer.{result_of}
 use Rattle.fixed.specs.Signed.{stored_of, from_stored}
 use Rattle.fixed.proofs.Magnitude.{stored_back}
+use Rattle.store.specs.declared.Number.TheVariants.{NoNumber, Holds}
 use Rattle.store.specs.declared.Length.TheVariants.{NoCharacters, Bytes}
-use Rattle.store.specs.Cells.{slot, half, fixed_cell, character_cell, cell_in, length_cell, LengthAt, Stored}
+use Rattle.store.specs.Cells.{slot, half, fixed_cell, character_cell, cell_in, number_cell, length_cell, LengthAt, Stored}
 
 -- ---- FIXED: the stored number tells the value
-pub number_is : (c : List ℕ) (a n : ℕ) (r : Answer) → n ≡ get_or c (a + 0) 0 → result_of r ≡ from_stored n → fixed_cell (result_of r) ≡ cell_in c [] [] FixedType a
-unfolding cell_in
-number_is c a n r e f = ap fixed_cell f ∙ rw (e, add-zero)
+module _ (c : List ℕ) (a k n : ℕ) (r : Answer) (h : k ≡ a) (e : n ≡ get_or c (k + 0) 0) (f : result_of r ≡ from_stored n) where
+  number_is : fixed_cell (result_of r) ≡ cell_in c [] [] FixedType a
+  unfolding cell_in
+  number_is = ap fixed_cell f ∙ rw (e, h, add-zero)
+
+  pub number_held : (x : Fixed) → r ≡ Is x → number_cell (Holds x) ≡ cell_in c [] [] FixedType a
+  number_held x g = sym (ap (λ t. fixed_cell (result_of t)) g) ∙ number_is
+
+  pub number_none : (r ≡ OutOfRange) ⊎ (r ≡ ZeroDivisor) → number_cell NoNumber ≡ cell_in c [] [] FixedType a
+  number_none (inl g) = sym (ap (λ t. fixed_cell (result_of t)) g) ∙ number_is
+  number_none (inr g) = sym (ap (λ t. fixed_cell (result_of t)) g) ∙ number_is
 
 -- ---- CHARACTER: one more than the length, or 0
-length_of : (n at : ℕ) (l : List ℕ) → length_cell (Bytes n) at l ≡ character_cell (suc n) at l
-length_of n at l = refl
+module _ (c : List ℕ) (a k n : ℕ) (h : k ≡ a) (e : n ≡ get_or c (k + 0) 0) where
+  cell : get_or c a 0 ≡ n
+  cell = sym (rw (add-zero, h) at e)
 
-pub no_length : (c : List ℕ) (a n : ℕ) → n ≡ get_or c (a + 0) 0 → n ≡ 0 → LengthAt c a NoCharacters
-unfolding cell_in
-no_length c a n e z = record { is = λ low high. rw (← rw add-zero at e, z) }
+  pub no_length : n ≡ 0 → LengthAt c a NoCharacters
+  unfolding cell_in
+  no_length z = record { is = λ low high. rw (cell, z) }
 
-pub some_length : (c : List ℕ) (a n : ℕ) → n ≡ get_or c (a + 0) 0 → (n ≡ 0 → ⊥) → LengthAt c a (Bytes (n - 1))
-unfolding cell_in
-some_length c a n e z = record { is = λ low high. by n (sym (rw add-zero at e)) z low high }
-  where
-    by : (k : ℕ) → get_or c a 0 ≡ k → (k ≡ 0 → ⊥) → (low high : List ℕ) → length_cell (Bytes (k - 1)) (slot a) (half a low high) ≡ character_cell (get_or c a 0) (slot a) (half a low high)
-    by zero f h low high = absurd (h refl)
-    by (suc k) f h low high = let g : suc k - 1 ≡ k = omega arith in rw (f, g)
+  pub some_length : (n ≡ 0 → ⊥) → LengthAt c a (Bytes (n - 1))
+  unfolding cell_in
+  some_length z = record { is = λ low high. by n cell z low high }
+    where
+      by : (m : ℕ) → get_or c a 0 ≡ m → (m ≡ 0 → ⊥) → (low high : List ℕ) → length_cell (Bytes (m - 1)) (slot a) (half a low high) ≡ character_cell (get_or c a 0) (slot a) (half a low high)
+      by zero f g low high = absurd (g refl)
+      by (suc m) f g low high = let d : suc m - 1 ≡ m = omega arith in rw (f, d)
 
 -- ---- low or high
-pub low_slot : (a : ℕ) → a < 128 → 512 * a ≡ slot a
-low_slot a h = rw (lt-ltb a 128 h)
+module _ (low high : List ℕ) (a : ℕ) where
+  pub low_half : a < 128 → low ≡ half a low high
+  low_half h = rw (lt-ltb a 128 h)
 
-pub high_slot : (a : ℕ) → 128 ≤ a → 512 * (a - 128) ≡ slot a
-high_slot a h = rw (le-ltb a 128 h)
+  pub high_half : 128 ≤ a → high ≡ half a low high
+  high_half h = rw (le-ltb a 128 h)
 
-module _ (low high r r' : List ℕ) (a n p at : ℕ) (e : p ≡ slot a) where
-  pub copied_low : a < 128 → r' ≡ over r at (part n p low) → r' ≡ over r at (part n (slot a) (half a low high))
-  copied_low h f = f ∙ rw (e, lt-ltb a 128 h)
+module _ (c low high c' : List ℕ) (a k p n m : ℕ) (s : List ℕ) (at : ℕ) (h : k ≡ a) (g : m ≡ n) (cell : c' ≡ over c (k + 0) ((m + 1) ∷ [])) (e : p ≡ slot a) where
+  in_cell : c' ≡ over c a ((length (part n at s) + 1) ∷ [])
+  in_cell = cell ∙ rw (add-zero, length_part, h, g)
 
-  pub copied_high : 128 ≤ a → r' ≡ over r at (part n p high) → r' ≡ over r at (part n (slot a) (half a low high))
-  copied_high h f = f ∙ rw (e, le-ltb a 128 h)
+  pub stored_low : (low' : List ℕ) (q : ℕ) → q ≡ n → a < 128 → low' ≡ over low p (part q at s) → Stored c low high a (part n at s) c' low' high
+  stored_low low' q d l f = record { cell = in_cell; low = f ∙ rw (e, d, lt-ltb a 128 l); high = rw (lt-ltb a 128 l) }
 
-module _ (c low high c' : List ℕ) (a p n : ℕ) (l : List ℕ) (size : length l ≡ n) (cell : c' ≡ over c (a + 0) ((n + 1) ∷ [])) (e : p ≡ slot a) where
-  in_cell : c' ≡ over c a ((length l + 1) ∷ [])
-  in_cell = cell ∙ rw (add-zero, size)
-
-  pub stored_low : (low' : List ℕ) → a < 128 → low' ≡ over low p l → Stored c low high a l c' low' high
-  stored_low low' h f = record { cell = in_cell; low = f ∙ rw (e, lt-ltb a 128 h); high = rw (lt-ltb a 128 h) }
-
-  pub stored_high : (high' : List ℕ) → 128 ≤ a → high' ≡ over high p l → Stored c low high a l c' low high'
-  stored_high high' h f = record { cell = in_cell; low = rw (le-ltb a 128 h); high = f ∙ rw (e, le-ltb a 128 h) }
+  pub stored_high : (high' : List ℕ) (q : ℕ) → q ≡ n → 128 ≤ a → high' ≡ over high p (part q at s) → Stored c low high a (part n at s) c' low high'
+  stored_high high' q d l f = record { cell = in_cell; low = rw (le-ltb a 128 l); high = f ∙ rw (e, d, le-ltb a 128 l) }
 
 -- ---- what is stored is read back
 pub number_back : (c : List ℕ) (a : ℕ) (x : Fixed) → F.in_range x.value ≡ true → a < length c

@@ -29,11 +29,9 @@ pub enum Length {
 pub fn number_at(cells: &[u32], a: u16) -> Number
     ensures { number_cell result ≡ cell_in cells.now [] [] FixedType a }
 {
-    let stored = Fixed::from_stored(number32(cells, a as usize, 0));
-    match stored {
+    match Fixed::from_stored(number32(cells, usize::from(a), 0)) {
         Answer::Is(x) => Number::Holds(x),
-        Answer::OutOfRange => Number::NoNumber,
-        Answer::ZeroDivisor => Number::NoNumber,
+        Answer::OutOfRange | Answer::ZeroDivisor => Number::NoNumber,
     }
 }
 
@@ -41,41 +39,33 @@ pub fn number_at(cells: &[u32], a: u16) -> Number
 pub fn characters_at(cells: &[u32], a: u16) -> Length
     ensures { LengthAt cells.now a result }
 {
-    let n = number32(cells, a as usize, 0);
-    if n == 0 {
-        return Length::NoCharacters;
+    match number32(cells, usize::from(a), 0) {
+        0 => Length::NoCharacters,
+        n => Length::Bytes(n - 1),
     }
-    Length::Bytes(n - 1)
 }
 
 // Where the characters of an address stand in their room.
 fn slot_place(a: u16) -> usize
     ensures { result ≡ slot a }
 {
-    if a < 128 {
-        Value::LONGEST * (a as usize)
-    } else {
-        Value::LONGEST * ((a - 128) as usize)
-    }
+    let k = if a < 128 { a } else { a - 128 };
+    Value::LONGEST * usize::from(k)
 }
 
 // Copies n bytes of the value of an address into a room.
 pub fn copy_characters(low: &[u8], high: &[u8], a: u16, n: usize, room: &mut [u8], at: usize)
     ensures { room.new ≡ over room.old at (part n (slot a) (half a low.now high.now)) }
 {
-    let from = slot_place(a);
-    if a < 128 {
-        copy(low, from, n, room, at);
-    } else {
-        copy(high, from, n, room, at);
-    }
+    let half = if a < 128 { low } else { high };
+    copy(half, slot_place(a), n, room, at);
 }
 
 // Stores a number in a FIXED variable.
 pub fn store_number(cells: &mut [u32], a: u16, x: Fixed)
     ensures { cells.new ≡ over cells.old (a + 0) (stored_of x.value ∷ []) }
 {
-    put_number32(cells, a as usize, 0, x.stored());
+    put_number32(cells, usize::from(a), 0, x.stored());
 }
 
 // Stores n bytes of a room, from a place on, in a CHARACTER variable.
@@ -90,11 +80,11 @@ pub fn store_characters(
 )
     ensures { Stored cells.old low.old high.old a (part n at room.now) cells.new low.new high.new }
 {
-    put_number32(cells, a as usize, 0, (n as u32) + 1);
+    put_number32(cells, usize::from(a), 0, u32::from(n) + 1);
     let to = slot_place(a);
     if a < 128 {
-        copy(room, at, n as usize, low, to);
+        copy(room, at, usize::from(n), low, to);
     } else {
-        copy(room, at, n as usize, high, to);
+        copy(room, at, usize::from(n), high, to);
     }
 }
