@@ -4,12 +4,11 @@ use mathlib.Core.Path.{◌≡◌, refl, sym, ap, subst, ◌∙◌}
 use mathlib.Core.Bool.{Bool, true, false}
 use mathlib.Core.List.{List, [], ◌∷◌, ◌++◌, append_assoc, append-nil}
 use Prim.Native.Nat.{ℕ, zero, suc, ◌+◌, ◌*◌, ◌-◌, ◌/◌, ◌%◌, ◌<◌, ◌≤◌}
-use native.Mathlib.Nat.{add-zero, sub-zero, mod-eq_of_lt}
+use native.Mathlib.Nat.{add-zero, mod-eq_of_lt}
 use native.Mathlib.Omega.{arith}
-use borrow.Author.Tests.{lt-ltb, le-ltb, ne_eqb}
+use borrow.Author.Tests.{lt-ltb, le-ltb}
 use lib.Dec.{ltb}
-use lib.ListN.{length, get_or, take, drop, length-append}
-use lib.Seq.{take_all}
+use lib.ListN.{length, get_or, length-append}
 use Rattle.definition.specs.Choice.{when}
 use Rattle.definition.specs.Lists.{part, number}
 use Rattle.definition.specs.Room.{over}
@@ -56,20 +55,18 @@ unfolding decimal_on
 more_digits f n h = rw (le-ltb n 10 h) (onto f (n / 10) ((48 + n % 10) ∷ []))
 
 module _ (p : List ℕ) (at n most : ℕ) where
-  pub digits_none : most < 1 → Puts most p at (decimal_on most n []) p at
+  pub digits_none : most ≡ 0 → Puts most p at (decimal_on most n []) p at
   unfolding decimal_on
-  digits_none h =
-      let e : most ≡ 0 = omega arith in
-      rw e (record { page = sym (over_nil p at); to = omega arith; few = omega arith })
+  digits_none e = rw e (record { page = sym (over_nil p at); to = omega arith; few = omega arith })
 
-  pub digits_one : 1 ≤ most → n < 10 → (d : ℕ) → d ≡ 48 + n % 10 → (p' : List ℕ) (r : ℕ) → Puts 1 p at (d ∷ []) p' r → Puts most p at (decimal_on most n []) p' r
+  pub digits_one : (most ≡ 0 → ⊥) → n < 10 → (d : ℕ) → d ≡ 48 + n % 10 → (p' : List ℕ) (r : ℕ) → Puts 1 p at (d ∷ []) p' r → Puts most p at (decimal_on most n []) p' r
   digits_one h k d e p' r x =
       let m : most ≡ suc (most - 1) = omega arith in
       let f : d ∷ [] ≡ decimal_on most n [] = rw (e, mod-eq_of_lt k) (sym (rw m (one_digit (most - 1) n k))) in
       let s : Puts 1 p at (decimal_on most n []) p' r = subst (λ (z : List ℕ). Puts 1 p at z p' r) f x in
       record { page = s.page; to = s.to; few = omega (arith, s.few) }
 
-  pub digits_more : 1 ≤ most → 10 ≤ n → (p₁ : List ℕ) (a : ℕ) → Puts (most - 1) p at (decimal_on (most - 1) (n / 10) []) p₁ a
+  pub digits_more : (most ≡ 0 → ⊥) → 10 ≤ n → (p₁ : List ℕ) (a : ℕ) → Puts (most - 1) p at (decimal_on (most - 1) (n / 10) []) p₁ a
       → (d : ℕ) → d ≡ 48 + n % 10 → (p' : List ℕ) (r : ℕ) → Puts 1 p₁ a (d ∷ []) p' r → Puts most p at (decimal_on most n []) p' r
   digits_more h k p₁ a x d e p' r y =
       let m : most ≡ suc (most - 1) = omega arith in
@@ -136,19 +133,6 @@ unfolding six_line
 numbers_put p n a e p₁ r₁ x p₂ r₂ y = rw (← e) (then x y)
 
 -- ---- the lines
-module _ (k : ℕ) where
-  pub letter_b : k ≡ 1 → 66 ≡ letter k
-  unfolding letter
-  letter_b e = rw e
-
-  pub letter_c : (k ≡ 1 → ⊥) → k ≡ 2 → 67 ≡ letter k
-  unfolding letter
-  letter_c d e = rw e
-
-  pub letter_v : (k ≡ 1 → ⊥) → (k ≡ 2 → ⊥) → 86 ≡ letter k
-  unfolding letter
-  letter_v d e = rw (ne_eqb k 1 d, ne_eqb k 2 e)
-
 pub line_put : (p : List ℕ) (at : ℕ) (l : List ℕ) (k q : ℕ) → q ≡ 12 * k → (t u v m x y : ℕ)
     → t ≡ get_or l (q + 0) 0 → u ≡ letter t → v ≡ get_or l (q + 1) 0 → m ≡ v → x ≡ number (part 4 (q + 4) l) → y ≡ number (part 4 (q + 8) l)
     → (p₁ : List ℕ) (r₁ : ℕ) → Puts 1 p at (u ∷ []) p₁ r₁
@@ -204,10 +188,3 @@ module _ (p₀ l : List ℕ) (first end : ℕ) (p : List ℕ) (at i : ℕ) (x : 
   listing_done h =
       let e : i - first ≡ end - first = omega (arith, x.low, x.high) in
       subst (λ (j : ℕ). Puts (35 * j) p₀ 0 (origin_lines (lines_from l first j)) p at) e x.puts
-
--- ---- the part that is used
-pub used_all : (p : List ℕ) (n : ℕ) → length p < n → p ≡ take n p
-used_all p n h = sym (take_all n p (omega arith))
-
-pub used_part : (p r : List ℕ) (n : ℕ) → r ≡ take (n - 0) (drop 0 p) → r ≡ take n p
-used_part p r n e = rw sub-zero at e

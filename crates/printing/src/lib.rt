@@ -8,7 +8,7 @@ ghost use Rattle.definition.specs.Values.{decimal_on};
 ghost use Rattle.definition.specs.Printed.{decimal, line_rest, letter, origin_line, origin_lines};
 ghost use Rattle.printing.specs.Page.{Puts, far, six_line, line_at, lines_from};
 
-use rooms::{byte, get_u32, number32, put_byte, wide32};
+use rooms::{byte, get_u32, number32, put_byte};
 
 // As many digits as a number can have, and bytes as a line of the list has.
 const DIGITS: usize = 10;
@@ -36,7 +36,7 @@ fn put_digits(page: &mut [u8], at: usize, n: u32, most: usize) -> usize
     requires { at + most ≤ far }
     ensures { Puts most page.old at (decimal_on most n []) page.new result }
 {
-    if most < 1 {
+    if most == 0 {
         return at;
     }
     if n < 10 {
@@ -69,10 +69,8 @@ fn put_rest(page: &mut [u8], from: usize, numbers: &[u32], first: usize, n: usiz
     ensures { Puts (11 * n + 1) page.old from (line_rest (part n first numbers.now)) page.new result }
 {
     let mut at = from;
-    let mut j = 0;
-    while j < n {
+    for j in 0..n {
         at = put_after_blank(page, at, number32(numbers, first, j));
-        j += 1;
     }
     put(page, at, b'\n')
 }
@@ -87,16 +85,15 @@ pub fn put_numbers(page: &mut [u8], numbers: &[u32]) -> usize
 
 // ---- the lines
 
+#[tactic(auto, unfolding(definition::specs::Printed::letter))]
 fn letter_of(kind: u8) -> u8
     ensures { result ≡ letter kind }
 {
-    if kind == 1 {
-        return b'B';
+    match kind {
+        1 => b'B',
+        2 => b'C',
+        _ => b'V',
     }
-    if kind == 2 {
-        return b'C';
-    }
-    b'V'
 }
 
 // Line k of the list.
@@ -107,7 +104,7 @@ fn put_line(page: &mut [u8], at: usize, list: &[u8], k: u32) -> usize
     let p = LINE * (k as usize);
     let a = put(page, at, letter_of(byte(list, p, 0)));
     let rest = [
-        wide32(byte(list, p, 1)),
+        u32::from(byte(list, p, 1)),
         get_u32(list, p + 4),
         get_u32(list, p + 8),
     ];
@@ -119,10 +116,8 @@ pub fn put_lines(page: &mut [u8], list: &[u8], first: u32, end: u32) -> usize
     ensures { Puts (35 * (end - first)) page.old 0 (origin_lines (lines_from list.now first (end - first))) page.new result }
 {
     let mut at = 0;
-    let mut i = first;
-    while i < end {
+    for i in first..end {
         at = put_line(page, at, list, i);
-        i += 1;
     }
     at
 }
@@ -131,8 +126,5 @@ pub fn put_lines(page: &mut [u8], list: &[u8], first: u32, end: u32) -> usize
 pub fn used(page: &[u8], size: usize) -> &[u8]
     ensures { result.now ≡ take size page.now }
 {
-    if page.len() < size {
-        return page;
-    }
-    &page[0..size]
+    page.get(..size).unwrap_or(page)
 }
