@@ -81,6 +81,7 @@ pub fn store_characters(
     ensures { Stored cells.old low.old high.old a (part n at room.now) cells.new low.new high.new }
 {
     put_number32(cells, usize::from(a), 0, u32::from(n) + 1);
+    // stays: to choose one of two `&mut` by a condition, and then to copy once, gets no proof.
     let to = slot_place(a);
     if a < 128 {
         copy(room, at, usize::from(n), low, to);

@@ -154,6 +154,7 @@ pub fn is_wanted(c: Comparison, o: Order) -> bool
 // ---- to FIXED
 
 // Where the blanks end among the bytes from i to n past a place.
+// stays: a test passed in would need a ghost test and clauses on its calls, for one line here and one below.
 fn past_blanks(s: &[u8], at: usize, i: usize, n: usize) -> usize
     requires { i ≤ n }
     ensures { Run is_blank s.now at i n result }
@@ -392,7 +393,7 @@ pub fn cut_part(size: usize, from: Fixed, count: Fixed) -> Cut
     cut_at(size, from.magnitude() as usize, count.magnitude() as usize)
 }
 
-// What SUBSTR without a third argument takes.
+// What SUBSTR without a third argument takes: all places from one on, counted from 1.
 pub fn cut_rest(size: usize, from: Fixed) -> Cut
     ensures { result ≡ cut_rest size from.value }
 {
