@@ -40,11 +40,8 @@ read_as p h = to_z-of_z {w = w64} (fits_as p h) ∙ p
 pub read_wide : {a x : ℤ} → Widened x a → read a ≡ x
 read_wide u = read_as u.same (omega (arith, u.small))
 
-pub wide_fits : (z : ℤ) → mag z < 2147483648 → SFits w64 (to_z w32 (of_z w32 z))
-wide_fits z h = fits_as {z = z} (read_narrow h) (omega (arith, nat_abs-le z h))
-
-pub wide_is : (z : ℤ) → mag z < 2147483648 → Widened z (read (to_z w32 (of_z w32 z)))
-wide_is z h = record { same = to_z-of_z {w = w64} (wide_fits z h) ∙ read_narrow h; small = nat_abs-le z h }
+pub wide_is : (z r : ℤ) → mag z < 2147483648 → r ≡ to_z w32 (of_z w32 z) → Widened z (read r)
+wide_is z r h e = record { same = read_as (e ∙ read_narrow h) (omega (arith, nat_abs-le z h)); small = nat_abs-le z h }
 
 pub wide_literal : (n : ℕ) → n ≤ 2147483648 → Widened (pos n) (pos n)
 wide_literal n h = record { same = refl; small = h }
@@ -81,20 +78,20 @@ module _ {a x : ℤ} (u : Widened x a) where
   negative_read = op_read ◌-ℤ◌ difference_size (wide_literal 0 (lit≤ tt)) u ∙ +ℤ_idl (neg_ℤ x)
 
 -- the difference of two unsigned numbers of 32 bits
-pub unsigned_is : (n : ℕ) → n < 4294967296 → to_z w64 n ≡ pos n
-unsigned_is n h = read_as {n = pos n} refl (omega arith)
+pub unsigned_is : {a : ℤ} (n : ℕ) → n < 4294967296 → a ≡ pos n → read a ≡ pos n
+unsigned_is n h e = read_as e (omega arith)
 
-module _ (m n : ℕ) (p : m < 4294967296) (q : n < 4294967296) where
-  unsigned : to_z w64 m -ℤ to_z w64 n ≡ pos m -ℤ pos n
-  unsigned = rw (unsigned_is m p, unsigned_is n q)
+module _ {a b : ℤ} (m n : ℕ) (p : m < 4294967296) (q : n < 4294967296) (e : a ≡ pos m) (f : b ≡ pos n) where
+  unsigned : read a -ℤ read b ≡ pos m -ℤ pos n
+  unsigned = rw (unsigned_is m p e, unsigned_is n q f)
 
   size : Wide (pos m -ℤ pos n)
   size = omega (arith, size_sum (pos m) (neg_ℤ (pos n)), size_negative (pos n))
 
-  pub unsigned_fits : SFits w64 (to_z w64 m -ℤ to_z w64 n)
+  pub unsigned_fits : SFits w64 (read a -ℤ read b)
   unsigned_fits = fits_as unsigned size
 
-  pub unsigned_read : read (to_z w64 m -ℤ to_z w64 n) ≡ pos m -ℤ pos n
+  pub unsigned_read : read (read a -ℤ read b) ≡ pos m -ℤ pos n
   unsigned_read = read_as unsigned size
 
 -- a cast to an unsigned number of 32 bits

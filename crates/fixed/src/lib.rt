@@ -52,11 +52,10 @@ impl Fixed {
     }
 
     // At 64 bits no operation on two such values overflows.
-    // stays: with `i64::from` here, and on u32 below, the proofs of what the machine reads back (`wide_is`, `unsigned_read`) did not close.
     fn wide(self) -> i64
         ensures { Widened self.value result }
     {
-        self.value as i64
+        i64::from(self.value)
     }
 
     pub fn add(self, other: Fixed) -> Answer
@@ -109,7 +108,7 @@ impl Fixed {
     pub fn of_magnitude(negative: bool, magnitude: u32) -> Answer
         ensures { result_of result ≡ ranged (signed_by negative magnitude) }
     {
-        let wide = magnitude as i64;
+        let wide = i64::from(magnitude);
         if negative {
             Fixed::of(-wide)
         } else {
@@ -144,7 +143,7 @@ impl Fixed {
     pub fn from_stored(n: u32) -> Answer
         ensures { result_of result ≡ from_stored n }
     {
-        Fixed::of(n as i64 - Fixed::STORED_ZERO)
+        Fixed::of(i64::from(n) - Fixed::STORED_ZERO)
     }
 }
 

@@ -1,9 +1,6 @@
 -- `Fixed::wide` meets its contract: a number of 32 bits is itself at 64.
-use Rattle.fixed.proofs.Laws.{wide_fits, wide_is}
+use Rattle.fixed.proofs.Laws.{wide_is}
 use Rattle.fixed.proofs.Fixed.wide.Goals as goal
-
-pub overflow_cast-result : goal.overflow_cast-result
-overflow_cast-result c = search wide_fits
 
 pub returns : goal.returns
 returns c = search wide_is
