@@ -100,14 +100,17 @@ cast_fits p h = rw p (tt, record { fits = h })
 
 -- ---- the range
 
-module _ {m n : ℤ} (p : m ≡ n) where
-  pub least_passed : le_z least_fixed m ≡ true → le_z m most_fixed ≡ in_range n
-  unfolding in_range
-  least_passed e = rw (← p, e)
+module _ {a m n : ℤ} (p : m ≡ n) (l : a ≡ least_fixed) where
+  least_read : read a ≡ least_fixed
+  least_read = read_as l (lit≤ tt)
 
-  pub least_failed : le_z least_fixed m ≡ false → le_z least_fixed m ≡ in_range n
+  pub least_passed : {b : ℤ} → b ≡ most_fixed → le_z (read a) m ≡ true → le_z m (read b) ≡ in_range n
   unfolding in_range
-  least_failed e = rw (← p, e)
+  least_passed u e = rw (read_as u (lit≤ tt), ← p, rw least_read at e)
+
+  pub least_failed : le_z (read a) m ≡ false → le_z (read a) m ≡ in_range n
+  unfolding in_range
+  least_failed e = rw (least_read, ← p, rw least_read at e)
 
 module _ {m n : ℤ} {r : Bool} (p : m ≡ n) (d : r ≡ in_range m) where
   pub range_fits : r ≡ true → SFits w32 m

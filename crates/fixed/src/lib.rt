@@ -37,7 +37,7 @@ impl Fixed {
     fn in_range(n: i64) -> bool
         ensures { result ≡ in_range n }
     {
-        Fixed::LEAST as i64 <= n && n <= Fixed::MOST as i64
+        i64::from(Fixed::LEAST) <= n && n <= i64::from(Fixed::MOST)
     }
 
     // The checked constructor, through which every result goes.
