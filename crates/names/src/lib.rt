@@ -158,6 +158,7 @@ fn record_place(a: Address) -> usize
 }
 
 // The record of an address.
+#[tactic(auto, unfolding(crate::specs::Table::name_in))]
 pub fn name_at(names: &[u16], a: Address) -> Name
     ensures { result ≡ name_in names.now a.0 }
 {
@@ -181,6 +182,7 @@ fn is_named(deck: &[u8], x: Name, s: &[u8], from: usize, n: usize, owner: Owner)
 }
 
 // Whether the identifier of a record has n bytes; the quick test, since most have not.
+#[tactic(auto, unfolding(crate::specs::Table::name_in))]
 fn has_length(names: &[u16], a: Address, n: usize) -> bool
     ensures { result ≡ eqb (name_in names.now a.0).identifier.1 n }
 {
