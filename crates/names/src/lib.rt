@@ -3,11 +3,11 @@
 // Parts: a record that is read, the search, a record that is written.
 #![tactic(auto)]
 
-ghost use Rattle.std.specs.Prelude.{◌≡◌, ◌∷◌, [], ◌+◌, ◌*◌, ◌-◌, ◌≤◌, eqb};
+ghost use Rattle.std.specs.Prelude.{◌≡◌, ◌*◌, eqb};
 ghost use Rattle.definition.specs.Bytes.{mixed, folded};
 ghost use Rattle.definition.specs.Lists.{part};
 ghost use Rattle.definition.specs.Room.{over};
-ghost use Rattle.definition.specs.World.{same_owner, is_identifier, address_in, or_global, everyone};
+ghost use Rattle.definition.specs.World.{same_owner, is_identifier, address_in};
 ghost use Rattle.names.specs.Table as T;
 ghost use Rattle.names.specs.Table.{owner_of, found_for, identifier_of, identifiers_from, name_in};
 
@@ -103,6 +103,7 @@ fn owner_in(k: u16, m: u16, r: u16) -> Owner
     }
 }
 
+// stays: beside `owner_in`, since the two public enums differ (a)
 fn body_in(k: u16, m: u16, r: u16) -> Body
     ensures { result ≡ T.body_in k m r }
 {

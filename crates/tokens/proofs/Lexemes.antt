@@ -234,9 +234,6 @@ module _ (s : List ℕ) (e : ℕ) (l : Lexeme) (h : Lexed s e l) where
   unfolding T.token_at written
   token_is = rw (h.kind, h.from, h.to) (stands_at s e (T.spaces (length s) s e)).is
 
-  pub lexeme_is : T.token_at mixed s e ≡ T.lexeme (token_for l.kind (written s l) (content s l.from)) l.from l.to
-  lexeme_is = rw (← token_is, h.from, h.to)
-
   pub is_word_lem : (W : S.String) (w : List ℕ) → bytes_of W ≡ w → is_word_in s l w ≡ T.is_word W (T.token_at mixed s e).token
   unfolding is_word_in
   is_word_lem W w f = rw (token_is, ← f) (by_kind l.kind (written s l) (content s l.from))

@@ -2,12 +2,12 @@
 -- Assumes nothing.
 use mathlib.Core.Path.{◌≡◌, refl, sym, ap, ◌∙◌}
 use mathlib.Core.Bool.{Bool, true, false, ◌&&◌}
-use mathlib.Core.List.{List, [], ◌∷◌}
+use mathlib.Core.List.{List}
 use Prim.Native.Nat.{ℕ, zero, suc, ◌+◌, ◌-◌, ◌<◌, ◌≤◌}
 use native.Mathlib.Omega.{arith}
 use borrow.Author.Tests.{leb-false, le-leb, lt-leb, eq-eqb, ne_eqb, eqb-true}
 use lib.Dec.{eqb, leb}
-use lib.ListN.{length, get_or, drop, length-drop}
+use lib.ListN.{length, get_or, drop}
 use Rattle.definition.specs.Choice.{when}
 use Rattle.definition.specs.Lists.{part, leading}
 use Rattle.definition.specs.Bytes.{mixed, class_of, is_letter, is_digit, is_blank, is_mark, is_alphameric, is_small, folded}
@@ -19,9 +19,9 @@ use Rattle.std.proofs.Common.{Option, ◌⊎◌, inl, inr}
 use Rattle.tokens.specs.declared.PieceKind.TheVariants.{Name, Plain, Unclosed}
 use Rattle.tokens.specs.declared.Piece.{Piece}
 use Rattle.tokens.specs.declared.Ending as E
-use Rattle.tokens.proofs.Laws.{comment_inside, comment_further, quote_further}
+use Rattle.tokens.proofs.Laws.{comment_further, quote_further}
 use Rattle.tokens.proofs.Lexemes.{run_part}
-use Rattle.tokens.proofs.Reach.{run_past, run_inside, letter_goes_on, digit_goes_on}
+use Rattle.tokens.proofs.Reach.{run_past, letter_goes_on, digit_goes_on}
 
 closed_is : (s : List ℕ) (x : T.Closed) → closed_piece (length s) (closed_for x) ≡ piece_for (T.closed_cut s x)
 closed_is s (T.closed_at q) = refl
@@ -206,49 +206,7 @@ module _ (s : List ℕ) (p i : ℕ) (k : Texting s p i) where
           is = rw (ap (λ (x : Piece). x.to) (f.is h)) (on_more (T.piece_at mixed s i).piece i (T.piece_at mixed s i).to (T.text_end mixed (k.turns - 1) s) closed_is_lem ∙ goes);
         }
 
--- ---- where pieces and the ends of texts lie
-nearer : (x : Bool) (c : T.Closed) (p n q : ℕ) → (c ≡ T.closed_at q → q ≤ p + 1 + n) → when x (λ _. T.closed_at (p + 1)) (λ _. c) ≡ T.closed_at q → q ≤ p + suc n
-nearer true c p n q f e = let z : p + 1 ≡ q = cc in omega arith
-nearer false c p n q f e = let z : q ≤ p + 1 + n = f e in omega arith
-
-comment_within : (star : Bool) (l : List ℕ) (p q : ℕ) → T.comment_end star l p ≡ T.closed_at q → q ≤ p + length l
-unfolding T.comment_end
-comment_within star [] p q e = let z : ◌≡◌ {A = ℕ} 0 1 = cc in absurd (omega arith)
-comment_within star (b ∷ l) p q e =
-    nearer (star && eqb b 47) (T.comment_end (eqb b 42) l (p + 1)) p (length l) q (comment_within (eqb b 42) l (p + 1) q) e
-
-quote_within : (l : List ℕ) (p q : ℕ) → T.quote_end l p ≡ T.closed_at q → q ≤ p + length l
-unfolding T.quote_end
-quote_within [] p q e = let z : ◌≡◌ {A = ℕ} 0 1 = cc in absurd (omega arith)
-quote_within (b ∷ l) p q e = nearer (eqb b 39) (T.quote_end l (p + 1)) p (length l) q (quote_within l (p + 1) q) e
-
-module _ (s : List ℕ) (p : ℕ) (h : p < length s) where
-  closed_inside : (x : T.Closed) → ((q : ℕ) → x ≡ T.closed_at q → q ≤ length s) → (T.closed_cut s x).to ≤ length s
-  closed_inside (T.closed_at q) f = f q refl
-  closed_inside T.never_closed f = omega arith
-
-  mark_inside : (b : Bool) (x : T.Closed) → (b ≡ true → (q : ℕ) → x ≡ T.closed_at q → q ≤ length s) → (when b (λ _. T.closed_cut s x) (λ _. T.cut T.plain (p + 1))).to ≤ length s
-  mark_inside true x f = closed_inside x (f refl)
-  mark_inside false x f = omega arith
-
-  piece_inside_of : (c : Class) → (T.piece_of mixed c s p).to ≤ length s
-  unfolding T.piece_of
-  piece_inside_of Letter = run_inside s p h (is_alphameric mixed)
-  piece_inside_of Digit = run_inside s p h (is_alphameric mixed)
-  piece_inside_of Quote = closed_inside (T.quote_end (drop (p + 1) s) (p + 1)) (λ q e. omega (arith, quote_within (drop (p + 1) s) (p + 1) q e, length-drop (p + 1) s))
-  piece_inside_of Mark =
-      mark_inside (T.is_comment s p) (T.past_comment s p)
-      (λ c q e. omega (arith, comment_within false (drop (p + 2) s) (p + 2) q e, length-drop (p + 2) s, comment_inside s p (T.is_comment s p) refl c))
-  piece_inside_of Percent = omega arith
-  piece_inside_of Break = omega arith
-  piece_inside_of Blank = omega arith
-  piece_inside_of LineFeed = omega arith
-  piece_inside_of Other = omega arith
-
-  pub piece_inside : (T.piece_at mixed s p).to ≤ length s
-  unfolding T.piece_at
-  piece_inside = piece_inside_of (class_of mixed (get_or s p 0))
-
+-- ---- where the ends of texts lie
 -- the `%` that ends a text that begins at p
 pub record Percents (s : List ℕ) (p q : ℕ) : Type 0 where
   pub low : p ≤ q
