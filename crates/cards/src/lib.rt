@@ -22,12 +22,10 @@ pub fn uneven(d: &[u8]) -> Found
     ensures { result ≡ found_for (C.uneven 0 (D.lines d.now)) }
 {
     let n = count(d);
-    let mut k = 0;
-    while k < n {
+    for k in 0..n {
         if (size(d, k) as usize) % Record::COLUMNS != 0 {
             return Found::Line(k);
         }
-        k += 1;
     }
     Found::Nothing
 }
@@ -62,11 +60,9 @@ fn put_lines(d: &[u8], n: u16, room: &mut [u8])
     ensures { room.new ≡ over room.old 2 (joined_lines (line_place d.now n) (lines_from d.now 0 n)) }
 {
     let mut at = line_place(d, n);
-    let mut k = 0;
-    while k < n {
+    for k in 0..n {
         put_line(d, k, room, at);
         at += joined_size(d, k) as usize;
-        k += 1;
     }
 }
 
@@ -76,12 +72,10 @@ fn put_columns(d: &[u8], from: u32, n: u32, room: &mut [u8], to: usize)
 {
     let mut card = from as usize;
     let mut at = to % LONG;
-    let mut j = 0;
-    while j < n {
+    for _j in 0..n {
         copy(d, card + 1, Record::SOURCE, room, at);
         card += Record::COLUMNS;
         at += Record::SOURCE;
-        j += 1;
     }
 }
 
@@ -90,11 +84,9 @@ fn put_bodies(d: &[u8], n: u16, room: &mut [u8]) -> usize
     ensures { PutsBodies d.now n room.old room.new result }
 {
     let mut to = line_place(d, n);
-    let mut k = 0;
-    while k < n {
+    for k in 0..n {
         put_columns(d, offset(d, k), records(d, k), room, to);
         to += joined_size(d, k) as usize;
-        k += 1;
     }
     to
 }

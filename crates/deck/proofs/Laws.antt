@@ -9,8 +9,8 @@ use native.Mathlib.Numerals.{add-one}
 use native.Mathlib.Omega.{arith}
 use mir.Syntax.{w64}
 use mir.Val.{Fits}
-use borrow.Author.Tests.{eq-eqb, ne_eqb, le-leb, lt-leb}
-use lib.Dec.{eqb, leb}
+use borrow.Author.Tests.{eq-eqb, ne_eqb}
+use lib.Dec.{eqb}
 use lib.ListN.{length, get_or, replicate}
 use Rattle.definition.specs.Lists.{part, number, all, past, same}
 use Rattle.definition.specs.Bytes.{mixed, is_letter, is_alphameric, is_blank, folded}
@@ -79,41 +79,15 @@ module _ (d : List ℕ) (at n j : ℕ) (k : Passing d at n j) where
   pub passing_done : n ≤ j → Word d at n j
   passing_done h = record { low = k.low; is = rw (nothing d at n j h) (rw (nothing d at n j h) at k.is) }
 
--- ---- the layout, by the first number
-module _ (d : List ℕ) (n : ℕ) (e : n ≡ first d) where
-  pub with_libraries : 256 < n → true ≡ has_libraries d
-  unfolding has_libraries
-  with_libraries h = sym (le-leb 257 (first d) (omega (arith, e)))
-
-  pub without : n ≤ 256 → false ≡ has_libraries d
-  unfolding has_libraries
-  without h = sym (lt-leb 257 (first d) (omega (arith, e)))
-
-  pub count_less : (r : ℕ) → 256 < n → r ≡ n - 256 → r ≡ count d
-  unfolding count
-  count_less r h f = f ∙ rw (← with_libraries h, ← e)
-
-  pub count_first : n ≤ 256 → n ≡ count d
-  unfolding count
-  count_first h = rw (← without h) e
-
 -- ---- a line's names and numbers
 module _ (d : List ℕ) (t : Bool) (e : t ≡ has_libraries d) where
-  pub length_some : t ≡ true → 8 ≡ library_length d
+  length_some : t ≡ true → 8 ≡ library_length d
   unfolding library_length
   length_some h = rw (← e, h)
 
-  pub length_none : t ≡ false → 0 ≡ library_length d
+  length_none : t ≡ false → 0 ≡ library_length d
   unfolding library_length
   length_none h = rw (← e, h)
-
-  pub place_wide : (k r : ℕ) → t ≡ true → r ≡ 2 + 24 * k → r ≡ line_place d k
-  unfolding line_place
-  place_wide k r h f = f ∙ rw (← e, h)
-
-  pub place_short : (k r : ℕ) → t ≡ false → r ≡ 2 + 16 * k → r ≡ line_place d k
-  unfolding line_place
-  place_short k r h f = f ∙ rw (← e, h)
 
 pub place_most : (d : List ℕ) (k : ℕ) → line_place d k ≤ 2 + 24 * k
 unfolding line_place
@@ -134,9 +108,6 @@ length_most d = by (has_libraries d)
 -- the places fit into a number
 pub place_fits : (d : List ℕ) (k p n : ℕ) → k < 65536 → p ≡ line_place d k → n ≡ library_length d → Fits w64 (p + n)
 place_fits d k p n h e f = omega (arith, place_most d k, length_most d)
-
-pub behind : (d : List ℕ) (k p n : ℕ) → p ≡ line_place d k → n ≡ library_length d → p + n ≡ line_place d k + library_length d
-behind d k p n e f = rw (e, f)
 
 pub offset_fits : (d : List ℕ) (k p : ℕ) → k < 65536 → p ≡ line_place d k + library_length d → Fits w64 (p + 8)
 offset_fits d k p h e = omega (arith, place_most d k, length_most d)
@@ -311,10 +282,6 @@ module _ (d : List ℕ) (k : ℕ) (x : Sought) where
     unfolding A.sought_in is_called
     called_pair p r g e h = h ∙ rw (i, ← f, g, name_is d k p e)
 
-    pub called_other : t ≡ false → false ≡ is_called mixed (A.sought_in d x) (line_at d k)
-    unfolding A.sought_in is_called
-    called_other g = rw (i, ← f, g)
-
 -- ---- the line that is sought
 pub record Finding (d : List ℕ) (x : D.Sought) (n k : ℕ) : Type 0 where
   pub all : n ≡ count d
@@ -417,56 +384,10 @@ module _ (d : List ℕ) (n at k : ℕ) (i : Following d n at k) where
   unfolding follow
   following_done h = rw (lines_none d n k h) at i.is
 
--- ---- the whole deck: the tests in their order
-pub of_big : (d : List ℕ) → 65536 < length d → C.TheVariants.Malformed ≡ A.answer_for (contents mixed d)
-unfolding contents is_sound
-of_big d h = rw (lt-leb (length d) 65536 h)
-
-module _ (d : List ℕ) (n : ℕ) (e : n ≡ count d) (small : length d ≤ 65536) where
-  size_ok : leb (length d) 65536 ≡ true
-  size_ok = le-leb (length d) 65536 small
-
-  pub of_none : n < 1 → C.TheVariants.Malformed ≡ A.answer_for (contents mixed d)
-  unfolding contents is_sound
-  of_none h = rw (size_ok, ← e, lt-leb 1 n h)
-
-  module _ (some : 1 ≤ n) where
-    some_ok : leb 1 n ≡ true
-    some_ok = le-leb 1 n some
-
-    pub of_many : 32 < n → C.TheVariants.Malformed ≡ A.answer_for (contents mixed d)
-    unfolding contents is_sound
-    of_many h = rw (size_ok, ← e, some_ok, lt-leb n 32 h)
-
-    module _ (few : n ≤ 32) (p : ℕ) (at : p ≡ line_place d n) where
-      few_ok : leb n 32 ≡ true
-      few_ok = le-leb n 32 few
-
-      pub of_cut : length d < p → C.TheVariants.Malformed ≡ A.answer_for (contents mixed d)
-      unfolding contents is_sound
-      of_cut h = rw (size_ok, ← e, some_ok, few_ok, ← at, lt-leb p (length d) h)
-
-      module _ (there : p ≤ length d) (t : Bool) (f : t ≡ are_named mixed (has_libraries d) (lines_from d 0 n)) where
-        there_ok : leb (line_place d n) (length d) ≡ true
-        there_ok = rw (← at) (le-leb p (length d) there)
-
-        pub of_unnamed : t ≡ false → C.TheVariants.Malformed ≡ A.answer_for (contents mixed d)
-        unfolding contents is_sound
-        of_unnamed g = rw (size_ok, ← e, some_ok, few_ok, there_ok, ← f, g)
-
-        module _ (named : t ≡ true) (u : Bool) (i : u ≡ are_distinct mixed (lines_from d 0 n)) where
-          pub of_twice : u ≡ false → C.TheVariants.Malformed ≡ A.answer_for (contents mixed d)
-          unfolding contents is_sound
-          of_twice g = rw (size_ok, ← e, some_ok, few_ok, there_ok, ← f, named, ← i, g)
-
-          module _ (distinct : u ≡ true) (v : Bool) (k : v ≡ follow (line_place d n) (lines_from d 0 n) (length d)) where
-            pub of_gap : v ≡ false → C.TheVariants.Malformed ≡ A.answer_for (contents mixed d)
-            unfolding contents is_sound
-            of_gap g = rw (size_ok, ← e, some_ok, few_ok, there_ok, ← f, named, ← i, distinct, ← k, g)
-
-            pub of_sound : v ≡ true → C.TheVariants.Sound (record { lines = n }) ≡ A.answer_for (contents mixed d)
-            unfolding contents is_sound
-            of_sound g = rw (size_ok, ← e, some_ok, few_ok, there_ok, ← f, named, ← i, distinct, ← k, g, length_lines d 0 n)
+-- ---- the whole deck
+pub of_sound : (d : List ℕ) (t : Bool) (n : ℕ) → t ≡ is_sound mixed d → t ≡ true → n ≡ count d → C.TheVariants.Sound (record { lines = n }) ≡ A.answer_for (contents mixed d)
+unfolding contents
+of_sound d t n e f g = rw (← e, f) (ap (λ (m : ℕ). C.TheVariants.Sound (record { lines = m })) (g ∙ sym (length_lines d 0 (count d))))
 
 -- ---- the body of a line
 pub body_line : (d : List ℕ) (k from n : ℕ) → from ≡ (line_at d k).offset → n ≡ (line_at d k).size → (r : List ℕ) → r ≡ body_bytes d from n → r ≡ A.body_in d k

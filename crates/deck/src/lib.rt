@@ -2,7 +2,7 @@
 // with libraries of 24 (C-14); who looks through these functions does not see which.
 #![tactic(auto)]
 
-ghost use Rattle.std.specs.Prelude.{◌≡◌, ◌&&◌, ◌+◌, ◌-◌, ◌*◌, ◌≤◌, length};
+ghost use Rattle.std.specs.Prelude.{◌≡◌, ◌&&◌, ◌+◌, ◌-◌, length};
 ghost use Rattle.definition.specs.Lists.{part, all};
 ghost use Rattle.definition.specs.Bytes.{mixed, is_blank};
 ghost use Rattle.definition.specs.Deck.{has_libraries, library_length, line_place, line_at, lines_from, is_member_name, are_named, is_one, is_repeated, are_distinct, is_padded, is_called, follow};
@@ -48,44 +48,41 @@ pub enum Found {
 }
 
 // Whether the lines name libraries.
+#[tactic(auto, unfolding(definition::specs::Deck::has_libraries))]
 pub fn has_libraries(d: &[u8]) -> bool
     ensures { result ≡ has_libraries d.now }
 {
-    if Deck::LIBRARIES < get_u16(d, 0) {
-        return true;
-    }
-    false
+    Deck::LIBRARIES < get_u16(d, 0)
 }
 
 // The count, which says how many lines the contents have.
+#[tactic(auto, unfolding(definition::specs::Deck::count, definition::specs::Deck::has_libraries))]
 pub fn count(d: &[u8]) -> u16
     ensures { result ≡ D.count d.now }
 {
     let n = get_u16(d, 0);
     if Deck::LIBRARIES < n {
-        return n - Deck::LIBRARIES;
+        n - Deck::LIBRARIES
+    } else {
+        n
     }
-    n
 }
 
 // How many bytes of a line name its library.
+#[tactic(auto, unfolding(definition::specs::Deck::library_length))]
 pub fn library_length(d: &[u8]) -> usize
     ensures { result ≡ library_length d.now }
 {
-    if has_libraries(d) {
-        return Deck::NAME;
-    }
-    0
+    if has_libraries(d) { Deck::NAME } else { 0 }
 }
 
 // Where line k stands.
+#[tactic(auto, unfolding(definition::specs::Deck::line_place))]
 pub fn line_place(d: &[u8], k: u16) -> usize
     ensures { result ≡ line_place d.now k }
 {
-    if has_libraries(d) {
-        return 2 + 24 * (k as usize);
-    }
-    2 + 16 * (k as usize)
+    let width = if has_libraries(d) { 24 } else { 16 };
+    2 + width * usize::from(k)
 }
 
 // Where the name of line k's member stands.
@@ -114,12 +111,8 @@ fn word_length(d: &[u8], at: usize, n: usize) -> usize
     ensures { Word d.now at n result }
 {
     let mut j = 0;
-    while j < n {
-        if is_alphameric(byte(d, at, j)) {
-            j += 1;
-        } else {
-            return j;
-        }
+    while j < n && is_alphameric(byte(d, at, j)) {
+        j += 1;
     }
     j
 }
@@ -128,12 +121,10 @@ fn word_length(d: &[u8], at: usize, n: usize) -> usize
 fn is_blank_part(d: &[u8], at: usize, i: usize, n: usize) -> bool
     ensures { result ≡ all is_blank (part (n - i) (at + i) d.now) }
 {
-    let mut j = i;
-    while j < n {
-        if byte(d, at, j) != 32 {
+    for j in i..n {
+        if byte(d, at, j) != b' ' {
             return false;
         }
-        j += 1;
     }
     true
 }
@@ -142,11 +133,7 @@ fn is_blank_part(d: &[u8], at: usize, i: usize, n: usize) -> bool
 fn is_member_name(d: &[u8], at: usize) -> bool
     ensures { result ≡ is_member_name mixed (part 8 at d.now) }
 {
-    if is_letter(byte(d, at, 0)) {
-        let w = word_length(d, at, Deck::NAME);
-        return is_blank_part(d, at, w, Deck::NAME);
-    }
-    false
+    is_letter(byte(d, at, 0)) && is_blank_part(d, at, word_length(d, at, Deck::NAME), Deck::NAME)
 }
 
 // Whether line k has the name of a member, and of a library where lines have one.
@@ -154,23 +141,18 @@ fn is_named(d: &[u8], k: u16) -> bool
     ensures { result ≡ is_named d.now k }
 {
     if has_libraries(d) {
-        if is_member_name(d, line_place(d, k)) {
-            return is_member_name(d, name_place(d, k));
-        }
-        return false;
+        is_member_name(d, line_place(d, k)) && is_member_name(d, name_place(d, k))
+    } else {
+        is_member_name(d, name_place(d, k))
     }
-    is_member_name(d, name_place(d, k))
 }
 
 // Whether each of n lines is named so.
 fn are_named(d: &[u8], n: u16) -> bool
     ensures { result ≡ are_named mixed (has_libraries d.now) (lines_from d.now 0 n) }
 {
-    let mut k = 0;
-    while k < n {
-        if is_named(d, k) {
-            k += 1;
-        } else {
+    for k in 0..n {
+        if !is_named(d, k) {
             return false;
         }
     }
@@ -181,38 +163,27 @@ fn are_named(d: &[u8], n: u16) -> bool
 fn is_padded(d: &[u8], at: usize, w: Spelled) -> bool
     ensures { result ≡ is_padded mixed (spelled d.now w) (part 8 at d.now) }
 {
-    let len = w.len;
-    if Deck::NAME < len {
+    if Deck::NAME < w.len {
         return false;
     }
-    if is_one_name(d, at, d, w.from, len) {
-        return is_blank_part(d, at, len, Deck::NAME);
-    }
-    false
+    is_one_name(d, at, d, w.from, w.len) && is_blank_part(d, at, w.len, Deck::NAME)
 }
 
 // Whether line k is in the library that is spelled elsewhere.
 fn is_in_library(d: &[u8], k: u16, w: Spelled) -> bool
     ensures { result ≡ is_padded mixed (spelled d.now w) (line_at d.now k).library }
 {
-    if has_libraries(d) {
-        return is_padded(d, line_place(d, k), w);
-    }
-    false
+    has_libraries(d) && is_padded(d, line_place(d, k), w)
 }
 
 // Whether line k is called so.
+#[tactic(auto, unfolding(definition::specs::Deck::is_called, crate::specs::Answer::sought_in))]
 fn is_called(d: &[u8], k: u16, x: Sought) -> bool
     ensures { result ≡ is_called mixed (sought_in d.now x) (line_at d.now k) }
 {
     match x {
         Sought::Bare(w) => is_padded(d, name_place(d, k), w),
-        Sought::InLibrary(l, w) => {
-            if is_in_library(d, k, l) {
-                return is_padded(d, name_place(d, k), w);
-            }
-            false
-        }
+        Sought::InLibrary(l, w) => is_in_library(d, k, l) && is_padded(d, name_place(d, k), w),
     }
 }
 
@@ -221,12 +192,10 @@ pub fn find(d: &[u8], x: Sought) -> Found
     ensures { result ≡ found_for (D.find mixed (sought_in d.now x) 0 (D.lines d.now)) }
 {
     let n = count(d);
-    let mut k = 0;
-    while k < n {
+    for k in 0..n {
         if is_called(d, k, x) {
             return Found::Line(k);
         }
-        k += 1;
     }
     Found::Nothing
 }
@@ -248,12 +217,10 @@ fn is_alike(d: &[u8], j: u16, k: u16) -> bool
 fn is_repeated(d: &[u8], k: u16, i: u16, n: u16) -> bool
     ensures { result ≡ is_repeated mixed (line_at d.now k) (lines_from d.now i (n - i)) }
 {
-    let mut j = i;
-    while j < n {
+    for j in i..n {
         if is_alike(d, j, k) {
             return true;
         }
-        j += 1;
     }
     false
 }
@@ -262,12 +229,10 @@ fn is_repeated(d: &[u8], k: u16, i: u16, n: u16) -> bool
 fn are_distinct(d: &[u8], n: u16) -> bool
     ensures { result ≡ are_distinct mixed (lines_from d.now 0 n) }
 {
-    let mut k = 0;
-    while k < n {
+    for k in 0..n {
         if is_repeated(d, k, k + 1, n) {
             return false;
         }
-        k += 1;
     }
     true
 }
@@ -277,15 +242,28 @@ fn do_follow(d: &[u8], n: u16) -> bool
     ensures { result ≡ follow (line_place d.now n) (lines_from d.now 0 n) (length d.now) }
 {
     let mut at = line_place(d, n);
-    let mut k = 0;
-    while k < n {
-        if (offset(d, k) as usize) != at {
+    for k in 0..n {
+        if offset(d, k) as usize != at {
             return false;
         }
         at += size(d, k) as usize;
-        k += 1;
     }
     at == d.len()
+}
+
+// Whether the bytes are a deck: the tests of its contents, in their order.
+#[tactic(auto, unfolding(definition::specs::Deck::is_sound, definition::specs::Deck::lines))]
+fn is_sound(d: &[u8]) -> bool
+    ensures { result ≡ D.is_sound mixed d.now }
+{
+    let n = count(d);
+    d.len() <= Deck::BYTES
+        && 1 <= n
+        && n <= Deck::LINES
+        && line_place(d, n) <= d.len()
+        && are_named(d, n)
+        && are_distinct(d, n)
+        && do_follow(d, n)
 }
 
 impl Deck {
@@ -299,30 +277,15 @@ impl Deck {
     pub const LIBRARIES: u16 = 256;
 
     // The contents of a deck of any bytes.
+    #[tactic(auto, unfolding(definition::specs::Deck::contents))]
     pub fn of(d: &[u8]) -> Contents
         ensures { result ≡ answer_for (D.contents mixed d.now) }
     {
-        if Deck::BYTES < d.len() {
-            return Contents::Malformed;
+        if is_sound(d) {
+            Contents::Sound(Deck { lines: count(d) })
+        } else {
+            Contents::Malformed
         }
-        let n = count(d);
-        if n < 1 {
-            return Contents::Malformed;
-        }
-        if Deck::LINES < n {
-            return Contents::Malformed;
-        }
-        if d.len() < line_place(d, n) {
-            return Contents::Malformed;
-        }
-        if are_named(d, n) {
-            if are_distinct(d, n) {
-                if do_follow(d, n) {
-                    return Contents::Sound(Deck { lines: n });
-                }
-            }
-        }
-        Contents::Malformed
     }
 }
 

@@ -20,16 +20,6 @@ use Rattle.output.specs.Shows.{Fine, Shows, More, PutsFine}
 use Rattle.edges.specs.Pieces.{PieceIs, onto, Answers, fits, PiecesFine}
 use Rattle.edges.proofs.Laws.{column_next, onto_in, onto_more, pieces_in, pieces_more}
 
--- ---- a piece
-pub piece_none : (p to : ℕ) → to < p → PieceIs p to 0
-piece_none p to h = record { some = λ k. absurd (omega arith); within = λ k. absurd (omega arith); record_end = omega arith; most = λ k _. absurd (omega arith) }
-
-pub piece_rest : (p to n : ℕ) → p ≤ to → to - p < 71 - p % 71 → n ≡ (to - p) % 72 → PieceIs p to n
-piece_rest p to n h k e = record { some = λ i. omega (arith, e); within = λ i. omega (arith, e); record_end = omega (arith, e); most = λ i j. absurd (j (omega (arith, e))) }
-
-pub piece_all : (p to n : ℕ) → p ≤ to → 71 - p % 71 ≤ to - p → n ≡ (71 - p % 71) % 72 → PieceIs p to n
-piece_all p to n h k e = record { some = λ i. omega (arith, e); within = λ i. omega (arith, e); record_end = omega (arith, e); most = λ i j. omega (arith, e) }
-
 -- ---- what stands in the rooms when the bytes up to `at` went out, behind the events es
 pub record Along (s : List ℕ) (from to m : ℕ) (o₀ : Out) (es : List Event) (on : Bool) (at : ℕ) (o : Out) (t l : List ℕ) : Type 0 where
   pub events : List Event

@@ -23,9 +23,10 @@ pub fn given(size: usize, p: usize) -> u32
 {
     let q = p % 65_536;
     if q == size {
-        return (Record::COLUMNS * (q / Record::SOURCE)) as u32;
+        (Record::COLUMNS * (q / Record::SOURCE)) as u32
+    } else {
+        column(p)
     }
-    column(p)
 }
 
 // How many of the bytes from p up to an end lie in the record of byte p.
@@ -33,14 +34,7 @@ fn piece(p: usize, to: usize) -> u32
     ensures { PieceIs p to result }
 {
     let room = Record::SOURCE - p % Record::SOURCE;
-    if to < p {
-        return 0;
-    }
-    let rest = to - p;
-    if rest < room {
-        return (rest % 72) as u32;
-    }
-    (room % 72) as u32
+    to.saturating_sub(p).min(room) as u32
 }
 
 // The bytes of src from a joined place up to another, copied from there.
@@ -59,16 +53,11 @@ pub fn put_pieces(
     let mut at = from;
     while at < to {
         let n = piece(at, to);
-        let p = put_copied(src, at, n, text, list, o, member, column(at));
-        match p {
-            Put::Done(x) => {
-                o = x;
-                at += n as usize;
-            }
-            Put::Full => {
-                return Put::Full;
-            }
-        }
+        let Put::Done(x) = put_copied(src, at, n, text, list, o, member, column(at)) else {
+            return Put::Full;
+        };
+        o = x;
+        at += n as usize;
     }
     Put::Done(o)
 }

@@ -1,14 +1,15 @@
--- The room of names as a book: what a record that is written changes; and one law for each way out.
+-- The room of names as a book: what a record that is written changes; and the laws of declaring.
 -- Assumes nothing.
 use mathlib.Core.Path.{◌≡◌, refl, sym, ap, ◌∙◌}
-use mathlib.Core.Bool.{Bool, true, false, not}
+use mathlib.Core.Bool.{Bool, true, false}
 use mathlib.Core.List.{List, [], ◌∷◌, ◌++◌}
 use Prim.Native.Nat.{ℕ, zero, suc, ◌+◌, ◌*◌, ◌-◌, ◌%◌, ◌<◌, ◌≤◌}
 use native.Mathlib.Omega.{arith}
 use native.Mathlib.Nat.{add-zero, mod-eq_of_lt}
 use native.Mathlib.Numerals.{add-one}
-use borrow.Author.Tests.{le-leb, lt-leb, lt-ltb, le-ltb, eqb-true, eqb-false}
+use borrow.Author.Tests.{le-leb, lt-leb, eqb-true, eqb-false}
 use lib.Dec.{eqb}
+use Rattle.std.proofs.Common.{Option, Some, None}
 use lib.ListN.{length, get_or, set}
 use Rattle.definition.specs.Bytes.{mixed, folded}
 use Rattle.definition.specs.Choice.{when}
@@ -17,134 +18,21 @@ use Rattle.definition.specs.Room.{over}
 use Rattle.definition.proofs.Rooms.{length_over}
 use Rattle.definition.specs.World as W
 use Rattle.definition.specs.Names as N
-use Rattle.definition.specs.declared.ValueType.{ValueType}
-use Rattle.definition.specs.declared.Why.{Why}
-use Rattle.definition.specs.declared.Why.TheVariants.{OverLimit, DeclaredTwice}
 use Rattle.names.specs.Table.{owner_of, denotation_of, activity_of, identifier_of, identifiers_from, name_in, numbers_of, found_for, spelled}
 use Rattle.names.proofs.Laws.{name_back, name_other}
 use Rattle.names.specs.declared.Identifier.{Identifier}
 use Rattle.names.specs.declared.Name.{Name}
-use Rattle.names.specs.declared.Entry.{Entry}
-use Rattle.names.specs.declared.Place.{Place}
 use Rattle.names.specs.declared.Owner.{Owner}
-use Rattle.names.specs.declared.Body.{Body}
 use Rattle.names.specs.declared.Activity.TheVariants.{Inactive}
 use Rattle.names.specs.declared.Address.{Address}
 use Rattle.names.specs.declared.Found.{Found}
 use Rattle.names.specs.declared.Found.TheVariants.{Known, Unknown}
 use Rattle.names.specs.declared.Denotation.{Denotation}
-use Rattle.names.specs.declared.Denotation.TheVariants.{Variable, EntryName, LabelName}
 use Rattle.entering.specs.declared.Meaning.{Meaning}
-use Rattle.entering.specs.declared.Meaning.TheVariants as M
 use Rattle.entering.specs.declared.Mark.{Mark}
-use Rattle.entering.specs.declared.Mark.TheVariants.{Unmarked, Marked}
 use Rattle.entering.specs.declared.Tally.{Tally}
 use Rattle.entering.specs.declared.Spelling.{Spelling}
-use Rattle.entering.specs.declared.Joint.{Joint}
-use Rattle.entering.specs.declared.Joint.TheVariants.{Joined, Twice}
-use Rattle.entering.specs.declared.Fault.{Fault}
-use Rattle.entering.specs.declared.Fault.TheVariants.{Sound, Faulty}
-use Rattle.entering.specs.Book.{joint_for, joint_both, first_of, tally_past, tally_second, tally_of, new_denotation, place_at, Book, book_add, book_joint, book_join, book_at, book_one, denotations_from, activities_from, book_of, Roomy, Declarable, identifier_in, new_name, Added, Joining, JoinedAt, Entered, AddedIf, JoinedIf, EnteredIf, identifier_at, twice_or, fault_in}
-
--- ---- marks and tallies
-pub first_none : (m : Mark) (p : ℕ) → m ≡ Unmarked → Marked p ≡ first_of m p
-first_none m p e = rw e
-
-pub first_some : (m : Mark) (p q : ℕ) → m ≡ Marked q → Marked q ≡ first_of m p
-first_some m p q e = rw e
-
-pub past_is : (t : Tally) (p : ℕ) (m : Mark) → m ≡ first_of t.past p → tally_of t.member t.base t.names m t.second ≡ tally_past t p
-past_is t p m e = rw e
-
-pub second_is : (t : Tally) (p : ℕ) (m : Mark) → m ≡ first_of t.second p → tally_of t.member t.base t.names t.past m ≡ tally_second t p
-second_is t p m e = rw e
-
--- ---- meanings
-module _ (m : ℕ) (x : Meaning) where
-  pub new_variable : (t : ValueType) → x ≡ M.Variable t → Variable t ≡ new_denotation m x
-  new_variable t e = rw e
-
-  pub new_entry : x ≡ M.EntryOnly → EntryName (record { declared = true; body = Body.Nothing }) ≡ new_denotation m x
-  new_entry e = rw e
-
-  pub new_body : (r : ℕ) → x ≡ M.BodyAt r → EntryName (record { declared = false; body = Body.At (place_at m r) }) ≡ new_denotation m x
-  new_body r e = rw e
-
-  pub new_label : (r : ℕ) → x ≡ M.LabelAt r → LabelName (record { place = place_at m r; is_end = false }) ≡ new_denotation m x
-  new_label r e = rw e
-
-  pub new_end_label : (r : ℕ) → x ≡ M.EndLabelAt r → LabelName (record { place = place_at m r; is_end = true }) ≡ new_denotation m x
-  new_end_label r e = rw e
-
--- ---- two declarations of one name
-pub both_new : (b : Bool) (p : Place) → b ≡ true → joint_for (Joined (EntryName (record { declared = true; body = Body.At p }))) ≡ joint_both b p
-both_new b p e = rw e
-
-pub both_old : (b : Bool) (p : Place) → b ≡ false → joint_for Twice ≡ joint_both b p
-both_old b p e = rw e
-
-no_bodies : (e : Bool) → N.twice ≡ N.entry_two e W.no_body W.no_body
-no_bodies true = refl
-no_bodies false = refl
-
-two_bodies : (e : Bool) (m r n q : ℕ) → N.twice ≡ N.entry_two e (W.body_at m r) (W.body_at n q)
-two_bodies true m r n q = refl
-two_bodies false m r n q = refl
-
-body_second : (e : Bool) (p : Place) → joint_both e p ≡ N.entry_two e W.no_body (W.body_at p.member p.row)
-body_second true p = refl
-body_second false p = refl
-
-body_first : (e : Bool) (p : Place) → joint_both (not e) p ≡ N.entry_two e (W.body_at p.member p.row) W.no_body
-body_first true p = refl
-body_first false p = refl
-
-module _ (a b : Entry) where
-  pub joint_none : a.body ≡ Body.Nothing → b.body ≡ Body.Nothing → joint_for Twice ≡ N.joint_of (denotation_of (EntryName a)) (denotation_of (EntryName b))
-  joint_none e f = rw (e, f) (no_bodies a.declared)
-
-  pub joint_twice : (p q : Place) → a.body ≡ Body.At p → b.body ≡ Body.At q → joint_for Twice ≡ N.joint_of (denotation_of (EntryName a)) (denotation_of (EntryName b))
-  joint_twice p q e f = rw (e, f) (two_bodies a.declared p.member p.row q.member q.row)
-
-  pub joint_second : (p : Place) (r : Joint) → a.body ≡ Body.Nothing → b.body ≡ Body.At p → joint_for r ≡ joint_both a.declared p
-      → joint_for r ≡ N.joint_of (denotation_of (EntryName a)) (denotation_of (EntryName b))
-  joint_second p r e f g = g ∙ rw (e, f) (body_second a.declared p)
-
-  pub joint_first : (p : Place) (r : Joint) → a.body ≡ Body.At p → b.body ≡ Body.Nothing → joint_for r ≡ joint_both (not a.declared) p
-      → joint_for r ≡ N.joint_of (denotation_of (EntryName a)) (denotation_of (EntryName b))
-  joint_first p r e f g = g ∙ rw (e, f) (body_first a.declared p)
-
-pub joint_entries : (a b : Denotation) (e f : Entry) (r : Joint) → a ≡ EntryName e → b ≡ EntryName f → joint_for r ≡ N.joint_of (denotation_of (EntryName e)) (denotation_of (EntryName f))
-    → joint_for r ≡ N.joint_of (denotation_of a) (denotation_of b)
-joint_entries a b e f r h k g = rw (h, k) g
-
--- ---- which refusal comes first
-pub twice_none : (m : Mark) (f : Fault) → f ≡ Sound → m ≡ Unmarked → Sound ≡ twice_or m f
-twice_none m f e h = rw (e, h)
-
-pub twice_some : (m : Mark) (f : Fault) (p : ℕ) → f ≡ Sound → m ≡ Marked p → Faulty DeclaredTwice p ≡ twice_or m f
-twice_some m f p e h = rw (e, h)
-
-pub twice_faulty : (m : Mark) (f : Fault) (w : Why) (q : ℕ) → f ≡ Faulty w q → Faulty w q ≡ twice_or m f
-twice_faulty Unmarked f w q e = rw e
-twice_faulty (Marked p) f w q e = rw e
-
-module _ (m n : Mark) (f : Fault) where
-  pub fault_none : (r : Fault) → m ≡ Unmarked → r ≡ twice_or n f → r ≡ fault_in m n f
-  unfolding fault_in
-  fault_none r e h = rw e h
-
-  pub fault_sound : (p : ℕ) → m ≡ Marked p → f ≡ Sound → Faulty OverLimit p ≡ fault_in m n f
-  unfolding fault_in
-  fault_sound p e h = rw (e, h)
-
-  pub fault_past : (p : ℕ) (w : Why) (q : ℕ) → m ≡ Marked p → f ≡ Faulty w q → p < q → Faulty OverLimit p ≡ fault_in m n f
-  unfolding fault_in
-  fault_past p w q e h l = rw (e, h, lt-ltb p q l)
-
-  pub fault_first : (p : ℕ) (w : Why) (q : ℕ) → m ≡ Marked p → f ≡ Faulty w q → q ≤ p → Faulty w q ≡ fault_in m n f
-  unfolding fault_in
-  fault_first p w q e h l = rw (e, h, le-ltb p q l)
+use Rattle.entering.specs.Book.{joint_for, tally_past, tally_second, tally_of, new_denotation, Book, book_add, book_joint, book_join, book_at, book_one, denotations_from, activities_from, book_of, Roomy, Declarable, identifier_in, new_name, Added, Joining, JoinedAt, Entered, AddedIf, JoinedIf, EnteredIf, identifier_at}
 
 -- ---- lists by number
 abbrev tab : {A : Type 0} → (ℕ → A) → ℕ → ℕ → List A
@@ -262,18 +150,15 @@ module _ (t : List ℕ) (x : Tally) (p : Spelling) (o : Owner) (e : Denotation) 
           base = refl;
         }
 
-pub identifier_is : (b n : ℕ) (x : Spelling) → n ≡ x.to - x.from → ◌≡◌ {A = Identifier} (record { 0 = (b + x.from % 65536) % 65536; 1 = n % 65536 }) (identifier_in b x)
-identifier_is b n x e = rw e
-
 -- ---- a name that was known
-module _ (t : List ℕ) (x : Tally) (a p : ℕ) (e : Denotation) (r : Joining t x a) (o : Name) (h : o ≡ name_in t a) (j : Joint) (k : joint_for j ≡ N.joint_of (denotation_of o.denotation) (denotation_of e)) where
+module _ (t : List ℕ) (x : Tally) (a p : ℕ) (e : Denotation) (r : Joining t x a) (o : Name) (h : o ≡ name_in t a) (j : Option Denotation) (k : joint_for j ≡ N.joint_of (denotation_of o.denotation) (denotation_of e)) where
   before : get_or (denotations_from t 0 x.names) a W.builtin_name ≡ denotation_of o.denotation
   before = let z : 0 + a ≡ a = omega arith in rw (denotations_tab t 0 x.names, h) (rw z at (get_d_tab (λ i. denotation_of (name_in t i).denotation) a 0 x.names W.builtin_name r.known))
 
   together : N.joint_of (get_or (denotations_from t 0 x.names) a W.builtin_name) (denotation_of e) ≡ joint_for j
   together = ap (λ (z : W.Denotation). N.joint_of z (denotation_of e)) before ∙ sym k
 
-  pub joined_twice : (y : Tally) → j ≡ Twice → y ≡ tally_second x p → JoinedAt t x a p e t y
+  pub joined_twice : (y : Tally) → j ≡ None → y ≡ tally_second x p → JoinedAt t x a p e t y
   unfolding book_of book_join
   joined_twice y f g = rw g (record {
     book = λ d. sym (ap (λ (z : N.Joint). book_joint z a p (book_of d t x)) (together ∙ ap joint_for f));
@@ -282,7 +167,7 @@ module _ (t : List ℕ) (x : Tally) (a p : ℕ) (e : Denotation) (r : Joining t 
     base = refl;
   })
 
-  module _ (v : Denotation) (f : j ≡ Joined v) (u : List ℕ) (w : u ≡ over t (16 * a) (numbers_of (record { identifier = o.identifier; owner = o.owner; denotation = v; activity = o.activity }))) where
+  module _ (v : Denotation) (f : j ≡ Some v) (u : List ℕ) (w : u ≡ over t (16 * a) (numbers_of (record { identifier = o.identifier; owner = o.owner; denotation = v; activity = o.activity }))) where
     rooms : 16 * a + 11 ≤ length t
     rooms = omega (arith, r.known, r.roomy.few, r.roomy.size)
 
@@ -363,18 +248,18 @@ module _ (d s t : List ℕ) (x : Tally) (p : Spelling) (o : Owner) (h : Declarab
 
 -- ---- the same of any room and any spelling
 module _ (t : List ℕ) (x : Tally) (p : Spelling) (o : Owner) (e : Denotation) where
-  pub adds_past : (y : Tally) → 256 ≤ x.names → y ≡ tally_past x p.from → AddedIf t x p o e t y
-  adds_past y h k = record { is = λ r. added_past t x p o e r y h k }
+  pub adds_past : (n : ℕ) (y : Tally) → n ≡ x.names → 256 ≤ n → y ≡ tally_past x p.from → AddedIf t x p o e t y
+  adds_past n y f h k = record { is = λ r. added_past t x p o e r y (omega (arith, f, h)) k }
 
-  pub adds_more : (u : List ℕ) (i : Identifier) → x.names < 256 → i ≡ identifier_in x.base p → u ≡ over t (16 * x.names) (numbers_of (record { identifier = i; owner = o; denotation = e; activity = Inactive }))
+  pub adds_more : (n : ℕ) (u : List ℕ) (i : Identifier) → n ≡ x.names → n < 256 → i ≡ identifier_in x.base p → u ≡ over t (16 * x.names) (numbers_of (record { identifier = i; owner = o; denotation = e; activity = Inactive }))
       → AddedIf t x p o e u (tally_of x.member x.base (x.names + 1) x.past x.second)
-  adds_more u i h k w = record { is = λ r. added_more t x p o e r u i h k w }
+  adds_more n u i f h k w = record { is = λ r. added_more t x p o e r u i (omega (arith, f, h)) k w }
 
-module _ (t : List ℕ) (x : Tally) (a p : ℕ) (e : Denotation) (o : Name) (h : o ≡ name_in t a) (j : Joint) (k : joint_for j ≡ N.joint_of (denotation_of o.denotation) (denotation_of e)) where
-  pub joins_twice : (y : Tally) → j ≡ Twice → y ≡ tally_second x p → JoinedIf t x a p e t y
+module _ (t : List ℕ) (x : Tally) (a p : ℕ) (e : Denotation) (o : Name) (h : o ≡ name_in t a) (j : Option Denotation) (k : joint_for j ≡ N.joint_of (denotation_of o.denotation) (denotation_of e)) where
+  pub joins_twice : (y : Tally) → j ≡ None → y ≡ tally_second x p → JoinedIf t x a p e t y
   joins_twice y f g = record { is = λ r. joined_twice t x a p e r o h j k y f g }
 
-  pub joins_set : (v : Denotation) → j ≡ Joined v → (u : List ℕ) → u ≡ over t (16 * a) (numbers_of (record { identifier = o.identifier; owner = o.owner; denotation = v; activity = o.activity })) → JoinedIf t x a p e u x
+  pub joins_set : (v : Denotation) → j ≡ Some v → (u : List ℕ) → u ≡ over t (16 * a) (numbers_of (record { identifier = o.identifier; owner = o.owner; denotation = v; activity = o.activity })) → JoinedIf t x a p e u x
   joins_set v f u w = record { is = λ r. joined_set t x a p e r o h j k v f u w }
 
 module _ (d s t : List ℕ) (x : Tally) (p : Spelling) (o : Owner) (n : ℕ) (hn : n ≡ p.to - p.from)

@@ -1,6 +1,6 @@
 -- The names that are declared so far, in the definition's terms, with the two places that decide which refusal comes first; and
 -- how one declaration after the other changes them.
-use Rattle.std.specs.Prelude.{ℕ, zero, suc, ◌+◌, ◌-◌, ◌%◌, ◌≤◌, ◌<◌, Bool, true, false, cond, List, [], ◌∷◌, ◌++◌, ◌≡◌, leb, ltb, length, get_or, set}
+use Rattle.std.specs.Prelude.{Option, Some, None, ℕ, zero, suc, ◌+◌, ◌-◌, ◌%◌, ◌≤◌, ◌<◌, Bool, true, false, cond, List, [], ◌∷◌, ◌++◌, ◌≡◌, leb, ltb, length, get_or, set}
 use Rattle.definition.specs.Bytes.{mixed, folded}
 use Rattle.definition.specs.Lists.{part}
 use Rattle.definition.specs.Limits.{declared_names}
@@ -23,8 +23,6 @@ use Rattle.entering.specs.declared.Mark.{Mark}
 use Rattle.entering.specs.declared.Mark.TheVariants.{Unmarked, Marked}
 use Rattle.entering.specs.declared.Tally.{Tally}
 use Rattle.entering.specs.declared.Spelling.{Spelling}
-use Rattle.entering.specs.declared.Joint.{Joint}
-use Rattle.entering.specs.declared.Joint.TheVariants.{Joined, Twice}
 use Rattle.entering.specs.declared.Fault.{Fault}
 use Rattle.entering.specs.declared.Fault.TheVariants.{Sound, Faulty}
 
@@ -37,9 +35,9 @@ meaning_of (M.LabelAt r) = P.label r
 meaning_of (M.EndLabelAt r) = P.end_label r
 meaning_of M.BuiltinName = P.builtin
 
-abbrev pub joint_for : Joint → N.Joint
-joint_for (Joined d) = N.joint (denotation_of d)
-joint_for Twice = N.twice
+abbrev pub joint_for : Option Denotation → N.Joint
+joint_for (Some d) = N.joint (denotation_of d)
+joint_for None = N.twice
 
 abbrev pub fault_for : Fault → P.Fault
 fault_for Sound = P.sound

@@ -59,37 +59,25 @@ fn first_of(m: Mark, p: usize) -> Mark
 {
     match m {
         Mark::Unmarked => Mark::Marked(p),
-        Mark::Marked(q) => Mark::Marked(q),
+        Mark::Marked(_) => m,
     }
 }
 
 pub fn with_past(t: Tally, p: usize) -> Tally
     ensures { result ≡ B.tally_past t p }
 {
-    let old = t.past;
-    let past = first_of(old, p);
-    let second = t.second;
     Tally {
-        member: t.member,
-        base: t.base,
-        names: t.names,
-        past,
-        second,
+        past: first_of(t.past, p),
+        ..t
     }
 }
 
 pub fn with_second(t: Tally, p: usize) -> Tally
     ensures { result ≡ B.tally_second t p }
 {
-    let old = t.second;
-    let past = t.past;
-    let second = first_of(old, p);
     Tally {
-        member: t.member,
-        base: t.base,
-        names: t.names,
-        past,
-        second,
+        second: first_of(t.second, p),
+        ..t
     }
 }
 
@@ -131,57 +119,34 @@ fn denotation_of(m: u16, x: Meaning) -> Denotation
     }
 }
 
-// What two declarations make of a name together.
-#[derive(Clone, Copy)]
-enum Joint {
-    Joined(Denotation),
-    Twice,
-}
-
-// An ENTRY declaration and a procedure may share a name.
-fn joint_entry(a: Entry, b: Entry) -> Joint
+// What an ENTRY declaration and a procedure of one name make of it together; nothing where one of the two is there twice.
+fn joint_entry(a: Entry, b: Entry) -> Option<Denotation>
     ensures { B.joint_for result ≡ N.joint_of (denotation_of (D.EntryName a)) (denotation_of (D.EntryName b)) }
 {
-    let first = a.body;
-    let second = b.body;
-    match first {
-        Body::Nothing => match second {
-            Body::Nothing => Joint::Twice,
-            Body::At(p) => both(a.declared, p),
-        },
-        Body::At(p) => match second {
-            Body::Nothing => both(!a.declared, p),
-            Body::At(_) => Joint::Twice,
-        },
+    match (a.body, b.body) {
+        (Body::Nothing, Body::At(p)) => both(a.declared, p),
+        (Body::At(p), Body::Nothing) => both(!a.declared, p),
+        (Body::Nothing, Body::Nothing) | (Body::At(_), Body::At(_)) => None,
     }
 }
 
-// The entry with its body and its declaration, unless one of the two is there twice.
-fn both(is_new: bool, p: Place) -> Joint
+// The entry with its body and its declaration, if the one that was missing is new.
+fn both(is_new: bool, p: Place) -> Option<Denotation>
     ensures { B.joint_for result ≡ B.joint_both is_new p }
 {
-    if is_new {
-        return Joint::Joined(Denotation::EntryName(Entry {
-            declared: true,
-            body: Body::At(p),
-        }));
-    }
-    Joint::Twice
+    is_new.then_some(Denotation::EntryName(Entry {
+        declared: true,
+        body: Body::At(p),
+    }))
 }
 
-fn joint_of(a: Denotation, b: Denotation) -> Joint
+// What two declarations make of a name together: only an ENTRY declaration and a procedure may share one.
+fn joint_of(a: Denotation, b: Denotation) -> Option<Denotation>
     ensures { B.joint_for result ≡ N.joint_of (denotation_of a) (denotation_of b) }
 {
-    match a {
-        Denotation::Variable(_) => Joint::Twice,
-        Denotation::EntryName(e) => match b {
-            Denotation::Variable(_) => Joint::Twice,
-            Denotation::EntryName(f) => joint_entry(e, f),
-            Denotation::LabelName(_) => Joint::Twice,
-            Denotation::Builtin => Joint::Twice,
-        },
-        Denotation::LabelName(_) => Joint::Twice,
-        Denotation::Builtin => Joint::Twice,
+    match (a, b) {
+        (Denotation::EntryName(e), Denotation::EntryName(f)) => joint_entry(e, f),
+        _ => None,
     }
 }
 
@@ -189,7 +154,7 @@ fn joint_of(a: Denotation, b: Denotation) -> Joint
 fn identifier(base: u16, x: Spelling) -> Identifier
     ensures { result ≡ B.identifier_in base x }
 {
-    let place = (base as usize + x.from % 65_536) % 65_536;
+    let place = (usize::from(base) + x.from % 65_536) % 65_536;
     let length = length_of(x) % 65_536;
     Identifier(place as u16, length as u16)
 }
@@ -204,7 +169,7 @@ pub fn length_of(x: Spelling) -> usize
 fn add_name(names: &mut [u16], t: Tally, x: Spelling, owner: Owner, d: Denotation) -> Tally
     ensures { B.AddedIf names.old t x owner d names.new result }
 {
-    if Names::MOST <= t.names as usize {
+    if Names::MOST <= usize::from(t.names) {
         return with_past(t, x.from);
     }
     let name = Name {
@@ -214,14 +179,9 @@ fn add_name(names: &mut [u16], t: Tally, x: Spelling, owner: Owner, d: Denotatio
         activity: Activity::Inactive,
     };
     put_name(names, Address(t.names), name);
-    let past = t.past;
-    let second = t.second;
     Tally {
-        member: t.member,
-        base: t.base,
         names: t.names + 1,
-        past,
-        second,
+        ..t
     }
 }
 
@@ -230,27 +190,11 @@ fn join_name(names: &mut [u16], t: Tally, a: Address, p: usize, d: Denotation) -
     ensures { B.JoinedIf names.old t a.0 p d names.new result }
 {
     let old = name_at(names, a);
-    let before = old.denotation;
-    let owner = old.owner;
-    let activity = old.activity;
-    let identifier = old.identifier;
-    let joint = joint_of(before, d);
-    match joint {
-        Joint::Joined(denotation) => {
-            put_name(
-                names,
-                a,
-                Name {
-                    identifier,
-                    owner,
-                    denotation,
-                    activity,
-                },
-            );
-            t
-        }
-        Joint::Twice => with_second(t, p),
-    }
+    let Some(denotation) = joint_of(old.denotation, d) else {
+        return with_second(t, p);
+    };
+    put_name(names, a, Name { denotation, ..old });
+    t
 }
 
 // Declares the name that the body s spells so.
@@ -266,8 +210,7 @@ pub fn declare(
     ensures { B.EnteredIf deck.now s.now names.old t x (B.book_one (B.identifier_at s.now x owner) (denotation_of (B.new_denotation t.member meaning)) x.from) names.new result }
 {
     let d = denotation_of(t.member, meaning);
-    let found = find(deck, names, t.names, s, x.from, length_of(x), owner);
-    match found {
+    match find(deck, names, t.names, s, x.from, length_of(x), owner) {
         Found::Known(a) => join_name(names, t, a, x.from, d),
         Found::Unknown => add_name(names, t, x, owner, d),
     }
@@ -281,21 +224,15 @@ pub enum Fault {
 }
 
 // 3 and 4 by place, and then 5.
+#[tactic(auto, unfolding(crate::specs::Book::fault_in))]
 pub fn fault_of(t: Tally, f: Fault) -> Fault
     ensures { result ≡ B.fault_in t.past t.second f }
 {
-    let past = t.past;
-    match past {
+    match t.past {
         Mark::Unmarked => twice_or(t, f),
         Mark::Marked(p) => match f {
-            Fault::Sound => Fault::Faulty(Why::OverLimit, p),
-            Fault::Faulty(w, q) => {
-                if p < q {
-                    Fault::Faulty(Why::OverLimit, p)
-                } else {
-                    Fault::Faulty(w, q)
-                }
-            }
+            Fault::Faulty(_, q) if q <= p => f,
+            Fault::Faulty(_, _) | Fault::Sound => Fault::Faulty(Why::OverLimit, p),
         },
     }
 }
@@ -303,12 +240,8 @@ pub fn fault_of(t: Tally, f: Fault) -> Fault
 fn twice_or(t: Tally, f: Fault) -> Fault
     ensures { result ≡ B.twice_or t.second f }
 {
-    let second = t.second;
-    match f {
-        Fault::Sound => match second {
-            Mark::Unmarked => Fault::Sound,
-            Mark::Marked(p) => Fault::Faulty(Why::DeclaredTwice, p),
-        },
-        Fault::Faulty(w, q) => Fault::Faulty(w, q),
+    match (f, t.second) {
+        (Fault::Sound, Mark::Marked(p)) => Fault::Faulty(Why::DeclaredTwice, p),
+        (Fault::Sound, Mark::Unmarked) | (Fault::Faulty(_, _), _) => f,
     }
 }

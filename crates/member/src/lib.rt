@@ -15,14 +15,10 @@ pub struct Member<'a> {
 pub fn part(deck: &[u8], offset: usize, size: usize) -> &[u8]
     ensures { result.now ≡ body_bytes deck.now offset size }
 {
-    if deck.len() < offset {
+    if deck.len() < offset || deck.len() - offset < size {
         return &deck[..0];
     }
-    if deck.len() - offset < size {
-        return &deck[..0];
-    }
-    let to = offset + size;
-    &deck[offset..to]
+    &deck[offset..offset + size]
 }
 
 // The view of a line.

@@ -2,14 +2,14 @@
 -- Assumes nothing.
 use mathlib.Core.Path.{◌≡◌, refl, sym, ap, ◌∙◌}
 use mathlib.Core.Bool.{Bool, true, false}
-use mathlib.Core.List.{List, [], ◌∷◌, ◌++◌, append_assoc}
+use mathlib.Core.List.{List, [], ◌∷◌, ◌++◌}
 use Prim.Native.Nat.{ℕ, suc, ◌+◌, ◌*◌, ◌-◌, ◌<◌, ◌≤◌}
-use native.Mathlib.Nat.{add-zero}
 use native.Mathlib.Numerals.{add-one}
 use native.Mathlib.Omega.{arith}
-use borrow.Author.Tests.{ltb-true, ltb-false, eq-eqb, ne_eqb, eqb-false}
+use borrow.Author.Tests.{ltb-true, ltb-false, eqb-false}
 use lib.Dec.{eqb, ltb, lit<}
-use lib.ListN.{length, get_or, length-append}
+use lib.ListN.{length, get_or, take}
+use Rattle.std.proofs.lemmas.List.{take_more, length-take-le}
 use Rattle.definition.specs.Bytes.{mixed, folded}
 use Rattle.definition.specs.Lists.{part, same}
 use Rattle.definition.specs.World as W
@@ -19,9 +19,7 @@ use Rattle.definition.proofs.Rooms.{over_next_at, get_d_over_at, get_d_over_low,
 use Rattle.definition.proofs.Folded.{length_folded}
 use Rattle.definition.proofs.Parts.{length_part, same_length}
 use Rattle.types.proofs.Laws.{type_back}
-use Rattle.names.specs.declared.Identifier.{Identifier}
 use Rattle.names.specs.declared.Address.{Address}
-use Rattle.names.specs.declared.Place.{Place}
 use Rattle.names.specs.declared.Owner.{Owner}
 use Rattle.names.specs.declared.Owner.TheVariants.{Everyone, Procedure}
 use Rattle.names.specs.declared.Body.{Body}
@@ -33,56 +31,24 @@ use Rattle.names.specs.declared.Activity.TheVariants.{Inactive, Rescanned, Copie
 use Rattle.names.specs.declared.Name.{Name}
 use Rattle.names.specs.declared.Found.{Found}
 use Rattle.names.specs.declared.Found.TheVariants.{Known, Unknown}
-use Rattle.names.specs.Table.{owner_of, owner_tag, owner_place, owner_numbers, body_tag, body_place, body_numbers, body_in, flag, activity_number, denotation_tag, denotation_flag, denotation_body, denotation_place, denotation_numbers, numbers_of, same_place, spelled, identifier_of, found_for, owner_in, denotation_in, activity_in, name_in, identifiers_from, or_else, seen_in}
-
--- ---- a record, from the numbers that were read
-pub name_is : (t : List ℕ) (a at : ℕ) (i : Identifier) (o : Owner) (e : Denotation) (x : Activity) (n0 n1 n2 n3 n4 n5 n6 n7 n8 n9 n10 : ℕ)
-    → at ≡ 16 * a
-    → n0 ≡ get_or t (at + 0) 0 → n1 ≡ get_or t (at + 1) 0 → n2 ≡ get_or t (at + 2) 0 → n3 ≡ get_or t (at + 3) 0 → n4 ≡ get_or t (at + 4) 0 → n5 ≡ get_or t (at + 5) 0
-    → n6 ≡ get_or t (at + 6) 0 → n7 ≡ get_or t (at + 7) 0 → n8 ≡ get_or t (at + 8) 0 → n9 ≡ get_or t (at + 9) 0 → n10 ≡ get_or t (at + 10) 0
-    → i ≡ record { 0 = n0; 1 = n1 } → o ≡ owner_in n2 n3 n4 → e ≡ denotation_in n5 n6 n7 n8 n9 → x ≡ activity_in n10
-    → ◌≡◌ {A = Name} (record { identifier = i; owner = o; denotation = e; activity = x }) (name_in t a)
-unfolding name_in
-name_is t a at i o e x n0 n1 n2 n3 n4 n5 n6 n7 n8 n9 n10 p q0 q1 q2 q3 q4 q5 q6 q7 q8 q9 q10 f g h k =
-    rw (f, g, h, k, q0, q1, q2, q3, q4, q5, q6, q7, q8, q9, q10, p)
-
--- ---- two procedures are the same where their places are
-pub same_procedures : (a b : Owner) (p q : Place) (r : Bool) → a ≡ Procedure p → b ≡ Procedure q → r ≡ same_place p q → r ≡ same_owner (owner_of a) (owner_of b)
-same_procedures a b p q r e f g = g ∙ rw (e, f)
+use Rattle.names.specs.Table.{owner_of, owner_tag, owner_place, owner_numbers, body_tag, body_place, body_in, flag, activity_number, denotation_tag, denotation_flag, denotation_body, denotation_place, denotation_numbers, numbers_of, spelled, identifier_of, found_for, owner_in, denotation_in, activity_in, name_in, identifiers_from, or_else, seen_in}
 
 -- ---- whether a record is that of an identifier
 module _ (d : List ℕ) (x : Name) (s : List ℕ) (from n : ℕ) (o : Owner) where
-  pub other_length : (x.identifier.1 ≡ n → ⊥) → false ≡ is_identifier (folded mixed (part n from s)) (owner_of o) (identifier_of d x)
-  other_length h =
+  pub other_length : (m : ℕ) → m ≡ x.identifier.1 → (m ≡ n → ⊥) → false ≡ is_identifier (folded mixed (part n from s)) (owner_of o) (identifier_of d x)
+  other_length m q h =
       let z : false ≡ same (spelled d x.identifier) (folded mixed (part n from s)) =
-      same_length (spelled d x.identifier) (folded mixed (part n from s)) (λ e. h (sym (length_folded mixed (part x.identifier.1 x.identifier.0 d) ∙ length_part x.identifier.1 x.identifier.0 d) ∙ e ∙ length_folded mixed (part n from s) ∙ length_part n from s)) in
+      same_length (spelled d x.identifier) (folded mixed (part n from s)) (λ e. h (q ∙ sym (length_folded mixed (part x.identifier.1 x.identifier.0 d) ∙ length_part x.identifier.1 x.identifier.0 d) ∙ e ∙ length_folded mixed (part n from s) ∙ length_part n from s)) in
       rw (← z)
 
-  module _ (g : Bool) (e : x.identifier.1 ≡ n) (f : g ≡ same (folded mixed (part n x.identifier.0 d)) (folded mixed (part n from s))) where
-    pub same_spelling : g ≡ true → (r : Bool) → r ≡ same_owner (owner_of x.owner) (owner_of o) → r ≡ is_identifier (folded mixed (part n from s)) (owner_of o) (identifier_of d x)
-    same_spelling y r q = q ∙ rw (e, ← f, y)
-
-    pub other_spelling : g ≡ false → false ≡ is_identifier (folded mixed (part n from s)) (owner_of o) (identifier_of d x)
-    other_spelling y = rw (e, ← f, y)
-
--- ---- the length that stands in a record
-module _ (t : List ℕ) (a at m n : ℕ) (p : at ≡ 16 * a) (q : m ≡ get_or t (at + 1) 0) where
-  pub same_length_there : m ≡ n → true ≡ eqb (name_in t a).identifier.1 n
-  unfolding name_in
-  same_length_there e = rw (← p, ← q, eq-eqb m n e)
-
-  pub other_length_there : (m ≡ n → ⊥) → false ≡ eqb (name_in t a).identifier.1 n
-  unfolding name_in
-  other_length_there e = rw (← p, ← q, ne_eqb m n e)
+  pub other_spelling : (m p : ℕ) (g : Bool) → m ≡ x.identifier.1 → m ≡ n → p ≡ x.identifier.0 → g ≡ same (folded mixed (part n p d)) (folded mixed (part n from s)) → g ≡ false
+      → false ≡ is_identifier (folded mixed (part n from s)) (owner_of o) (identifier_of d x)
+  other_spelling m p g q e k f y = rw (← q, e, ← k, ← f, y)
 
 -- ---- whether the record of an address is that of an identifier
 module _ (d t s : List ℕ) (a from n : ℕ) (o : Owner) where
-  pub is_there : (x : Name) (g : Bool) → x ≡ name_in t a → g ≡ is_identifier (folded mixed (part n from s)) (owner_of o) (identifier_of d x)
-      → g ≡ is_identifier (folded mixed (part n from s)) (owner_of o) (identifier_of d (name_in t a))
-  is_there x g e f = rw (← e) f
-
   pub not_there : (b : Bool) → b ≡ eqb (name_in t a).identifier.1 n → b ≡ false → false ≡ is_identifier (folded mixed (part n from s)) (owner_of o) (identifier_of d (name_in t a))
-  not_there b e f = other_length d (name_in t a) s from n o (eqb-false (name_in t a).identifier.1 n (sym e ∙ f))
+  not_there b e f = other_length d (name_in t a) s from n o (name_in t a).identifier.1 refl (eqb-false (name_in t a).identifier.1 n (sym e ∙ f))
 
 -- ---- the search: what is left to look at decides
 ids_next : (d t : List ℕ) (n a : ℕ) → a < n → identifiers_from d t a (n - a) ≡ identifier_of d (name_in t a) ∷ identifiers_from d t (a + 1) (n - (a + 1))
@@ -146,57 +112,27 @@ ne_lt a b h l = cases (ltb b a) refl
     cases true e = ltb-true b a e
     cases false e = let k : a ≤ b = ltb-false b a e in absurd (h (omega arith))
 
-pub three : (r r₁ r₂ r₃ : List ℕ) (at k a b c : ℕ) → r₁ ≡ over r (at + k) (a ∷ []) → r₂ ≡ over r₁ (at + (k + 1)) (b ∷ []) → r₃ ≡ over r₂ (at + (k + 2)) (c ∷ [])
-    → r₃ ≡ over r (at + k) (a ∷ b ∷ c ∷ [])
-three r r₁ r₂ r₃ at k a b c e f g =
-    g ∙ rw (f, e, over_next_at r (at + k) (at + (k + 1)) (a ∷ []) (b ∷ []) (omega arith)) (over_next_at r (at + k) (at + (k + 2)) (a ∷ b ∷ []) (c ∷ []) (omega arith))
-
-pub two : (r r₁ r₂ : List ℕ) (at a b : ℕ) → r₁ ≡ over r (at + 5) (a ∷ []) → r₂ ≡ over r₁ (at + 6) (b ∷ []) → r₂ ≡ over r (at + 5) (a ∷ b ∷ [])
-two r r₁ r₂ at a b e f = f ∙ rw e (over_next_at r (at + 5) (at + 6) (a ∷ []) (b ∷ []) (omega arith))
-
--- a tag and a number, and three numbers behind them
-pub tagged : (r r₁ r₂ : List ℕ) (at a b : ℕ) (xs ys : List ℕ) → r₁ ≡ over r (at + 5) (a ∷ b ∷ []) → r₂ ≡ over r₁ (at + 7) xs → (a ∷ b ∷ []) ++ xs ≡ ys → r₂ ≡ over r (at + 5) ys
-tagged r r₁ r₂ at a b xs ys e f g = f ∙ rw e (over_next_at r (at + 5) (at + 7) (a ∷ b ∷ []) xs (omega arith)) ∙ ap (over r (at + 5)) g
-
--- a match that tells the case, and the numbers of that case
-pub of_case : {A : Type 0} (f : A → List ℕ) (x y : A) (r r' : List ℕ) (at : ℕ) → x ≡ y → r' ≡ over r at (f y) → r' ≡ over r at (f x)
-of_case f x y r r' at e g = g ∙ rw e
+pub numbers_more : (r r₁ r₂ xs : List ℕ) (at k : ℕ) → r₁ ≡ over r at (take k xs) → k < length xs → r₂ ≡ over r₁ (at + k) (get_or xs k 0 ∷ []) → r₂ ≡ over r at (take (k + 1) xs)
+numbers_more r r₁ r₂ xs at k e h f =
+    let l : length (take k xs) ≡ k = length-take-le k xs (omega arith) in
+    f ∙ rw e (over_next_at r at (at + k) (take k xs) (get_or xs k 0 ∷ []) (omega (arith, l))) ∙ ap (over r at) (sym (take_more xs k 0 h))
 
 -- the whole record
-pub whole : (r r₀ r₁ r₂ r₃ r₄ : List ℕ) (a at n0 n1 n10 : ℕ) (os ds : List ℕ) → at ≡ 16 * a
-    → r₀ ≡ over r (at + 0) (n0 ∷ []) → r₁ ≡ over r₀ (at + 1) (n1 ∷ []) → r₂ ≡ over r₁ (at + 2) os → r₃ ≡ over r₂ (at + 5) ds → r₄ ≡ over r₃ (at + 10) (n10 ∷ [])
-    → length os ≡ 3 → length ds ≡ 5 → r₄ ≡ over r (16 * a) (n0 ∷ n1 ∷ (os ++ (ds ++ (n10 ∷ []))))
-whole r r₀ r₁ r₂ r₃ r₄ a at n0 n1 n10 os ds p e0 e1 e2 e3 e4 lo ld =
-    let u : length (n0 ∷ n1 ∷ os) ≡ 5 = omega (arith, lo) in
-    let v : length (n0 ∷ n1 ∷ (os ++ ds)) ≡ 10 = simp length-append (omega (arith, lo, ld)) in
-    let w : (n0 ∷ n1 ∷ (os ++ ds)) ++ (n10 ∷ []) ≡ n0 ∷ n1 ∷ (os ++ (ds ++ (n10 ∷ []))) = ap (λ (z : List ℕ). n0 ∷ n1 ∷ z) (append_assoc os ds (n10 ∷ [])) in
+pub whole : (r r₁ r₂ r₃ r₄ : List ℕ) (a at n0 n1 n10 : ℕ) (o : Owner) (x : Denotation) (os ds : List ℕ) → at ≡ 16 * a → os ≡ owner_numbers o → ds ≡ denotation_numbers x
+    → r₁ ≡ over r at (n0 ∷ n1 ∷ []) → r₂ ≡ over r₁ (at + 2) os → r₃ ≡ over r₂ (at + 5) ds → r₄ ≡ over r₃ (at + 10) (n10 ∷ [])
+    → r₄ ≡ over r (16 * a) (n0 ∷ n1 ∷ (owner_numbers o ++ (denotation_numbers x ++ (n10 ∷ []))))
+whole r r₁ r₂ r₃ r₄ a at n0 n1 n10 o x os ds p g h e1 e2 e3 e4 =
     e4 ∙ rw (
       e3,
       e2,
       e1,
-      e0,
-      add-zero,
-      over_next_at r at (at + 1) (n0 ∷ []) (n1 ∷ []) refl,
-      over_next_at r at (at + 2) (n0 ∷ n1 ∷ []) os refl,
-      over_next_at r at (at + 5) (n0 ∷ n1 ∷ os) ds (omega (arith, u)),
-      over_next_at r at (at + 10) (n0 ∷ n1 ∷ (os ++ ds)) (n10 ∷ []) (omega (arith, v)),
-      w,
+      g,
+      h,
+      over_next_at r at (at + 2) (n0 ∷ n1 ∷ []) (owner_numbers o) refl,
+      over_next_at r at (at + 5) (n0 ∷ n1 ∷ owner_numbers o) (denotation_numbers x) refl,
+      over_next_at r at (at + 10) (n0 ∷ n1 ∷ (owner_numbers o ++ denotation_numbers x)) (n10 ∷ []) refl,
       p,
     )
-
-pub owner_three : (o : Owner) → length (owner_numbers o) ≡ 3
-owner_three Everyone = refl
-owner_three (Procedure p) = refl
-
-body_three : (b : Body) → length (body_numbers b) ≡ 3
-body_three Nothing = refl
-body_three (At p) = refl
-
-pub denotation_five : (x : Denotation) → length (denotation_numbers x) ≡ 5
-denotation_five (Variable t) = refl
-denotation_five (EntryName e) = let h = body_three e.body in omega (arith, h)
-denotation_five (LabelName l) = refl
-denotation_five Builtin = refl
 
 -- ---- a record reads back as it was written, and others stay
 owner_back : (o : Owner) → owner_in (owner_tag o) (owner_place o).member (owner_place o).row ≡ o

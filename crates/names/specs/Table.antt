@@ -141,11 +141,6 @@ name_in t a = record {
   activity = activity_in (get_or t (16 * a + 10) 0);
 }
 
--- n records from address a on
-unfoldable pub names_from : List ℕ → ℕ → ℕ → List Name
-names_from t a zero = []
-names_from t a (suc n) = name_in t a ∷ names_from t (suc a) n
-
 -- the identifiers of the definition's world
 unfoldable pub identifiers_from : List ℕ → List ℕ → ℕ → ℕ → List W.Identifier
 identifiers_from d t a zero = []

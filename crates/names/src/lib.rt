@@ -3,11 +3,11 @@
 // Parts: a record that is read, the search, a record that is written.
 #![tactic(auto)]
 
-ghost use Rattle.std.specs.Prelude.{◌≡◌, ◌∷◌, [], ◌+◌, ◌*◌, ◌-◌, ◌≤◌, eqb};
+ghost use Rattle.std.specs.Prelude.{◌≡◌, ◌*◌, eqb};
 ghost use Rattle.definition.specs.Bytes.{mixed, folded};
 ghost use Rattle.definition.specs.Lists.{part};
 ghost use Rattle.definition.specs.Room.{over};
-ghost use Rattle.definition.specs.World.{same_owner, is_identifier, address_in, or_global, everyone};
+ghost use Rattle.definition.specs.World.{same_owner, is_identifier, address_in};
 ghost use Rattle.names.specs.Table as T;
 ghost use Rattle.names.specs.Table.{owner_of, found_for, identifier_of, identifiers_from, name_in};
 
@@ -25,14 +25,14 @@ pub struct Identifier(pub u16, pub u16);
 pub struct Address(pub u16);
 
 // A row of a member.
-#[derive(Clone, Copy)]
+#[derive(Clone, Copy, PartialEq, Eq)]
 pub struct Place {
     pub member: u16,
     pub row: u16,
 }
 
 // Who sees a name: all of the program, or one procedure.
-#[derive(Clone, Copy)]
+#[derive(Clone, Copy, PartialEq, Eq)]
 pub enum Owner {
     Everyone,
     Procedure(Place),
@@ -90,26 +90,7 @@ pub enum Found {
 pub fn same_owner(a: Owner, b: Owner) -> bool
     ensures { result ≡ same_owner (owner_of a) (owner_of b) }
 {
-    match a {
-        Owner::Everyone => match b {
-            Owner::Everyone => true,
-            Owner::Procedure(_) => false,
-        },
-        Owner::Procedure(p) => match b {
-            Owner::Everyone => false,
-            Owner::Procedure(q) => same_place(p, q),
-        },
-    }
-}
-
-fn same_place(p: Place, q: Place) -> bool
-    ensures { result ≡ T.same_place p q }
-{
-    if p.member == q.member {
-        p.row == q.row
-    } else {
-        false
-    }
+    a == b
 }
 
 fn owner_in(k: u16, m: u16, r: u16) -> Owner
@@ -122,6 +103,7 @@ fn owner_in(k: u16, m: u16, r: u16) -> Owner
     }
 }
 
+// stays: beside `owner_in`, since the two public enums differ (a)
 fn body_in(k: u16, m: u16, r: u16) -> Body
     ensures { result ≡ T.body_in k m r }
 {
@@ -135,66 +117,59 @@ fn body_in(k: u16, m: u16, r: u16) -> Body
 fn denotation_in(k: u16, x: u16, b: u16, m: u16, r: u16) -> Denotation
     ensures { result ≡ T.denotation_in k x b m r }
 {
-    if k == 0 {
-        return Denotation::Variable(type_in(x));
-    }
-    if k == 1 {
-        return Denotation::EntryName(Entry {
+    match k {
+        0 => Denotation::Variable(type_in(x)),
+        1 => Denotation::EntryName(Entry {
             declared: x == 1,
             body: body_in(b, m, r),
-        });
-    }
-    if k == 2 {
-        return Denotation::LabelName(Label {
+        }),
+        2 => Denotation::LabelName(Label {
             place: Place { member: m, row: r },
             is_end: x == 1,
-        });
+        }),
+        _ => Denotation::Builtin,
     }
-    Denotation::Builtin
 }
 
-fn activity_in(k: u16) -> Activity
-    ensures { result ≡ T.activity_in k }
-{
-    if k == 0 {
-        return Activity::Inactive;
+impl From<u16> for Activity {
+    ghost from_gives = { λ k r. r ≡ T.activity_in k };
+
+    fn from(k: u16) -> Activity {
+        match k {
+            0 => Activity::Inactive,
+            1 => Activity::Rescanned,
+            _ => Activity::CopiedOnly,
+        }
     }
-    if k == 1 {
-        return Activity::Rescanned;
+}
+
+impl From<Activity> for u16 {
+    ghost from_gives = { λ x r. r ≡ T.activity_number x };
+
+    fn from(x: Activity) -> u16 {
+        x as u16
     }
-    Activity::CopiedOnly
 }
 
 // Where the record of an address begins in the table.
 fn record_place(a: Address) -> usize
     ensures { result ≡ 16 * a.0 }
 {
-    16 * (a.0 as usize)
+    16 * usize::from(a.0)
 }
 
 // The record of an address.
+#[tactic(auto, unfolding(crate::specs::Table::name_in))]
 pub fn name_at(names: &[u16], a: Address) -> Name
     ensures { result ≡ name_in names.now a.0 }
 {
     let at = record_place(a);
-    let owner = owner_in(
-        number16(names, at, 2),
-        number16(names, at, 3),
-        number16(names, at, 4),
-    );
-    let denotation = denotation_in(
-        number16(names, at, 5),
-        number16(names, at, 6),
-        number16(names, at, 7),
-        number16(names, at, 8),
-        number16(names, at, 9),
-    );
-    let activity = activity_in(number16(names, at, 10));
+    let number = |k: usize| number16(names, at, k);
     Name {
-        identifier: Identifier(number16(names, at, 0), number16(names, at, 1)),
-        owner,
-        denotation,
-        activity,
+        identifier: Identifier(number(0), number(1)),
+        owner: owner_in(number(2), number(3), number(4)),
+        denotation: denotation_in(number(5), number(6), number(7), number(8), number(9)),
+        activity: number(10).into(),
     }
 }
 
@@ -202,26 +177,17 @@ pub fn name_at(names: &[u16], a: Address) -> Name
 fn is_named(deck: &[u8], x: Name, s: &[u8], from: usize, n: usize, owner: Owner) -> bool
     ensures { result ≡ is_identifier (folded mixed (part n from s.now)) (owner_of owner) (identifier_of deck.now x) }
 {
-    let own = x.identifier;
-    if own.1 as usize != n {
-        return false;
-    }
-    if is_one_name(deck, own.0 as usize, s, from, n) {
-        let o = x.owner;
-        return same_owner(o, owner);
-    }
-    false
+    usize::from(x.identifier.1) == n
+        && is_one_name(deck, usize::from(x.identifier.0), s, from, n)
+        && same_owner(x.owner, owner)
 }
 
 // Whether the identifier of a record has n bytes; the quick test, since most have not.
+#[tactic(auto, unfolding(crate::specs::Table::name_in))]
 fn has_length(names: &[u16], a: Address, n: usize) -> bool
     ensures { result ≡ eqb (name_in names.now a.0).identifier.1 n }
 {
-    let own = number16(names, record_place(a), 1);
-    if own as usize == n {
-        return true;
-    }
-    false
+    usize::from(number16(names, record_place(a), 1)) == n
 }
 
 // Whether the record of an address is that of the identifier, in a scope.
@@ -236,10 +202,7 @@ fn is_at(
 ) -> bool
     ensures { result ≡ is_identifier (folded mixed (part n from s.now)) (owner_of owner) (identifier_of deck.now (name_in names.now a.0)) }
 {
-    if has_length(names, a, n) {
-        return is_named(deck, name_at(names, a), s, from, n, owner);
-    }
-    false
+    has_length(names, a, n) && is_named(deck, name_at(names, a), s, from, n, owner)
 }
 
 // THE ENVIRONMENT: the address of the identifier that `len` bytes of s spell, in a scope, among n records.
@@ -254,12 +217,10 @@ pub fn find(
 ) -> Found
     ensures { result ≡ found_for (address_in (folded mixed (part len from s.now)) (owner_of owner) 0 (identifiers_from deck.now names.now 0 n)) }
 {
-    let mut a = 0;
-    while a < n {
+    for a in 0..n {
         if is_at(deck, names, Address(a), s, from, len, owner) {
             return Found::Known(Address(a));
         }
-        a += 1;
     }
     Found::Unknown
 }
@@ -276,87 +237,42 @@ pub fn seen_from(
 ) -> Found
     ensures { result ≡ found_for (T.seen_in deck.now names.now n (folded mixed (part len from s.now)) (owner_of owner)) }
 {
-    let own = find(deck, names, n, s, from, len, owner);
-    match own {
+    match find(deck, names, n, s, from, len, owner) {
         Found::Known(a) => Found::Known(a),
         Found::Unknown => find(deck, names, n, s, from, len, Owner::Everyone),
     }
 }
 
-// Three numbers one after the other, k places past `at`.
-fn put3(room: &mut [u16], at: usize, k: usize, a: u16, b: u16, c: u16)
-    requires { k ≤ 16 }
-    ensures { room.new ≡ over room.old (at + k) (a ∷ b ∷ c ∷ []) }
+// Writes numbers one after the other.
+fn put_numbers(names: &mut [u16], at: usize, numbers: &[u16])
+    ensures { names.new ≡ over names.old at numbers.now }
 {
-    put_number16(room, at, k, a);
-    put_number16(room, at, k + 1, b);
-    put_number16(room, at, k + 2, c);
+    for (k, x) in numbers.iter().enumerate() {
+        put_number16(names, at, k, *x);
+    }
 }
 
-fn put_owner(names: &mut [u16], at: usize, o: Owner)
-    ensures { names.new ≡ over names.old (at + 2) (T.owner_numbers o) }
+fn owner_numbers(o: Owner) -> [u16; 3]
+    ensures { result ≡ T.owner_numbers o }
 {
     match o {
-        Owner::Everyone => put3(names, at, 2, 0, 0, 0),
-        Owner::Procedure(p) => put3(names, at, 2, 1, p.member, p.row),
+        Owner::Everyone => [0, 0, 0],
+        Owner::Procedure(p) => [1, p.member, p.row],
     }
 }
 
-fn put_body(names: &mut [u16], at: usize, b: Body)
-    ensures { names.new ≡ over names.old (at + 7) (T.body_numbers b) }
-{
-    match b {
-        Body::Nothing => put3(names, at, 7, 0, 0, 0),
-        Body::At(p) => put3(names, at, 7, 1, p.member, p.row),
-    }
-}
-
-fn flag(b: bool) -> u16
-    ensures { result ≡ T.flag b }
-{
-    if b { 1 } else { 0 }
-}
-
-fn activity_number(x: Activity) -> u16
-    ensures { result ≡ T.activity_number x }
-{
-    match x {
-        Activity::Inactive => 0,
-        Activity::Rescanned => 1,
-        Activity::CopiedOnly => 2,
-    }
-}
-
-// The tag of a denotation, and the number beside it.
-fn put_tag(names: &mut [u16], at: usize, k: u16, x: u16)
-    ensures { names.new ≡ over names.old (at + 5) (k ∷ x ∷ []) }
-{
-    put_number16(names, at, 5, k);
-    put_number16(names, at, 6, x);
-}
-
-fn put_denotation(names: &mut [u16], at: usize, d: Denotation)
-    ensures { names.new ≡ over names.old (at + 5) (T.denotation_numbers d) }
+// The tag of a denotation, the number beside it, and a body or a place.
+fn denotation_numbers(d: Denotation) -> [u16; 5]
+    ensures { result ≡ T.denotation_numbers d }
 {
     match d {
-        Denotation::Variable(t) => {
-            put_tag(names, at, 0, type_number(t));
-            put3(names, at, 7, 0, 0, 0);
-        }
-        Denotation::EntryName(e) => {
-            let b = e.body;
-            put_tag(names, at, 1, flag(e.declared));
-            put_body(names, at, b);
-        }
-        Denotation::LabelName(l) => {
-            let p = l.place;
-            put_tag(names, at, 2, flag(l.is_end));
-            put3(names, at, 7, 0, p.member, p.row);
-        }
-        Denotation::Builtin => {
-            put_tag(names, at, 3, 0);
-            put3(names, at, 7, 0, 0, 0);
-        }
+        Denotation::Variable(t) => [0, type_number(t), 0, 0, 0],
+        Denotation::EntryName(e) => match e.body {
+            Body::Nothing => [1, u16::from(e.declared), 0, 0, 0],
+            Body::At(p) => [1, u16::from(e.declared), 1, p.member, p.row],
+        },
+        Denotation::LabelName(l) => [2, u16::from(l.is_end), 0, l.place.member, l.place.row],
+        Denotation::Builtin => [3, 0, 0, 0, 0],
     }
 }
 
@@ -365,13 +281,8 @@ pub fn put_name(names: &mut [u16], a: Address, x: Name)
     ensures { names.new ≡ over names.old (16 * a.0) (T.numbers_of x) }
 {
     let at = record_place(a);
-    let i = x.identifier;
-    let o = x.owner;
-    let d = x.denotation;
-    let y = x.activity;
-    put_number16(names, at, 0, i.0);
-    put_number16(names, at, 1, i.1);
-    put_owner(names, at, o);
-    put_denotation(names, at, d);
-    put_number16(names, at, 10, activity_number(y));
+    put_numbers(names, at, &[x.identifier.0, x.identifier.1]);
+    put_numbers(names, at + 2, &owner_numbers(x.owner));
+    put_numbers(names, at + 5, &denotation_numbers(x.denotation));
+    put_number16(names, at, 10, x.activity.into());
 }

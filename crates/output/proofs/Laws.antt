@@ -22,13 +22,9 @@ use Rattle.output.specs.Shows.{top, line_in, grows_from, Fine, Shows, taken, Mor
 use Rattle.output.specs.Line.{line_at, PutsLine, At, Wrote, Writes}
 
 -- ---- the place of a line
-pub at_in : (k : ℕ) → k ≤ greatest / 12 → 12 * k ≡ line_at k
+at_in : (k : ℕ) → k ≤ greatest / 12 → 12 * k ≡ line_at k
 unfolding line_at
 at_in k h = rw (le-leb k (greatest / 12) h)
-
-pub at_most : (k : ℕ) → greatest / 12 < k → greatest ≡ line_at k
-unfolding line_at
-at_most k h = rw (lt-leb k (greatest / 12) h)
 
 -- ---- twelve bytes, written in six parts
 six_parts : (r r₁ r₂ r₃ r₄ r₅ r₆ : List ℕ) (at k m p n : ℕ)
@@ -122,23 +118,13 @@ eqb_iff : (a b c d : ℕ) (t : Bool) → eqb a b ≡ t → (a ≡ b → c ≡ d)
 eqb_iff a b c d true e f g = e ∙ sym (eq-eqb c d (f (eqb-true a b e)))
 eqb_iff a b c d false e f g = e ∙ sym (ne_eqb c d (λ q. eqb-false a b e (g q)))
 
-module _ (l : Line) (m p : ℕ) where
-  pub other_kind : (l.kind ≡ 2 → ⊥) → false ≡ grows_from l m p
-  unfolding grows_from
-  other_kind h = rw (ne_eqb l.kind 2 h)
+pub ends_there : (o n p : ℕ) → o ≤ p → eqb (p - o) n ≡ eqb (o + n) p
+ends_there o n p h = eqb_iff (p - o) n (o + n) p (eqb (p - o) n) refl (λ e. omega (arith, e, h)) (λ e. omega (arith, e, h))
 
-  pub other_member : l.kind ≡ 2 → (l.member ≡ m → ⊥) → false ≡ grows_from l m p
-  unfolding grows_from
-  other_member k h = rw (eq-eqb l.kind 2 k, ne_eqb l.member m h)
+pub ends_behind : (o n p : ℕ) → p < o → eqb (o + n) p ≡ false
+ends_behind o n p h = ne_eqb (o + n) p (λ e. omega (arith, e, h))
 
-  pub other_place : l.kind ≡ 2 → l.member ≡ m → p < l.offset → false ≡ grows_from l m p
-  unfolding grows_from
-  other_place k n h = rw (eq-eqb l.kind 2 k, eq-eqb l.member m n, ne_eqb (l.offset + l.size) p (λ e. omega (arith, e, h)))
-
-  pub same_place_lem : l.kind ≡ 2 → l.member ≡ m → l.offset ≤ p → eqb (p - l.offset) l.size ≡ grows_from l m p
-  unfolding grows_from
-  same_place_lem k n h = rw (eq-eqb l.kind 2 k, eq-eqb l.member m n)
-      (eqb_iff (p - l.offset) l.size (l.offset + l.size) p (eqb (p - l.offset) l.size) refl (λ e. omega (arith, e, h)) (λ e. omega (arith, e, h)))
+pub ruleset ends = (ends_there, ends_behind)
 
 -- ---- line k of the list is written: behind all lines, or over the newest
 module _ (Z l l' : List ℕ) (k : ℕ) (x : Line) (w : l' ≡ over l (12 * k) (line_bytes x)) where

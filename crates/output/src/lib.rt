@@ -40,7 +40,7 @@ pub enum Put {
 fn capped(text: usize) -> usize
     ensures { result ≡ cond (leb text text_bytes) text text_bytes }
 {
-    if text <= Out::MOST { text } else { Out::MOST }
+    text.min(Out::MOST)
 }
 
 impl Out {
@@ -68,14 +68,11 @@ impl Out {
 }
 
 // The place of line k in the list, or the most.
+#[tactic(auto, unfolding(crate::specs::Line::line_at))]
 fn line_at(k: usize) -> usize
     ensures { result ≡ line_at k }
 {
-    if k <= usize::MAX / Out::LINE {
-        Out::LINE * k
-    } else {
-        usize::MAX
-    }
+    Out::LINE.saturating_mul(k)
 }
 
 // Writes the twelve bytes of a line from a place on.
@@ -91,19 +88,11 @@ fn put_line(list: &mut [u8], at: usize, x: Newest)
 }
 
 // Whether a token copied from a place goes on with the newest line.
+#[tactic(auto, using(crate::proofs::Laws::ends), unfolding(crate::specs::Shows::grows_from))]
 fn grows_from(x: Newest, member: u8, place: u32) -> bool
     ensures { result ≡ grows_from (line_in x) member place }
 {
-    if x.kind != 2 {
-        return false;
-    }
-    if x.member != member {
-        return false;
-    }
-    if place < x.offset {
-        return false;
-    }
-    place - x.offset == x.size
+    x.kind == 2 && x.member == member && x.offset <= place && place - x.offset == x.size
 }
 
 // The line x as line k of the list, behind n bytes more of text.
@@ -125,10 +114,7 @@ fn with_line(list: &mut [u8], o: Out, k: usize, x: Newest, n: usize) -> Out
 pub fn put_blank(text: &mut [u8], list: &mut [u8], o: Out, member: u8, place: u32) -> Put
     ensures { PutsFine (blank member place) o text.old list.old result text.new list.new }
 {
-    if o.free < 1 {
-        return Put::Full;
-    }
-    if o.room < 1 {
+    if o.free < 1 || o.room < 1 {
         return Put::Full;
     }
     put_byte(text, o.text, 0, 32);
@@ -168,10 +154,7 @@ pub fn put_copied(
         };
         return Put::Done(with_line(list, o, less(o.lines, 1), x, size));
     }
-    if o.free < 1 {
-        return Put::Full;
-    }
-    if o.room < size {
+    if o.free < 1 || o.room < size {
         return Put::Full;
     }
     copy(src, from, size, text, o.text);

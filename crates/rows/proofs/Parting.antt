@@ -1,44 +1,23 @@
--- One law for each way out of a function on parts; the rows of a part are rows of the table.
+-- The laws of parts; the rows of a part are rows of the table.
 -- Assumes nothing.
-use mathlib.Core.Path.{◌≡◌, refl, sym, ◌∙◌}
+use mathlib.Core.Path.{◌≡◌, ◌∙◌}
 use mathlib.Core.List.{List}
-use Prim.Native.Nat.{ℕ, ◌+◌, ◌*◌, ◌-◌, ◌<◌, ◌≤◌}
+use Prim.Native.Nat.{ℕ, ◌+◌, ◌*◌, ◌-◌, ◌<◌}
 use native.Mathlib.Omega.{arith}
-use borrow.Author.Tests.{lt-ltb, le-ltb}
-use lib.ListN.{length, get_or, take, drop, set, length-drop, drop_of_length-le}
+use borrow.Author.Tests.{lt-ltb}
+use lib.ListN.{length, get_or, take, drop, set, length-drop}
 use lib.Seq.{get_or-set_same, get_or-set_other, get_or-drop, take_all}
 use Rattle.rows.specs.declared.Starts.{Starts}
 use Rattle.rows.specs.Table.{row_in}
 use Rattle.rows.specs.Parts.{start_in, StartsAt, PartPlace, part_in}
 
 -- ---- where a member starts
-pub start_there : (x : Starts) (m k : ℕ) → k ≡ m → k < 32 → get_or x.at k 0 ≡ start_in x m
-unfolding start_in
-start_there x m k e h = rw (← e, lt-ltb k 32 h)
-
-pub start_past : (x : Starts) (m k : ℕ) → k ≡ m → 32 ≤ k → 0 ≡ start_in x m
-unfolding start_in
-start_past x m k e h = rw (← e, le-ltb k 32 h)
-
 pub with_there : (x : Starts) (m n k : ℕ) → k ≡ m → k < 32 → length x.at ≡ 32 → StartsAt x m n (record { at = set x.at k n })
 unfolding start_in
 with_there x m n k e h l = rw e record {
   here = λ i. rw (lt-ltb m 32 i) (get_or-set_same x.at m n 0 (omega (arith, i, l)));
   other = λ j d. rw (get_or-set_other x.at m j n 0 d);
 }
-
-pub with_past : (x : Starts) (m n k : ℕ) → k ≡ m → 32 ≤ k → StartsAt x m n x
-with_past x m n k e h = record { here = λ i. absurd (omega (arith, e, h, i)); other = λ j d. refl }
-
--- ---- where a part begins
-pub place_past : (t : List ℕ) (n at r : ℕ) → at ≡ 16 * n → r ≡ length t → length t < at → PartPlace t n r
-place_past t n at r e f h = record {
-  within = omega (arith, f);
-  is = drop_of_length-le t {i = r} (omega (arith, f)) ∙ sym (drop_of_length-le t {i = 16 * n} (omega (arith, e, h)));
-}
-
-pub place_within : (t : List ℕ) (n at : ℕ) → at ≡ 16 * n → at ≤ length t → PartPlace t n at
-place_within t n at e h = record { within = h; is = rw e }
 
 pub part_is : (t : List ℕ) (x : Starts) (m n from : ℕ) (r : List ℕ) → r ≡ take (length t - from) (drop from t) → PartPlace t n from → n ≡ start_in x m → r ≡ part_in t x m
 unfolding part_in

@@ -76,208 +76,174 @@ pub struct Row {
     pub text: Stretch,
 }
 
-fn statement_number(x: Statement) -> u16
-    ensures { result ≡ T.statement_number x }
-{
-    match x {
-        Statement::Null => 0,
-        Statement::Declare => 1,
-        Statement::Procedure => 2,
-        Statement::Assign => 3,
-        Statement::Conditional => 4,
-        Statement::Group => 5,
-        Statement::Iterated => 6,
-        Statement::Goto => 7,
-        Statement::Include => 8,
-        Statement::Activate => 9,
-        Statement::Deactivate => 10,
-        Statement::Return => 11,
+impl From<Statement> for u16 {
+    ghost from_gives = { λ x r. r ≡ T.statement_number x };
+
+    fn from(x: Statement) -> u16 {
+        x as u16
     }
 }
 
-fn statement_in(k: u16) -> Statement
-    ensures { result ≡ T.statement_in k }
-{
-    match k {
-        1 => Statement::Declare,
-        2 => Statement::Procedure,
-        3 => Statement::Assign,
-        4 => Statement::Conditional,
-        5 => Statement::Group,
-        6 => Statement::Iterated,
-        7 => Statement::Goto,
-        8 => Statement::Include,
-        9 => Statement::Activate,
-        10 => Statement::Deactivate,
-        11 => Statement::Return,
-        _ => Statement::Null,
+impl From<u16> for Statement {
+    ghost from_gives = { λ k r. r ≡ T.statement_in k };
+
+    fn from(k: u16) -> Statement {
+        match k {
+            1 => Statement::Declare,
+            2 => Statement::Procedure,
+            3 => Statement::Assign,
+            4 => Statement::Conditional,
+            5 => Statement::Group,
+            6 => Statement::Iterated,
+            7 => Statement::Goto,
+            8 => Statement::Include,
+            9 => Statement::Activate,
+            10 => Statement::Deactivate,
+            11 => Statement::Return,
+            _ => Statement::Null,
+        }
     }
 }
 
-fn role_number(x: Role) -> u16
-    ensures { result ≡ T.role_number x }
-{
-    match x {
-        Role::Listed => 0,
-        Role::ThenPart => 1,
-        Role::ElsePart => 2,
+impl From<Role> for u16 {
+    ghost from_gives = { λ x r. r ≡ T.role_number x };
+
+    fn from(x: Role) -> u16 {
+        x as u16
     }
 }
 
-fn role_in(k: u16) -> Role
-    ensures { result ≡ T.role_in k }
-{
-    match k {
-        0 => Role::Listed,
-        1 => Role::ThenPart,
-        _ => Role::ElsePart,
+impl From<u16> for Role {
+    ghost from_gives = { λ k r. r ≡ T.role_in k };
+
+    fn from(k: u16) -> Role {
+        match k {
+            0 => Role::Listed,
+            1 => Role::ThenPart,
+            _ => Role::ElsePart,
+        }
     }
 }
 
 // A row that no u16 holds one more of is no row.
-fn link_number(x: Link) -> u16
-    ensures { result ≡ T.link_number x }
-{
-    match x {
-        Link::Nowhere => 0,
-        Link::To(n) => { if n < 65_535 { n + 1 } else { 0 } }
+impl From<Link> for u16 {
+    ghost from_gives = { λ x r. r ≡ T.link_number x };
+
+    fn from(x: Link) -> u16 {
+        match x {
+            Link::To(n) if n < u16::MAX => n + 1,
+            Link::To(_) | Link::Nowhere => 0,
+        }
     }
 }
 
-fn link_in(k: u16) -> Link
-    ensures { result ≡ T.link_in k }
-{
-    if k == 0 {
-        return Link::Nowhere;
+impl From<u16> for Link {
+    ghost from_gives = { λ k r. r ≡ T.link_in k };
+
+    fn from(k: u16) -> Link {
+        if k == 0 {
+            Link::Nowhere
+        } else {
+            Link::To(k - 1)
+        }
     }
-    Link::To(k - 1)
 }
 
 // Where the record of row n begins in the table.
 fn record_place(n: u16) -> usize
     ensures { result ≡ 16 * n }
 {
-    16 * (n as usize)
+    16 * usize::from(n)
 }
 
+#[tactic(auto, unfolding(crate::specs::Table::row_in))]
 pub fn row_at(rows: &[u16], n: u16) -> Row
     ensures { result ≡ T.row_in rows.now n }
 {
     let at = record_place(n);
-    let statement = statement_in(number16(rows, at, 0));
-    let value_type = type_in(number16(rows, at, 3));
-    let role = role_in(number16(rows, at, 6));
-    let parent = link_in(number16(rows, at, 5));
-    let next = link_in(number16(rows, at, 7));
-    let child = link_in(number16(rows, at, 8));
-    let other = link_in(number16(rows, at, 9));
+    let number = |k: usize| number16(rows, at, k);
     Row {
-        statement,
-        place: number16(rows, at, 1),
-        content: number16(rows, at, 2),
-        value_type,
-        depth: number16(rows, at, 4),
-        parent,
-        role,
-        next,
-        child,
-        other,
+        statement: number(0).into(),
+        place: number(1),
+        content: number(2),
+        value_type: type_in(number(3)),
+        depth: number(4),
+        parent: number(5).into(),
+        role: number(6).into(),
+        next: number(7).into(),
+        child: number(8).into(),
+        other: number(9).into(),
         lead: Stretch {
-            from: number16(rows, at, 10),
-            to: number16(rows, at, 11),
+            from: number(10),
+            to: number(11),
         },
         text: Stretch {
-            from: number16(rows, at, 12),
-            to: number16(rows, at, 13),
+            from: number(12),
+            to: number(13),
         },
     }
 }
 
-// Four numbers one after the other.
-fn put_four(rows: &mut [u16], at: usize, a: u16, b: u16, c: u16, d: u16)
-    ensures { rows.new ≡ over rows.old at (a ∷ b ∷ c ∷ d ∷ []) }
+// Writes numbers one after the other.
+fn put_numbers(rows: &mut [u16], at: usize, numbers: &[u16])
+    ensures { rows.new ≡ over rows.old at numbers.now }
 {
-    put_number16(rows, at, 0, a);
-    put_number16(rows, at, 1, b);
-    put_number16(rows, at, 2, c);
-    put_number16(rows, at, 3, d);
-}
-
-fn put_stretch(rows: &mut [u16], at: usize, x: Stretch)
-    ensures { rows.new ≡ over rows.old at (T.stretch_numbers x) }
-{
-    put_number16(rows, at, 0, x.from);
-    put_number16(rows, at, 1, x.to);
+    for (k, x) in numbers.iter().enumerate() {
+        put_number16(rows, at, k, *x);
+    }
 }
 
 // Writes the record of row n.
 pub fn put_row(rows: &mut [u16], n: u16, x: Row)
     ensures { rows.new ≡ over rows.old (16 * n) (T.numbers_of x) }
 {
-    let at = record_place(n);
-    let statement = x.statement;
-    let value_type = x.value_type;
-    let parent = x.parent;
-    let role = x.role;
-    let next = x.next;
-    let child = x.child;
-    let other = x.other;
-    let lead = x.lead;
-    put_four(
-        rows,
-        at,
-        statement_number(statement),
+    let numbers = [
+        x.statement.into(),
         x.place,
         x.content,
-        type_number(value_type),
-    );
-    put_four(
-        rows,
-        at + 4,
+        type_number(x.value_type),
         x.depth,
-        link_number(parent),
-        role_number(role),
-        link_number(next),
-    );
-    put_four(
-        rows,
-        at + 8,
-        link_number(child),
-        link_number(other),
-        lead.from,
-        lead.to,
-    );
-    put_stretch(rows, at + 12, x.text);
+        x.parent.into(),
+        x.role.into(),
+        x.next.into(),
+        x.child.into(),
+        x.other.into(),
+        x.lead.from,
+        x.lead.to,
+        x.text.from,
+        x.text.to,
+    ];
+    put_numbers(rows, record_place(n), &numbers);
 }
 
 pub fn set_next(rows: &mut [u16], n: u16, to: u16)
     ensures { rows.new ≡ over rows.old (16 * n + 7) (T.link_number (Link.To to) ∷ []) }
 {
-    put_number16(rows, record_place(n), 7, link_number(Link::To(to)));
+    put_number16(rows, record_place(n), 7, Link::To(to).into());
 }
 
 pub fn set_child(rows: &mut [u16], n: u16, to: u16)
     ensures { rows.new ≡ over rows.old (16 * n + 8) (T.link_number (Link.To to) ∷ []) }
 {
-    put_number16(rows, record_place(n), 8, link_number(Link::To(to)));
+    put_number16(rows, record_place(n), 8, Link::To(to).into());
 }
 
 pub fn set_other(rows: &mut [u16], n: u16, to: u16)
     ensures { rows.new ≡ over rows.old (16 * n + 9) (T.link_number (Link.To to) ∷ []) }
 {
-    put_number16(rows, record_place(n), 9, link_number(Link::To(to)));
+    put_number16(rows, record_place(n), 9, Link::To(to).into());
 }
 
 pub fn set_lead(rows: &mut [u16], n: u16, x: Stretch)
     ensures { rows.new ≡ over rows.old (16 * n + 10) (T.stretch_numbers x) }
 {
-    put_stretch(rows, record_place(n) + 10, x);
+    put_numbers(rows, record_place(n) + 10, &[x.from, x.to]);
 }
 
 pub fn set_text(rows: &mut [u16], n: u16, x: Stretch)
     ensures { rows.new ≡ over rows.old (16 * n + 12) (T.stretch_numbers x) }
 {
-    put_stretch(rows, record_place(n) + 12, x);
+    put_numbers(rows, record_place(n) + 12, &[x.from, x.to]);
 }
 
 // ---- the rows of a member
@@ -288,6 +254,7 @@ pub struct Starts {
     pub at: [u16; 32],
 }
 
+#[tactic(auto, unfolding(crate::specs::Parts::no_starts))]
 pub fn no_starts() -> Starts
     ensures { result ≡ P.no_starts }
 {
@@ -295,24 +262,21 @@ pub fn no_starts() -> Starts
 }
 
 // The row where a member starts.
+#[tactic(auto, unfolding(crate::specs::Parts::start_in))]
 pub fn start_of(x: Starts, member: u16) -> u16
     ensures { result ≡ P.start_in x member }
 {
-    let k = member as usize;
-    if k < 32 {
-        return x.at[k];
-    }
-    0
+    let k = usize::from(member);
+    if k < 32 { x.at[k] } else { 0 }
 }
 
 pub fn with_start(x: Starts, member: u16, start: u16) -> Starts
     ensures { P.StartsAt x member start result }
 {
-    let k = member as usize;
+    let k = usize::from(member);
     let mut all = x;
     if k < 32 {
         all.at[k] = start;
-        return all;
     }
     all
 }
@@ -321,11 +285,7 @@ pub fn with_start(x: Starts, member: u16, start: u16) -> Starts
 pub fn part_place(rows: &[u16], n: u16) -> usize
     ensures { P.PartPlace rows.now n result }
 {
-    let at = record_place(n);
-    if rows.len() < at {
-        return rows.len();
-    }
-    at
+    rows.len().min(record_place(n))
 }
 
 // The rows of a member, and what lies behind them.

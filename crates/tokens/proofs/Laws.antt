@@ -1,29 +1,23 @@
 -- One law for each way out of a leaf on tokens; the loops' invariants are records, and say that what is left decides.
 -- Assumes nothing.
 use mathlib.Core.Path.{◌≡◌, refl, sym, ap, ◌∙◌}
-use mathlib.Core.Bool.{Bool, true, false, cond, ◌&&◌, ◌||◌}
+use mathlib.Core.Bool.{Bool, true, false, cond, ◌&&◌}
 use mathlib.Core.List.{List, [], ◌∷◌, ◌++◌}
 use Prim.Native.Nat.{ℕ, zero, suc, ◌+◌, ◌-◌, ◌<◌, ◌≤◌}
 use native.Mathlib.Nat.{add-zero}
 use native.Mathlib.Numerals.{add-one}
 use native.Mathlib.Omega.{arith}
-use borrow.Author.Rules.{rules}
-use borrow.Author.Tests.{lt-ltb, le-ltb, le-leb, lt-leb, eq-eqb, ne_eqb, eqb-true}
+use borrow.Author.Tests.{eq-eqb, ne_eqb, eqb-true}
 use lib.Dec.{eqb}
 use lib.ListN.{length, get_or, drop, drop_of_length-le, get_or-eq_default}
 use lib.Seq.{drop-cons, get_or-drop}
 use Rattle.definition.specs.Choice.{when}
 use Rattle.definition.specs.Lists.{part, all, leading}
-use Rattle.definition.specs.Bytes.{mixed, is_alphameric, is_blank}
+use Rattle.definition.specs.Bytes.{is_blank}
 use Rattle.definition.proofs.Parts.{part2}
 use Rattle.definition.specs.Tokens as T
-use Rattle.tokens.specs.Answer.{closed_for, step_for, step_at, gap_for, constant_for, byte_width, sign_size, is_solid}
-use Rattle.tokens.specs.declared.Closed as C
-use Rattle.tokens.specs.declared.Step as P
-use Rattle.tokens.specs.declared.Gap as G
-use Rattle.tokens.specs.declared.Constant as Q
-
-pub ruleset tests = (rules, lt-ltb, le-ltb, le-leb, lt-leb, eq-eqb, ne_eqb)
+use Rattle.std.proofs.Common.{Option, Some, None, Ok, Err}
+use Rattle.tokens.specs.Answer.{closed_for, gap_for, constant_for, byte_width, sign_size}
 
 -- ---- bytes at a place
 -- the byte at a place begins what is left there
@@ -39,7 +33,7 @@ inside (x ∷ s) (suc i) f = let h : i < length s = inside s i f in omega arith
 pub here : (s : List ℕ) (p a : ℕ) → a ≡ get_or s (p + 0) 0 → a ≡ get_or s p 0
 here s p a e = rw add-zero at e
 
-and_false : (a : Bool) → (a && false) ≡ false
+pub and_false : (a : Bool) → (a && false) ≡ false
 and_false true = refl
 and_false false = refl
 
@@ -59,26 +53,17 @@ pub closing_start : (s : List ℕ) (from : ℕ) → Closing s from false from
 closing_start s from = record { is = refl }
 
 module _ (s : List ℕ) (from : ℕ) (star : Bool) (i : ℕ) (k : Closing s from star i) where
-  pub closing_more : (t : Bool) → i < length s → t ≡ (star && eqb (get_or s i 0) 47) → t ≡ false → Closing s from (eqb (get_or s i 0) 42) (i + 1)
+  pub closing_more : i < length s → (star && eqb (get_or s i 0) 47) ≡ false → Closing s from (eqb (get_or s i 0) 42) (i + 1)
   unfolding T.comment_end
-  closing_more t h e f = record { is = rw (at s i h, ← e, f) at k.is }
+  closing_more h e = record { is = rw (at s i h, e) at k.is }
 
-  pub closing_here : (t : Bool) → i < length s → t ≡ (star && eqb (get_or s i 0) 47) → t ≡ true → C.TheVariants.At (i + 1) ≡ closed_for (T.comment_end false (drop from s) from)
+  pub closing_here : i < length s → star ≡ true → get_or s i 0 ≡ 47 → Some (i + 1) ≡ closed_for (T.comment_end false (drop from s) from)
   unfolding T.comment_end
-  closing_here t h e f = ap closed_for (rw (at s i h, ← e, f) at k.is)
+  closing_here h e f = ap closed_for (rw (at s i h, e, eq-eqb _ _ f) at k.is)
 
-  pub closing_never : length s ≤ i → C.TheVariants.Open ≡ closed_for (T.comment_end false (drop from s) from)
+  pub closing_never : length s ≤ i → None ≡ closed_for (T.comment_end false (drop from s) from)
   unfolding T.comment_end
   closing_never h = ap closed_for (rw (drop_of_length-le s h) at k.is)
-
-module _ (s : List ℕ) (p a : ℕ) (e : a ≡ get_or s (p + 0) 0) where
-  pub comment_yes : (b : ℕ) → a ≡ 47 → b ≡ get_or s (p + 1) 0 → eqb b 42 ≡ T.is_comment s p
-  unfolding T.is_comment
-  comment_yes b f g = rw (← here s p a e, f, g)
-
-  pub comment_no : (a ≡ 47 → ⊥) → false ≡ T.is_comment s p
-  unfolding T.is_comment
-  comment_no f = rw (← here s p a e, ne_eqb a 47 f)
 
 pub and_second : (a b : Bool) → true ≡ (a && b) → b ≡ true
 and_second true b e = sym e
@@ -116,11 +101,11 @@ module _ (s : List ℕ) (from i : ℕ) (k : Seeking s from i) where
   unfolding T.quote_end
   seeking_more h f = record { is = rw (at s i h, ne_eqb _ _ f) at k.is }
 
-  pub seeking_here : i < length s → get_or s i 0 ≡ 39 → C.TheVariants.At (i + 1) ≡ closed_for (T.quote_end (drop from s) from)
+  pub seeking_here : i < length s → get_or s i 0 ≡ 39 → Some (i + 1) ≡ closed_for (T.quote_end (drop from s) from)
   unfolding T.quote_end
   seeking_here h f = ap closed_for (rw (at s i h, eq-eqb _ _ f) at k.is)
 
-  pub seeking_never : length s ≤ i → C.TheVariants.Open ≡ closed_for (T.quote_end (drop from s) from)
+  pub seeking_never : length s ≤ i → None ≡ closed_for (T.quote_end (drop from s) from)
   unfolding T.quote_end
   seeking_never h = ap closed_for (rw (drop_of_length-le s h) at k.is)
 
@@ -130,63 +115,24 @@ quote_further [] p q e = let z : ◌≡◌ {A = ℕ} 0 1 = cc in absurd (omega a
 quote_further (b ∷ l) p q e = further (eqb b 39) (T.quote_end l (p + 1)) p q (quote_further l (p + 1) q) e
 
 -- ---- spaces
-pub step_at_lem : (q : ℕ) (c : C.Closed) → c ≡ C.TheVariants.At q → P.TheVariants.On q ≡ step_for c
-step_at_lem q c e = rw e
+told_closed : (c : T.Closed) (q : ℕ) → Some q ≡ closed_for c → c ≡ T.closed_at q
+told_closed (T.closed_at r) q e = let z : q ≡ r = cc in ap T.closed_at (sym z)
+told_closed T.never_closed q e = let z : ◌≡◌ {A = ℕ} 0 1 = cc in absurd (omega arith)
 
-module _ (s : List ℕ) (p : ℕ) (t : Bool) (e : t ≡ T.is_space (get_or s p 0)) where
-  pub step_blank : t ≡ true → P.TheVariants.On (p + 1) ≡ step_at s p
-  unfolding step_at
-  step_blank f = rw (← e, f)
+told_never : (c : T.Closed) → None ≡ closed_for c → c ≡ T.never_closed
+told_never (T.closed_at q) e = let z : ◌≡◌ {A = ℕ} 0 1 = cc in absurd (omega arith)
+told_never T.never_closed e = refl
 
-  module _ (u : Bool) (f : t ≡ false) (g : u ≡ T.is_comment s p) where
-    pub step_comment : (c : C.Closed) (r : P.Step) → u ≡ true → c ≡ closed_for (T.past_comment s p) → r ≡ step_for c → r ≡ step_at s p
-    unfolding step_at
-    step_comment c r h i j = j ∙ rw (← e, f, ← g, h, i)
-
-    pub step_none : u ≡ false → P.TheVariants.Stop ≡ step_at s p
-    unfolding step_at
-    step_none h = rw (← e, f, ← g, h)
-
-pub step_end : (s : List ℕ) (p : ℕ) → length s ≤ p → P.TheVariants.Stop ≡ step_at s p
-unfolding step_at T.is_space is_blank T.is_comment
-step_end s p h = rw (get_or-eq_default s 0 h)
-
--- what spaces go on to after a step
-unfoldable pub follow : P.Step → ℕ → (ℕ → T.Spaces) → T.Spaces
-follow (P.TheVariants.On q) p f = f q
-follow P.TheVariants.Stop p f = T.up_to p
-follow P.TheVariants.Open p f = T.open_comment p
-
-followed : (x y : Bool) (c : T.Closed) (p : ℕ) (f : ℕ → T.Spaces)
-    → when x (λ _. f (p + 1)) (λ _. when y (λ _. T.after_comment c p f) (λ _. T.up_to p))
-    ≡ follow (when x (λ _. P.TheVariants.On (p + 1)) (λ _. when y (λ _. step_for (closed_for c)) (λ _. P.TheVariants.Stop))) p f
-unfolding follow
-followed true y c p f = refl
-followed false true (T.closed_at q) p f = refl
-followed false true T.never_closed p f = refl
-followed false false c p f = refl
-
-pub spaces_step : (f : ℕ) (s : List ℕ) (p : ℕ) → T.spaces (suc f) s p ≡ follow (step_at s p) p (T.spaces f s)
-unfolding T.spaces step_at
-spaces_step f s p = followed (T.is_space (get_or s p 0)) (T.is_comment s p) (T.past_comment s p) p (T.spaces f s)
+-- a comment that is closed leads past its place
+pub comment_past : (s : List ℕ) (p q : ℕ) (c : Option ℕ) → c ≡ closed_for (T.past_comment s p) → c ≡ Some q → p < q
+comment_past s p q c e f =
+    let z : p + 2 < q = comment_further false (drop (p + 2) s) (p + 2) q (told_closed (T.past_comment s p) q (sym f ∙ e)) in
+    omega arith
 
 spaces_end : (n : ℕ) (s : List ℕ) (p : ℕ) → length s ≤ p → T.up_to p ≡ T.spaces n s p
-unfolding T.spaces follow
+unfolding T.spaces T.is_space is_blank T.is_comment
 spaces_end zero s p h = refl
-spaces_end (suc n) s p h = sym (spaces_step n s p ∙ rw (← step_end s p h))
-
-onward : (x y : Bool) (c : T.Closed) (p q : ℕ) → (c ≡ T.closed_at q → p + 2 < q)
-    → P.TheVariants.On q ≡ when x (λ _. P.TheVariants.On (p + 1)) (λ _. when y (λ _. step_for (closed_for c)) (λ _. P.TheVariants.Stop)) → p < q
-onward true y c p q f e = let z : p + 1 ≡ q = cc in omega arith
-onward false true (T.closed_at r) p q f e = let z : r ≡ q = cc in let h : p + 2 < q = f (ap T.closed_at z) in omega arith
-onward false true T.never_closed p q f e = let z : ◌≡◌ {A = ℕ} 0 1 = cc in absurd (omega arith)
-onward false false c p q f e = let z : ◌≡◌ {A = ℕ} 0 1 = cc in absurd (omega arith)
-
--- a step goes on past its place
-pub step_further : (s : List ℕ) (p : ℕ) (r : P.Step) → r ≡ step_at s p → (q : ℕ) → r ≡ P.TheVariants.On q → p < q
-unfolding step_at
-step_further s p r f q g =
-    onward (T.is_space (get_or s p 0)) (T.is_comment s p) (T.past_comment s p) p q (comment_further false (drop (p + 2) s) (p + 2) q) (sym g ∙ f)
+spaces_end (suc n) s p h = rw (get_or-eq_default s 0 h)
 
 -- the turns that are left reach the end
 pub record Spacing (s : List ℕ) (e p : ℕ) : Type 0 where
@@ -198,31 +144,34 @@ pub spacing_start : (s : List ℕ) (e : ℕ) → Spacing s e e
 spacing_start s e = record { turns = length s; enough = omega arith; is = refl }
 
 module _ (s : List ℕ) (e p : ℕ) (k : Spacing s e p) where
-  turn : (n : ℕ) → k.turns ≡ suc n → follow (step_at s p) p (T.spaces n s) ≡ T.spaces (length s) s e
-  turn n h = sym (spaces_step n s p) ∙ rw h at k.is
-
-  pub spacing_end : length s ≤ p → G.TheVariants.To p ≡ gap_for (T.spaces (length s) s e)
+  pub spacing_end : length s ≤ p → Ok p ≡ gap_for (T.spaces (length s) s e)
   spacing_end h = ap gap_for (spaces_end k.turns s p h ∙ k.is)
 
-  module _ (h : p < length s) (r : P.Step) (f : r ≡ step_at s p) where
-    left : suc (k.turns - 1) ≡ k.turns
-    left = omega (arith, k.enough)
+  module _ (h : p < length s) (t : Bool) (f : t ≡ T.is_space (get_or s p 0)) where
+    turn : T.spaces (suc (k.turns - 1)) s p ≡ T.spaces (length s) s e
+    turn = let z : k.turns ≡ suc (k.turns - 1) = omega (arith, k.enough) in rw z at k.is
 
-    pub spacing_more : (q : ℕ) → r ≡ P.TheVariants.On q → Spacing s e q
-    unfolding follow
-    spacing_more q g = record {
-      turns = k.turns - 1;
-      enough = omega (arith, k.enough, step_further s p r f q g);
-      is = rw (sym f ∙ g) at (turn (k.turns - 1) (sym left));
-    }
+    pub spacing_blank : t ≡ true → Spacing s e (p + 1)
+    unfolding T.spaces
+    spacing_blank g = record { turns = k.turns - 1; enough = omega (arith, k.enough); is = rw (← f, g) at turn }
 
-    pub spacing_stop : r ≡ P.TheVariants.Stop → G.TheVariants.To p ≡ gap_for (T.spaces (length s) s e)
-    unfolding follow
-    spacing_stop g = ap gap_for (rw (sym f ∙ g) at (turn (k.turns - 1) (sym left)))
+    module _ (u : Bool) (g : t ≡ false) (i : u ≡ T.is_comment s p) where
+      pub spacing_stop : u ≡ false → Ok p ≡ gap_for (T.spaces (length s) s e)
+      unfolding T.spaces
+      spacing_stop j = ap gap_for (rw (← f, g, ← i, j) at turn)
 
-    pub spacing_open : r ≡ P.TheVariants.Open → G.TheVariants.Open p ≡ gap_for (T.spaces (length s) s e)
-    unfolding follow
-    spacing_open g = ap gap_for (rw (sym f ∙ g) at (turn (k.turns - 1) (sym left)))
+      module _ (j : u ≡ true) (c : Option ℕ) (l : c ≡ closed_for (T.past_comment s p)) where
+        pub spacing_more : (q : ℕ) → c ≡ Some q → Spacing s e q
+        unfolding T.spaces
+        spacing_more q m = record {
+          turns = k.turns - 1;
+          enough = omega (arith, k.enough, comment_past s p q c l m);
+          is = rw (← f, g, ← i, j, told_closed (T.past_comment s p) q (sym m ∙ l)) at turn;
+        }
+
+        pub spacing_open : c ≡ None → Err p ≡ gap_for (T.spaces (length s) s e)
+        unfolding T.spaces
+        spacing_open m = ap gap_for (rw (← f, g, ← i, j, told_never (T.past_comment s p) (sym m ∙ l)) at turn)
 
 -- ---- runs of bytes
 pub record Passing (s : List ℕ) (p : ℕ) (test : ℕ → Bool) (i : ℕ) : Type 0 where
@@ -261,19 +210,6 @@ last_quote : (b : ℕ) (l bs : List ℕ) (p : ℕ) → eqb b 39 ≡ true → eqb
 unfolding T.quoted_at
 last_quote b [] bs p e f = rw e
 last_quote b (c ∷ l) bs p e f = rw (e, f)
-
-module _ (s : List ℕ) (i a : ℕ) (e : a ≡ get_or s (i + 0) 0) where
-  pub width_two : (b : ℕ) → a ≡ 39 → b ≡ get_or s (i + 1) 0 → b ≡ 39 → 2 ≡ byte_width s i
-  unfolding byte_width
-  width_two b f g h = rw (← here s i a e, f, ← g, h)
-
-  pub width_none : (b : ℕ) → a ≡ 39 → b ≡ get_or s (i + 1) 0 → (b ≡ 39 → ⊥) → 0 ≡ byte_width s i
-  unfolding byte_width
-  width_none b f g h = rw (← here s i a e, f, ← g, ne_eqb b 39 h)
-
-  pub width_one : (a ≡ 39 → ⊥) → 1 ≡ byte_width s i
-  unfolding byte_width
-  width_one f = rw (← here s i a e, ne_eqb a 39 f)
 
 module _ (s : List ℕ) (i : ℕ) (h : i < length s) where
   second_inside : eqb (get_or s (i + 1) 0) 39 ≡ true → i + 1 < length s
@@ -338,60 +274,13 @@ module _ (s : List ℕ) (from : ℕ) (bits : Bool) (i : ℕ) (k : Quoting s from
     is = sym (quoted_more s i h k.bytes w e l) ∙ k.is;
   }
 
-  pub quoting_last : (w : ℕ) → i < length s → w ≡ byte_width s i → w < 1 → Q.TheVariants.To (i + 1) bits ≡ constant_for (T.quoted_at (drop from s) [] from)
-  quoting_last w h e l = ap (Q.TheVariants.To (i + 1)) k.only ∙ ap constant_for (sym (quoted_last s i h k.bytes w e l) ∙ k.is)
+  pub quoting_last : (w : ℕ) → i < length s → w ≡ byte_width s i → w < 1 → Some (i + 1, bits) ≡ constant_for (T.quoted_at (drop from s) [] from)
+  quoting_last w h e l = ap (λ (b : Bool). Some (i + 1, b)) k.only ∙ ap constant_for (sym (quoted_last s i h k.bytes w e l) ∙ k.is)
 
-  pub quoting_open : length s ≤ i → Q.TheVariants.Open ≡ constant_for (T.quoted_at (drop from s) [] from)
+  pub quoting_open : length s ≤ i → None ≡ constant_for (T.quoted_at (drop from s) [] from)
   quoting_open h = ap constant_for (sym (quoted_none s i k.bytes h) ∙ k.is)
 
 -- ---- signs
-one_pair : (x : Bool) → x ≡ ((x && true) || false)
-one_pair true = refl
-one_pair false = refl
-
-pub pair_bars : (a b : ℕ) → a ≡ 124 → eqb b 124 ≡ T.is_pair (a ∷ b ∷ [])
-unfolding T.is_pair
-pair_bars a b e = rw e (one_pair (eqb b 124))
-
-pub pair_greater : (a b : ℕ) → a ≡ 62 → eqb b 61 ≡ T.is_pair (a ∷ b ∷ [])
-unfolding T.is_pair
-pair_greater a b e = rw e (one_pair (eqb b 61))
-
-pub pair_less : (a b : ℕ) → a ≡ 60 → eqb b 61 ≡ T.is_pair (a ∷ b ∷ [])
-unfolding T.is_pair
-pair_less a b e = rw e (one_pair (eqb b 61))
-
-pub pair_not : (a b : ℕ) (r : Bool) → a ≡ 94 → r ≡ T.is_pair (94 ∷ b ∷ []) → r ≡ T.is_pair (a ∷ b ∷ [])
-pair_not a b r e f = f ∙ rw e
-
-pub pair_none : (a b : ℕ) → (a ≡ 124 → ⊥) → (a ≡ 62 → ⊥) → (a ≡ 60 → ⊥) → (a ≡ 94 → ⊥) → false ≡ T.is_pair (a ∷ b ∷ [])
-unfolding T.is_pair
-pair_none a b p q r t = simp (ne_eqb a 124 p, ne_eqb a 62 q, ne_eqb a 60 r, ne_eqb a 94 t)
-
-pub not_greater_lem : (b : ℕ) → b ≡ 62 → true ≡ T.is_pair (94 ∷ b ∷ [])
-unfolding T.is_pair
-not_greater_lem b e = rw e
-
-pub not_equal_lem : (b : ℕ) → b ≡ 61 → true ≡ T.is_pair (94 ∷ b ∷ [])
-unfolding T.is_pair
-not_equal_lem b e = rw e
-
-pub not_less_lem : (b : ℕ) → (b ≡ 62 → ⊥) → (b ≡ 61 → ⊥) → eqb b 60 ≡ T.is_pair (94 ∷ b ∷ [])
-unfolding T.is_pair
-not_less_lem b p q = simp (ne_eqb b 62 p, ne_eqb b 61 q) (one_pair (eqb b 60))
-
-module _ (s : List ℕ) (p a b : ℕ) (t : Bool) (e : a ≡ get_or s (p + 0) 0) (f : b ≡ get_or s (p + 1) 0) (g : t ≡ T.is_pair (a ∷ b ∷ [])) where
-  paired : T.is_pair (part 2 p s) ≡ t
-  paired = rw (part2 p s, ← here s p a e, ← f) (sym g)
-
-  pub sign_two : t ≡ true → 2 ≡ sign_size s p
-  unfolding sign_size
-  sign_two h = rw (paired, h)
-
-  pub sign_one : t ≡ false → 1 ≡ sign_size s p
-  unfolding sign_size
-  sign_one h = rw (paired, h)
-
 -- 0 is no delimiter's second byte
 zero_second : (a : ℕ) → T.is_pair (a ∷ 0 ∷ []) ≡ false
 unfolding T.is_pair
@@ -406,31 +295,3 @@ size_inside s p n true h e f =
 pub sign_inside : (s : List ℕ) (p n : ℕ) → p < length s → n ≡ sign_size s p → p + n ≤ length s
 unfolding sign_size
 sign_inside s p n h e = size_inside s p n (T.is_pair (part 2 p s)) h refl e
-
--- ---- tokens that touch
-module _ (b : ℕ) (t : Bool) (e : t ≡ is_alphameric mixed b) where
-  pub solid_yes : t ≡ true → true ≡ is_solid b
-  unfolding is_solid
-  solid_yes f = rw (← e, f)
-
-  pub solid_quote : t ≡ false → eqb b 39 ≡ is_solid b
-  unfolding is_solid
-  solid_quote f = rw (← e, f)
-
-touching : (s : List ℕ) (p : ℕ) → T.is_touching mixed s p ≡ (is_solid (get_or s (p - 1) 0) && is_solid (get_or s p 0))
-unfolding T.is_touching is_solid
-touching s p = refl
-
-module _ (s : List ℕ) (e p : ℕ) where
-  pub touches_apart : (e ≡ p → ⊥) → false ≡ (eqb e p && T.is_touching mixed s p)
-  touches_apart f = rw (ne_eqb e p f)
-
-  module _ (q a : ℕ) (t : Bool) (f : e ≡ p) (g : q ≡ p - 1) (h : a ≡ get_or s (q + 0) 0) (i : t ≡ is_solid a) where
-    first_solid : t ≡ is_solid (get_or s (p - 1) 0)
-    first_solid = i ∙ ap is_solid (here s q a h ∙ rw g)
-
-    pub touches_second : (b : ℕ) (r : Bool) → t ≡ true → b ≡ get_or s (p + 0) 0 → r ≡ is_solid b → r ≡ (eqb e p && T.is_touching mixed s p)
-    touches_second b r k l m = m ∙ rw (eq-eqb e p f, touching s p, ← first_solid, k, here s p b l)
-
-    pub touches_not : t ≡ false → false ≡ (eqb e p && T.is_touching mixed s p)
-    touches_not k = rw (eq-eqb e p f, touching s p, ← first_solid, k)

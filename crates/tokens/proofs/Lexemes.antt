@@ -6,7 +6,7 @@ use mathlib.Core.List.{List, [], ◌∷◌}
 use Prim.Native.Nat.{ℕ, zero, suc, ◌+◌, ◌-◌, ◌<◌, ◌≤◌}
 use Prim.Native.String as S
 use native.Mathlib.Omega.{arith}
-use borrow.Author.Tests.{le-leb, lt-leb, eqb-true}
+use borrow.Author.Tests.{le-leb, lt-leb, eq-eqb, ne_eqb}
 use lib.Dec.{eqb, leb}
 use lib.ListN.{length, get_or, drop}
 use Rattle.definition.specs.Choice.{when}
@@ -22,45 +22,42 @@ use Rattle.tokens.specs.Answer.{gap_for, constant_for, sign_size, kind_of, lex_o
 use Rattle.tokens.specs.declared.Kind.{Kind}
 use Rattle.tokens.specs.declared.Kind.TheVariants.{Word, Integer, String, Bits, Sign, Nothing, Wrong}
 use Rattle.tokens.specs.declared.Lexeme.{Lexeme}
-use Rattle.tokens.specs.declared.Gap as G
-use Rattle.tokens.specs.declared.Constant as Q
-use Rattle.tokens.proofs.Laws.{at, inside, here, and_second}
+use Rattle.std.proofs.Common.{Option, Some, None, Result, Ok, Err, ◌⊎◌, inl, inr}
+use Rattle.tokens.proofs.Laws.{at, inside, here, and_false}
 
 -- ---- constants
 module _ (s : List ℕ) (p : ℕ) where
-  pub constant_open : (x : T.Quoted) (c : Q.Constant) (r : Lexeme) → c ≡ constant_for x → c ≡ Q.TheVariants.Open → r ≡ lex_of Wrong p p → r ≡ lexeme_for (T.constant_at mixed s p x)
+  pub constant_open : (x : T.Quoted) (c : Option (ℕ × Bool)) (r : Lexeme) → c ≡ constant_for x → c ≡ None → r ≡ lex_of Wrong p p → r ≡ lexeme_for (T.constant_at mixed s p x)
   unfolding T.constant_at
   constant_open (T.quoted bs q) c r e f g = let z : ◌≡◌ {A = ℕ} 0 1 = cc in absurd (omega arith)
   constant_open T.unquoted c r e f g = g
 
-  chosen : (bs : List ℕ) (q n b y : ℕ) (bits t : Bool) → n ≡ q → bits ≡ all T.is_bit bs → b ≡ get_or s (n + 0) 0 → y ≡ capital mixed b → t ≡ (bits && eqb y 66) → t ≡ (all T.is_bit bs && eqb (capital mixed (get_or s q 0)) 66)
-  chosen bs q n b y bits t e f g c h = h ∙ rw (f, c, here s n b g, e)
-
-  pub constant_bits : (x : T.Quoted) (c : Q.Constant) (q b y : ℕ) (bits t : Bool) (r : Lexeme)
-      → c ≡ constant_for x → c ≡ Q.TheVariants.To q bits → b ≡ get_or s (q + 0) 0 → y ≡ capital mixed b → t ≡ (bits && eqb y 66) → t ≡ true → r ≡ lex_of Bits p (q + 1)
-      → r ≡ lexeme_for (T.constant_at mixed s p x)
+  constant_is : (x : T.Quoted) (q : ℕ) (bits : Bool) → constant_for x ≡ Some (q, bits)
+      → lexeme_for (T.constant_at mixed s p x) ≡ cond (bits && eqb (capital mixed (get_or s q 0)) 66) (lex_of Bits p (q + 1)) (lex_of String p q)
   unfolding T.constant_at
-  constant_bits (T.quoted bs n) c q b y bits t r e f g k h i j =
-      let u : q ≡ n = cc in
-      let v : bits ≡ all T.is_bit bs = cc in
-      j ∙ rw (← chosen bs n q b y bits t u v g k h, i, u)
-  constant_bits T.unquoted c q b y bits t r e f g k h i j = let z : ◌≡◌ {A = ℕ} 0 1 = cc in absurd (omega arith)
+  constant_is (T.quoted bs n) q bits e =
+      let z : ◌≡◌ {A = ℕ × Bool} (n, all T.is_bit bs) (q, bits) = cc in
+      rw (← ap (λ (w : ℕ × Bool). w.0) z, ← ap (λ (w : ℕ × Bool). w.1) z) (by_test (all T.is_bit bs && eqb (capital mixed (get_or s n 0)) 66) bs n)
+    where
+      by_test : (b : Bool) (bs : List ℕ) (n : ℕ) → lexeme_for (cond b (T.lexeme (T.bits bs) p (n + 1)) (T.lexeme (T.string bs) p n)) ≡ cond b (lex_of Bits p (n + 1)) (lex_of String p n)
+      by_test true bs n = refl
+      by_test false bs n = refl
+  constant_is T.unquoted q bits e = let z : ◌≡◌ {A = ℕ} 0 1 = cc in absurd (omega arith)
 
-  pub constant_string : (x : T.Quoted) (c : Q.Constant) (q b y : ℕ) (bits t : Bool) (r : Lexeme)
-      → c ≡ constant_for x → c ≡ Q.TheVariants.To q bits → b ≡ get_or s (q + 0) 0 → y ≡ capital mixed b → t ≡ (bits && eqb y 66) → t ≡ false → r ≡ lex_of String p q
-      → r ≡ lexeme_for (T.constant_at mixed s p x)
-  unfolding T.constant_at
-  constant_string (T.quoted bs n) c q b y bits t r e f g k h i j =
-      let u : q ≡ n = cc in
-      let v : bits ≡ all T.is_bit bs = cc in
-      j ∙ rw (← chosen bs n q b y bits t u v g k h, i, u)
-  constant_string T.unquoted c q b y bits t r e f g k h i j = let z : ◌≡◌ {A = ℕ} 0 1 = cc in absurd (omega arith)
+  module _ (x : T.Quoted) (c : Option (ℕ × Bool)) (q b y : ℕ) (bits : Bool) (r : Lexeme) (e : c ≡ constant_for x) (f : c ≡ Some (q, bits)) (g : b ≡ get_or s (q + 0) 0) (h : y ≡ capital mixed b) where
+    pub constant_bits : bits ≡ true → y ≡ 66 → r ≡ lex_of Bits p (q + 1) → r ≡ lexeme_for (T.constant_at mixed s p x)
+    constant_bits i j k = k ∙ rw (constant_is x q bits (sym e ∙ f), ← here s q b g, ← h, i, eq-eqb y 66 j)
+
+    pub constant_string : (y ≡ 66 → ⊥) → r ≡ lex_of String p q → r ≡ lexeme_for (T.constant_at mixed s p x)
+    constant_string i k = k ∙ rw (constant_is x q bits (sym e ∙ f), ← here s q b g, ← h, ne_eqb y 66 i, and_false bits)
+
+  pub constant_plain : (x : T.Quoted) (c : Option (ℕ × Bool)) (q : ℕ) (bits : Bool) (r : Lexeme) → c ≡ constant_for x → c ≡ Some (q, bits) → bits ≡ false → r ≡ lex_of String p q → r ≡ lexeme_for (T.constant_at mixed s p x)
+  constant_plain x c q bits r e f i k = k ∙ rw (constant_is x q bits (sym e ∙ f), i)
 
 -- the `B` of a bit string lies inside
-pub bits_inside : (s : List ℕ) (q b y : ℕ) (bits t : Bool) → b ≡ get_or s (q + 0) 0 → y ≡ capital mixed b → t ≡ (bits && eqb y 66) → t ≡ true → q < length s
+pub bits_inside : (s : List ℕ) (q b y : ℕ) → b ≡ get_or s (q + 0) 0 → y ≡ capital mixed b → y ≡ 66 → q < length s
 unfolding capital is_small
-bits_inside s q b y bits t g c h i =
-    let e : y ≡ 66 = eqb-true y 66 (and_second bits (eqb y 66) (sym i ∙ h)) in
+bits_inside s q b y g c e =
     inside s q (λ z. let f : b ≡ 0 = here s q b g ∙ z in let k : y ≡ 0 = c ∙ ap (capital mixed) f in omega arith)
 
 -- ---- the token at a place, by the class of its first byte
@@ -94,48 +91,36 @@ module _ (s : List ℕ) (e p : ℕ) (t : Bool) (h : p < length s) (i : t ≡ (eq
     sized true n l = rw l
     sized false n l = rw l
 
-    pub lexeme_mark : (n : ℕ) → c ≡ Mark → n ≡ sign_size s p → r ≡ lex_of Sign p (p + n) → r ≡ lexeme_for (T.lexeme_at mixed s e (T.up_to p))
+    pub lexeme_sign : (n : ℕ) → (c ≡ Mark) ⊎ (c ≡ Percent) → n ≡ sign_size s p → r ≡ lex_of Sign p (p + n) → r ≡ lexeme_for (T.lexeme_at mixed s e (T.up_to p))
     unfolding T.lexeme_of T.sign_at sign_size
-    lexeme_mark n f l m = m ∙ sized (T.is_pair (part 2 p s)) n l ∙ ap lexeme_for (found Mark f)
+    lexeme_sign n (inl f) l m = m ∙ sized (T.is_pair (part 2 p s)) n l ∙ ap lexeme_for (found Mark f)
+    lexeme_sign n (inr f) l m = m ∙ sized (T.is_pair (part 2 p s)) n l ∙ ap lexeme_for (found Percent f)
 
-    pub lexeme_percent : (n : ℕ) → c ≡ Percent → n ≡ sign_size s p → r ≡ lex_of Sign p (p + n) → r ≡ lexeme_for (T.lexeme_at mixed s e (T.up_to p))
-    unfolding T.lexeme_of T.sign_at sign_size
-    lexeme_percent n f l m = m ∙ sized (T.is_pair (part 2 p s)) n l ∙ ap lexeme_for (found Percent f)
-
-    pub lexeme_break : c ≡ Break → r ≡ lex_of Wrong p p → r ≡ lexeme_for (T.lexeme_at mixed s e (T.up_to p))
+    pub lexeme_wrong : (c ≡ Break) ⊎ ((c ≡ Blank) ⊎ ((c ≡ LineFeed) ⊎ (c ≡ Other))) → r ≡ lex_of Wrong p p → r ≡ lexeme_for (T.lexeme_at mixed s e (T.up_to p))
     unfolding T.lexeme_of
-    lexeme_break f m = m ∙ ap lexeme_for (found Break f)
-
-    pub lexeme_blank : c ≡ Blank → r ≡ lex_of Wrong p p → r ≡ lexeme_for (T.lexeme_at mixed s e (T.up_to p))
-    unfolding T.lexeme_of
-    lexeme_blank f m = m ∙ ap lexeme_for (found Blank f)
-
-    pub lexeme_feed : c ≡ LineFeed → r ≡ lex_of Wrong p p → r ≡ lexeme_for (T.lexeme_at mixed s e (T.up_to p))
-    unfolding T.lexeme_of
-    lexeme_feed f m = m ∙ ap lexeme_for (found LineFeed f)
-
-    pub lexeme_other : c ≡ Other → r ≡ lex_of Wrong p p → r ≡ lexeme_for (T.lexeme_at mixed s e (T.up_to p))
-    unfolding T.lexeme_of
-    lexeme_other f m = m ∙ ap lexeme_for (found Other f)
+    lexeme_wrong (inl f) m = m ∙ ap lexeme_for (found Break f)
+    lexeme_wrong (inr (inl f)) m = m ∙ ap lexeme_for (found Blank f)
+    lexeme_wrong (inr (inr (inl f))) m = m ∙ ap lexeme_for (found LineFeed f)
+    lexeme_wrong (inr (inr (inr f))) m = m ∙ ap lexeme_for (found Other f)
 
 -- ---- the token after a place
-told_up : (x : T.Spaces) (p : ℕ) → G.TheVariants.To p ≡ gap_for x → x ≡ T.up_to p
+told_up : (x : T.Spaces) (p : ℕ) → Ok p ≡ gap_for x → x ≡ T.up_to p
 told_up (T.up_to q) p e = let z : p ≡ q = cc in ap T.up_to (sym z)
 told_up (T.open_comment q) p e = let z : ◌≡◌ {A = ℕ} 0 1 = cc in absurd (omega arith)
 
-told_open : (x : T.Spaces) (p : ℕ) → G.TheVariants.Open p ≡ gap_for x → x ≡ T.open_comment p
+told_open : (x : T.Spaces) (p : ℕ) → Err p ≡ gap_for x → x ≡ T.open_comment p
 told_open (T.up_to q) p e = let z : ◌≡◌ {A = ℕ} 0 1 = cc in absurd (omega arith)
 told_open (T.open_comment q) p e = let z : p ≡ q = cc in ap T.open_comment (sym z)
 
 lexed : (s : List ℕ) (e : ℕ) (r : Lexeme) → r ≡ lexeme_for (T.token_at mixed s e) → Lexed s e r
 lexed s e r f = record { kind = ap (λ (l : Lexeme). l.kind) f; from = ap (λ (l : Lexeme). l.from) f; to = ap (λ (l : Lexeme). l.to) f }
 
-module _ (s : List ℕ) (e p : ℕ) (g : G.Gap) (r : Lexeme) (h : g ≡ gap_for (T.spaces (length s) s e)) where
-  pub token_next : g ≡ G.TheVariants.To p → r ≡ lexeme_for (T.lexeme_at mixed s e (T.up_to p)) → Lexed s e r
+module _ (s : List ℕ) (e p : ℕ) (g : Result ℕ ℕ) (r : Lexeme) (h : g ≡ gap_for (T.spaces (length s) s e)) where
+  pub token_next : g ≡ Ok p → r ≡ lexeme_for (T.lexeme_at mixed s e (T.up_to p)) → Lexed s e r
   unfolding T.token_at
   token_next i j = lexed s e r (j ∙ rw (told_up (T.spaces (length s) s e) p (sym i ∙ h)))
 
-  pub token_open : g ≡ G.TheVariants.Open p → r ≡ lex_of Wrong p p → Lexed s e r
+  pub token_open : g ≡ Err p → r ≡ lex_of Wrong p p → Lexed s e r
   unfolding T.token_at T.lexeme_at
   token_open i j = lexed s e r (j ∙ rw (told_open (T.spaces (length s) s e) p (sym i ∙ h)))
 
@@ -159,17 +144,13 @@ same_length (x ∷ xs) [] h = refl
 same_length (x ∷ xs) (y ∷ ys) h = and_no (eqb x y) (same xs ys) (same_length xs ys (λ e. h (ap suc e)))
 
 module _ (s : List ℕ) (l : Lexeme) (w : List ℕ) (n : ℕ) (e : n ≡ l.to - l.from) where
-  pub written_same : (t : Bool) → n ≡ length w → t ≡ same (part n l.from s) (part n 0 w) → t ≡ same (written s l) w
+  pub written_same : (t : Bool) → n ≡ length w → t ≡ same (part (length w) l.from s) (part (length w) 0 w) → t ≡ same (written s l) w
   unfolding written
-  written_same t f g =
-      let h : part n 0 w ≡ w = rw f (part_all w) in
-      g ∙ rw (h, e)
+  written_same t f g = g ∙ rw (part_all w, ← f, e)
 
-  pub spelled_same : (t : Bool) → n ≡ length w → t ≡ same (folded mixed (part n l.from s)) (part n 0 w) → t ≡ same (spelling s l) w
+  pub spelled_same : (t : Bool) → n ≡ length w → t ≡ same (folded mixed (part (length w) l.from s)) (part (length w) 0 w) → t ≡ same (spelling s l) w
   unfolding written
-  spelled_same t f g =
-      let h : part n 0 w ≡ w = rw f (part_all w) in
-      g ∙ rw (h, e)
+  spelled_same t f g = g ∙ rw (part_all w, ← f, e)
 
   pub written_not : (n ≡ length w → ⊥) → false ≡ same (written s l) w
   unfolding written
@@ -180,23 +161,6 @@ module _ (s : List ℕ) (l : Lexeme) (w : List ℕ) (n : ℕ) (e : n ≡ l.to - 
   spelled_not f =
       let p : List ℕ = part (l.to - l.from) l.from s in
       same_length (folded mixed p) w (λ g. f (e ∙ sym (length_folded mixed p ∙ length_part (l.to - l.from) l.from s) ∙ g))
-
-module _ (s : List ℕ) (l : Lexeme) (w : List ℕ) (t : Bool) where
-  pub word_kind : (r : Bool) → t ≡ is_word_kind l.kind → t ≡ true → r ≡ same (spelling s l) w → r ≡ is_word_in s l w
-  unfolding is_word_in
-  word_kind r e f g = g ∙ rw (← e, f)
-
-  pub word_other : t ≡ is_word_kind l.kind → t ≡ false → false ≡ is_word_in s l w
-  unfolding is_word_in
-  word_other e f = rw (← e, f)
-
-  pub sign_kind : (r : Bool) → t ≡ is_sign_kind l.kind → t ≡ true → r ≡ same (written s l) w → r ≡ is_sign_in s l w
-  unfolding is_sign_in
-  sign_kind r e f g = g ∙ rw (← e, f)
-
-  pub sign_other : t ≡ is_sign_kind l.kind → t ≡ false → false ≡ is_sign_in s l w
-  unfolding is_sign_in
-  sign_other e f = rw (← e, f)
 
 -- ---- a token is what its kind and its bytes say
 part_nil : (n a b : ℕ) → part n a [] ≡ part n b []
@@ -269,9 +233,6 @@ module _ (s : List ℕ) (e : ℕ) (l : Lexeme) (h : Lexed s e l) where
   pub token_is : (T.token_at mixed s e).token ≡ token_for l.kind (written s l) (content s l.from)
   unfolding T.token_at written
   token_is = rw (h.kind, h.from, h.to) (stands_at s e (T.spaces (length s) s e)).is
-
-  pub lexeme_is : T.token_at mixed s e ≡ T.lexeme (token_for l.kind (written s l) (content s l.from)) l.from l.to
-  lexeme_is = rw (← token_is, h.from, h.to)
 
   pub is_word_lem : (W : S.String) (w : List ℕ) → bytes_of W ≡ w → is_word_in s l w ≡ T.is_word W (T.token_at mixed s e).token
   unfolding is_word_in

@@ -2,12 +2,12 @@
 -- Assumes nothing.
 use mathlib.Core.Path.{◌≡◌, refl, sym, ap, ◌∙◌}
 use mathlib.Core.Bool.{Bool, true, false, ◌&&◌}
-use mathlib.Core.List.{List, [], ◌∷◌}
+use mathlib.Core.List.{List}
 use Prim.Native.Nat.{ℕ, zero, suc, ◌+◌, ◌-◌, ◌<◌, ◌≤◌}
 use native.Mathlib.Omega.{arith}
 use borrow.Author.Tests.{leb-false, le-leb, lt-leb, eq-eqb, ne_eqb, eqb-true}
 use lib.Dec.{eqb, leb}
-use lib.ListN.{length, get_or, drop, length-drop}
+use lib.ListN.{length, get_or, drop}
 use Rattle.definition.specs.Choice.{when}
 use Rattle.definition.specs.Lists.{part, leading}
 use Rattle.definition.specs.Bytes.{mixed, class_of, is_letter, is_digit, is_blank, is_mark, is_alphameric, is_small, folded}
@@ -15,19 +15,13 @@ use Rattle.definition.specs.declared.Class.{Class}
 use Rattle.definition.specs.declared.Class.TheVariants.{Letter, Digit, Break, Blank, LineFeed, Percent, Quote, Mark, Other}
 use Rattle.definition.specs.Tokens as T
 use Rattle.tokens.specs.Answer.{closed_for, piece_kind, cut_of, piece_for, closed_piece, piece_of, Cuts, is_unclosed, ending_for}
-use Rattle.tokens.specs.declared.Closed as C
+use Rattle.std.proofs.Common.{Option, ◌⊎◌, inl, inr}
 use Rattle.tokens.specs.declared.PieceKind.TheVariants.{Name, Plain, Unclosed}
 use Rattle.tokens.specs.declared.Piece.{Piece}
 use Rattle.tokens.specs.declared.Ending as E
-use Rattle.tokens.proofs.Laws.{comment_inside, comment_further, quote_further}
+use Rattle.tokens.proofs.Laws.{comment_further, quote_further}
 use Rattle.tokens.proofs.Lexemes.{run_part}
-use Rattle.tokens.proofs.Reach.{run_past, run_inside, letter_goes_on, digit_goes_on}
-
-pub closed_at_lem : (n q : ℕ) (c : C.Closed) (r : Piece) → c ≡ C.TheVariants.At q → r ≡ cut_of Plain q → r ≡ closed_piece n c
-closed_at_lem n q c r e f = f ∙ rw e
-
-pub closed_open : (n : ℕ) (c : C.Closed) (r : Piece) → c ≡ C.TheVariants.Open → r ≡ cut_of Unclosed n → r ≡ closed_piece n c
-closed_open n c r e f = f ∙ rw e
+use Rattle.tokens.proofs.Reach.{run_past, letter_goes_on, digit_goes_on}
 
 closed_is : (s : List ℕ) (x : T.Closed) → closed_piece (length s) (closed_for x) ≡ piece_for (T.closed_cut s x)
 closed_is s (T.closed_at q) = refl
@@ -50,7 +44,7 @@ unfolding T.is_comment
 commented s p e = slash (get_or s p 0) (eqb-true (get_or s p 0) 47 (and_first (eqb (get_or s p 0) 47) (eqb (get_or s (p + 1) 0) 42) e))
 
 module _ (s : List ℕ) (p : ℕ) (t : Bool) (r : Piece) (i : t ≡ T.is_comment s p) where
-  pub piece_comment : (c : C.Closed) → t ≡ true → c ≡ closed_for (T.past_comment s p) → r ≡ closed_piece (length s) c → Cuts s p r
+  pub piece_comment : (c : Option ℕ) → t ≡ true → c ≡ closed_for (T.past_comment s p) → r ≡ closed_piece (length s) c → Cuts s p r
   unfolding T.piece_at T.piece_of
   piece_comment c f g h =
       let e : T.closed_cut s (T.past_comment s p) ≡ T.piece_at mixed s p = rw (commented s p (sym i ∙ f), ← i, f) in
@@ -69,35 +63,22 @@ module _ (s : List ℕ) (p : ℕ) (t : Bool) (r : Piece) (i : t ≡ T.is_comment
     unfolding T.piece_of
     piece_digits w f g h = record { is = λ _. h ∙ ap (cut_of Plain) g ∙ ap piece_for (cutting Digit f) }
 
-    pub piece_string : (x : C.Closed) → c ≡ Quote → x ≡ closed_for (T.quote_end (drop (p + 1) s) (p + 1)) → r ≡ closed_piece (length s) x → Cuts s p r
+    pub piece_string : (x : Option ℕ) → c ≡ Quote → x ≡ closed_for (T.quote_end (drop (p + 1) s) (p + 1)) → r ≡ closed_piece (length s) x → Cuts s p r
     unfolding T.piece_of
     piece_string x f g h = record { is = λ _. h ∙ ap (closed_piece (length s)) g ∙ closed_is s (T.quote_end (drop (p + 1) s) (p + 1)) ∙ ap piece_for (cutting Quote f) }
 
-    pub piece_mark : c ≡ Mark → r ≡ cut_of Plain (p + 1) → Cuts s p r
+    -- a single byte
+    pub piece_plain : (c ≡ Mark) ⊎ ((c ≡ Percent) ⊎ ((c ≡ Break) ⊎ ((c ≡ Blank) ⊎ ((c ≡ LineFeed) ⊎ (c ≡ Other))))) → r ≡ cut_of Plain (p + 1) → Cuts s p r
     unfolding T.piece_of
-    piece_mark f h =
-        let e : T.cut T.plain (p + 1) ≡ T.piece_of mixed Mark s p = rw (← i, j) in
-        record { is = λ _. h ∙ ap piece_for (e ∙ cutting Mark f) }
-
-    pub piece_percent : c ≡ Percent → r ≡ cut_of Plain (p + 1) → Cuts s p r
-    unfolding T.piece_of
-    piece_percent f h = record { is = λ _. h ∙ ap piece_for (cutting Percent f) }
-
-    pub piece_break : c ≡ Break → r ≡ cut_of Plain (p + 1) → Cuts s p r
-    unfolding T.piece_of
-    piece_break f h = record { is = λ _. h ∙ ap piece_for (cutting Break f) }
-
-    pub piece_blank : c ≡ Blank → r ≡ cut_of Plain (p + 1) → Cuts s p r
-    unfolding T.piece_of
-    piece_blank f h = record { is = λ _. h ∙ ap piece_for (cutting Blank f) }
-
-    pub piece_feed : c ≡ LineFeed → r ≡ cut_of Plain (p + 1) → Cuts s p r
-    unfolding T.piece_of
-    piece_feed f h = record { is = λ _. h ∙ ap piece_for (cutting LineFeed f) }
-
-    pub piece_other : c ≡ Other → r ≡ cut_of Plain (p + 1) → Cuts s p r
-    unfolding T.piece_of
-    piece_other f h = record { is = λ _. h ∙ ap piece_for (cutting Other f) }
+    piece_plain f h = record { is = λ _. h ∙ ap piece_for (sym (single f) ∙ cutting c refl) }
+      where
+        single : (c ≡ Mark) ⊎ ((c ≡ Percent) ⊎ ((c ≡ Break) ⊎ ((c ≡ Blank) ⊎ ((c ≡ LineFeed) ⊎ (c ≡ Other))))) → T.piece_of mixed c s p ≡ T.cut T.plain (p + 1)
+        single (inl e) = rw (e, ← i, j)
+        single (inr (inl e)) = rw e
+        single (inr (inr (inl e))) = rw e
+        single (inr (inr (inr (inl e)))) = rw e
+        single (inr (inr (inr (inr (inl e))))) = rw e
+        single (inr (inr (inr (inr (inr e))))) = rw e
 
 -- ---- a piece is what its kind and its bytes say
 record Stands (s : List ℕ) (p : ℕ) (x : T.Cut) : Type 0 where
@@ -201,69 +182,31 @@ module _ (s : List ℕ) (p i : ℕ) (k : Texting s p i) where
     pub texting_percent : get_or s i 0 ≡ 37 → E.TheVariants.Percent i ≡ ending_for (T.text_end mixed (suc (length s)) s p)
     texting_percent e = ap ending_for (rw (eq-eqb (get_or s i 0) 37 e) at (turn (k.turns - 1) left))
 
-    module _ (e : get_or s i 0 ≡ 37 → ⊥) (r : Piece) (t : Bool) (f : Cuts s i r) (g : t ≡ is_unclosed r.kind) where
+    module _ (e : get_or s i 0 ≡ 37 → ⊥) (r : Piece) (f : Cuts s i r) where
       goes : T.text_on (T.piece_at mixed s i).piece i (T.piece_at mixed s i).to (T.text_end mixed (k.turns - 1) s) ≡ T.text_end mixed (suc (length s)) s p
       goes = rw (ne_eqb (get_or s i 0) 37 e) at (turn (k.turns - 1) left)
 
-      open_is : t ≡ is_unclosed (piece_kind (T.piece_at mixed s i).piece)
-      open_is = g ∙ ap (λ (x : Piece). is_unclosed x.kind) (f.is h)
+      open_is : is_unclosed r.kind ≡ is_unclosed (piece_kind (T.piece_at mixed s i).piece)
+      open_is = ap (λ (x : Piece). is_unclosed x.kind) (f.is h)
 
-      pub texting_open : t ≡ true → E.TheVariants.OpenAt i ≡ ending_for (T.text_end mixed (suc (length s)) s p)
-      texting_open j = ap ending_for (on_open (T.piece_at mixed s i).piece i (T.piece_at mixed s i).to (T.text_end mixed (k.turns - 1) s) (sym open_is ∙ j) ∙ goes)
+      pub texting_open : r.kind ≡ Unclosed → E.TheVariants.OpenAt i ≡ ending_for (T.text_end mixed (suc (length s)) s p)
+      texting_open j = ap ending_for (on_open (T.piece_at mixed s i).piece i (T.piece_at mixed s i).to (T.text_end mixed (k.turns - 1) s) (sym open_is ∙ ap is_unclosed j) ∙ goes)
 
-      pub texting_further : t ≡ false → i < r.to
-      texting_further j = let z : r.to ≡ (T.piece_at mixed s i).to = ap (λ (x : Piece). x.to) (f.is h) in omega (arith, piece_further s i h (sym open_is ∙ j))
+      module _ (j : (r.kind ≡ Name) ⊎ (r.kind ≡ Plain)) where
+        closed_is_lem : is_unclosed (piece_kind (T.piece_at mixed s i).piece) ≡ false
+        closed_is_lem = sym open_is ∙ elim j [ inl z ↦ ap is_unclosed z | inr z ↦ ap is_unclosed z ]
 
-      pub texting_more : t ≡ false → Texting s p r.to
-      texting_more j = record {
-        turns = k.turns - 1;
-        enough = omega (arith, k.enough, texting_further j);
-        is = rw (ap (λ (x : Piece). x.to) (f.is h)) (on_more (T.piece_at mixed s i).piece i (T.piece_at mixed s i).to (T.text_end mixed (k.turns - 1) s) (sym open_is ∙ j) ∙ goes);
-      }
+        pub texting_further : i < r.to
+        texting_further = let z : r.to ≡ (T.piece_at mixed s i).to = ap (λ (x : Piece). x.to) (f.is h) in omega (arith, piece_further s i h closed_is_lem)
 
--- ---- where pieces and the ends of texts lie
-nearer : (x : Bool) (c : T.Closed) (p n q : ℕ) → (c ≡ T.closed_at q → q ≤ p + 1 + n) → when x (λ _. T.closed_at (p + 1)) (λ _. c) ≡ T.closed_at q → q ≤ p + suc n
-nearer true c p n q f e = let z : p + 1 ≡ q = cc in omega arith
-nearer false c p n q f e = let z : q ≤ p + 1 + n = f e in omega arith
+        pub texting_more : Texting s p r.to
+        texting_more = record {
+          turns = k.turns - 1;
+          enough = omega (arith, k.enough, texting_further);
+          is = rw (ap (λ (x : Piece). x.to) (f.is h)) (on_more (T.piece_at mixed s i).piece i (T.piece_at mixed s i).to (T.text_end mixed (k.turns - 1) s) closed_is_lem ∙ goes);
+        }
 
-comment_within : (star : Bool) (l : List ℕ) (p q : ℕ) → T.comment_end star l p ≡ T.closed_at q → q ≤ p + length l
-unfolding T.comment_end
-comment_within star [] p q e = let z : ◌≡◌ {A = ℕ} 0 1 = cc in absurd (omega arith)
-comment_within star (b ∷ l) p q e =
-    nearer (star && eqb b 47) (T.comment_end (eqb b 42) l (p + 1)) p (length l) q (comment_within (eqb b 42) l (p + 1) q) e
-
-quote_within : (l : List ℕ) (p q : ℕ) → T.quote_end l p ≡ T.closed_at q → q ≤ p + length l
-unfolding T.quote_end
-quote_within [] p q e = let z : ◌≡◌ {A = ℕ} 0 1 = cc in absurd (omega arith)
-quote_within (b ∷ l) p q e = nearer (eqb b 39) (T.quote_end l (p + 1)) p (length l) q (quote_within l (p + 1) q) e
-
-module _ (s : List ℕ) (p : ℕ) (h : p < length s) where
-  closed_inside : (x : T.Closed) → ((q : ℕ) → x ≡ T.closed_at q → q ≤ length s) → (T.closed_cut s x).to ≤ length s
-  closed_inside (T.closed_at q) f = f q refl
-  closed_inside T.never_closed f = omega arith
-
-  mark_inside : (b : Bool) (x : T.Closed) → (b ≡ true → (q : ℕ) → x ≡ T.closed_at q → q ≤ length s) → (when b (λ _. T.closed_cut s x) (λ _. T.cut T.plain (p + 1))).to ≤ length s
-  mark_inside true x f = closed_inside x (f refl)
-  mark_inside false x f = omega arith
-
-  piece_inside_of : (c : Class) → (T.piece_of mixed c s p).to ≤ length s
-  unfolding T.piece_of
-  piece_inside_of Letter = run_inside s p h (is_alphameric mixed)
-  piece_inside_of Digit = run_inside s p h (is_alphameric mixed)
-  piece_inside_of Quote = closed_inside (T.quote_end (drop (p + 1) s) (p + 1)) (λ q e. omega (arith, quote_within (drop (p + 1) s) (p + 1) q e, length-drop (p + 1) s))
-  piece_inside_of Mark =
-      mark_inside (T.is_comment s p) (T.past_comment s p)
-      (λ c q e. omega (arith, comment_within false (drop (p + 2) s) (p + 2) q e, length-drop (p + 2) s, comment_inside s p (T.is_comment s p) refl c))
-  piece_inside_of Percent = omega arith
-  piece_inside_of Break = omega arith
-  piece_inside_of Blank = omega arith
-  piece_inside_of LineFeed = omega arith
-  piece_inside_of Other = omega arith
-
-  pub piece_inside : (T.piece_at mixed s p).to ≤ length s
-  unfolding T.piece_at
-  piece_inside = piece_inside_of (class_of mixed (get_or s p 0))
-
+-- ---- where the ends of texts lie
 -- the `%` that ends a text that begins at p
 pub record Percents (s : List ℕ) (p q : ℕ) : Type 0 where
   pub low : p ≤ q

@@ -14,27 +14,28 @@ use Rattle.definition.specs.Bytes.{mixed, class_of, is_letter, is_digit, is_blan
 use Rattle.definition.specs.declared.Class.{Class}
 use Rattle.definition.specs.declared.Class.TheVariants.{Letter, Digit, Break, Blank, LineFeed, Percent, Quote, Mark, Other}
 use Rattle.definition.specs.Tokens as T
-use Rattle.tokens.specs.Answer.{step_at, sign_size, kind_of, is_token, Lexed}
+use Rattle.tokens.specs.Answer.{sign_size, kind_of, is_token, Lexed}
 use Rattle.tokens.specs.declared.Lexeme.{Lexeme}
-use Rattle.tokens.specs.declared.Step as P
-use Rattle.tokens.proofs.Laws.{at, inside, and_second, follow, spaces_step, step_further, sign_inside}
+use Rattle.tokens.proofs.Laws.{at, inside, and_second, comment_further, sign_inside}
 
 -- ---- spaces
 reached : T.Spaces → ℕ
 reached (T.up_to p) = p
 reached (T.open_comment p) = p
 
-module _ (f : ℕ) (s : List ℕ) (p : ℕ) (rest : (q : ℕ) → q ≤ reached (T.spaces f s q)) where
-  step_low : (r : P.Step) → r ≡ step_at s p → p ≤ reached (follow r p (T.spaces f s))
-  unfolding follow reached
-  step_low (P.TheVariants.On q) e = let h : p < q = step_further s p (P.TheVariants.On q) e q refl in omega (arith, rest q)
-  step_low P.TheVariants.Stop e = omega arith
-  step_low P.TheVariants.Open e = omega arith
+step_low : (x y : Bool) (c : T.Closed) (p : ℕ) (g : ℕ → T.Spaces) → ((q : ℕ) → q ≤ reached (g q)) → ((q : ℕ) → c ≡ T.closed_at q → p + 2 < q)
+    → p ≤ reached (when x (λ _. g (p + 1)) (λ _. when y (λ _. T.after_comment c p g) (λ _. T.up_to p)))
+unfolding reached
+step_low true y c p g r f = omega (arith, r (p + 1))
+step_low false true (T.closed_at q) p g r f = omega (arith, r q, f q refl)
+step_low false true T.never_closed p g r f = omega arith
+step_low false false c p g r f = omega arith
 
 spaces_low : (f : ℕ) (s : List ℕ) (p : ℕ) → p ≤ reached (T.spaces f s p)
 unfolding T.spaces reached
 spaces_low zero s p = omega arith
-spaces_low (suc f) s p = rw (spaces_step f s p) (step_low f s p (spaces_low f s) (step_at s p) refl)
+spaces_low (suc f) s p =
+    step_low (T.is_space (get_or s p 0)) (T.is_comment s p) (T.past_comment s p) p (T.spaces f s) (spaces_low f s) (comment_further false (drop (p + 2) s) (p + 2))
 
 -- ---- runs
 shorter : (x : Bool) (b : ℕ) (m : List ℕ) (n : ℕ) → length m ≤ n → length (cond x (b ∷ m) []) ≤ suc n

@@ -1,7 +1,6 @@
 -- What the answers about tokens stand for in the definition.
-use Rattle.std.specs.Prelude.{ℕ, ◌+◌, ◌-◌, ◌<◌, Bool, true, false, cond, ◌&&◌, ◌||◌, List, [], ◌≡◌, eqb, length, get_or, drop}
+use Rattle.std.specs.Prelude.{Option, Some, None, Result, Ok, Err, ℕ, ◌+◌, ◌-◌, ◌<◌, Bool, true, false, cond, ◌&&◌, ◌||◌, List, [], ◌≡◌, eqb, length, get_or, drop}
 use Prim.Native.Char.{code}
-use Rattle.definition.specs.Choice.{when}
 use Rattle.definition.specs.Lists.{part, all, same}
 use Rattle.definition.specs.Room.{over}
 use Rattle.definition.specs.Bytes.{mixed, is_alphameric, folded}
@@ -9,43 +8,26 @@ use Rattle.definition.specs.Tokens as T
 use Rattle.tokens.specs.declared.Kind.{Kind}
 use Rattle.tokens.specs.declared.Kind.TheVariants.{Word, Integer, String, Bits, Sign, Nothing, Wrong}
 use Rattle.tokens.specs.declared.Lexeme.{Lexeme}
-use Rattle.tokens.specs.declared.Closed.{Closed}
-use Rattle.tokens.specs.declared.Closed as C
-use Rattle.tokens.specs.declared.Step.{Step}
-use Rattle.tokens.specs.declared.Step as P
-use Rattle.tokens.specs.declared.Gap.{Gap}
-use Rattle.tokens.specs.declared.Gap as G
-use Rattle.tokens.specs.declared.Constant.{Constant}
-use Rattle.tokens.specs.declared.Constant as Q
 use Rattle.tokens.specs.declared.PieceKind.{PieceKind}
 use Rattle.tokens.specs.declared.PieceKind as K
 use Rattle.tokens.specs.declared.Piece.{Piece}
 use Rattle.tokens.specs.declared.Ending.{Ending}
 use Rattle.tokens.specs.declared.Ending as E
 
-abbrev pub closed_for : T.Closed → Closed
-closed_for (T.closed_at q) = C.TheVariants.At q
-closed_for T.never_closed = C.TheVariants.Open
+-- the place past what closes a comment or a string, if anything does
+abbrev pub closed_for : T.Closed → Option ℕ
+closed_for (T.closed_at q) = Some q
+closed_for T.never_closed = None
 
--- a step through spaces: past a blank or a comment, or why there is none
-abbrev pub step_for : Closed → Step
-step_for (C.TheVariants.At q) = P.TheVariants.On q
-step_for C.TheVariants.Open = P.TheVariants.Open
-
-unfoldable pub step_at : List ℕ → ℕ → Step
-step_at s p =
-    when (T.is_space (get_or s p 0)) (λ _. P.TheVariants.On (p + 1))
-    (λ _. when (T.is_comment s p) (λ _. step_for (closed_for (T.past_comment s p)))
-    (λ _. P.TheVariants.Stop))
-
-abbrev pub gap_for : T.Spaces → Gap
-gap_for (T.up_to p) = G.TheVariants.To p
-gap_for (T.open_comment p) = G.TheVariants.Open p
+-- where spaces end, or else where the comment in them that stays open begins
+abbrev pub gap_for : T.Spaces → Result ℕ ℕ
+gap_for (T.up_to p) = Ok p
+gap_for (T.open_comment p) = Err p
 
 -- the place past a constant, and whether its bytes are all 0 or 1
-abbrev pub constant_for : T.Quoted → Constant
-constant_for (T.quoted bs q) = Q.TheVariants.To q (all T.is_bit bs)
-constant_for T.unquoted = Q.TheVariants.Open
+abbrev pub constant_for : T.Quoted → Option (ℕ × Bool)
+constant_for (T.quoted bs q) = Some (q, all T.is_bit bs)
+constant_for T.unquoted = None
 
 -- how many bytes stand for one byte of a constant: a doubled quote for one, and the quote that ends it for none
 unfoldable pub byte_width : List ℕ → ℕ → ℕ
@@ -159,9 +141,9 @@ cut_of k to = record { kind = k; to = to }
 abbrev pub piece_for : T.Cut → Piece
 piece_for x = cut_of (piece_kind x.piece) x.to
 
-abbrev pub closed_piece : ℕ → Closed → Piece
-closed_piece n (C.TheVariants.At q) = cut_of K.TheVariants.Plain q
-closed_piece n C.TheVariants.Open = cut_of K.TheVariants.Unclosed n
+abbrev pub closed_piece : ℕ → Option ℕ → Piece
+closed_piece n (Some q) = cut_of K.TheVariants.Plain q
+closed_piece n None = cut_of K.TheVariants.Unclosed n
 
 -- the piece of a kind with its bytes
 abbrev pub piece_of : PieceKind → List ℕ → T.Piece

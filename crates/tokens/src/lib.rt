@@ -7,7 +7,7 @@ ghost use Rattle.std.specs.Prelude.{◌≡◌, ◌&&◌, false, ◌∷◌, [], s
 ghost use Rattle.definition.specs.Lists.{leading, same};
 ghost use Rattle.definition.specs.Bytes.{mixed, is_alphameric, is_digit};
 ghost use Rattle.definition.specs.Tokens as T;
-ghost use Rattle.tokens.specs.Answer.{closed_for, step_for, step_at, gap_for, constant_for, byte_width, sign_size, is_solid, lex_of, lexeme_for, Lexed, written, spelling, is_word_kind, is_sign_kind, is_word_in, is_sign_in, content, Unquoted, cut_of, closed_piece, Cuts, is_unclosed, ending_for};
+ghost use Rattle.tokens.specs.Answer.{closed_for, gap_for, constant_for, byte_width, sign_size, is_solid, lex_of, lexeme_for, Lexed, written, spelling, is_word_kind, is_word_in, is_sign_in, content, Unquoted, cut_of, closed_piece, Cuts, ending_for};
 
 use chars::{capital, is_alphameric, is_bit, is_digit, spells};
 use classes::class;
@@ -34,156 +34,80 @@ pub struct Lexeme {
     pub to: usize,
 }
 
-// The place past what closes a comment or a string, or that nothing does.
-#[derive(Clone, Copy)]
-enum Closed {
-    At(usize),
-    Open,
-}
-
-// One step through spaces.
-#[derive(Clone, Copy)]
-enum Step {
-    On(usize),
-    Stop,
-    Open,
-}
-
-// Where spaces end, or where the comment in them that stays open begins.
-#[derive(Clone, Copy)]
-enum Gap {
-    To(usize),
-    Open(usize),
-}
-
-// The place past a constant in quotes, and whether it has only the bytes 0 and 1.
-#[derive(Clone, Copy)]
-enum Constant {
-    To(usize, bool),
-    Open,
-}
-
-fn both(a: bool, b: bool) -> bool
-    ensures { result ≡ (a && b) }
-{
-    if a {
-        return b;
-    }
-    false
-}
-
 // The place past the end of a comment whose bytes begin at a place.
-fn comment_end(s: &[u8], from: usize) -> Closed
+fn comment_end(s: &[u8], from: usize) -> Option<usize>
     ensures { result ≡ closed_for (T.comment_end false (drop from s.now) from) }
 {
     let mut star = false;
-    let mut i = from;
-    while i < s.len() {
-        let b = s[i];
-        // a `/` after a `*`
-        if both(star, b == b'/') {
-            return Closed::At(i + 1);
+    for i in from..s.len() {
+        if star && s[i] == b'/' {
+            return Some(i + 1);
         }
-        star = b == b'*';
-        i += 1;
+        star = s[i] == b'*';
     }
-    Closed::Open
+    None
 }
 
 // The place past the next quote.
-fn quote_end(s: &[u8], from: usize) -> Closed
+fn quote_end(s: &[u8], from: usize) -> Option<usize>
     ensures { result ≡ closed_for (T.quote_end (drop from s.now) from) }
 {
-    let mut i = from;
-    while i < s.len() {
+    for i in from..s.len() {
         if s[i] == b'\'' {
-            return Closed::At(i + 1);
+            return Some(i + 1);
         }
-        i += 1;
     }
-    Closed::Open
+    None
 }
 
+#[tactic(auto, unfolding(definition::specs::Tokens::is_comment))]
 fn is_comment(s: &[u8], p: usize) -> bool
     ensures { result ≡ T.is_comment s.now p }
 {
-    if byte(s, p, 0) == b'/' {
-        return byte(s, p, 1) == b'*';
-    }
-    false
+    byte(s, p, 0) == b'/' && byte(s, p, 1) == b'*'
 }
 
+#[tactic(auto, unfolding(definition::specs::Tokens::is_space, definition::specs::Bytes::is_blank))]
 fn is_space(b: u8) -> bool
     ensures { result ≡ T.is_space b }
 {
-    if b == b' ' {
-        return true;
-    }
-    b == b'\n'
+    b == b' ' || b == b'\n'
 }
 
-// A comment that is closed is stepped over.
-fn step_past(c: Closed) -> Step
-    ensures { result ≡ step_for c }
-{
-    match c {
-        Closed::At(q) => Step::On(q),
-        Closed::Open => Step::Open,
-    }
-}
-
-// One step through spaces: past a blank or a whole comment.
-fn space_at(s: &[u8], p: usize) -> Step
-    ensures { result ≡ step_at s.now p }
-{
-    if p < s.len() {
-        if is_space(s[p]) {
-            return Step::On(p + 1);
-        }
-        if is_comment(s, p) {
-            return step_past(comment_end(s, p + 2));
-        }
-    }
-    Step::Stop
-}
-
-// The spaces at a place.
-fn past_spaces(s: &[u8], e: usize) -> Gap
+// Where the spaces at a place end, or where the comment in them that stays open begins.
+fn past_spaces(s: &[u8], e: usize) -> Result<usize, usize>
     ensures { result ≡ gap_for (T.spaces (length s.now) s.now e) }
 {
     let mut p = e;
     while p < s.len() {
-        let step = space_at(s, p);
-        match step {
-            Step::On(q) => {
-                p = q;
-            }
-            Step::Stop => {
-                return Gap::To(p);
-            }
-            Step::Open => {
-                return Gap::Open(p);
-            }
+        if is_space(s[p]) {
+            p += 1;
+        } else if is_comment(s, p) {
+            let Some(q) = comment_end(s, p + 2) else {
+                return Err(p);
+            };
+            p = q;
+        } else {
+            return Ok(p);
         }
     }
-    Gap::To(p)
+    Ok(p)
 }
 
 // How many bytes stand for one byte of a constant: 2 for a doubled quote, and 0 for the quote that ends it.
+#[tactic(auto, unfolding(crate::specs::Answer::byte_width))]
 fn byte_width(s: &[u8], i: usize) -> usize
     ensures { result ≡ byte_width s.now i }
 {
-    if byte(s, i, 0) == b'\'' {
-        if byte(s, i, 1) == b'\'' {
-            return 2;
-        }
-        return 0;
+    match (byte(s, i, 0), byte(s, i, 1)) {
+        (b'\'', b'\'') => 2,
+        (b'\'', _) => 0,
+        _ => 1,
     }
-    1
 }
 
-// A constant in quotes, from behind its first quote.
-fn constant_end(s: &[u8], from: usize) -> Constant
+// The place past a constant in quotes, from behind its first quote, and whether it has only the bytes 0 and 1.
+fn constant_end(s: &[u8], from: usize) -> Option<(usize, bool)>
     ensures { result ≡ constant_for (T.quoted_at (drop from s.now) [] from) }
 {
     let mut bits = true;
@@ -191,12 +115,12 @@ fn constant_end(s: &[u8], from: usize) -> Constant
     while i < s.len() {
         let n = byte_width(s, i);
         if n < 1 {
-            return Constant::To(i + 1, bits);
+            return Some((i + 1, bits));
         }
-        bits = both(bits, is_bit(s[i]));
+        bits = bits && is_bit(s[i]);
         i += n;
     }
-    Constant::Open
+    None
 }
 
 // The place past the letters, digits and `_` at a place.
@@ -204,95 +128,60 @@ fn word_end(s: &[u8], p: usize) -> usize
     ensures { result ≡ p + length (leading (is_alphameric mixed) (drop p s.now)) }
 {
     let mut i = p;
-    while i < s.len() {
-        if is_alphameric(s[i]) {
-            i += 1;
-        } else {
-            return i;
-        }
+    while i < s.len() && is_alphameric(s[i]) {
+        i += 1;
     }
     i
 }
 
 // The place past the digits at a place.
+// stays: a loop of its own beside `word_end`, since a test as a parameter would need clauses on what it answers (d)
 fn digits_end(s: &[u8], p: usize) -> usize
     ensures { result ≡ p + length (leading is_digit (drop p s.now)) }
 {
     let mut i = p;
-    while i < s.len() {
-        if is_digit(s[i]) {
-            i += 1;
-        } else {
-            return i;
-        }
+    while i < s.len() && is_digit(s[i]) {
+        i += 1;
     }
     i
 }
 
 // Whether two bytes are one delimiter.
+#[tactic(auto, unfolding(definition::specs::Tokens::is_pair))]
 fn is_pair(a: u8, b: u8) -> bool
     ensures { result ≡ T.is_pair (a ∷ b ∷ []) }
 {
-    match a {
-        b'|' => b == b'|',
-        b'>' => b == b'=',
-        b'<' => b == b'=',
-        b'^' => is_relation(b),
-        _ => false,
-    }
+    matches!(
+        (a, b),
+        (b'|', b'|') | (b'>' | b'<', b'=') | (b'^', b'>' | b'=' | b'<')
+    )
 }
 
-// Whether a byte may follow the not sign in a delimiter.
-fn is_relation(b: u8) -> bool
-    ensures { result ≡ T.is_pair (94 ∷ b ∷ []) }
-{
-    if b == b'>' {
-        return true;
-    }
-    if b == b'=' {
-        return true;
-    }
-    b == b'<'
-}
-
+#[tactic(auto, using(definition::proofs::Parts::part2), unfolding(crate::specs::Answer::sign_size))]
 fn sign_size(s: &[u8], p: usize) -> usize
     ensures { result ≡ sign_size s.now p }
 {
     if is_pair(byte(s, p, 0), byte(s, p, 1)) {
-        return 2;
+        2
+    } else {
+        1
     }
-    1
 }
 
 // What may not stand directly beside its like: what a name goes on with, or a quote.
+#[tactic(auto, unfolding(crate::specs::Answer::is_solid))]
 fn is_solid(b: u8) -> bool
     ensures { result ≡ is_solid b }
 {
-    if is_alphameric(b) {
-        return true;
-    }
-    b == b'\''
-}
-
-fn place_before(p: usize) -> usize
-    ensures { result ≡ p - 1 }
-{
-    if p < 1 {
-        return 0;
-    }
-    p - 1
+    is_alphameric(b) || b == b'\''
 }
 
 // Whether the token before, which ends at e, touches one that begins at p.
+#[tactic(auto, unfolding(definition::specs::Tokens::is_touching, crate::specs::Answer::is_solid))]
 fn touches(s: &[u8], e: usize, p: usize) -> bool
     ensures { result ≡ (eqb e p && T.is_touching mixed s.now p) }
 {
-    if e == p {
-        if is_solid(byte(s, place_before(p), 0)) {
-            return is_solid(byte(s, p, 0));
-        }
-    }
-    false
+    e == p && is_solid(byte(s, p.saturating_sub(1), 0)) && is_solid(byte(s, p, 0))
 }
 
 fn lex(kind: Kind, from: usize, to: usize) -> Lexeme
@@ -305,15 +194,13 @@ fn lex(kind: Kind, from: usize, to: usize) -> Lexeme
 fn constant_at(s: &[u8], p: usize, from: usize) -> Lexeme
     ensures { result ≡ lexeme_for (T.constant_at mixed s.now p (T.quoted_at (drop from s.now) [] from)) }
 {
-    let c = constant_end(s, from);
-    match c {
-        Constant::To(q, bits) => {
-            if both(bits, capital(byte(s, q, 0)) == b'B') {
-                return lex(Kind::Bits, p, q + 1);
-            }
-            lex(Kind::String, p, q)
-        }
-        Constant::Open => lex(Kind::Wrong, p, p),
+    let Some((q, bits)) = constant_end(s, from) else {
+        return lex(Kind::Wrong, p, p);
+    };
+    if bits && capital(byte(s, q, 0)) == b'B' {
+        lex(Kind::Bits, p, q + 1)
+    } else {
+        lex(Kind::String, p, q)
     }
 }
 
@@ -327,17 +214,12 @@ fn lexeme_at(s: &[u8], e: usize, p: usize) -> Lexeme
     if touches(s, e, p) {
         return lex(Kind::Wrong, p, p);
     }
-    let c = class(s[p]);
-    match c {
+    match class(s[p]) {
         Class::Letter => lex(Kind::Word, p, word_end(s, p)),
         Class::Digit => lex(Kind::Integer, p, digits_end(s, p)),
         Class::Quote => constant_at(s, p, p + 1),
-        Class::Mark => lex(Kind::Sign, p, p + sign_size(s, p)),
-        Class::Percent => lex(Kind::Sign, p, p + sign_size(s, p)),
-        Class::Break => lex(Kind::Wrong, p, p),
-        Class::Blank => lex(Kind::Wrong, p, p),
-        Class::LineFeed => lex(Kind::Wrong, p, p),
-        Class::Other => lex(Kind::Wrong, p, p),
+        Class::Mark | Class::Percent => lex(Kind::Sign, p, p + sign_size(s, p)),
+        Class::Break | Class::Blank | Class::LineFeed | Class::Other => lex(Kind::Wrong, p, p),
     }
 }
 
@@ -345,10 +227,9 @@ fn lexeme_at(s: &[u8], e: usize, p: usize) -> Lexeme
 pub fn token_at(s: &[u8], e: usize) -> Lexeme
     ensures { Lexed s.now e result }
 {
-    let g = past_spaces(s, e);
-    match g {
-        Gap::To(p) => lexeme_at(s, e, p),
-        Gap::Open(p) => lex(Kind::Wrong, p, p),
+    match past_spaces(s, e) {
+        Ok(p) => lexeme_at(s, e, p),
+        Err(p) => lex(Kind::Wrong, p, p),
     }
 }
 
@@ -363,72 +244,36 @@ pub fn width(t: Lexeme) -> usize
 fn is_written(s: &[u8], l: Lexeme, w: &[u8]) -> bool
     ensures { result ≡ same (written s.now l) w.now }
 {
-    let n = width(l);
-    if n == w.len() {
-        return is_same(s, l.from, w, 0, n);
-    }
-    false
+    width(l) == w.len() && is_same(s, l.from, w, 0, w.len())
 }
 
 // The same but for the case of the lexeme.
 fn is_spelled(s: &[u8], l: Lexeme, w: &[u8]) -> bool
     ensures { result ≡ same (spelling s.now l) w.now }
 {
-    let n = width(l);
-    if n == w.len() {
-        return spells(s, l.from, w, 0, n);
-    }
-    false
+    width(l) == w.len() && spells(s, l.from, w, 0, w.len())
 }
 
 pub fn is_word_kind(k: Kind) -> bool
     ensures { result ≡ is_word_kind k }
 {
-    match k {
-        Kind::Word => true,
-        Kind::Integer => false,
-        Kind::String => false,
-        Kind::Bits => false,
-        Kind::Sign => false,
-        Kind::Nothing => false,
-        Kind::Wrong => false,
-    }
-}
-
-fn is_sign_kind(k: Kind) -> bool
-    ensures { result ≡ is_sign_kind k }
-{
-    match k {
-        Kind::Word => false,
-        Kind::Integer => false,
-        Kind::String => false,
-        Kind::Bits => false,
-        Kind::Sign => true,
-        Kind::Nothing => false,
-        Kind::Wrong => false,
-    }
+    matches!(k, Kind::Word)
 }
 
 // Whether a lexeme is the word w.
+#[tactic(auto, unfolding(crate::specs::Answer::is_word_in))]
 pub fn is_word(s: &[u8], l: Lexeme, w: &[u8]) -> bool
     ensures { result ≡ is_word_in s.now l w.now }
 {
-    let kind = l.kind;
-    if is_word_kind(kind) {
-        return is_spelled(s, l, w);
-    }
-    false
+    is_word_kind(l.kind) && is_spelled(s, l, w)
 }
 
 // Whether a lexeme is the sign w.
+#[tactic(auto, unfolding(crate::specs::Answer::is_sign_in))]
 pub fn is_sign(s: &[u8], l: Lexeme, w: &[u8]) -> bool
     ensures { result ≡ is_sign_in s.now l w.now }
 {
-    let kind = l.kind;
-    if is_sign_kind(kind) {
-        return is_written(s, l, w);
-    }
-    false
+    matches!(l.kind, Kind::Sign) && is_written(s, l, w)
 }
 
 // How many bytes the constant has whose first quote stands at p; none where it stays open.
@@ -502,12 +347,12 @@ fn cut(kind: PieceKind, to: usize) -> Piece
 }
 
 // A string or a comment; one that stays open takes all the text.
-fn closed_piece(s: &[u8], c: Closed) -> Piece
+fn closed_piece(s: &[u8], c: Option<usize>) -> Piece
     ensures { result ≡ closed_piece (length s.now) c }
 {
     match c {
-        Closed::At(q) => cut(PieceKind::Plain, q),
-        Closed::Open => cut(PieceKind::Unclosed, s.len()),
+        Some(q) => cut(PieceKind::Plain, q),
+        None => cut(PieceKind::Unclosed, s.len()),
     }
 }
 
@@ -521,27 +366,16 @@ pub fn piece_at(s: &[u8], p: usize) -> Piece
     if is_comment(s, p) {
         return closed_piece(s, comment_end(s, p + 2));
     }
-    let c = class(s[p]);
-    match c {
+    match class(s[p]) {
         Class::Letter => cut(PieceKind::Name, word_end(s, p)),
         Class::Digit => cut(PieceKind::Plain, word_end(s, p)),
         Class::Quote => closed_piece(s, quote_end(s, p + 1)),
-        Class::Mark => cut(PieceKind::Plain, p + 1),
-        Class::Percent => cut(PieceKind::Plain, p + 1),
-        Class::Break => cut(PieceKind::Plain, p + 1),
-        Class::Blank => cut(PieceKind::Plain, p + 1),
-        Class::LineFeed => cut(PieceKind::Plain, p + 1),
-        Class::Other => cut(PieceKind::Plain, p + 1),
-    }
-}
-
-fn is_unclosed(k: PieceKind) -> bool
-    ensures { result ≡ is_unclosed k }
-{
-    match k {
-        PieceKind::Name => false,
-        PieceKind::Plain => false,
-        PieceKind::Unclosed => true,
+        Class::Mark
+        | Class::Percent
+        | Class::Break
+        | Class::Blank
+        | Class::LineFeed
+        | Class::Other => cut(PieceKind::Plain, p + 1),
     }
 }
 
@@ -555,11 +389,10 @@ pub fn text_end(s: &[u8], p: usize) -> Ending
             return Ending::Percent(i);
         }
         let x = piece_at(s, i);
-        let kind = x.kind;
-        if is_unclosed(kind) {
-            return Ending::OpenAt(i);
+        match x.kind {
+            PieceKind::Unclosed => return Ending::OpenAt(i),
+            PieceKind::Name | PieceKind::Plain => i = x.to,
         }
-        i = x.to;
     }
     Ending::AtEnd
 }

@@ -6,6 +6,7 @@ ghost use Rattle.types.specs.Kept.{type_number, type_in};
 
 use definition::ValueType;
 
+// stays: a match and no cast, since the variants and their order are another crate's (d)
 pub fn type_number(t: ValueType) -> u16
     ensures { result ≡ type_number t }
 {
@@ -18,9 +19,8 @@ pub fn type_number(t: ValueType) -> u16
 pub fn type_in(k: u16) -> ValueType
     ensures { result ≡ type_in k }
 {
-    if k == 0 {
-        ValueType::FixedType
-    } else {
-        ValueType::CharacterType
+    match k {
+        0 => ValueType::FixedType,
+        _ => ValueType::CharacterType,
     }
 }

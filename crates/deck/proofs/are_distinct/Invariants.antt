@@ -1,10 +1,6 @@
 -- What is left to look at decides.
-use Prim.Native.Nat.{◌-◌}
 use Rattle.deck.proofs.Laws.{Differing}
 use Rattle.deck.proofs.are_distinct.Given as goal
 
 abbrev pub invariant-loop-k : goal.invariant-loop-k
 invariant-loop-k l = Differing l.d l.n l.k
-
-abbrev pub decreases-loop-k : goal.decreases-loop-k
-decreases-loop-k l = l.n - l.k

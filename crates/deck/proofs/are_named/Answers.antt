@@ -7,8 +7,8 @@ loop-k-init c = naming_start _ _
 pub loop-k-preserved : goal.loop-k-preserved
 loop-k-preserved c = search naming_more
 
-pub returns-else-is_named : goal.returns-else-is_named
-returns-else-is_named c = search naming_no
+pub returns-then-not-is_named : goal.returns-then-not-is_named
+returns-then-not-is_named c = search naming_no
 
 pub returns : goal.returns
 returns c = search naming_done

@@ -1,11 +1,7 @@
 -- What is left to look at decides.
-use Prim.Native.Nat.{◌-◌}
 use Rattle.deck.specs.Answer.{sought_in}
 use Rattle.deck.proofs.Laws.{Finding}
 use Rattle.deck.proofs.find.Given as goal
 
 abbrev pub invariant-loop-k : goal.invariant-loop-k
 invariant-loop-k l = Finding l.d (sought_in l.d l.x) l.n l.k
-
-abbrev pub decreases-loop-k : goal.decreases-loop-k
-decreases-loop-k l = l.n - l.k

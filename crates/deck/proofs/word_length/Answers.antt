@@ -10,5 +10,5 @@ loop-j-preserved c = search passing_more
 pub returns-else-is_alphameric : goal.returns-else-is_alphameric
 returns-else-is_alphameric c = search passing_stop
 
-pub returns : goal.returns
-returns c = search passing_done
+pub returns-after-loop-j : goal.returns-after-loop-j
+returns-after-loop-j c = search passing_done

@@ -5,5 +5,5 @@ use Rattle.edges.proofs.given.Goals as goal
 pub returns-then-q-size : goal.returns-then-q-size
 returns-then-q-size c = search given_end
 
-pub returns : goal.returns
-returns c = search given_in_lem
+pub returns-else-q-size : goal.returns-else-q-size
+returns-else-q-size c = search given_in_lem

@@ -12,16 +12,16 @@ pub loop-at-smaller : goal.loop-at-smaller
 loop-at-smaller c = omega (arith, c.loop-at-test.true, c.piece-n.ensures.within c.loop-at-test.true, c.piece-n.ensures.some c.loop-at-test.true)
 
 pub loop-at-preserved : goal.loop-at-preserved
-loop-at-preserved c = piecing_more _ _ _ _ _ _ _ _ _ _ _ c.loop-at.invariant c.loop-at-test.true _ c.piece-n.ensures _ c.column.ensures _ _ _ c.put_copied-p.ensures _ c.in-Done.is c.put_copied-p.auto.text c.put_copied-p.auto.list
+loop-at-preserved c = piecing_more _ _ _ _ _ _ _ _ _ _ _ c.loop-at.invariant c.loop-at-test.true _ c.piece-n.ensures _ c.column.ensures _ _ _ c.put_copied.ensures _ c.in-Done.is c.put_copied.auto.text c.put_copied.auto.list
 
-pub shape_of-text-in-Full : goal.shape_of-text-in-Full
-shape_of-text-in-Full c = c.put_copied-p.auto.text ∙ c.loop-at.invariant.long
+pub shape_of-text-in_default : goal.shape_of-text-in_default
+shape_of-text-in_default c = c.put_copied.auto.text ∙ c.loop-at.invariant.long
 
-pub shape_of-list-in-Full : goal.shape_of-list-in-Full
-shape_of-list-in-Full c = c.put_copied-p.auto.list ∙ c.loop-at.invariant.list
+pub shape_of-list-in_default : goal.shape_of-list-in_default
+shape_of-list-in_default c = c.put_copied.auto.list ∙ c.loop-at.invariant.list
 
-pub returns-in-Full : goal.returns-in-Full
-returns-in-Full c = piecing_full _ _ _ _ _ _ _ _ _ _ _ c.loop-at.invariant c.loop-at-test.true _ c.piece-n.ensures _ c.column.ensures _ _ _ c.put_copied-p.ensures (search rules)
+pub returns-in_default : goal.returns-in_default
+returns-in_default c = piecing_full _ _ _ _ _ _ _ _ _ _ _ c.loop-at.invariant c.loop-at-test.true _ c.piece-n.ensures _ c.column.ensures _ _ _ c.put_copied.ensures (search rules)
 
 pub shape_of-text : goal.shape_of-text
 shape_of-text c = c.loop-at.invariant.long

@@ -2,8 +2,8 @@
 use Rattle.entering.proofs.Laws.{joins_set, joins_twice}
 use Rattle.entering.proofs.join_name.Goals as goal
 
-pub returns-in-Joined : goal.returns-in-Joined
-returns-in-Joined c = search joins_set
+pub returns : goal.returns
+returns c = search joins_set
 
-pub returns-in-Twice : goal.returns-in-Twice
-returns-in-Twice c = search joins_twice
+pub returns-in_default : goal.returns-in_default
+returns-in_default c = search joins_twice

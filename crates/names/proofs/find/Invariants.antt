@@ -1,5 +1,4 @@
 -- What is left to look at decides.
-use Prim.Native.Nat.{◌-◌}
 use Rattle.definition.specs.Bytes.{mixed, folded}
 use Rattle.definition.specs.Lists.{part}
 use Rattle.names.specs.Table.{owner_of}
@@ -8,6 +7,3 @@ use Rattle.names.proofs.find.Given as goal
 
 abbrev pub invariant-loop-a : goal.invariant-loop-a
 invariant-loop-a l = Searching l.deck l.names (folded mixed (part l.len l.from l.s)) (owner_of l.owner) l.n l.a
-
-abbrev pub decreases-loop-a : goal.decreases-loop-a
-decreases-loop-a l = l.n - l.a

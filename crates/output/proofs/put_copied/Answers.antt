@@ -3,6 +3,7 @@ use Rattle.std.proofs.Common.{refl}
 use Rattle.definition.proofs.Parts.{length_part}
 use Rattle.output.proofs.Laws.{longer_no_room, longer_done, copied_no_line, copied_no_room, copied_done}
 use Rattle.output.proofs.put_copied.Goals as goal
+use Rattle.output.proofs.put_copied.Goals.{then-o-lt1-via-then-o-lt1, then-o-lt1-via-else-o-lt1+then-o-size-2}
 
 pub returns-then-o-size : goal.returns-then-o-size
 returns-then-o-size c = longer_no_room _ _ _ _ _ _ _ (length_part c.args.n c.args.from c.args.src.now) _ c.grows_from.ensures c.if-grows_from.true c.if-o-size.true
@@ -11,10 +12,12 @@ pub returns-then-grows_from : goal.returns-then-grows_from
 returns-then-grows_from c = longer_done _ _ _ _ _ _ _ (length_part c.args.n c.args.from c.args.src.now) _ c.grows_from.ensures _ _ _ c.if-o-size.false c.copy.ensures _ _ _ refl c.sum32.ensures c.less.ensures c.if-grows_from.true c.with_line.ensures
 
 pub returns-then-o-lt1 : goal.returns-then-o-lt1
-returns-then-o-lt1 c = copied_no_line _ _ _ _ _ _ _ (length_part c.args.n c.args.from c.args.src.now) _ c.grows_from.ensures c.if-grows_from.false c.if-o-lt1.true
-
-pub returns-then-o-size-2 : goal.returns-then-o-size-2
-returns-then-o-size-2 c = copied_no_room _ _ _ _ _ _ _ (length_part c.args.n c.args.from c.args.src.now) _ c.grows_from.ensures c.if-grows_from.false c.if-o-lt1.false c.if-o-size-2.true
+returns-then-o-lt1 c =
+    let n = length_part c.args.n c.args.from c.args.src.now in
+    elim c.then-o-lt1.branch [
+      | then-o-lt1-via-then-o-lt1 w ↦ copied_no_line _ _ _ _ _ _ _ n _ c.grows_from.ensures c.if-grows_from.false w.if-o-lt1.true
+      | then-o-lt1-via-else-o-lt1+then-o-size-2 w ↦ copied_no_room _ _ _ _ _ _ _ n _ c.grows_from.ensures c.if-grows_from.false w.if-o-lt1.false w.if-o-size-2.true
+    ]
 
 pub returns : goal.returns
 returns c = copied_done _ _ _ _ _ _ _ (length_part c.args.n c.args.from c.args.src.now) _ c.grows_from.ensures _ _ _ c.if-o-size-2.false c.copy-2.ensures _ refl c.if-grows_from.false c.if-o-lt1.false c.with_line-2.ensures

@@ -1,9 +1,11 @@
 -- As many bytes, and the same but for case.
+use Rattle.std.proofs.Common.{◌∙◌}
+use borrow.Author.Tests.{ne_eqb}
 use Rattle.tokens.proofs.Lexemes.{spelled_same, spelled_not}
 use Rattle.tokens.proofs.is_spelled.Goals as goal
 
-pub returns-then-n-w : goal.returns-then-n-w
-returns-then-n-w c = search spelled_same
+pub returns-then-width-w : goal.returns-then-width-w
+returns-then-width-w c = search spelled_same
 
-pub returns : goal.returns
-returns c = search spelled_not
+pub returns-else-width-w : goal.returns-else-width-w
+returns-else-width-w c = ne_eqb _ _ c.if-width-w.false ∙ search spelled_not

@@ -1,7 +1,7 @@
 -- The end, two tokens that touch, or by the class of the first byte.
 use Rattle.std.proofs.Common.{arith}
 use Rattle.tokens.proofs.Laws.{sign_inside}
-use Rattle.tokens.proofs.Lexemes.{lexeme_end, lexeme_touching, lexeme_word, lexeme_integer, lexeme_quote, lexeme_mark, lexeme_percent, lexeme_break, lexeme_blank, lexeme_feed, lexeme_other}
+use Rattle.tokens.proofs.Lexemes.{lexeme_end, lexeme_touching, lexeme_word, lexeme_integer, lexeme_quote, lexeme_sign, lexeme_wrong}
 use Rattle.tokens.proofs.lexeme_at.Goals as goal
 
 pub returns-then-s-p : goal.returns-then-s-p
@@ -13,9 +13,6 @@ returns-then-touches c = search lexeme_touching
 pub overflow_add-p-in-Mark : goal.overflow_add-p-in-Mark
 overflow_add-p-in-Mark c = omega (arith, sign_inside _ _ _ c.if-s-p.false c.sign_size.ensures)
 
-pub overflow_add-p-in-Percent : goal.overflow_add-p-in-Percent
-overflow_add-p-in-Percent c = omega (arith, sign_inside _ _ _ c.if-s-p.false c.sign_size-in-Percent.ensures)
-
 pub returns-in-Letter : goal.returns-in-Letter
 returns-in-Letter c = search lexeme_word
 
@@ -26,19 +23,7 @@ pub returns-in-Quote : goal.returns-in-Quote
 returns-in-Quote c = search lexeme_quote
 
 pub returns-in-Mark : goal.returns-in-Mark
-returns-in-Mark c = search lexeme_mark
-
-pub returns-in-Percent : goal.returns-in-Percent
-returns-in-Percent c = search lexeme_percent
+returns-in-Mark c = search lexeme_sign
 
 pub returns-in-Break : goal.returns-in-Break
-returns-in-Break c = search lexeme_break
-
-pub returns-in-Blank : goal.returns-in-Blank
-returns-in-Blank c = search lexeme_blank
-
-pub returns-in-LineFeed : goal.returns-in-LineFeed
-returns-in-LineFeed c = search lexeme_feed
-
-pub returns-in-Other : goal.returns-in-Other
-returns-in-Other c = search lexeme_other
+returns-in-Break c = search lexeme_wrong

@@ -1,7 +1,7 @@
 -- Past the end, a comment, or by the class of the first byte.
 use Rattle.std.proofs.Common.{arith}
 use Rattle.tokens.proofs.Laws.{comment_inside}
-use Rattle.tokens.proofs.Pieces.{piece_past, piece_comment, piece_name, piece_digits, piece_string, piece_mark, piece_percent, piece_break, piece_blank, piece_feed, piece_other}
+use Rattle.tokens.proofs.Pieces.{piece_past, piece_comment, piece_name, piece_digits, piece_string, piece_plain}
 use Rattle.tokens.proofs.piece_at.Goals as goal
 
 pub returns-then-s-p : goal.returns-then-s-p
@@ -23,19 +23,4 @@ pub returns-in-Quote : goal.returns-in-Quote
 returns-in-Quote c = search piece_string
 
 pub returns-in-Mark : goal.returns-in-Mark
-returns-in-Mark c = search piece_mark
-
-pub returns-in-Percent : goal.returns-in-Percent
-returns-in-Percent c = search piece_percent
-
-pub returns-in-Break : goal.returns-in-Break
-returns-in-Break c = search piece_break
-
-pub returns-in-Blank : goal.returns-in-Blank
-returns-in-Blank c = search piece_blank
-
-pub returns-in-LineFeed : goal.returns-in-LineFeed
-returns-in-LineFeed c = search piece_feed
-
-pub returns-in-Other : goal.returns-in-Other
-returns-in-Other c = search piece_other
+returns-in-Mark c = search piece_plain

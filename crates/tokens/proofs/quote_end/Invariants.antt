@@ -1,11 +1,6 @@
 -- What is left to look at decides.
-use lib.ListN.{length}
-use Prim.Native.Nat.{◌-◌}
 use Rattle.tokens.proofs.Laws.{Seeking}
 use Rattle.tokens.proofs.quote_end.Given as goal
 
 abbrev pub invariant-loop-i : goal.invariant-loop-i
 invariant-loop-i l = Seeking l.s l.from l.i
-
-abbrev pub decreases-loop-i : goal.decreases-loop-i
-decreases-loop-i l = length l.s - l.i

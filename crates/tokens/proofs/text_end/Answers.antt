@@ -8,11 +8,11 @@ loop-i-init c = texting_start _ _
 pub returns-then-s-i-eq37 : goal.returns-then-s-i-eq37
 returns-then-s-i-eq37 c = search texting_percent
 
-pub returns-then-is_unclosed : goal.returns-then-is_unclosed
-returns-then-is_unclosed c = search texting_open
+pub returns-in-Unclosed : goal.returns-in-Unclosed
+returns-in-Unclosed c = search texting_open
 
 pub loop-i-smaller : goal.loop-i-smaller
-loop-i-smaller c = omega (arith, texting_further _ _ _ c.loop-i.invariant c.loop-i-test.true c.if-s-i-eq37.false _ _ c.piece_at-x.ensures c.is_unclosed.ensures c.if-is_unclosed.false)
+loop-i-smaller c = omega (arith, texting_further _ _ _ c.loop-i.invariant c.loop-i-test.true c.if-s-i-eq37.false _ c.piece_at-x.ensures c.in-Name.is)
 
 pub loop-i-preserved : goal.loop-i-preserved
 loop-i-preserved c = search texting_more

@@ -2,8 +2,8 @@
 use Rattle.tokens.proofs.Lexemes.{token_next, token_open}
 use Rattle.tokens.proofs.token_at.Goals as goal
 
-pub returns-in-To : goal.returns-in-To
-returns-in-To c = search token_next
+pub returns-in-Ok : goal.returns-in-Ok
+returns-in-Ok c = search token_next
 
-pub returns-in-Open : goal.returns-in-Open
-returns-in-Open c = search token_open
+pub returns-in-Err : goal.returns-in-Err
+returns-in-Err c = search token_open

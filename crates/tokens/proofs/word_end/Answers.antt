@@ -10,5 +10,5 @@ loop-i-preserved c = search passing_more
 pub returns-else-is_alphameric : goal.returns-else-is_alphameric
 returns-else-is_alphameric c = search passing_stop
 
-pub returns : goal.returns
-returns c = search passing_end
+pub returns-after-loop-i : goal.returns-after-loop-i
+returns-after-loop-i c = search passing_end

@@ -1,2 +1,0 @@
--- Laws of `part`.
-pub mod Laws

@@ -1,5 +1,0 @@
--- Two numbers, where the record has them.
-use Rattle.rows.proofs.set_lead.Goals as goal
-
-pub returns : goal.returns
-returns c = rw c.record_place.ensures at c.put_stretch.ensures
