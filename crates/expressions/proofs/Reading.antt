@@ -2,6 +2,7 @@
 -- Assumes nothing.
 use mathlib.Core.Path.{◌≡◌, refl, sym, ap, ◌∙◌}
 use mathlib.Core.Bool.{Bool, true, false, cond, ◌&&◌}
+use mathlib.Core.Logic.{◌⊎◌, inl, inr}
 use mathlib.Core.List.{List, [], ◌∷◌}
 use Prim.Native.Nat.{ℕ, zero, suc, ◌+◌, ◌-◌, ◌<◌, ◌≤◌}
 use Prim.Native.String as S
@@ -281,6 +282,17 @@ module _ (inside : ℕ → Reader) (s : List ℕ) (at : ℕ) (l : Lexeme) (lex :
   pub by_kind : (k : Kind) → l.kind ≡ k → (y : Expected) → y ≡ end_for (primitive mixed inside s (token_for k (written s l) (content s l.from)) l.from l.to) → y ≡ end_for (primitive_at inside s at)
   by_kind k e y f = rw (token_of k e, ← lex.from, ← lex.to) f
 
+  pub is_constant : (l.kind ≡ K.Integer) ⊎ ((l.kind ≡ K.String) ⊎ (l.kind ≡ K.Bits)) → Past l.to ≡ end_for (primitive_at inside s at)
+  unfolding primitive end_for
+  is_constant (inl e) = by_kind K.Integer e _ refl
+  is_constant (inr (inl e)) = by_kind K.String e _ refl
+  is_constant (inr (inr e)) = by_kind K.Bits e _ refl
+
+  pub is_none : (l.kind ≡ K.Nothing) ⊎ (l.kind ≡ K.Wrong) → Refused Syntax l.from ≡ end_for (primitive_at inside s at)
+  unfolding primitive end_for
+  is_none (inl e) = by_kind K.Nothing e _ refl
+  is_none (inr e) = by_kind K.Wrong e _ refl
+
   pub by_name_lem : l.kind ≡ K.Word → (y : Expected) → y ≡ end_for (referred inside s at) → y ≡ end_for (primitive_at inside s at)
   unfolding primitive referred name_at
   by_name_lem e y f = rw (token_of K.Word e) at f ∙ ap end_for (word_then (leb (length (spelling s l)) 31) (record { spelling = spelling s l; place = (token_at mixed s at).from; to = (token_at mixed s at).to }) OverLimit (token_at mixed s at).from (λ n q. reference_at mixed inside s n (token_at mixed s q)) ∙ rw (token_of K.Word e))
@@ -382,9 +394,12 @@ module _ (s : List ℕ) (from : ℕ) where
   passing_start = record { turns = length s; sum = omega arith; same = rw zero-add }
 
   module _ (count at : ℕ) (h : Passing s from count at) where
-    pub passing_end : length s ≤ count → prefixes_of count at ≡ prefixes (length s) s from
+    pub passing_end : length s ≤ count → prefixes_of (length s) at ≡ prefixes (length s) s from
     unfolding prefixes
-    passing_end k = let z : h.turns ≡ 0 = omega (arith, h.sum) in rw (z, add-zero) at h.same
+    passing_end k =
+        let z : h.turns ≡ 0 = omega (arith, h.sum) in
+        let e : count ≡ length s = omega (arith, h.sum) in
+        rw (z, add-zero, e) at h.same
 
     module _ (k : count < length s) (x : PrefixAt) (i : x ≡ prefix_for (prefix_of (token_at mixed s at).token) (token_at mixed s at).to) where
       a_turn : (n : ℕ) → count + n ≡ length s → prefixes_of (count + (prefixes n s at).count) (prefixes n s at).to ≡ prefixes (length s) s from → (r : Prefixes) → with_prefix (prefix_of (token_at mixed s at).token) at (prefixes (n - 1) s (token_at mixed s at).to) ≡ r → prefixes_of (count + r.count) r.to ≡ prefixes (length s) s from
