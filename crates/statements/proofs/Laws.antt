@@ -27,21 +27,15 @@ use Rattle.expressions.specs.declared.NamedAt.{NamedAt}
 use Rattle.expressions.specs.declared.NamedAt.TheVariants as N
 use Rattle.expressions.specs.Check.{is_spelled, expected, is_worded, expected_word, named_for, end_for}
 use Rattle.rows.specs.declared.Statement.{Statement}
-use Rattle.entering.specs.declared.Meaning.TheVariants as M
 use Rattle.statements.specs.declared.Opens.{Opens}
 use Rattle.statements.specs.declared.Keyword.{Keyword}
 use Rattle.statements.specs.declared.Keyword.TheVariants as K
 use Rattle.statements.specs.declared.Read.TheVariants as R
 use Rattle.statements.specs.declared.Each.{Each}
 use Rattle.statements.specs.declared.Each.TheVariants as Ea
-use Rattle.statements.specs.declared.Itemized.{Itemized}
-use Rattle.statements.specs.declared.Itemized.TheVariants as I
-use Rattle.statements.specs.Clauses.{other_by, keyword_by, clause_of, read_up_to, then_sign, then_word, then_expression, bound_past, bounds_past, name_end, rescan_past, member_past, item_past, list_next, list_end, names_end, meaning_in}
+use Rattle.statements.specs.Clauses.{other_by, keyword_by, clause_of, read_up_to, then_sign, then_word, then_expression, bound_past, bounds_past, name_end, rescan_past, member_past, item_past, list_next, list_end, names_end}
 
 -- ---- one answer after the other
-pub meaning_none : (x : Itemized) (w : Why) (p : ℕ) → x ≡ I.Refused w p → M.Variable FixedType ≡ meaning_in x
-meaning_none x w p e = rw e
-
 pub name_there : (x : NamedAt) (R : Reading Named) (from to : ℕ) → x ≡ named_for R → x ≡ N.Is from to → Past to ≡ name_end R
 unfolding name_end
 name_there x (read n) from to h k = let z : to ≡ n.to = cc in rw z
@@ -88,12 +82,6 @@ module _ (s : List ℕ) (e : Expected) where
     word_refused w p h = rw h
 
 -- ---- tests on a token
-pub either_first : (x a b : Bool) → x ≡ a → x ≡ true → true ≡ (a || b)
-either_first x a b e h = rw (← e, h)
-
-pub either_second : (x y a b : Bool) → x ≡ a → x ≡ false → y ≡ b → y ≡ (a || b)
-either_second x y a b e h k = rw (← e, h) k
-
 module _ (s : List ℕ) (at : ℕ) (l : Lexeme) (lex : Lexed s at l) where
   pub word_in : (w : List ℕ) → is_word_in s l w ≡ is_worded w (token_at mixed s at).token
   unfolding is_word_in

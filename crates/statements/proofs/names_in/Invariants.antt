@@ -4,8 +4,5 @@ use Rattle.statements.specs.declared.Each.TheVariants as Ea
 use Rattle.statements.proofs.Laws.{Listing}
 use Rattle.statements.proofs.names_in.Given as goal
 
-abbrev pub invariant-loop-turns : goal.invariant-loop-turns
-invariant-loop-turns l = Listing (41 ∷ []) Ea.Name l.s l.from l.turns l.at
-
-abbrev pub decreases-loop-turns : goal.decreases-loop-turns
-decreases-loop-turns l = l.turns
+abbrev pub invariant-loop-left : goal.invariant-loop-left
+invariant-loop-left l = Listing (41 ∷ []) Ea.Name l.s l.from l.left l.at
