@@ -33,7 +33,7 @@ use Rattle.statements.specs.declared.Keyword.TheVariants as K
 use Rattle.statements.specs.declared.Read.TheVariants as R
 use Rattle.statements.specs.declared.Each.{Each}
 use Rattle.statements.specs.declared.Each.TheVariants as Ea
-use Rattle.statements.specs.Clauses.{other_by, keyword_by, clause_of, read_up_to, then_sign, then_word, then_expression, bound_past, bounds_past, name_end, rescan_past, member_past, item_past, list_next, list_end, names_end}
+use Rattle.statements.specs.Clauses.{other_by, keyword_by, clause_of, read_up_to, then_sign, then_word, then_expression, bound_past, bounds_past, name_end, rescan_past, member_past, item_past, list_next, list_end}
 
 -- ---- one answer after the other
 pub name_there : (x : NamedAt) (R : Reading Named) (from to : ℕ) → x ≡ named_for R → x ≡ N.Is from to → Past to ≡ name_end R
@@ -291,18 +291,3 @@ module _ (w : List ℕ) (j : Each) (s : List ℕ) where
 
         pub listing_done : v ≡ false → (y : Expected) → y ≡ expected w s e → y ≡ list_end w j s (length s) from
         listing_done d y f = f ∙ (rw (i, ← sign_in_lem s e l lex (44 ∷ []), ← c, d) at turned)
-
--- names alone
-module _ (w s : List ℕ) (from turns at : ℕ) (h : Listing w Ea.Name s from turns at) (k : 0 < turns) (x : Expected) (a : x ≡ name_end (name_at mixed s at)) where
-  item : x ≡ item_past Ea.Name s at
-  item = item_plain s at Ea.Name x a refl
-
-  pub naming_refused : (y : Why) (p : ℕ) → x ≡ Refused y p → Refused y p ≡ names_end w s (length s) from
-  naming_refused = listing_refused w Ea.Name s from turns at h k x item
-
-  module _ (e : ℕ) (i : x ≡ Past e) (l : Lexeme) (lex : Lexed s e l) (v : Bool) (c : v ≡ is_sign_in s l (44 ∷ [])) where
-    pub naming_more : v ≡ true → Listing w Ea.Name s from (turns - 1) l.to
-    naming_more = listing_more w Ea.Name s from turns at h k x item e i l lex v c
-
-    pub naming_done : v ≡ false → (y : Expected) → y ≡ expected w s e → y ≡ names_end w s (length s) from
-    naming_done = listing_done w Ea.Name s from turns at h k x item e i l lex v c

@@ -306,9 +306,9 @@ pub fn past_rescan(s: &[u8], at: usize) -> usize
     at
 }
 
-// Items with commas between them, and the semicolon.
-fn name_list(s: &[u8], from: usize, each: Each) -> Expected
-    ensures { result ≡ C.list_end (bytes_of ";") each s.now (length s.now) from }
+// Items with commas between them, and behind them `close`: the place past it.
+fn name_list(s: &[u8], from: usize, each: Each, close: &[u8]) -> Expected
+    ensures { result ≡ C.list_end close.now each s.now (length s.now) from }
 {
     let mut at = from;
     for left in (0..s.len()).rev() {
@@ -316,7 +316,7 @@ fn name_list(s: &[u8], from: usize, each: Each) -> Expected
             Expected::Past(q) => {
                 let t = token_at(s, q);
                 if !is_sign(s, t, b",") {
-                    return expect_sign(s, q, b";");
+                    return expect_sign(s, q, close);
                 }
                 at = t.to;
             }
@@ -349,19 +349,19 @@ pub fn plain_clause(s: &[u8], k: Keyword, t: Lexeme, in_body: bool) -> Read
             Statement::Include,
             Opens::Nothing,
             at,
-            name_list(s, at, Each::Member),
+            name_list(s, at, Each::Member, b";"),
         ),
         Keyword::Activate => read_up_to(
             Statement::Activate,
             Opens::Nothing,
             at,
-            name_list(s, at, Each::Activation),
+            name_list(s, at, Each::Activation, b";"),
         ),
         Keyword::Deactivate => read_up_to(
             Statement::Deactivate,
             Opens::Nothing,
             at,
-            name_list(s, at, Each::Name),
+            name_list(s, at, Each::Name, b";"),
         ),
         Keyword::Return => return_clause(s, at),
         Keyword::Declare | Keyword::Procedure | Keyword::Other => {
@@ -371,26 +371,6 @@ pub fn plain_clause(s: &[u8], k: Keyword, t: Lexeme, in_body: bool) -> Read
 }
 
 // ---- DECLARE
-
-// Names in parentheses, from behind `(`: the place past `)`.
-fn names_in(s: &[u8], from: usize) -> Expected
-    ensures { result ≡ C.names_end (bytes_of ")") s.now (length s.now) from }
-{
-    let mut at = from;
-    for left in (0..s.len()).rev() {
-        match name_past(s, at) {
-            Expected::Past(q) => {
-                let t = token_at(s, q);
-                if !is_sign(s, t, b",") {
-                    return expect_sign(s, q, b")");
-                }
-                at = t.to;
-            }
-            Expected::Refused(w, p) => return Expected::Refused(w, p),
-        }
-    }
-    Expected::Refused(Why::Syntax, at)
-}
 
 // Declares the name at a place, or those in parentheses, as far as they can be read.
 fn declare_names(
@@ -438,7 +418,7 @@ fn item_at(s: &[u8], at: usize) -> Item
         return Item {
             names: t.to,
             most: s.len(),
-            to: names_in(s, t.to),
+            to: name_list(s, t.to, Each::Name, b")"),
         };
     }
     Item {
@@ -645,7 +625,7 @@ pub fn procedure_clause(s: &[u8], tally: Tally, from: usize) -> Declaring
 {
     let t = token_at(s, from);
     if is_sign(s, t, b"(") {
-        let read = procedure_head(s, names_in(s, t.to), from);
+        let read = procedure_head(s, name_list(s, t.to, Each::Name, b")"), from);
         return match read {
             Read::Is(_) => Declaring {
                 tally: parameters(s, tally, t.to),

@@ -1,7 +1,6 @@
 -- What is left ends where all of it does.
-use mathlib.Core.List.{◌∷◌, []}
 use Rattle.statements.proofs.Laws.{Listing}
 use Rattle.statements.proofs.name_list.Given as goal
 
 abbrev pub invariant-loop-left : goal.invariant-loop-left
-invariant-loop-left l = Listing (59 ∷ []) l.each l.s l.from l.left l.at
+invariant-loop-left l = Listing l.close l.each l.s l.from l.left l.at
