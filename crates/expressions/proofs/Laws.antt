@@ -13,6 +13,7 @@ use Rattle.definition.specs.Lists.{same, part}
 use Rattle.definition.specs.Text.{bytes_of}
 use Rattle.definition.specs.Tokens as T
 use Rattle.definition.specs.Expressions as E
+use Rattle.definition.specs.declared.Operator.{Operator}
 use Rattle.definition.specs.declared.Why.TheVariants.{Syntax, OverLimit}
 use Rattle.definition.proofs.Folded.{length_folded}
 use Rattle.definition.proofs.Parts.{length_part}
@@ -24,7 +25,8 @@ use Rattle.tokens.proofs.Lexemes as L
 use Rattle.expressions.specs.declared.Expected.TheVariants.{Past, Refused}
 use Rattle.expressions.specs.declared.NamedAt.TheVariants as N
 use Rattle.expressions.specs.declared.InfixAt.{InfixAt}
-use Rattle.expressions.specs.Check.{infix_at, is_spelled, expected, is_worded, expected_word, named_for}
+use Rattle.expressions.specs.declared.InfixAt.TheVariants as Infix
+use Rattle.expressions.specs.Check.{infix_at, single_for, is_spelled, expected, is_worded, expected_word, named_for}
 
 module _ (s : List ℕ) (at : ℕ) (l : Lexeme) (lex : Lexed s at l) where
   -- a test on a sign, as the definition has it
@@ -51,6 +53,14 @@ module _ (s : List ℕ) (at : ℕ) (l : Lexeme) (lex : Lexed s at l) where
   pub not_there : (w : List ℕ) (r : Bool) → r ≡ is_sign_in s l w → r ≡ false → Refused Syntax l.from ≡ expected w s at
   unfolding expected
   not_there w r f g = rw (← spelled w, ← f, g, lex.from)
+
+  pub single_there : (w : List ℕ) (o : Operator) (r : Bool) → r ≡ is_sign_in s l w → r ≡ true → Infix.Is o l.to ≡ single_for w o s at
+  unfolding single_for
+  single_there w o r f g = rw (← spelled w, ← f, g, lex.to)
+
+  pub single_not_there : (w : List ℕ) (o : Operator) (r : Bool) → r ≡ is_sign_in s l w → r ≡ false → Infix.Other ≡ single_for w o s at
+  unfolding single_for
+  single_not_there w o r f g = rw (← spelled w, ← f, g)
 
   worded : (w : List ℕ) → is_word_in s l w ≡ is_worded w (T.token_at mixed s at).token
   unfolding is_word_in

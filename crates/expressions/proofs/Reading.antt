@@ -18,6 +18,7 @@ use Rattle.definition.specs.Text.{bytes_of}
 use Rattle.definition.specs.Tokens.{Token, word, integer, string, bits, sign, nothing, wrong, is_sign, is_word, token_at}
 use Rattle.definition.specs.Expressions.{Reading, read, refused, then, Tree, more, binary, none, Parsed, parsed, Maybe, is, no_operator, infix_of, prefix_of, expect_sign, expect_word, Named, name_at, Reader, arguments, reference_at, primitive, prefixed, operand, chained, chain, levels, expression, whole_expression}
 use Rattle.definition.specs.declared.Operator.{Operator}
+use Rattle.definition.specs.declared.Operator.TheVariants.{CatOp, AndOp, OrOp}
 use Rattle.definition.specs.declared.Prefix.{Prefix}
 use Rattle.definition.specs.declared.Why.{Why}
 use Rattle.definition.specs.declared.Why.TheVariants.{Syntax, OverLimit}
@@ -36,7 +37,7 @@ use Rattle.expressions.specs.declared.InfixAt.TheVariants as I
 use Rattle.expressions.specs.declared.PrefixAt.{PrefixAt}
 use Rattle.expressions.specs.declared.PrefixAt.TheVariants as P
 use Rattle.expressions.specs.declared.Prefixes.{Prefixes}
-use Rattle.expressions.specs.Check.{infix_for, infix_at, prefix_for, expect_for, is_spelled, expected, is_worded, expected_word, named_for, prefixes_of, with_prefix, prefixes, end_for, inside_of, referred, primitive_at, levels_in}
+use Rattle.expressions.specs.Check.{infix_for, infix_at, single_for, prefix_for, expect_for, is_spelled, expected, is_worded, expected_word, named_for, prefixes_of, with_prefix, prefixes, end_for, inside_of, referred, primitive_at, levels_in}
 use Rattle.expressions.proofs.Laws.{told}
 
 -- ---- the tokens that must follow, spelled by text
@@ -70,6 +71,28 @@ module _ (W : S.String) (w : List ℕ) (e : bytes_of W ≡ w) where
   pub expected_word_is : (s : List ℕ) (at : ℕ) → expected_word w s at ≡ expect_for (expect_word mixed W s at)
   unfolding expected_word expect_word
   expected_word_is s at = expect_either _ _ (token_at mixed s at).to (token_at mixed s at).from (word_spelled (token_at mixed s at).token)
+
+  single_either : (b : Bool) (o : Operator) (to : ℕ) → cond b (I.Is o to) I.Other ≡ infix_for (cond b (is o) no_operator) to
+  single_either true o to = refl
+  single_either false o to = refl
+
+  single_is : (o : Operator) (s : List ℕ) (at : ℕ) → single_for w o s at ≡ infix_for (cond (is_sign W (token_at mixed s at).token) (is o) no_operator) (token_at mixed s at).to
+  unfolding single_for
+  single_is o s at = rw (sign_spelled (token_at mixed s at).token) (single_either (is_sign W (token_at mixed s at).token) o (token_at mixed s at).to)
+
+-- ---- operators that are alone on their level
+module _ (s : List ℕ) (at : ℕ) (r : InfixAt) where
+  pub of_join : (n : ℕ) → n ≡ 2 → r ≡ single_for (124 ∷ 124 ∷ []) CatOp s at → r ≡ infix_at n s at
+  unfolding infix_at infix_of
+  of_join n e f = rw e (f ∙ single_is "||" (124 ∷ 124 ∷ []) refl CatOp s at)
+
+  pub of_and : (n : ℕ) → n ≡ 4 → r ≡ single_for (38 ∷ []) AndOp s at → r ≡ infix_at n s at
+  unfolding infix_at infix_of
+  of_and n e f = rw e (f ∙ single_is "&" (38 ∷ []) refl AndOp s at)
+
+  pub of_or : r ≡ single_for (124 ∷ []) OrOp s at → r ≡ infix_at 5 s at
+  unfolding infix_at infix_of
+  of_or f = f ∙ single_is "|" (124 ∷ []) refl OrOp s at
 
 -- ---- what an answer says of what was read
 module _ (x : Expected) where

@@ -9,7 +9,7 @@ ghost use Rattle.definition.specs.Tokens.{token_at, sign};
 ghost use Rattle.definition.specs.Expressions as E;
 ghost use Rattle.tokens.specs.Answer.{written};
 ghost use Rattle.tokens.specs.declared.Kind.TheVariants.{Sign};
-ghost use Rattle.expressions.specs.Check.{infix_at, prefix_for, expected, expected_word, named_for, prefixes, end_for, inside_of, referred, primitive_at, operand_in, levels_in, chain_in};
+ghost use Rattle.expressions.specs.Check.{infix_at, single_for, prefix_for, expected, expected_word, named_for, prefixes, end_for, inside_of, referred, primitive_at, operand_in, levels_in, chain_in};
 
 use definition::{Operator, Prefix, Why};
 use limits::{Name, Nesting};
@@ -62,6 +62,17 @@ pub fn prefix_at(s: &[u8], at: usize) -> PrefixAt
     PrefixAt::Other
 }
 
+// An operator that is alone on its level, with its sign.
+fn single_at(s: &[u8], at: usize, w: &[u8], o: Operator) -> InfixAt
+    ensures { result ≡ single_for w.now o s.now at }
+{
+    let t = token_at(s, at);
+    if is_sign(s, t, w) {
+        return InfixAt::Is(o, t.to);
+    }
+    InfixAt::Other
+}
+
 // `*` or `/`, the tightest.
 fn product_at(s: &[u8], at: usize) -> InfixAt
     ensures { result ≡ infix_at 0 s.now at }
@@ -86,17 +97,6 @@ fn sum_at(s: &[u8], at: usize) -> InfixAt
     }
     if is_sign(s, t, b"-") {
         return InfixAt::Is(Operator::Minus, t.to);
-    }
-    InfixAt::Other
-}
-
-// `||`.
-fn join_at(s: &[u8], at: usize) -> InfixAt
-    ensures { result ≡ infix_at 2 s.now at }
-{
-    let t = token_at(s, at);
-    if is_sign(s, t, b"||") {
-        return InfixAt::Is(Operator::CatOp, t.to);
     }
     InfixAt::Other
 }
@@ -133,28 +133,6 @@ fn comparison_at(s: &[u8], at: usize) -> InfixAt
     InfixAt::Other
 }
 
-// `&`.
-fn and_at(s: &[u8], at: usize) -> InfixAt
-    ensures { result ≡ infix_at 4 s.now at }
-{
-    let t = token_at(s, at);
-    if is_sign(s, t, b"&") {
-        return InfixAt::Is(Operator::AndOp, t.to);
-    }
-    InfixAt::Other
-}
-
-// `|`, the loosest.
-fn or_at(s: &[u8], at: usize) -> InfixAt
-    ensures { result ≡ infix_at 5 s.now at }
-{
-    let t = token_at(s, at);
-    if is_sign(s, t, b"|") {
-        return InfixAt::Is(Operator::OrOp, t.to);
-    }
-    InfixAt::Other
-}
-
 // The infix operator of a level that stands next; level 0 binds tightest.
 pub fn infix_at(s: &[u8], at: usize, level: usize) -> InfixAt
     ensures { result ≡ infix_at level s.now at }
@@ -162,10 +140,10 @@ pub fn infix_at(s: &[u8], at: usize, level: usize) -> InfixAt
     match level {
         0 => product_at(s, at),
         1 => sum_at(s, at),
-        2 => join_at(s, at),
+        2 => single_at(s, at, b"||", Operator::CatOp),
         3 => comparison_at(s, at),
-        4 => and_at(s, at),
-        _ => or_at(s, at),
+        4 => single_at(s, at, b"&", Operator::AndOp),
+        _ => single_at(s, at, b"|", Operator::OrOp),
     }
 }
 
