@@ -171,12 +171,6 @@ fn sum20(n: usize, k: usize) -> usize
     20
 }
 
-fn is_in_group(k: Where) -> bool
-    ensures { result ≡ D.is_in_group (T.where_of k) }
-{
-    matches!(k, Where::InGroup)
-}
-
 pub fn is_in_body(k: Where) -> bool
     ensures { result ≡ D.is_in_body (T.where_of k) }
 {
@@ -475,7 +469,7 @@ pub fn done_in(s: &[u8], o: Open, scope: Owner, e: usize) -> Done
 pub fn is_end(s: &[u8], kind: Where, t: Lexeme) -> bool
     ensures { result ≡ (D.is_in_group (T.where_of kind) && T.is_end_in s.now t) }
 {
-    is_in_group(kind) && is_word(s, t, b"END") && is_decided(s, t.to)
+    matches!(kind, Where::InGroup) && is_word(s, t, b"END") && is_decided(s, t.to)
 }
 
 // Whether END may have the token t behind it: a word that is one of the labels from a place on.
