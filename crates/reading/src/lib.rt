@@ -61,6 +61,7 @@ enum Mode {
     Inner,
 }
 
+// stays: (d) one way on and two ways out; as a Result of an Option it would not say which end is which.
 #[derive(Clone, Copy)]
 enum Next {
     Go(Mode, usize),
@@ -163,10 +164,7 @@ fn link_row(rows: &mut [u16], o: Open, n: u16)
 fn row_after(n: u16) -> u16
     ensures { T.After n result }
 {
-    if n < 65_535 {
-        return n + 1;
-    }
-    n
+    n.saturating_add(1)
 }
 
 // The statement of the place p as a new row, in what is open.
@@ -220,6 +218,7 @@ fn complete(s: &[u8], st0: State, n: u16, e: usize) -> Turned
 {
     let mut st = st0;
     let mut i = n;
+    // at most 20 are open
     for left in (0usize..20).rev() {
         let opened = st.opened;
         let o = top(opened);
