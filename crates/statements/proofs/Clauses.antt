@@ -30,7 +30,6 @@ use Rattle.expressions.proofs.Reading.{expected_is, expected_word_is}
 use Rattle.rows.specs.declared.Statement.{Statement}
 use Rattle.rows.specs.declared.Statement.TheVariants as S
 use Rattle.entering.specs.declared.Meaning.{Meaning}
-use Rattle.entering.specs.declared.Meaning.TheVariants as M
 use Rattle.statements.specs.declared.Each.TheVariants as Ea
 use Rattle.statements.specs.declared.Opens.TheVariants as O
 use Rattle.statements.specs.declared.Keyword.{Keyword}
@@ -410,35 +409,6 @@ module _ (s : List ℕ) (at : ℕ) (l : Lexeme) (lex : Lexed s at l) (v : Bool) 
   pub item_one : v ≡ false → (x : Expected) → x ≡ name_end (name_at mixed s at) → item_of at 1 x ≡ item_in s at
   unfolding item_in
   item_one d x h = rw (h, ← sign_in_lem s at l lex (40 ∷ []), ← c, d)
-
-module _ (is : List ℕ → Bool) (i a : Bool) (ha : a ≡ (is (67 ∷ 72 ∷ 65 ∷ 82 ∷ 65 ∷ 67 ∷ 84 ∷ 69 ∷ 82 ∷ []) || is (67 ∷ 72 ∷ 65 ∷ 82 ∷ []))) where
-  pub attr_character : a ≡ true → Some (M.Variable CharacterType) ≡ attribute_by i is
-  unfolding attribute_by
-  attr_character e = rw (← ha, e)
-
-  module _ (na : a ≡ false) (b : Bool) (hb : b ≡ is (70 ∷ 73 ∷ 88 ∷ 69 ∷ 68 ∷ [])) where
-    pub attr_fixed : b ≡ true → Some (M.Variable FixedType) ≡ attribute_by i is
-    unfolding attribute_by
-    attr_fixed e = rw (← ha, na, ← hb, e)
-
-    module _ (nb : b ≡ false) (j : Bool) (hj : j ≡ i) where
-      module _ (d : Bool) (hd : d ≡ is (66 ∷ 85 ∷ 73 ∷ 76 ∷ 84 ∷ 73 ∷ 78 ∷ [])) (tj : j ≡ true) where
-        pub attr_builtin : d ≡ true → Some M.BuiltinName ≡ attribute_by i is
-        unfolding attribute_by
-        attr_builtin e = rw (← ha, na, ← hb, nb, ← hj, tj, ← hd, e)
-
-        pub attr_missing : d ≡ false → None ≡ attribute_by i is
-        unfolding attribute_by
-        attr_missing e = rw (← ha, na, ← hb, nb, ← hj, tj, ← hd, e)
-
-      module _ (d : Bool) (hd : d ≡ is (69 ∷ 78 ∷ 84 ∷ 82 ∷ 89 ∷ [])) (fj : j ≡ false) where
-        pub attr_entry : d ≡ true → Some M.EntryOnly ≡ attribute_by i is
-        unfolding attribute_by
-        attr_entry e = rw (← ha, na, ← hb, nb, ← hj, fj, ← hd, e)
-
-        pub attr_none : d ≡ false → None ≡ attribute_by i is
-        unfolding attribute_by
-        attr_none e = rw (← ha, na, ← hb, nb, ← hj, fj, ← hd, e)
 
 -- the same tests on the definition's token
 attribute_same : (i : Bool) (is js : List ℕ → Bool) → ((w : List ℕ) → is w ≡ js w) → attribute_by i is ≡ attribute_by i js

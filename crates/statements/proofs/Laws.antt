@@ -28,12 +28,10 @@ use Rattle.expressions.specs.declared.NamedAt.TheVariants as N
 use Rattle.expressions.specs.Check.{is_spelled, expected, is_worded, expected_word, named_for, end_for}
 use Rattle.rows.specs.declared.Statement.{Statement}
 use Rattle.statements.specs.declared.Opens.{Opens}
-use Rattle.statements.specs.declared.Keyword.{Keyword}
-use Rattle.statements.specs.declared.Keyword.TheVariants as K
 use Rattle.statements.specs.declared.Read.TheVariants as R
 use Rattle.statements.specs.declared.Each.{Each}
 use Rattle.statements.specs.declared.Each.TheVariants as Ea
-use Rattle.statements.specs.Clauses.{other_by, keyword_by, clause_of, read_up_to, then_sign, then_word, then_expression, bound_past, bounds_past, name_end, rescan_past, member_past, item_past, list_next, list_end}
+use Rattle.statements.specs.Clauses.{clause_of, read_up_to, then_sign, then_word, then_expression, bound_past, bounds_past, name_end, rescan_past, member_past, item_past, list_next, list_end}
 
 -- ---- one answer after the other
 pub name_there : (x : NamedAt) (R : Reading Named) (from to : ℕ) → x ≡ named_for R → x ≡ N.Is from to → Past to ≡ name_end R
@@ -127,65 +125,6 @@ module _ (W : Str.String) (w : List ℕ) (e : bytes_of W ≡ w) where
   word_spelled (sign x) = refl
   word_spelled nothing = refl
   word_spelled wrong = refl
-
--- ---- which word begins a statement
-module _ (is : List ℕ → Bool) (a : Bool) (ha : a ≡ is (73 ∷ 70 ∷ [])) where
-  pub is_if : a ≡ true → K.If ≡ keyword_by is
-  unfolding keyword_by
-  is_if e = rw (← ha, e)
-
-  module _ (na : a ≡ false) (b : Bool) (hb : b ≡ is (68 ∷ 79 ∷ [])) where
-    pub is_do : b ≡ true → K.Do ≡ keyword_by is
-    unfolding keyword_by
-    is_do e = rw (← ha, na, ← hb, e)
-
-    module _ (nb : b ≡ false) (c : Bool) (hc : c ≡ is (71 ∷ 79 ∷ 84 ∷ 79 ∷ [])) where
-      pub is_goto : c ≡ true → K.Goto ≡ keyword_by is
-      unfolding keyword_by
-      is_goto e = rw (← ha, na, ← hb, nb, ← hc, e)
-
-      module _ (nc : c ≡ false) (d : Bool) (hd : d ≡ is (71 ∷ 79 ∷ [])) where
-        pub is_go : d ≡ true → K.Go ≡ keyword_by is
-        unfolding keyword_by
-        is_go e = rw (← ha, na, ← hb, nb, ← hc, nc, ← hd, e)
-
-        pub is_rest : d ≡ false → (k : Keyword) → k ≡ other_by is → k ≡ keyword_by is
-        unfolding keyword_by
-        is_rest e k h = rw (← ha, na, ← hb, nb, ← hc, nc, ← hd, e) h
-
-module _ (is : List ℕ → Bool) (a : Bool) (ha : a ≡ is (73 ∷ 78 ∷ 67 ∷ 76 ∷ 85 ∷ 68 ∷ 69 ∷ [])) where
-  pub is_include_lem : a ≡ true → K.Include ≡ other_by is
-  unfolding other_by
-  is_include_lem e = rw (← ha, e)
-
-  module _ (na : a ≡ false) (b : Bool) (hb : b ≡ (is (65 ∷ 67 ∷ 84 ∷ 73 ∷ 86 ∷ 65 ∷ 84 ∷ 69 ∷ []) || is (65 ∷ 67 ∷ 84 ∷ []))) where
-    pub is_activate : b ≡ true → K.Activate ≡ other_by is
-    unfolding other_by
-    is_activate e = rw (← ha, na, ← hb, e)
-
-    module _ (nb : b ≡ false) (c : Bool) (hc : c ≡ (is (68 ∷ 69 ∷ 65 ∷ 67 ∷ 84 ∷ 73 ∷ 86 ∷ 65 ∷ 84 ∷ 69 ∷ []) || is (68 ∷ 69 ∷ 65 ∷ 67 ∷ 84 ∷ []))) where
-      pub is_deactivate : c ≡ true → K.Deactivate ≡ other_by is
-      unfolding other_by
-      is_deactivate e = rw (← ha, na, ← hb, nb, ← hc, e)
-
-      module _ (nc : c ≡ false) (d : Bool) (hd : d ≡ is (82 ∷ 69 ∷ 84 ∷ 85 ∷ 82 ∷ 78 ∷ [])) where
-        pub is_return : d ≡ true → K.Return ≡ other_by is
-        unfolding other_by
-        is_return e = rw (← ha, na, ← hb, nb, ← hc, nc, ← hd, e)
-
-        module _ (nd : d ≡ false) (f : Bool) (hf : f ≡ (is (68 ∷ 69 ∷ 67 ∷ 76 ∷ 65 ∷ 82 ∷ 69 ∷ []) || is (68 ∷ 67 ∷ 76 ∷ []))) where
-          pub is_declare_lem : f ≡ true → K.Declare ≡ other_by is
-          unfolding other_by
-          is_declare_lem e = rw (← ha, na, ← hb, nb, ← hc, nc, ← hd, nd, ← hf, e)
-
-          module _ (nf : f ≡ false) (g : Bool) (hg : g ≡ (is (80 ∷ 82 ∷ 79 ∷ 67 ∷ 69 ∷ 68 ∷ 85 ∷ 82 ∷ 69 ∷ []) || is (80 ∷ 82 ∷ 79 ∷ 67 ∷ []))) where
-            pub is_procedure_lem : g ≡ true → K.Procedure ≡ other_by is
-            unfolding other_by
-            is_procedure_lem e = rw (← ha, na, ← hb, nb, ← hc, nc, ← hd, nd, ← hf, nf, ← hg, e)
-
-            pub is_other : g ≡ false → K.Other ≡ other_by is
-            unfolding other_by
-            is_other e = rw (← ha, na, ← hb, nb, ← hc, nc, ← hd, nd, ← hf, nf, ← hg, e)
 
 -- ---- BY and TO
 module _ (s w : List ℕ) (e : Expected) where
