@@ -2,7 +2,7 @@
 -- Assumes nothing.
 use mathlib.Core.Path.{◌≡◌, refl, sym, ap, ◌∙◌}
 use mathlib.Core.Bool.{Bool, true, false, ◌&&◌, false≢true}
-use mathlib.Core.List.{List}
+use mathlib.Core.List.{List, [], ◌∷◌}
 use Prim.Native.Nat.{ℕ, zero, suc, ◌-◌, ◌<◌, ◌≤◌}
 use Prim.Native.String as S
 use native.Mathlib.Omega.{arith}
@@ -13,6 +13,9 @@ use Rattle.definition.specs.Lists.{same, part}
 use Rattle.definition.specs.Text.{bytes_of}
 use Rattle.definition.specs.Tokens as T
 use Rattle.definition.specs.Expressions as E
+use Rattle.definition.specs.declared.Operator.{Operator}
+use Rattle.definition.specs.declared.Operator.TheVariants.{Times, Divided, Plus, Minus, Greater, GreaterEqual, Equal, Less, LessEqual, NotGreater, NotEqual, NotLess}
+use Rattle.definition.specs.declared.Prefix.TheVariants.{Positive, Negative, Complement}
 use Rattle.definition.specs.declared.Why.TheVariants.{Syntax, OverLimit}
 use Rattle.definition.proofs.Folded.{length_folded}
 use Rattle.definition.proofs.Parts.{length_part}
@@ -24,7 +27,8 @@ use Rattle.tokens.proofs.Lexemes as L
 use Rattle.expressions.specs.declared.Expected.TheVariants.{Past, Refused}
 use Rattle.expressions.specs.declared.NamedAt.TheVariants as N
 use Rattle.expressions.specs.declared.InfixAt.{InfixAt}
-use Rattle.expressions.specs.Check.{infix_at, is_spelled, expected, is_worded, expected_word, named_for}
+use Rattle.expressions.specs.declared.InfixAt.TheVariants as Infix
+use Rattle.expressions.specs.Check.{infix_for, infix_at, single_for, prefix_for, is_spelled, expected, is_worded, expected_word, named_for}
 
 module _ (s : List ℕ) (at : ℕ) (l : Lexeme) (lex : Lexed s at l) where
   -- a test on a sign, as the definition has it
@@ -44,6 +48,23 @@ module _ (s : List ℕ) (at : ℕ) (l : Lexeme) (lex : Lexed s at l) where
       by_kind Nothing x y = refl
       by_kind Wrong x y = refl
 
+  -- the operators of a level, by the code's tests
+  pub product_tests : infix_at 0 s at ≡ infix_for (E.or_else (is_sign_in s l (42 ∷ [])) Times (E.or_else (is_sign_in s l (47 ∷ [])) Divided E.no_operator)) l.to
+  unfolding infix_at E.infix_of
+  product_tests = rw (L.is_sign_lem s at l lex "*" (42 ∷ []) refl, L.is_sign_lem s at l lex "/" (47 ∷ []) refl, lex.to)
+
+  pub sum_tests : infix_at 1 s at ≡ infix_for (E.or_else (is_sign_in s l (43 ∷ [])) Plus (E.or_else (is_sign_in s l (45 ∷ [])) Minus E.no_operator)) l.to
+  unfolding infix_at E.infix_of
+  sum_tests = rw (L.is_sign_lem s at l lex "+" (43 ∷ []) refl, L.is_sign_lem s at l lex "-" (45 ∷ []) refl, lex.to)
+
+  pub comparison_tests : infix_at 3 s at ≡ infix_for (E.or_else (is_sign_in s l (62 ∷ [])) Greater (E.or_else (is_sign_in s l (62 ∷ 61 ∷ [])) GreaterEqual (E.or_else (is_sign_in s l (61 ∷ [])) Equal (E.or_else (is_sign_in s l (60 ∷ [])) Less (E.or_else (is_sign_in s l (60 ∷ 61 ∷ [])) LessEqual (E.or_else (is_sign_in s l (94 ∷ 62 ∷ [])) NotGreater (E.or_else (is_sign_in s l (94 ∷ 61 ∷ [])) NotEqual (E.or_else (is_sign_in s l (94 ∷ 60 ∷ [])) NotLess E.no_operator)))))))) l.to
+  unfolding infix_at E.infix_of E.comparison
+  comparison_tests = rw (L.is_sign_lem s at l lex ">" (62 ∷ []) refl, L.is_sign_lem s at l lex ">=" (62 ∷ 61 ∷ []) refl, L.is_sign_lem s at l lex "=" (61 ∷ []) refl, L.is_sign_lem s at l lex "<" (60 ∷ []) refl, L.is_sign_lem s at l lex "<=" (60 ∷ 61 ∷ []) refl, L.is_sign_lem s at l lex "^>" (94 ∷ 62 ∷ []) refl, L.is_sign_lem s at l lex "^=" (94 ∷ 61 ∷ []) refl, L.is_sign_lem s at l lex "^<" (94 ∷ 60 ∷ []) refl, lex.to)
+
+  pub prefix_tests : prefix_for (E.prefix_of (T.token_at mixed s at).token) (T.token_at mixed s at).to ≡ prefix_for (E.or_else (is_sign_in s l (43 ∷ [])) Positive (E.or_else (is_sign_in s l (45 ∷ [])) Negative (E.or_else (is_sign_in s l (94 ∷ [])) Complement E.no_operator))) l.to
+  unfolding E.prefix_of
+  prefix_tests = rw (L.is_sign_lem s at l lex "+" (43 ∷ []) refl, L.is_sign_lem s at l lex "-" (45 ∷ []) refl, L.is_sign_lem s at l lex "^" (94 ∷ []) refl, lex.to)
+
   pub there : (w : List ℕ) (r : Bool) → r ≡ is_sign_in s l w → r ≡ true → Past l.to ≡ expected w s at
   unfolding expected
   there w r f g = rw (← spelled w, ← f, g, lex.to)
@@ -51,6 +72,14 @@ module _ (s : List ℕ) (at : ℕ) (l : Lexeme) (lex : Lexed s at l) where
   pub not_there : (w : List ℕ) (r : Bool) → r ≡ is_sign_in s l w → r ≡ false → Refused Syntax l.from ≡ expected w s at
   unfolding expected
   not_there w r f g = rw (← spelled w, ← f, g, lex.from)
+
+  pub single_there : (w : List ℕ) (o : Operator) (r : Bool) → r ≡ is_sign_in s l w → r ≡ true → Infix.Is o l.to ≡ single_for w o s at
+  unfolding single_for
+  single_there w o r f g = rw (← spelled w, ← f, g, lex.to)
+
+  pub single_not_there : (w : List ℕ) (o : Operator) (r : Bool) → r ≡ is_sign_in s l w → r ≡ false → Infix.Other ≡ single_for w o s at
+  unfolding single_for
+  single_not_there w o r f g = rw (← spelled w, ← f, g)
 
   worded : (w : List ℕ) → is_word_in s l w ≡ is_worded w (T.token_at mixed s at).token
   unfolding is_word_in

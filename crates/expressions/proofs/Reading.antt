@@ -2,6 +2,7 @@
 -- Assumes nothing.
 use mathlib.Core.Path.{◌≡◌, refl, sym, ap, ◌∙◌}
 use mathlib.Core.Bool.{Bool, true, false, cond, ◌&&◌}
+use mathlib.Core.Logic.{◌⊎◌, inl, inr}
 use mathlib.Core.List.{List, [], ◌∷◌}
 use Prim.Native.Nat.{ℕ, zero, suc, ◌+◌, ◌-◌, ◌<◌, ◌≤◌}
 use Prim.Native.String as S
@@ -17,6 +18,7 @@ use Rattle.definition.specs.Text.{bytes_of}
 use Rattle.definition.specs.Tokens.{Token, word, integer, string, bits, sign, nothing, wrong, is_sign, is_word, token_at}
 use Rattle.definition.specs.Expressions.{Reading, read, refused, then, Tree, more, binary, none, Parsed, parsed, Maybe, is, no_operator, infix_of, prefix_of, expect_sign, expect_word, Named, name_at, Reader, arguments, reference_at, primitive, prefixed, operand, chained, chain, levels, expression, whole_expression}
 use Rattle.definition.specs.declared.Operator.{Operator}
+use Rattle.definition.specs.declared.Operator.TheVariants.{CatOp, AndOp, OrOp}
 use Rattle.definition.specs.declared.Prefix.{Prefix}
 use Rattle.definition.specs.declared.Why.{Why}
 use Rattle.definition.specs.declared.Why.TheVariants.{Syntax, OverLimit}
@@ -35,7 +37,7 @@ use Rattle.expressions.specs.declared.InfixAt.TheVariants as I
 use Rattle.expressions.specs.declared.PrefixAt.{PrefixAt}
 use Rattle.expressions.specs.declared.PrefixAt.TheVariants as P
 use Rattle.expressions.specs.declared.Prefixes.{Prefixes}
-use Rattle.expressions.specs.Check.{infix_for, infix_at, prefix_for, expect_for, is_spelled, expected, is_worded, expected_word, named_for, prefixes_of, with_prefix, prefixes, end_for, inside_of, referred, primitive_at, levels_in}
+use Rattle.expressions.specs.Check.{infix_for, infix_at, single_for, prefix_for, expect_for, is_spelled, expected, is_worded, expected_word, named_for, prefixes_of, with_prefix, prefixes, end_for, inside_of, referred, primitive_at, levels_in}
 use Rattle.expressions.proofs.Laws.{told}
 
 -- ---- the tokens that must follow, spelled by text
@@ -69,6 +71,28 @@ module _ (W : S.String) (w : List ℕ) (e : bytes_of W ≡ w) where
   pub expected_word_is : (s : List ℕ) (at : ℕ) → expected_word w s at ≡ expect_for (expect_word mixed W s at)
   unfolding expected_word expect_word
   expected_word_is s at = expect_either _ _ (token_at mixed s at).to (token_at mixed s at).from (word_spelled (token_at mixed s at).token)
+
+  single_either : (b : Bool) (o : Operator) (to : ℕ) → cond b (I.Is o to) I.Other ≡ infix_for (cond b (is o) no_operator) to
+  single_either true o to = refl
+  single_either false o to = refl
+
+  single_is : (o : Operator) (s : List ℕ) (at : ℕ) → single_for w o s at ≡ infix_for (cond (is_sign W (token_at mixed s at).token) (is o) no_operator) (token_at mixed s at).to
+  unfolding single_for
+  single_is o s at = rw (sign_spelled (token_at mixed s at).token) (single_either (is_sign W (token_at mixed s at).token) o (token_at mixed s at).to)
+
+-- ---- operators that are alone on their level
+module _ (s : List ℕ) (at : ℕ) (r : InfixAt) where
+  pub of_join : (n : ℕ) → n ≡ 2 → r ≡ single_for (124 ∷ 124 ∷ []) CatOp s at → r ≡ infix_at n s at
+  unfolding infix_at infix_of
+  of_join n e f = rw e (f ∙ single_is "||" (124 ∷ 124 ∷ []) refl CatOp s at)
+
+  pub of_and : (n : ℕ) → n ≡ 4 → r ≡ single_for (38 ∷ []) AndOp s at → r ≡ infix_at n s at
+  unfolding infix_at infix_of
+  of_and n e f = rw e (f ∙ single_is "&" (38 ∷ []) refl AndOp s at)
+
+  pub of_or : r ≡ single_for (124 ∷ []) OrOp s at → r ≡ infix_at 5 s at
+  unfolding infix_at infix_of
+  of_or f = f ∙ single_is "|" (124 ∷ []) refl OrOp s at
 
 -- ---- what an answer says of what was read
 module _ (x : Expected) where
@@ -281,6 +305,17 @@ module _ (inside : ℕ → Reader) (s : List ℕ) (at : ℕ) (l : Lexeme) (lex :
   pub by_kind : (k : Kind) → l.kind ≡ k → (y : Expected) → y ≡ end_for (primitive mixed inside s (token_for k (written s l) (content s l.from)) l.from l.to) → y ≡ end_for (primitive_at inside s at)
   by_kind k e y f = rw (token_of k e, ← lex.from, ← lex.to) f
 
+  pub is_constant : (l.kind ≡ K.Integer) ⊎ ((l.kind ≡ K.String) ⊎ (l.kind ≡ K.Bits)) → Past l.to ≡ end_for (primitive_at inside s at)
+  unfolding primitive end_for
+  is_constant (inl e) = by_kind K.Integer e _ refl
+  is_constant (inr (inl e)) = by_kind K.String e _ refl
+  is_constant (inr (inr e)) = by_kind K.Bits e _ refl
+
+  pub is_none : (l.kind ≡ K.Nothing) ⊎ (l.kind ≡ K.Wrong) → Refused Syntax l.from ≡ end_for (primitive_at inside s at)
+  unfolding primitive end_for
+  is_none (inl e) = by_kind K.Nothing e _ refl
+  is_none (inr e) = by_kind K.Wrong e _ refl
+
   pub by_name_lem : l.kind ≡ K.Word → (y : Expected) → y ≡ end_for (referred inside s at) → y ≡ end_for (primitive_at inside s at)
   unfolding primitive referred name_at
   by_name_lem e y f = rw (token_of K.Word e) at f ∙ ap end_for (word_then (leb (length (spelling s l)) 31) (record { spelling = spelling s l; place = (token_at mixed s at).from; to = (token_at mixed s at).to }) OverLimit (token_at mixed s at).from (λ n q. reference_at mixed inside s n (token_at mixed s q)) ∙ rw (token_of K.Word e))
@@ -382,9 +417,12 @@ module _ (s : List ℕ) (from : ℕ) where
   passing_start = record { turns = length s; sum = omega arith; same = rw zero-add }
 
   module _ (count at : ℕ) (h : Passing s from count at) where
-    pub passing_end : length s ≤ count → prefixes_of count at ≡ prefixes (length s) s from
+    pub passing_end : length s ≤ count → prefixes_of (length s) at ≡ prefixes (length s) s from
     unfolding prefixes
-    passing_end k = let z : h.turns ≡ 0 = omega (arith, h.sum) in rw (z, add-zero) at h.same
+    passing_end k =
+        let z : h.turns ≡ 0 = omega (arith, h.sum) in
+        let e : count ≡ length s = omega (arith, h.sum) in
+        rw (z, add-zero, e) at h.same
 
     module _ (k : count < length s) (x : PrefixAt) (i : x ≡ prefix_for (prefix_of (token_at mixed s at).token) (token_at mixed s at).to) where
       a_turn : (n : ℕ) → count + n ≡ length s → prefixes_of (count + (prefixes n s at).count) (prefixes n s at).to ≡ prefixes (length s) s from → (r : Prefixes) → with_prefix (prefix_of (token_at mixed s at).token) at (prefixes (n - 1) s (token_at mixed s at).to) ≡ r → prefixes_of (count + r.count) r.to ≡ prefixes (length s) s from

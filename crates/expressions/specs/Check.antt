@@ -49,6 +49,10 @@ is_spelled w wrong = false
 unfoldable pub expected : List ℕ → List ℕ → ℕ → Expected
 expected w s at = cond (is_spelled w (token_at mixed s at).token) (Must.Past (token_at mixed s at).to) (Must.Refused Syntax (token_at mixed s at).from)
 
+-- an operator that is alone on its level, by the bytes of its sign
+unfoldable pub single_for : List ℕ → Operator → List ℕ → ℕ → InfixAt
+single_for w o s at = cond (is_spelled w (token_at mixed s at).token) (Infix.Is o (token_at mixed s at).to) Infix.Other
+
 abbrev pub named_for : Reading Named → NamedAt
 named_for (read n) = Word.Is n.place n.to
 named_for (refused w p) = Word.Refused w p

@@ -1,5 +1,6 @@
 // The syntax of an expression: which operator stands next, a sign or a name that must follow, and where the whole ends.
 // Parts: operators, a sign or a name that must follow, prefix operators, the check of a whole expression.
+// A loop that goes from token to token has no more turns than there are bytes; they are counted down, as the definition does.
 #![tactic(auto)]
 
 ghost use Rattle.std.specs.Prelude.{◌≡◌, length};
@@ -8,7 +9,7 @@ ghost use Rattle.definition.specs.Tokens.{token_at, sign};
 ghost use Rattle.definition.specs.Expressions as E;
 ghost use Rattle.tokens.specs.Answer.{written};
 ghost use Rattle.tokens.specs.declared.Kind.TheVariants.{Sign};
-ghost use Rattle.expressions.specs.Check.{infix_at, prefix_for, expected, expected_word, named_for, prefixes, end_for, inside_of, referred, primitive_at, operand_in, levels_in, chain_in};
+ghost use Rattle.expressions.specs.Check.{infix_at, single_for, prefix_for, expected, expected_word, named_for, prefixes, end_for, inside_of, referred, primitive_at, operand_in, levels_in, chain_in};
 
 use definition::{Operator, Prefix, Why};
 use limits::{Name, Nesting};
@@ -61,6 +62,17 @@ pub fn prefix_at(s: &[u8], at: usize) -> PrefixAt
     PrefixAt::Other
 }
 
+// An operator that is alone on its level, with its sign.
+fn single_at(s: &[u8], at: usize, w: &[u8], o: Operator) -> InfixAt
+    ensures { result ≡ single_for w.now o s.now at }
+{
+    let t = token_at(s, at);
+    if is_sign(s, t, w) {
+        return InfixAt::Is(o, t.to);
+    }
+    InfixAt::Other
+}
+
 // `*` or `/`, the tightest.
 fn product_at(s: &[u8], at: usize) -> InfixAt
     ensures { result ≡ infix_at 0 s.now at }
@@ -85,17 +97,6 @@ fn sum_at(s: &[u8], at: usize) -> InfixAt
     }
     if is_sign(s, t, b"-") {
         return InfixAt::Is(Operator::Minus, t.to);
-    }
-    InfixAt::Other
-}
-
-// `||`.
-fn join_at(s: &[u8], at: usize) -> InfixAt
-    ensures { result ≡ infix_at 2 s.now at }
-{
-    let t = token_at(s, at);
-    if is_sign(s, t, b"||") {
-        return InfixAt::Is(Operator::CatOp, t.to);
     }
     InfixAt::Other
 }
@@ -132,28 +133,6 @@ fn comparison_at(s: &[u8], at: usize) -> InfixAt
     InfixAt::Other
 }
 
-// `&`.
-fn and_at(s: &[u8], at: usize) -> InfixAt
-    ensures { result ≡ infix_at 4 s.now at }
-{
-    let t = token_at(s, at);
-    if is_sign(s, t, b"&") {
-        return InfixAt::Is(Operator::AndOp, t.to);
-    }
-    InfixAt::Other
-}
-
-// `|`, the loosest.
-fn or_at(s: &[u8], at: usize) -> InfixAt
-    ensures { result ≡ infix_at 5 s.now at }
-{
-    let t = token_at(s, at);
-    if is_sign(s, t, b"|") {
-        return InfixAt::Is(Operator::OrOp, t.to);
-    }
-    InfixAt::Other
-}
-
 // The infix operator of a level that stands next; level 0 binds tightest.
 pub fn infix_at(s: &[u8], at: usize, level: usize) -> InfixAt
     ensures { result ≡ infix_at level s.now at }
@@ -161,10 +140,10 @@ pub fn infix_at(s: &[u8], at: usize, level: usize) -> InfixAt
     match level {
         0 => product_at(s, at),
         1 => sum_at(s, at),
-        2 => join_at(s, at),
+        2 => single_at(s, at, b"||", Operator::CatOp),
         3 => comparison_at(s, at),
-        4 => and_at(s, at),
-        _ => or_at(s, at),
+        4 => single_at(s, at, b"&", Operator::AndOp),
+        _ => single_at(s, at, b"|", Operator::OrOp),
     }
 }
 
@@ -184,8 +163,7 @@ pub fn name_at(s: &[u8], at: usize) -> NamedAt
     ensures { result ≡ named_for (E.name_at mixed s.now at) }
 {
     let t = token_at(s, at);
-    let kind = t.kind;
-    if is_word_kind(kind) {
+    if is_word_kind(t.kind) {
         if width(t) <= Name::LONGEST {
             return NamedAt::Is(t.from, t.to);
         }
@@ -215,21 +193,17 @@ pub struct Prefixes {
 pub fn past_prefixes(s: &[u8], from: usize) -> Prefixes
     ensures { result ≡ prefixes (length s.now) s.now from }
 {
-    let mut count = 0;
     let mut at = from;
-    while count < s.len() {
-        let next = prefix_at(s, at);
-        match next {
-            PrefixAt::Is(_, q) => {
-                at = q;
-                count += 1;
-            }
-            PrefixAt::Other => {
-                return Prefixes { count, to: at };
-            }
+    for count in 0..s.len() {
+        match prefix_at(s, at) {
+            PrefixAt::Is(_, q) => at = q,
+            PrefixAt::Other => return Prefixes { count, to: at },
         }
     }
-    Prefixes { count, to: at }
+    Prefixes {
+        count: s.len(),
+        to: at,
+    }
 }
 
 // ---- the check of an expression: the place past it. `left` parentheses may still be opened in it
@@ -251,22 +225,16 @@ fn arguments(s: &[u8], p: usize, from: usize, left: usize) -> Expected
     ensures { result ≡ end_for (E.arguments mixed (inside_of left s.now p) s.now (length s.now) from) }
 {
     let mut at = from;
-    let mut turns = s.len();
-    while 0 < turns {
-        turns -= 1;
-        let x = inside(s, p, at, left);
-        match x {
+    for turn in (0..s.len()).rev() {
+        match inside(s, p, at, left) {
             Expected::Past(e) => {
                 let t = token_at(s, e);
-                if is_sign(s, t, b",") {
-                    at = t.to;
-                } else {
+                if !is_sign(s, t, b",") {
                     return expect_sign(s, e, b")");
                 }
+                at = t.to;
             }
-            Expected::Refused(w, q) => {
-                return Expected::Refused(w, q);
-            }
+            Expected::Refused(w, q) => return Expected::Refused(w, q),
         }
     }
     Expected::Refused(Why::Syntax, at)
@@ -276,8 +244,7 @@ fn arguments(s: &[u8], p: usize, from: usize, left: usize) -> Expected
 fn reference(s: &[u8], at: usize, left: usize) -> Expected
     ensures { result ≡ end_for (referred (inside_of left s.now) s.now at) }
 {
-    let n = name_at(s, at);
-    match n {
+    match name_at(s, at) {
         NamedAt::Is(_, to) => {
             let t = token_at(s, to);
             if is_sign(s, t, b"(") {
@@ -295,8 +262,7 @@ fn parenthesized(s: &[u8], t: Lexeme, left: usize) -> Expected
     ensures { result ≡ end_for (E.primitive mixed (inside_of left s.now) s.now (sign (written s.now t)) t.from t.to) }
 {
     if is_sign(s, t, b"(") {
-        let x = inside(s, t.from, t.to, left);
-        return match x {
+        return match inside(s, t.from, t.to, left) {
             Expected::Past(e) => expect_sign(s, e, b")"),
             Expected::Refused(w, q) => Expected::Refused(w, q),
         };
@@ -309,15 +275,11 @@ fn primitive(s: &[u8], at: usize, left: usize) -> Expected
     ensures { result ≡ end_for (primitive_at (inside_of left s.now) s.now at) }
 {
     let t = token_at(s, at);
-    let kind = t.kind;
-    match kind {
+    match t.kind {
         Kind::Word => reference(s, at, left),
-        Kind::Integer => Expected::Past(t.to),
-        Kind::String => Expected::Past(t.to),
-        Kind::Bits => Expected::Past(t.to),
+        Kind::Integer | Kind::String | Kind::Bits => Expected::Past(t.to),
         Kind::Sign => parenthesized(s, t, left),
-        Kind::Nothing => Expected::Refused(Why::Syntax, t.from),
-        Kind::Wrong => Expected::Refused(Why::Syntax, t.from),
+        Kind::Nothing | Kind::Wrong => Expected::Refused(Why::Syntax, t.from),
     }
 }
 
@@ -325,8 +287,7 @@ fn primitive(s: &[u8], at: usize, left: usize) -> Expected
 fn operand(s: &[u8], at: usize, left: usize) -> Expected
     ensures { result ≡ end_for (operand_in left s.now at) }
 {
-    let p = past_prefixes(s, at);
-    primitive(s, p.to, left)
+    primitive(s, past_prefixes(s, at).to, left)
 }
 
 // What follows an operand: operators of a level, each with its right side; as many turns as the definition has.
@@ -335,25 +296,13 @@ fn chain(s: &[u8], from: usize, level: usize, left: usize) -> Expected
     ensures { result ≡ end_for (chain_in left s.now level from) }
 {
     let mut at = from;
-    let mut turns = s.len() + 1;
-    while 0 < turns {
-        turns -= 1;
-        let next = infix_at(s, at, level);
-        match next {
-            InfixAt::Is(_, q) => {
-                let x = levels(s, q, level, left);
-                match x {
-                    Expected::Past(e) => {
-                        at = e;
-                    }
-                    Expected::Refused(w, p) => {
-                        return Expected::Refused(w, p);
-                    }
-                }
-            }
-            InfixAt::Other => {
-                return Expected::Past(at);
-            }
+    for turn in (0..s.len() + 1).rev() {
+        match infix_at(s, at, level) {
+            InfixAt::Is(_, q) => match levels(s, q, level, left) {
+                Expected::Past(e) => at = e,
+                Expected::Refused(w, p) => return Expected::Refused(w, p),
+            },
+            InfixAt::Other => return Expected::Past(at),
         }
     }
     Expected::Refused(Why::Syntax, at)
@@ -367,8 +316,7 @@ fn levels(s: &[u8], at: usize, n: usize, left: usize) -> Expected
     if n < 1 {
         return operand(s, at, left);
     }
-    let first = levels(s, at, n - 1, left);
-    match first {
+    match levels(s, at, n - 1, left) {
         Expected::Past(e) => chain(s, e, n - 1, left),
         Expected::Refused(w, p) => Expected::Refused(w, p),
     }

@@ -1,13 +1,11 @@
--- ELSE, END, alternatives and the ends of texts: one law for each way out.
+-- ELSE, END and alternatives: one law for each way out.
 -- Assumes nothing.
 use mathlib.Core.Path.{◌≡◌, refl, sym, ap, ◌∙◌}
 use mathlib.Core.Bool.{Bool, true, false, cond, ◌&&◌, false≢true}
+use mathlib.Core.Logic.{◌⊎◌, inl, inr}
 use mathlib.Core.List.{List, [], ◌∷◌}
-use Prim.Native.Nat.{ℕ, zero, suc, ◌<◌}
+use Prim.Native.Nat.{ℕ}
 use native.Mathlib.Omega.{arith}
-use borrow.Author.Tests.{leb-false}
-use lib.Dec.{leb, eqb}
-use lib.ListN.{length, get_or}
 use Rattle.definition.specs.Bytes.{mixed, folded}
 use Rattle.definition.specs.Choice.{when}
 use Rattle.definition.specs.Lists.{is_one_of}
@@ -19,7 +17,7 @@ use Rattle.definition.specs.declared.Why.TheVariants.{Syntax}
 use Rattle.tokens.specs.declared.Kind.{Kind}
 use Rattle.tokens.specs.declared.Kind.TheVariants as Kd
 use Rattle.tokens.specs.declared.Lexeme.{Lexeme}
-use Rattle.tokens.specs.Answer.{written, Lexed, spelling, content, is_word_kind, is_word_in, is_sign_in, token_for}
+use Rattle.tokens.specs.Answer.{written, Lexed, spelling, content, is_word_kind, is_sign_in, token_for}
 use Rattle.tokens.proofs.Lexemes.{token_is, is_word_lem}
 use Rattle.expressions.specs.declared.Expected.{Expected}
 use Rattle.expressions.specs.declared.Expected.TheVariants.{Past, Refused}
@@ -49,14 +47,10 @@ module _ (s : List ℕ) (k : Owner) (e : ℕ) where
   abbrev Ends : Where → ℕ → Done → Type 0
   Ends w i r = (os : List D.Open) (n : ℕ) (st : D.State) (up : ℕ → D.Turn) → st.scope ≡ scope_of k → D.complete_in mixed (where_of w) s i os n e st up ≡ done_turn r os n e st up
 
-  ends_program : (w : Where) (i : ℕ) → w ≡ Wh.InProgram → Ends w i Dn.On
-  ends_program w i h = rw h (λ os n st up g. refl)
-
-  ends_group : (w : Where) (i : ℕ) → w ≡ Wh.InGroup → Ends w i Dn.On
-  ends_group w i h = rw h (λ os n st up g. refl)
-
-  ends_body : (w : Where) (i : ℕ) → w ≡ Wh.InBody → Ends w i Dn.On
-  ends_body w i h = rw h (λ os n st up g. refl)
+  ends_list : (w : Where) (i : ℕ) → (w ≡ Wh.InProgram) ⊎ ((w ≡ Wh.InGroup) ⊎ (w ≡ Wh.InBody)) → Ends w i Dn.On
+  ends_list w i (inl h) = rw h (λ os n st up g. refl)
+  ends_list w i (inr (inl h)) = rw h (λ os n st up g. refl)
+  ends_list w i (inr (inr h)) = rw h (λ os n st up g. refl)
 
   ends_else : (w : Where) (i : ℕ) → w ≡ Wh.InElse → Ends w i (Dn.Up i)
   ends_else w i h = rw h (λ os n st up g. refl)
@@ -80,14 +74,8 @@ module _ (s : List ℕ) (k : Owner) (e : ℕ) where
     ends_then w i h j = rw h (λ os n st up g. asked i os st up g ∙ else_missing (D.else_at mixed (is_inside k) s e) i os n st up f j)
 
   module _ (o : Open) where
-    pub done_program : o.kind ≡ Wh.InProgram → Completes s o k e Dn.On
-    done_program h = record { is = ends_program o.kind o.row h }
-
-    pub done_group : o.kind ≡ Wh.InGroup → Completes s o k e Dn.On
-    done_group h = record { is = ends_group o.kind o.row h }
-
-    pub done_body : o.kind ≡ Wh.InBody → Completes s o k e Dn.On
-    done_body h = record { is = ends_body o.kind o.row h }
+    pub done_list : (o.kind ≡ Wh.InProgram) ⊎ ((o.kind ≡ Wh.InGroup) ⊎ (o.kind ≡ Wh.InBody)) → Completes s o k e Dn.On
+    done_list h = record { is = ends_list o.kind o.row h }
 
     pub done_else : o.kind ≡ Wh.InElse → Completes s o k e (Dn.Up o.row)
     done_else h = record { is = ends_else o.kind o.row h }
@@ -99,15 +87,6 @@ module _ (s : List ℕ) (k : Owner) (e : ℕ) where
     done_then m f h j = record { is = ends_then m f o.kind o.row h j }
 
 -- ---- END
-module _ (s : List ℕ) (w : Where) (t : Lexeme) (g : Bool) (hg : g ≡ D.is_in_group (where_of w)) (yg : g ≡ true) (a : Bool) (ha : a ≡ is_word_in s t (69 ∷ 78 ∷ 68 ∷ [])) where
-  pub end_decided : a ≡ true → (r : Bool) → r ≡ D.is_decided (token_at mixed s t.to).token → r ≡ (D.is_in_group (where_of w) && is_end_in s t)
-  unfolding is_end_in
-  end_decided e r f = rw (← hg, yg, ← ha, e) f
-
-  pub end_other : a ≡ false → false ≡ (D.is_in_group (where_of w) && is_end_in s t)
-  unfolding is_end_in
-  end_other e = rw (← hg, yg, ← ha, e)
-
 pub end_is : (s : List ℕ) (at : ℕ) (l : Lexeme) → Lexed s at l → is_end_in s l ≡ D.is_end mixed s (token_at mixed s at)
 unfolding is_end_in D.is_end
 end_is s at l lex = rw (is_word_lem s at l lex "END" (69 ∷ 78 ∷ 68 ∷ []) refl, lex.to)
@@ -117,7 +96,7 @@ module _ (s : List ℕ) (t : Lexeme) (ls : List (List ℕ)) (a : Bool) (ha : a �
   unfolding may_name_in
   may_name_word e r f = rw (← ha, e) f
 
-  pub may_name_none : a ≡ false → false ≡ may_name_in s t ls
+  pub may_name_none : a ≡ false → a ≡ may_name_in s t ls
   unfolding may_name_in
   may_name_none e = rw (← ha, e)
 
@@ -182,22 +161,3 @@ module _ (s : List ℕ) (at : ℕ) (t : Lexeme) where
 
       pub from_none : v ≡ false → AlternativeFrom s k t at Unmarked
       from_none e = record { is = λ lex st. percent_by k v false (sym hi ∙ ni) lex hv e st; enters = λ lex q f. let z : ◌≡◌ {A = ℕ} 0 1 = cc in absurd (omega arith) }
-
--- ---- a text that ends at a `%` ends inside
-module _ (s : List ℕ) (p : ℕ) where
-  on_piece : (x : Tk.Piece) (at q : ℕ) (F : ℕ → Tk.TextEnd) → ((e : ℕ) → F e ≡ Tk.percent_at p → p < length s) → Tk.text_on x at q F ≡ Tk.percent_at p → p < length s
-  on_piece (Tk.name w) at q F h e = h q e
-  on_piece Tk.plain at q F h e = h q e
-  on_piece Tk.unclosed at q F h e = let z : ◌≡◌ {A = ℕ} 0 1 = cc in absurd (omega arith)
-
-  by_tests : (at : ℕ) (a b : Bool) (X : Tk.TextEnd) → leb (length s) at ≡ a → (X ≡ Tk.percent_at p → p < length s) → when a (λ _. Tk.at_end) (λ _. when b (λ _. Tk.percent_at at) (λ _. X)) ≡ Tk.percent_at p → p < length s
-  by_tests at true b X e h f = let z : ◌≡◌ {A = ℕ} 0 1 = cc in absurd (omega arith)
-  by_tests at false true X e h f = let z : at ≡ p = cc in omega (arith, leb-false (length s) at e, z)
-  by_tests at false false X e h f = h f
-
-  pub percent_inside : (f at : ℕ) → Tk.text_end mixed f s at ≡ Tk.percent_at p → p < length s
-  unfolding Tk.text_end
-  percent_inside zero at e = let z : ◌≡◌ {A = ℕ} 0 1 = cc in absurd (omega arith)
-  percent_inside (suc f) at e =
-      by_tests at (leb (length s) at) (eqb (get_or s at 0) 37) (Tk.text_on (Tk.piece_at mixed s at).piece at (Tk.piece_at mixed s at).to (Tk.text_end mixed f s)) refl
-      (λ g. on_piece (Tk.piece_at mixed s at).piece at (Tk.piece_at mixed s at).to (Tk.text_end mixed f s) (λ q. percent_inside f q) g) e

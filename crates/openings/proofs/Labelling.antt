@@ -6,8 +6,8 @@ use mathlib.Core.List.{List, [], ◌∷◌, ◌++◌}
 use Prim.Native.Nat.{ℕ, zero, suc, ◌+◌, ◌-◌, ◌<◌, ◌≤◌}
 use native.Mathlib.Omega.{arith}
 use native.Mathlib.Numerals.{sub-one}
-use borrow.Author.Tests.{lt-ltb}
-use lib.Dec.{ltb}
+use borrow.Author.Tests.{lt-ltb, ne_eqb}
+use lib.Dec.{ltb, eqb}
 use lib.ListN.{length, length-append}
 use Rattle.definition.specs.Bytes.{mixed, folded}
 use Rattle.definition.specs.Choice.{when}
@@ -122,8 +122,8 @@ module _ (s : List ℕ) (from at count : ℕ) (long : Mark) (h : Labelling s fro
         count = h.size ∙ ap (λ (x : D.Labelled). length x.labels + length x.long) (sym z);
       }
 
-  pub labelling_over : length s ≤ count → LabelsAt s from (record { count = count; long = long; to = at })
-  labelling_over k = ended (labels_over s h.turns h.names h.longs at (omega (arith, h.sum, k)))
+  pub labelling_over : length s ≤ count → LabelsAt s from (record { count = length s; long = long; to = at })
+  labelling_over k = let e : count ≡ length s = omega (arith, h.sum, k) in rw e at (ended (labels_over s h.turns h.names h.longs at (omega (arith, h.sum, k))))
 
   module _ (m : Mark) (f : m ≡ label_past s at) where
     pub labelling_none : m ≡ Unmarked → LabelsAt s from (record { count = count; long = long; to = at })
@@ -176,9 +176,9 @@ module _ (s : List ℕ) (t : Lexeme) (from to n a : ℕ) (hn : n ≡ to - from) 
   unfolding written
   spelled_so e b f = f ∙ ap (λ (k : ℕ). same (folded mixed (part k t.from s)) (folded mixed (part n from s))) (sym e ∙ ha) ∙ ap (λ (k : ℕ). same (folded mixed (part (t.to - t.from) t.from s)) (folded mixed (part k from s))) hn
 
-  pub spelled_not : (a ≡ n → ⊥) → false ≡ same (spelling s t) (folded mixed (part (to - from) from s))
+  pub spelled_not : (a ≡ n → ⊥) → eqb a n ≡ same (spelling s t) (folded mixed (part (to - from) from s))
   unfolding written
-  spelled_not e = same_length (folded mixed (part (t.to - t.from) t.from s)) (folded mixed (part (to - from) from s))
+  spelled_not e = ne_eqb a n e ∙ same_length (folded mixed (part (t.to - t.from) t.from s)) (folded mixed (part (to - from) from s))
       (λ z. e (ha ∙ sym (length_folded mixed (part (t.to - t.from) t.from s) ∙ length_part (t.to - t.from) t.from s) ∙ z ∙ length_folded mixed (part (to - from) from s) ∙ length_part (to - from) from s ∙ sym hn))
 
 module _ (s w : List ℕ) (at : ℕ) (x : NamedAt) (h : x ≡ named_for (name_at mixed s at)) where

@@ -23,9 +23,9 @@ use Rattle.openings.specs.Open.{end_for, else_for, else_word_in, label_past}
 
 -- ---- END and ELSE are decided
 module _ (s : List ℕ) (at : ℕ) (l : Lexeme) (lex : Lexed s at l) (a : Bool) (ha : a ≡ is_sign_in s l (61 ∷ [])) where
-  pub decided_equals : a ≡ true → false ≡ D.is_decided (token_at mixed s at).token
+  pub decided_equals : a ≡ true → not a ≡ D.is_decided (token_at mixed s at).token
   unfolding D.is_decided
-  decided_equals e = rw (told s at l lex "=" (61 ∷ []) a true refl ha e)
+  decided_equals e = rw (told s at l lex "=" (61 ∷ []) a true refl ha e, e)
 
   module _ (na : a ≡ false) (b : Bool) (hb : b ≡ is_sign_in s l (58 ∷ [])) where
     pub decided_rest : not b ≡ D.is_decided (token_at mixed s at).token
@@ -97,11 +97,5 @@ module _ (s : List ℕ) (at : ℕ) (l : Lexeme) (lex : Lexed s at l) (a : Bool) 
 
 -- ---- where a text ends
 module _ (s : List ℕ) (e : Ending) where
-  pub end_percent : (p : ℕ) → e ≡ E.Percent p → p ≡ end_for s e
-  end_percent p h = rw h
-
-  pub end_open : (p : ℕ) → e ≡ E.OpenAt p → p ≡ end_for s e
-  end_open p h = rw h
-
   pub end_end : e ≡ E.AtEnd → length s ≡ end_for s e
   end_end h = rw h

@@ -6,4 +6,3 @@ pub mod Words
 pub mod Keywords
 pub mod Ends
 pub mod Sentences
-pub mod Turning

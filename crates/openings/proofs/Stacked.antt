@@ -199,19 +199,6 @@ module _ (o : Opened) (n i : ℕ) (h : Deepening o n i) where
     }
 
 -- ---- what a new row has from where it stands
-module _ (k : Where) (i : ℕ) where
-  pub parent_group : k ≡ Wh.InGroup → link_of (L.To i) ≡ parent_in (where_of k) i
-  parent_group e = rw e
-
-  pub parent_body : k ≡ Wh.InBody → link_of (L.To i) ≡ parent_in (where_of k) i
-  parent_body e = rw e
-
-  pub parent_then : k ≡ Wh.InThen → link_of (L.To i) ≡ parent_in (where_of k) i
-  parent_then e = rw e
-
-  pub parent_else : k ≡ Wh.InElse → link_of (L.To i) ≡ parent_in (where_of k) i
-  parent_else e = rw e
-
 pub first_new : (f l : Link) (n : ℕ) → l ≡ L.Nowhere → link_of (L.To n) ≡ D.first_of (link_of f) (link_of l) n
 first_new f l n e = rw e
 
@@ -236,23 +223,3 @@ size_from s os (suc n) = ap suc (size_from s os n)
 pub opened_size : (s : List ℕ) (o : Opened) → length (opened_of s o) ≡ o.count
 unfolding opened_of
 opened_size s o = size_from s o.items o.count
-
-none_from : (s : List ℕ) (os : List Open) (n : ℕ) → n ≡ 0 → open_from s os n ≡ []
-unfolding open_from
-none_from s os n e = ap (open_from s os) e
-
-pub opened_none : (s : List ℕ) (o : Opened) → o.count ≡ 0 → opened_of s o ≡ []
-unfolding opened_of
-opened_none s o e = none_from s o.items o.count e
-
-pub program_open : (s : List ℕ) → open_of s no_open ≡ D.opening D.in_program 0 []
-unfolding open_of
-program_open s = refl
-
-pub open_kind : (s : List ℕ) (x : Open) → (open_of s x).kind ≡ where_of x.kind
-unfolding open_of
-open_kind s x = refl
-
-pub open_row : (s : List ℕ) (x : Open) → (open_of s x).row ≡ x.row
-unfolding open_of
-open_row s x = refl

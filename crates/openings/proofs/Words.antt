@@ -27,15 +27,13 @@ use Rattle.tokens.specs.Answer.{Lexed, spelling, is_word_kind, is_word_in, is_si
 use Rattle.tokens.proofs.Lexemes.{is_word_lem, is_sign_lem}
 use Rattle.expressions.proofs.Laws.{told}
 use Rattle.rows.specs.declared.Statement.TheVariants as S
-use Rattle.entering.specs.declared.Meaning.TheVariants as M
-use Rattle.entering.specs.Book.{meaning_of}
 use Rattle.statements.specs.declared.Keyword.{Keyword}
 use Rattle.statements.specs.declared.Keyword.TheVariants as K
 use Rattle.statements.specs.declared.Opens.TheVariants as O
 use Rattle.statements.specs.declared.Read.{Read}
 use Rattle.statements.specs.declared.Read.TheVariants as R
 use Rattle.statements.specs.Clauses.{other_by, keyword_by, clause_of, read_for, go_clause}
-use Rattle.openings.specs.Open.{outer_by, list_by, keyword_here, keyword_at, may_stand, opens_by, other_at, other_for, null_for, by_keyword, begins_in}
+use Rattle.openings.specs.Open.{outer_by, list_by, keyword_here, keyword_at, may_stand, other_at, other_for, null_for, by_keyword, begins_in}
 use Rattle.openings.proofs.Laws.{name_kind}
 
 -- ---- a word that is one of several is none of the others
@@ -124,9 +122,6 @@ module _ (s : List ℕ) (t : Lexeme) where
   standing l i n = standing_by (is_word_kind t.kind) (spelling s t) l i n
 
 -- ---- the keyword that stands here
-pub stands_procedure : (k : Keyword) (l i n a b : Bool) → k ≡ K.Procedure → a ≡ l → a ≡ true → b ≡ i → b ≡ false → n ≡ may_stand k l i n
-stands_procedure k l i n a b e f g h j = rw (e, ← f, g, ← h, j)
-
 module _ (s : List ℕ) (k : D.Where) (i : Bool) (t : Lexeme) (n : ℕ) (u : Lexeme) (lux : Lexed s t.to u) (v : Bool) (hv : v ≡ is_sign_in s u (61 ∷ [])) where
   pub here_equals : v ≡ true → K.Other ≡ keyword_at s k i t n
   unfolding keyword_at keyword_here
@@ -143,41 +138,6 @@ module _ (s : List ℕ) (k : D.Where) (i : Bool) (t : Lexeme) (n : ℕ) (u : Lex
     pub here_other : b ≡ false → K.Other ≡ keyword_at s k i t n
     here_other e = ap (λ (c : Bool). cond c w K.Other) (sym e) ∙ here_is
 
--- ---- what the labels before it mean
-module _ (k : Keyword) (n : ℕ) where
-  pub means_if : k ≡ K.If → meaning_of (M.LabelAt n) ≡ D.label_meaning (opens_by k) n
-  means_if e = rw e
-
-  pub means_do : k ≡ K.Do → meaning_of (M.LabelAt n) ≡ D.label_meaning (opens_by k) n
-  means_do e = rw e
-
-  pub means_goto : k ≡ K.Goto → meaning_of (M.LabelAt n) ≡ D.label_meaning (opens_by k) n
-  means_goto e = rw e
-
-  pub means_go : k ≡ K.Go → meaning_of (M.LabelAt n) ≡ D.label_meaning (opens_by k) n
-  means_go e = rw e
-
-  pub means_include : k ≡ K.Include → meaning_of (M.LabelAt n) ≡ D.label_meaning (opens_by k) n
-  means_include e = rw e
-
-  pub means_activate : k ≡ K.Activate → meaning_of (M.LabelAt n) ≡ D.label_meaning (opens_by k) n
-  means_activate e = rw e
-
-  pub means_deactivate : k ≡ K.Deactivate → meaning_of (M.LabelAt n) ≡ D.label_meaning (opens_by k) n
-  means_deactivate e = rw e
-
-  pub means_return : k ≡ K.Return → meaning_of (M.LabelAt n) ≡ D.label_meaning (opens_by k) n
-  means_return e = rw e
-
-  pub means_declare : k ≡ K.Declare → meaning_of (M.LabelAt n) ≡ D.label_meaning (opens_by k) n
-  means_declare e = rw e
-
-  pub means_procedure : k ≡ K.Procedure → meaning_of (M.BodyAt n) ≡ D.label_meaning (opens_by k) n
-  means_procedure e = rw e
-
-  pub means_other : k ≡ K.Other → meaning_of (M.LabelAt n) ≡ D.label_meaning (opens_by k) n
-  means_other e = rw e
-
 -- ---- a word that begins no statement, and `;`
 module _ (s : List ℕ) (c at : ℕ) (u : Lexeme) (lux : Lexed s at u) (v : Bool) (hv : v ≡ is_sign_in s u (61 ∷ [])) where
   pub other_equals : v ≡ true → (r : Read) → r ≡ read_for S.Assign c FixedType (St.assignment mixed s [] u.to) → r ≡ other_for s c at
@@ -193,7 +153,7 @@ unfolding null_for read_for
 null_is from to = refl
 
 module _ (s : List ℕ) (t : Lexeme) (a : Bool) (ha : a ≡ is_word_kind t.kind) where
-  pub begins_word : a ≡ true → true ≡ begins_in s t
+  pub begins_word : a ≡ true → a ≡ begins_in s t
   unfolding begins_in
   begins_word e = rw (← ha, e)
 

@@ -1,6 +1,7 @@
 // What is open while a member is read, and how a sentence begins and ends: labels, the word that begins a statement, ELSE and END.
 // Nothing is lent here to be written.
 // Parts: what is open, labels, the word that a statement begins with, ELSE and END, texts.
+// A loop that goes from label to label has no more turns than there are bytes; `left` is counted down, as the definition does.
 #![tactic(auto)]
 
 ghost use Rattle.std.specs.Prelude.{◌≡◌, ◌&&◌, [], ◌-◌, ltb, get_or};
@@ -112,9 +113,7 @@ pub fn pop(o: Opened) -> Opened
 {
     let n = o.count;
     if 0 < n {
-        let mut all = o;
-        all.count = n - 1;
-        return all;
+        return Opened { count: n - 1, ..o };
     }
     o
 }
@@ -122,20 +121,16 @@ pub fn pop(o: Opened) -> Opened
 pub fn top_kind(o: Opened) -> Where
     ensures { T.TopKind o result }
 {
-    let x = top(o);
-    x.kind
+    top(o).kind
 }
 
 // What is open with n as its last row so far.
 fn with_last(x: Open, n: u16) -> Open
     ensures { T.WithLast x n result }
 {
-    let kind = x.kind;
     Open {
-        kind,
-        row: x.row,
         last: Link::To(n),
-        labels: x.labels,
+        ..x
     }
 }
 
@@ -150,11 +145,8 @@ fn counts(k: Where) -> usize
     ensures { result ≡ T.counts_for k }
 {
     match k {
-        Where::InProgram => 0,
-        Where::InGroup => 1,
-        Where::InBody => 0,
-        Where::InThen => 1,
-        Where::InElse => 1,
+        Where::InProgram | Where::InBody => 0,
+        Where::InGroup | Where::InThen | Where::InElse => 1,
     }
 }
 
@@ -163,12 +155,8 @@ pub fn depth(o: Opened) -> usize
     ensures { T.Deep o result }
 {
     let mut n: usize = 0;
-    let mut i: usize = 0;
-    while i < o.count {
-        let x = open_at(o, i);
-        let kind = x.kind;
-        n = sum20(n, counts(kind));
-        i += 1;
+    for i in 0..o.count {
+        n = sum20(n, counts(open_at(o, i).kind));
     }
     n
 }
@@ -177,61 +165,31 @@ pub fn depth(o: Opened) -> usize
 fn sum20(n: usize, k: usize) -> usize
     ensures { T.Sum20 n k result }
 {
-    if n < 20 {
-        if k < 20 {
-            return n + k;
-        }
+    if n < 20 && k < 20 {
+        return n + k;
     }
     20
-}
-
-fn is_in_group(k: Where) -> bool
-    ensures { result ≡ D.is_in_group (T.where_of k) }
-{
-    match k {
-        Where::InProgram => false,
-        Where::InGroup => true,
-        Where::InBody => false,
-        Where::InThen => false,
-        Where::InElse => false,
-    }
 }
 
 pub fn is_in_body(k: Where) -> bool
     ensures { result ≡ D.is_in_body (T.where_of k) }
 {
-    match k {
-        Where::InProgram => false,
-        Where::InGroup => false,
-        Where::InBody => true,
-        Where::InThen => false,
-        Where::InElse => false,
-    }
+    matches!(k, Where::InBody)
 }
 
 // Whether sentences of a list stand there, and not an alternative.
 fn is_list(k: Where) -> bool
     ensures { result ≡ D.is_list (T.where_of k) }
 {
-    match k {
-        Where::InProgram => true,
-        Where::InGroup => true,
-        Where::InBody => true,
-        Where::InThen => false,
-        Where::InElse => false,
-    }
+    matches!(k, Where::InProgram | Where::InGroup | Where::InBody)
 }
 
 pub fn parent_in(o: Open) -> Link
     ensures { T.link_of result ≡ T.parent_in (T.where_of o.kind) o.row }
 {
-    let kind = o.kind;
-    match kind {
+    match o.kind {
         Where::InProgram => Link::Nowhere,
-        Where::InGroup => Link::To(o.row),
-        Where::InBody => Link::To(o.row),
-        Where::InThen => Link::To(o.row),
-        Where::InElse => Link::To(o.row),
+        Where::InGroup | Where::InBody | Where::InThen | Where::InElse => Link::To(o.row),
     }
 }
 
@@ -239,9 +197,7 @@ pub fn role_in(k: Where) -> Role
     ensures { T.role_of result ≡ T.role_in (T.where_of k) }
 {
     match k {
-        Where::InProgram => Role::Listed,
-        Where::InGroup => Role::Listed,
-        Where::InBody => Role::Listed,
+        Where::InProgram | Where::InGroup | Where::InBody => Role::Listed,
         Where::InThen => Role::ThenPart,
         Where::InElse => Role::ElsePart,
     }
@@ -261,14 +217,9 @@ fn first_behind(first: Link, last: Link, n: u16) -> Link
 pub fn first_in(first: Link, o: Open, n: u16) -> Link
     ensures { T.link_of result ≡ T.first_in (T.where_of o.kind) (T.link_of first) (T.last_of o.kind o.last) n }
 {
-    let kind = o.kind;
-    let last = o.last;
-    match kind {
-        Where::InProgram => first_behind(first, last, n),
-        Where::InGroup => first,
-        Where::InBody => first,
-        Where::InThen => first,
-        Where::InElse => first,
+    match o.kind {
+        Where::InProgram => first_behind(first, o.last, n),
+        Where::InGroup | Where::InBody | Where::InThen | Where::InElse => first,
     }
 }
 
@@ -276,11 +227,8 @@ pub fn scope_out(k: Where, scope: Owner) -> Owner
     ensures { T.ScopeOut k scope result }
 {
     match k {
-        Where::InProgram => scope,
-        Where::InGroup => scope,
         Where::InBody => Owner::Everyone,
-        Where::InThen => scope,
-        Where::InElse => scope,
+        Where::InProgram | Where::InGroup | Where::InThen | Where::InElse => scope,
     }
 }
 
@@ -299,8 +247,7 @@ pub fn label_at(s: &[u8], at: usize) -> Mark
     ensures { result ≡ T.label_past s.now at }
 {
     let t = token_at(s, at);
-    let kind = t.kind;
-    if is_word_kind(kind) {
+    if is_word_kind(t.kind) {
         let u = token_at(s, t.to);
         if is_sign(s, u, b":") {
             return Mark::Marked(u.to);
@@ -314,13 +261,10 @@ fn long_label(s: &[u8], at: usize, long: Mark) -> Mark
 {
     match long {
         Mark::Marked(p) => Mark::Marked(p),
-        Mark::Unmarked => {
-            let n = name_at(s, at);
-            match n {
-                NamedAt::Is(_, _) => Mark::Unmarked,
-                NamedAt::Refused(_, p) => Mark::Marked(p),
-            }
-        }
+        Mark::Unmarked => match name_at(s, at) {
+            NamedAt::Is(_, _) => Mark::Unmarked,
+            NamedAt::Refused(_, p) => Mark::Marked(p),
+        },
     }
 }
 
@@ -329,15 +273,12 @@ pub fn labels_at(s: &[u8], from: usize) -> Labels
     ensures { T.LabelsAt s.now from result }
 {
     let mut at = from;
-    let mut count: usize = 0;
     let mut long = Mark::Unmarked;
-    while count < s.len() {
-        let found = label_at(s, at);
-        match found {
+    for count in 0..s.len() {
+        match label_at(s, at) {
             Mark::Marked(e) => {
                 long = long_label(s, at, long);
                 at = e;
-                count += 1;
             }
             Mark::Unmarked => {
                 return Labels {
@@ -349,7 +290,7 @@ pub fn labels_at(s: &[u8], from: usize) -> Labels
         }
     }
     Labels {
-        count,
+        count: s.len(),
         long,
         to: at,
     }
@@ -359,18 +300,14 @@ fn is_spelled_alike(s: &[u8], t: Lexeme, from: usize, to: usize) -> bool
     ensures { result ≡ same (spelling s.now t) (folded mixed (part (to - from) from s.now)) }
 {
     let n = less(to, from);
-    if width(t) == n {
-        return is_one_name(s, t.from, s, from, n);
-    }
-    false
+    width(t) == n && is_one_name(s, t.from, s, from, n)
 }
 
 // Whether the name at a place is spelled as t; a word that is too long is no name.
 fn is_named_alike(s: &[u8], at: usize, t: Lexeme) -> bool
     ensures { result ≡ T.names_as (spelling s.now t) (name_at mixed s.now at) }
 {
-    let n = name_at(s, at);
-    match n {
+    match name_at(s, at) {
         NamedAt::Is(from, to) => is_spelled_alike(s, t, from, to),
         NamedAt::Refused(_, _) => false,
     }
@@ -381,20 +318,15 @@ fn is_label(s: &[u8], from: usize, t: Lexeme) -> bool
     ensures { result ≡ is_one_of (spelling s.now t) (T.labelled s.now from) }
 {
     let mut at = from;
-    let mut turns = s.len();
-    while 0 < turns {
-        turns -= 1;
-        let found = label_at(s, at);
-        match found {
+    for left in (0..s.len()).rev() {
+        match label_at(s, at) {
             Mark::Marked(e) => {
                 if is_named_alike(s, at, t) {
                     return true;
                 }
                 at = e;
             }
-            Mark::Unmarked => {
-                return false;
-            }
+            Mark::Unmarked => return false,
         }
     }
     false
@@ -407,24 +339,11 @@ fn may_stand(k: Keyword, kind: Where, scope: Owner, labels: usize) -> bool
     ensures { result ≡ T.may_stand k (D.is_list (T.where_of kind)) (C.is_inside scope) (ltb 0 labels) }
 {
     match k {
-        Keyword::If => true,
-        Keyword::Do => true,
-        Keyword::Goto => true,
-        Keyword::Go => true,
-        Keyword::Include => !is_inside(scope),
-        Keyword::Activate => !is_inside(scope),
-        Keyword::Deactivate => !is_inside(scope),
+        Keyword::If | Keyword::Do | Keyword::Goto | Keyword::Go => true,
+        Keyword::Include | Keyword::Activate | Keyword::Deactivate => !is_inside(scope),
         Keyword::Return => is_inside(scope),
         Keyword::Declare => is_list(kind),
-        Keyword::Procedure => {
-            if is_list(kind) {
-                if is_inside(scope) {
-                    return false;
-                }
-                return 0 < labels;
-            }
-            false
-        }
+        Keyword::Procedure => is_list(kind) && !is_inside(scope) && 0 < labels,
         Keyword::Other => false,
     }
 }
@@ -450,16 +369,16 @@ pub fn label_meaning(k: Keyword, n: u16) -> Meaning
 {
     match k {
         Keyword::Procedure => Meaning::BodyAt(n),
-        Keyword::If => Meaning::LabelAt(n),
-        Keyword::Do => Meaning::LabelAt(n),
-        Keyword::Goto => Meaning::LabelAt(n),
-        Keyword::Go => Meaning::LabelAt(n),
-        Keyword::Include => Meaning::LabelAt(n),
-        Keyword::Activate => Meaning::LabelAt(n),
-        Keyword::Deactivate => Meaning::LabelAt(n),
-        Keyword::Return => Meaning::LabelAt(n),
-        Keyword::Declare => Meaning::LabelAt(n),
-        Keyword::Other => Meaning::LabelAt(n),
+        Keyword::If
+        | Keyword::Do
+        | Keyword::Goto
+        | Keyword::Go
+        | Keyword::Include
+        | Keyword::Activate
+        | Keyword::Deactivate
+        | Keyword::Return
+        | Keyword::Declare
+        | Keyword::Other => Meaning::LabelAt(n),
     }
 }
 
@@ -490,11 +409,7 @@ pub fn null_clause(t: Lexeme) -> Read
 pub fn begins(s: &[u8], t: Lexeme) -> bool
     ensures { result ≡ T.begins_in s.now t }
 {
-    let kind = t.kind;
-    if is_word_kind(kind) {
-        return true;
-    }
-    is_sign(s, t, b";")
+    is_word_kind(t.kind) || is_sign(s, t, b";")
 }
 
 // ---- ELSE and END
@@ -504,19 +419,14 @@ fn is_decided(s: &[u8], at: usize) -> bool
     ensures { result ≡ D.is_decided (token_at mixed s.now at).token }
 {
     let t = token_at(s, at);
-    if is_sign(s, t, b"=") {
-        return false;
-    }
-    !is_sign(s, t, b":")
+    !is_sign(s, t, b"=") && !is_sign(s, t, b":")
 }
 
 fn else_word(s: &[u8], t: Lexeme) -> Mark
     ensures { result ≡ T.else_word_in s.now t }
 {
-    if is_word(s, t, b"ELSE") {
-        if is_decided(s, t.to) {
-            return Mark::Marked(t.to);
-        }
+    if is_word(s, t, b"ELSE") && is_decided(s, t.to) {
+        return Mark::Marked(t.to);
     }
     Mark::Unmarked
 }
@@ -546,18 +456,12 @@ pub enum Done {
 pub fn done_in(s: &[u8], o: Open, scope: Owner, e: usize) -> Done
     ensures { T.Completes s.now o scope e result }
 {
-    let kind = o.kind;
-    match kind {
-        Where::InProgram => Done::On,
-        Where::InGroup => Done::On,
-        Where::InBody => Done::On,
-        Where::InThen => {
-            let found = else_at(s, scope, e);
-            match found {
-                Mark::Marked(q) => Done::OnElse(o.row, q),
-                Mark::Unmarked => Done::Up(o.row),
-            }
-        }
+    match o.kind {
+        Where::InProgram | Where::InGroup | Where::InBody => Done::On,
+        Where::InThen => match else_at(s, scope, e) {
+            Mark::Marked(q) => Done::OnElse(o.row, q),
+            Mark::Unmarked => Done::Up(o.row),
+        },
         Where::InElse => Done::Up(o.row),
     }
 }
@@ -565,23 +469,14 @@ pub fn done_in(s: &[u8], o: Open, scope: Owner, e: usize) -> Done
 pub fn is_end(s: &[u8], kind: Where, t: Lexeme) -> bool
     ensures { result ≡ (D.is_in_group (T.where_of kind) && T.is_end_in s.now t) }
 {
-    if is_in_group(kind) {
-        if is_word(s, t, b"END") {
-            return is_decided(s, t.to);
-        }
-    }
-    false
+    matches!(kind, Where::InGroup) && is_word(s, t, b"END") && is_decided(s, t.to)
 }
 
 // Whether END may have the token t behind it: a word that is one of the labels from a place on.
 fn may_name(s: &[u8], labels: usize, t: Lexeme) -> bool
     ensures { result ≡ T.may_name_in s.now t (T.labelled s.now labels) }
 {
-    let kind = t.kind;
-    if is_word_kind(kind) {
-        return is_label(s, labels, t);
-    }
-    false
+    is_word_kind(t.kind) && is_label(s, labels, t)
 }
 
 // "A name after END must be a label of what it ends": the place past the semicolon.

@@ -1,6 +1,7 @@
 -- A new row: its links, and the state that it makes; and the state under a text. One law for each way out.
 -- Assumes nothing.
 use mathlib.Core.Path.{◌≡◌, refl, sym, ap, subst, ◌∙◌}
+use mathlib.Core.Logic.{◌⊎◌, inl, inr}
 use mathlib.Core.List.{List, [], ◌∷◌, ◌++◌}
 use Prim.Native.Nat.{ℕ, zero, suc, ◌+◌, ◌*◌, ◌%◌, ◌<◌, ◌≤◌}
 use native.Mathlib.Omega.{arith}
@@ -54,11 +55,9 @@ module _ (o : Open) (t u : List ℕ) (n : ℕ) where
   pub link_program : o.kind ≡ Wh.InProgram → u ≡ link_last o.last t n t → u ≡ link_in o.kind t o n
   link_program e f = rw e f
 
-  pub link_group : o.kind ≡ Wh.InGroup → u ≡ link_last o.last t n (link_at t o.row 8 n) → u ≡ link_in o.kind t o n
-  link_group e f = rw e f
-
-  pub link_body : o.kind ≡ Wh.InBody → u ≡ link_last o.last t n (link_at t o.row 8 n) → u ≡ link_in o.kind t o n
-  link_body e f = rw e f
+  pub link_list : (o.kind ≡ Wh.InGroup) ⊎ (o.kind ≡ Wh.InBody) → u ≡ link_last o.last t n (link_at t o.row 8 n) → u ≡ link_in o.kind t o n
+  link_list (inl e) f = rw e f
+  link_list (inr e) f = rw e f
 
   pub link_then : o.kind ≡ Wh.InThen → u ≡ over t (16 * o.row + 8) (link_number (L.To n) ∷ []) → u ≡ link_in o.kind t o n
   link_then e f = rw e f
@@ -365,11 +364,7 @@ module _ (t : List ℕ) (x : State) (y : Stretch) (o : Open) (ho : o ≡ top_in 
     marks = λ i. alike_self (row_in t i);
   }
 
-  pub leads_body : o.kind ≡ Wh.InBody → Leads t x y t x
-  leads_body e = leads_none Wh.InBody e (λ n a b st. refl)
-
-  pub leads_then : o.kind ≡ Wh.InThen → Leads t x y t x
-  leads_then e = leads_none Wh.InThen e (λ n a b st. refl)
-
-  pub leads_else : o.kind ≡ Wh.InElse → Leads t x y t x
-  leads_else e = leads_none Wh.InElse e (λ n a b st. refl)
+  pub leads_nowhere : (o.kind ≡ Wh.InBody) ⊎ ((o.kind ≡ Wh.InThen) ⊎ (o.kind ≡ Wh.InElse)) → Leads t x y t x
+  leads_nowhere (inl e) = leads_none Wh.InBody e (λ n a b st. refl)
+  leads_nowhere (inr (inl e)) = leads_none Wh.InThen e (λ n a b st. refl)
+  leads_nowhere (inr (inr e)) = leads_none Wh.InElse e (λ n a b st. refl)

@@ -5,7 +5,7 @@ use mathlib.Core.Bool.{Bool, true, false, cond, ◌&&◌, ◌||◌, false≢true
 use mathlib.Core.List.{List, [], ◌∷◌, ◌++◌}
 use Prim.Native.Nat.{ℕ, ◌+◌, ◌<◌, ◌≤◌}
 use native.Mathlib.Omega.{arith}
-use borrow.Author.Tests.{le-leb, lt-leb, leb-true, leb-false}
+use borrow.Author.Tests.{leb-true, leb-false}
 use lib.Dec.{leb}
 use lib.ListN.{length, get_or, length-append}
 use Rattle.definition.specs.Bytes.{mixed}
@@ -46,13 +46,6 @@ use Rattle.reading.proofs.Rows.{rows_length, marks_none}
 use Rattle.reading.proofs.Counting.{places_length}
 use Rattle.reading.proofs.Overfull.{clause_begins}
 use Rattle.reading.proofs.Parameters.{whole_plain, plain_means}
-
--- ---- is_full
-pub full_entered : (x : State) → 2048 ≤ x.entered + x.rows → true ≡ is_full x
-full_entered x h = rw (le-leb 2048 (x.entered + x.rows) h)
-
-pub full_rows : (x : State) (b : Bool) → x.entered + x.rows < 2048 → b ≡ leb 1024 x.rows → b ≡ is_full x
-full_rows x b h e = rw (lt-leb 2048 (x.entered + x.rows) h) e
 
 -- ---- which names there are, and which is past the limit, does not depend on what they mean
 pub record SameNames (b c : Book) : Type 0 where

@@ -263,12 +263,6 @@ module _ (d s t n : List ℕ) (x : State) (m : Mode) (at : ℕ) (t' n' : List �
   turn_inner hm a = rw hm (record { so = λ h l f. a.so h l })
 
 -- ---- IN A PROCEDURE
-pub body_end : (s : List ℕ) (k : Lexeme) (w : Where) (a b : Bool) → a ≡ D.is_in_body (where_of w) → a ≡ true → b ≡ is_sign_in s k (37 ∷ []) → b ≡ (D.is_in_body (where_of w) && is_sign_in s k (37 ∷ []))
-body_end s k w a b ha ya hb = rw (sym ha ∙ ya) hb
-
-pub no_body_lem : (s : List ℕ) (k : Lexeme) (w : Where) (a : Bool) → a ≡ D.is_in_body (where_of w) → a ≡ false → false ≡ (D.is_in_body (where_of w) && is_sign_in s k (37 ∷ []))
-no_body_lem s k w a ha na = rw (sym ha ∙ na)
-
 module _ (d s t n : List ℕ) (x : State) (at : ℕ) (k : Lexeme) (lex : Lexed s at k) (w : Where) (hw : TopKind x.opened w) (b : Bool) (hb : b ≡ (D.is_in_body (where_of w) && is_sign_in s k (37 ∷ []))) where
   in_body_lem : (D.is_in_body (D.kind_of (opened_of s x.opened)) && Tk.is_sign "%" (token_at mixed s at).token) ≡ b
   in_body_lem = sym (hb ∙ rw (hw.is s, is_sign_lem s at k lex "%" (37 ∷ []) refl))

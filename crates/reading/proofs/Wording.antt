@@ -1,6 +1,7 @@
 -- A statement by its first word: what it reads is the definition's clause, and its names are entered. One law for each way out.
 -- Assumes nothing.
 use mathlib.Core.Path.{◌≡◌, refl, sym, ap, subst, ◌∙◌}
+use mathlib.Core.Logic.{◌⊎◌, inl, inr}
 use mathlib.Core.Bool.{Bool, true, false, cond, ◌&&◌, false≢true}
 use mathlib.Core.List.{List, [], ◌∷◌, ◌++◌}
 use Prim.Native.String as Str
@@ -247,23 +248,23 @@ module _ (d s t n : List ℕ) (x : State) (k : Keyword) (l : Lexeme) (from p lab
       → (ns : List Named) → Begun d s t n x l from p labels ns → is_word_kind l.kind ≡ true → l.to - l.from ≤ 31 → Stood s y (R (token_at mixed s from).to)
   plain o nb kind R so F g a e ns i w c = subst (λ (u : Read). Stood s u (R (token_at mixed s from).to)) (sym (at_word F e i.lexed ∙ g (token_at mixed s from).to)) (stood_for s kind o nb (token_at mixed s from).to (R (token_at mixed s from).to) (so (token_at mixed s from).to) (λ z q. word_end d s t n x l from p labels ns i w) (a (token_at mixed s from).to))
 
-  pub word_goto : (b : Bool) → k ≡ K.Goto → y ≡ plain_for k b s l.from l.to → ByWord d s t n x k l from p labels t' n r
+  word_goto : (b : Bool) → k ≡ K.Goto → y ≡ plain_for k b s l.from l.to → ByWord d s t n x k l from p labels t' n r
   unfolding plain_for
   word_goto b e f = by K.Goto e S.Goto (St.goto_clause mixed s (token_at mixed s from).to) (goto_so s (token_at mixed s from).to) (plain St.opens_nothing tt S.Goto (St.goto_clause mixed s) (goto_so s) (λ c. plain_for K.Goto b s l.from c) (λ c. refl) (λ c z. again_goto s c z) (rw e at f)) (λ ns. refl)
 
-  pub word_include : (b : Bool) → k ≡ K.Include → y ≡ plain_for k b s l.from l.to → ByWord d s t n x k l from p labels t' n r
+  word_include : (b : Bool) → k ≡ K.Include → y ≡ plain_for k b s l.from l.to → ByWord d s t n x k l from p labels t' n r
   unfolding plain_for
   word_include b e f = by K.Include e S.Include (St.include_clause mixed s (token_at mixed s from).to) (include_so s (token_at mixed s from).to) (plain St.opens_nothing tt S.Include (St.include_clause mixed s) (include_so s) (λ c. plain_for K.Include b s l.from c) (λ c. refl) (λ c z. again_include s c z) (rw e at f)) (λ ns. refl)
 
-  pub word_activate : (b : Bool) → k ≡ K.Activate → y ≡ plain_for k b s l.from l.to → ByWord d s t n x k l from p labels t' n r
+  word_activate : (b : Bool) → k ≡ K.Activate → y ≡ plain_for k b s l.from l.to → ByWord d s t n x k l from p labels t' n r
   unfolding plain_for
   word_activate b e f = by K.Activate e S.Activate (St.activate_clause mixed s (token_at mixed s from).to) (activate_so s (token_at mixed s from).to) (plain St.opens_nothing tt S.Activate (St.activate_clause mixed s) (activate_so s) (λ c. plain_for K.Activate b s l.from c) (λ c. refl) (λ c z. again_activate s c z) (rw e at f)) (λ ns. refl)
 
-  pub word_deactivate : (b : Bool) → k ≡ K.Deactivate → y ≡ plain_for k b s l.from l.to → ByWord d s t n x k l from p labels t' n r
+  word_deactivate : (b : Bool) → k ≡ K.Deactivate → y ≡ plain_for k b s l.from l.to → ByWord d s t n x k l from p labels t' n r
   unfolding plain_for
   word_deactivate b e f = by K.Deactivate e S.Deactivate (St.deactivate_clause mixed s (token_at mixed s from).to) (deactivate_so s (token_at mixed s from).to) (plain St.opens_nothing tt S.Deactivate (St.deactivate_clause mixed s) (deactivate_so s) (λ c. plain_for K.Deactivate b s l.from c) (λ c. refl) (λ c z. again_deactivate s c z) (rw e at f)) (λ ns. refl)
 
-  pub word_return : (b : Bool) → k ≡ K.Return → y ≡ plain_for k b s l.from l.to → ByWord d s t n x k l from p labels t' n r
+  word_return : (b : Bool) → k ≡ K.Return → y ≡ plain_for k b s l.from l.to → ByWord d s t n x k l from p labels t' n r
   unfolding plain_for
   word_return b e f = by K.Return e S.Return (St.return_clause mixed s (token_at mixed s from).to) (return_so s (token_at mixed s from).to) (plain St.opens_nothing tt S.Return (St.return_clause mixed s) (return_so s) (λ c. plain_for K.Return b s l.from c) (λ c. refl) (λ c z. again_return s c z) (rw e at f)) (λ ns. refl)
 
@@ -277,12 +278,20 @@ module _ (d s t n : List ℕ) (x : State) (k : Keyword) (l : Lexeme) (from p lab
       (plain St.opens_then tt S.Conditional (St.if_clause mixed (D.is_inside (scope_of x.scope)) s) (if_so (D.is_inside (scope_of x.scope)) s) (λ c. plain_for K.If b s l.from c) (λ c. ap (λ (u : Bool). read_for S.Conditional c FixedType (St.if_clause mixed u s c)) (hb ∙ sym (inside_is x.scope)))
       (λ c z. again_if s c z (D.is_inside (scope_of x.scope))) (rw e at f)) (λ ns. refl)
 
-  pub word_go : (b : Bool) → k ≡ K.Go → y ≡ plain_for k b s l.from l.to → ByWord d s t n x k l from p labels t' n r
+  word_go : (b : Bool) → k ≡ K.Go → y ≡ plain_for k b s l.from l.to → ByWord d s t n x k l from p labels t' n r
   unfolding plain_for
   word_go b e f =
       by K.Go e S.Goto (go_clause s (token_at mixed s from).to) (go_so s (token_at mixed s from).to)
       (λ ns i w c. stands St.opens_nothing tt S.Goto (token_at mixed s (token_at mixed s from).to).to (go_clause s (token_at mixed s from).to) (go_so s (token_at mixed s from).to) (at_word (λ q. plain_for K.Go b s l.from q) (rw e at f) i.lexed)
       (λ z h. let q : (token_at mixed s (token_at mixed s from).to).to ≤ length s = go_end s (token_at mixed s from).to z h in omega (arith, q, i.sits.short)) (λ z. again_go s (token_at mixed s from).to z)) (λ ns. refl)
+
+  pub word_alone : (b : Bool) → (k ≡ K.Goto) ⊎ ((k ≡ K.Go) ⊎ ((k ≡ K.Include) ⊎ ((k ≡ K.Activate) ⊎ ((k ≡ K.Deactivate) ⊎ (k ≡ K.Return))))) → y ≡ plain_for k b s l.from l.to → ByWord d s t n x k l from p labels t' n r
+  word_alone b (inl e) f = word_goto b e f
+  word_alone b (inr (inl e)) f = word_go b e f
+  word_alone b (inr (inr (inl e))) f = word_include b e f
+  word_alone b (inr (inr (inr (inl e)))) f = word_activate b e f
+  word_alone b (inr (inr (inr (inr (inl e))))) f = word_deactivate b e f
+  word_alone b (inr (inr (inr (inr (inr e))))) f = word_return b e f
 
   pub word_do : (b : Bool) (m : ℕ) → k ≡ K.Do → Deep x.opened m → m < 16 → y ≡ plain_for k b s l.from l.to → ByWord d s t n x k l from p labels t' n r
   unfolding plain_for state_of

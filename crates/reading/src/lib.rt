@@ -1,6 +1,7 @@
 // A member is read once, from left to right, with a list of what is open: its sentences become rows, its names are declared.
 // Parts: what has been read, a new row, what comes behind a statement, labels, the statement that was read, END, one clause,
 // texts, the inside of a procedure, the member.
+// Each loop has as many turns as there can be at most: `left` is counted down, as the definition does.
 #![tactic(auto)]
 
 ghost use Rattle.std.specs.Prelude.{◌≡◌, ◌&&◌, ◌%◌};
@@ -60,6 +61,7 @@ enum Mode {
     Inner,
 }
 
+// stays: (d) one way on and two ways out; as a Result of an Option it would not say which end is which.
 #[derive(Clone, Copy)]
 enum Next {
     Go(Mode, usize),
@@ -94,45 +96,19 @@ fn stop(state: State, why: Why, at: usize) -> Turned
 fn with_opened(st: State, opened: Opened) -> State
     ensures { result ≡ T.with_opened st opened }
 {
-    let mut x = st;
-    x.opened = opened;
-    x
+    State { opened, ..st }
 }
 
 fn with_tally(st: State, tally: Tally) -> State
     ensures { result ≡ T.with_tally st tally }
 {
-    let first = st.first;
-    let lead = st.lead;
-    let opened = st.opened;
-    let scope = st.scope;
-    State {
-        entered: st.entered,
-        rows: st.rows,
-        first,
-        lead,
-        opened,
-        scope,
-        tally,
-    }
+    State { tally, ..st }
 }
 
 fn with_scope(st: State, scope: Owner) -> State
     ensures { result ≡ T.with_scope st scope }
 {
-    let first = st.first;
-    let lead = st.lead;
-    let opened = st.opened;
-    let tally = st.tally;
-    State {
-        entered: st.entered,
-        rows: st.rows,
-        first,
-        lead,
-        opened,
-        scope,
-        tally,
-    }
+    State { scope, ..st }
 }
 
 // Places of a body are below 65,536.
@@ -157,8 +133,7 @@ fn stretch(from: usize, to: usize) -> Stretch
 fn link_listed(rows: &mut [u16], o: Open, n: u16)
     ensures { rows.new ≡ T.link_last o.last rows.old n (T.link_at rows.old o.row 8 n) }
 {
-    let last = o.last;
-    match last {
+    match o.last {
         Link::Nowhere => set_child(rows, o.row, n),
         Link::To(l) => set_next(rows, l, n),
     }
@@ -168,8 +143,7 @@ fn link_listed(rows: &mut [u16], o: Open, n: u16)
 fn link_program(rows: &mut [u16], o: Open, n: u16)
     ensures { rows.new ≡ T.link_last o.last rows.old n rows.old }
 {
-    let last = o.last;
-    match last {
+    match o.last {
         Link::Nowhere => {}
         Link::To(l) => set_next(rows, l, n),
     }
@@ -178,11 +152,9 @@ fn link_program(rows: &mut [u16], o: Open, n: u16)
 fn link_row(rows: &mut [u16], o: Open, n: u16)
     ensures { rows.new ≡ T.link_in o.kind rows.old o n }
 {
-    let kind = o.kind;
-    match kind {
+    match o.kind {
         Where::InProgram => link_program(rows, o, n),
-        Where::InGroup => link_listed(rows, o, n),
-        Where::InBody => link_listed(rows, o, n),
+        Where::InGroup | Where::InBody => link_listed(rows, o, n),
         Where::InThen => set_child(rows, o.row, n),
         Where::InElse => set_other(rows, o.row, n),
     }
@@ -192,10 +164,7 @@ fn link_row(rows: &mut [u16], o: Open, n: u16)
 fn row_after(n: u16) -> u16
     ensures { T.After n result }
 {
-    if n < 65_535 {
-        return n + 1;
-    }
-    n
+    n.saturating_add(1)
 }
 
 // The statement of the place p as a new row, in what is open.
@@ -205,20 +174,17 @@ fn add_row(rows: &mut [u16], st: State, c: Clause, p: usize) -> State
     let n = st.rows;
     let opened = st.opened;
     let o = top(opened);
-    let statement = c.statement;
-    let value_type = c.value_type;
-    let kind = o.kind;
     put_row(
         rows,
         n,
         Row {
-            statement,
+            statement: c.statement,
             place: place16(p),
             content: place16(c.content),
-            value_type,
+            value_type: c.value_type,
             depth: place16(depth(opened)),
             parent: parent_in(o),
-            role: role_in(kind),
+            role: role_in(o.kind),
             next: Link::Nowhere,
             child: Link::Nowhere,
             other: Link::Nowhere,
@@ -227,18 +193,11 @@ fn add_row(rows: &mut [u16], st: State, c: Clause, p: usize) -> State
         },
     );
     link_row(rows, o, n);
-    let first = st.first;
-    let lead = st.lead;
-    let scope = st.scope;
-    let tally = st.tally;
     State {
-        entered: st.entered,
         rows: row_after(n),
-        first: first_in(first, o, n),
-        lead,
+        first: first_in(st.first, o, n),
         opened: at_last(opened, n),
-        scope,
-        tally,
+        ..st
     }
 }
 
@@ -259,17 +218,13 @@ fn complete(s: &[u8], st0: State, n: u16, e: usize) -> Turned
 {
     let mut st = st0;
     let mut i = n;
-    let mut turns: usize = 20;
-    while 0 < turns {
-        turns -= 1;
+    // at most 20 are open
+    for left in (0usize..20).rev() {
         let opened = st.opened;
-        let scope = st.scope;
         let o = top(opened);
-        let d = done_in(s, o, scope, e);
+        let d = done_in(s, o, st.scope, e);
         match d {
-            Done::On => {
-                return go(st, behind(scope, i), e);
-            }
+            Done::On => return go(st, behind(st.scope, i), e),
             Done::OnElse(r, q) => {
                 let inner = push(pop(opened), opening(Where::InElse, r, 0));
                 return go(with_opened(st, inner), Mode::Alternative, q);
@@ -300,8 +255,7 @@ fn declare_label(
 ) -> Tally
     ensures { L.LabelIf deck.now s.now names.old t at scope meaning names.new result }
 {
-    let n = name_at(s, at);
-    match n {
+    match name_at(s, at) {
         NamedAt::Is(from, to) => declare(deck, s, names, t, Spelling { from, to }, scope, meaning),
         NamedAt::Refused(_, _) => t,
     }
@@ -321,18 +275,13 @@ fn declare_labels(
     let scope = st.scope;
     let mut tally = st.tally;
     let mut at = from;
-    let mut turns = s.len();
-    while 0 < turns {
-        turns -= 1;
-        let found = label_at(s, at);
-        match found {
+    for left in (0..s.len()).rev() {
+        match label_at(s, at) {
             Mark::Marked(e) => {
                 tally = declare_label(deck, s, names, tally, at, scope, meaning);
                 at = e;
             }
-            Mark::Unmarked => {
-                return with_tally(st, tally);
-            }
+            Mark::Unmarked => return with_tally(st, tally),
         }
     }
     with_tally(st, tally)
@@ -376,8 +325,7 @@ fn taken(s: &[u8], rows: &mut [u16], st: State, r: Read, p: usize, labels: usize
     match r {
         Read::Is(c) => {
             let n = st.rows;
-            let opens = c.opens;
-            open_inside(s, add_row(rows, st, c, p), opens, n, labels, c.to)
+            open_inside(s, add_row(rows, st, c, p), c.opens, n, labels, c.to)
         }
         Read::Refused(w, q) => stop(st, w, q),
     }
@@ -393,9 +341,7 @@ fn after_declaring(
 ) -> Turned
     ensures { T.TakesAs s.now rows.old (T.with_tally st d.tally) d.read p labels rows.new result }
 {
-    let tally = d.tally;
-    let read = d.read;
-    taken(s, rows, with_tally(st, tally), read, p, labels)
+    taken(s, rows, with_tally(st, d.tally), d.read, p, labels)
 }
 
 // The statement that begins with the word t, the first token behind `from`; `labels` is where its labels begin.
@@ -426,8 +372,7 @@ fn by_word(
         }
         Keyword::Other => taken(s, rows, st, other_clause(s, t, from), p, labels),
         Keyword::Do => {
-            let opened = st.opened;
-            if depth(opened) < Nesting::GROUPS {
+            if depth(st.opened) < Nesting::GROUPS {
                 return taken(s, rows, st, plain_clause(s, k, t, false), p, labels);
             }
             stop(st, Why::OverLimit, t.from)
@@ -440,12 +385,12 @@ fn by_word(
             p,
             labels,
         ),
-        Keyword::Goto => taken(s, rows, st, plain_clause(s, k, t, false), p, labels),
-        Keyword::Go => taken(s, rows, st, plain_clause(s, k, t, false), p, labels),
-        Keyword::Include => taken(s, rows, st, plain_clause(s, k, t, false), p, labels),
-        Keyword::Activate => taken(s, rows, st, plain_clause(s, k, t, false), p, labels),
-        Keyword::Deactivate => taken(s, rows, st, plain_clause(s, k, t, false), p, labels),
-        Keyword::Return => taken(s, rows, st, plain_clause(s, k, t, false), p, labels),
+        Keyword::Goto
+        | Keyword::Go
+        | Keyword::Include
+        | Keyword::Activate
+        | Keyword::Deactivate
+        | Keyword::Return => taken(s, rows, st, plain_clause(s, k, t, false), p, labels),
     }
 }
 
@@ -464,8 +409,7 @@ fn by_token(
 ) -> Turned
     ensures { S.ByToken deck.now s.now rows.old names.old st k t «from» p labels rows.new names.new result }
 {
-    let kind = t.kind;
-    if is_word_kind(kind) {
+    if is_word_kind(t.kind) {
         if width(t) <= limits::Name::LONGEST {
             return by_word(deck, s, rows, names, st, k, t, from, p, labels);
         }
@@ -483,17 +427,13 @@ fn by_token(
 fn end_at(deck: &[u8], s: &[u8], names: &mut [u16], st0: State, labels: usize, at: usize) -> Turned
     ensures { S.EndsAt deck.now s.now names.old st0 labels at names.new result }
 {
-    let open = st0.opened;
-    let o = top(open);
+    let o = top(st0.opened);
     let st = declare_labels(deck, s, names, st0, labels, Meaning::EndLabelAt(o.row));
-    let kind = o.kind;
     let read = end_name(s, o.labels, at);
     match read {
         Expected::Past(e) => {
-            let scope = st.scope;
-            let outer = with_scope(st, scope_out(kind, scope));
-            let opened = outer.opened;
-            complete(s, with_opened(outer, pop(opened)), o.row, e)
+            let outer = with_scope(st, scope_out(o.kind, st.scope));
+            complete(s, with_opened(outer, pop(outer.opened)), o.row, e)
         }
         Expected::Refused(w, q) => stop(st, w, q),
     }
@@ -520,10 +460,8 @@ fn end_too_long(
 fn is_full(st: State) -> bool
     ensures { result ≡ S.is_full st }
 {
-    if Sentences::ENTERED <= st.entered as usize + st.rows as usize {
-        return true;
-    }
-    Sentences::IN_MEMBER <= st.rows as usize
+    Sentences::ENTERED <= usize::from(st.entered) + usize::from(st.rows)
+        || Sentences::IN_MEMBER <= usize::from(st.rows)
 }
 
 fn clause_at(
@@ -539,12 +477,9 @@ fn clause_at(
 {
     let l = labels_at(s, at);
     let t = token_at(s, l.to);
-    let long = l.long;
-    let opened = st.opened;
-    let scope = st.scope;
-    let kind = top_kind(opened);
+    let kind = top_kind(st.opened);
     if is_end(s, kind, t) {
-        return match long {
+        return match l.long {
             Mark::Marked(q) => end_too_long(deck, s, names, st, at, q),
             Mark::Unmarked => end_at(deck, s, names, st, at, t.to),
         };
@@ -552,9 +487,9 @@ fn clause_at(
     if is_full(st) {
         return stop(st, Why::OverLimit, p);
     }
-    let k = keyword_here(s, kind, scope, t, l.count);
+    let k = keyword_here(s, kind, st.scope, t, l.count);
     let named = declare_labels(deck, s, names, st, at, label_meaning(k, st.rows));
-    match long {
+    match l.long {
         Mark::Marked(q) => stop(named, Why::OverLimit, q),
         Mark::Unmarked => by_token(deck, s, rows, names, named, k, t, l.to, p, at),
     }
@@ -592,22 +527,14 @@ fn texted(
 fn lead_in(rows: &mut [u16], st: State, x: Stretch) -> State
     ensures { T.Leads rows.old st x rows.new result }
 {
-    let opened = st.opened;
-    let o = top(opened);
-    let kind = o.kind;
-    match kind {
-        Where::InProgram => {
-            let mut led = st;
-            led.lead = x;
-            led
-        }
+    let o = top(st.opened);
+    match o.kind {
+        Where::InProgram => State { lead: x, ..st },
         Where::InGroup => {
             set_lead(rows, o.row, x);
             st
         }
-        Where::InBody => st,
-        Where::InThen => st,
-        Where::InElse => st,
+        Where::InBody | Where::InThen | Where::InElse => st,
     }
 }
 
@@ -619,8 +546,7 @@ fn procedure_end(deck: &[u8], s: &[u8], names: &mut [u16], st: State, at: usize)
 {
     let l = labels_at(s, at);
     let t = token_at(s, l.to);
-    let long = l.long;
-    match long {
+    match l.long {
         Mark::Marked(q) => end_too_long(deck, s, names, st, at, q),
         Mark::Unmarked => {
             if is_word(s, t, b"END") {
@@ -636,12 +562,8 @@ fn procedure_end(deck: &[u8], s: &[u8], names: &mut [u16], st: State, at: usize)
 fn not_end(s: &[u8], st: State, at: usize) -> Turned
     ensures { result ≡ T.turned st (S.not_end_next s.now (name_at mixed s.now at)) }
 {
-    let n = name_at(s, at);
-    match n {
-        NamedAt::Is(_, to) => {
-            let u = token_at(s, to);
-            stop(st, Why::Syntax, u.from)
-        }
+    match name_at(s, at) {
+        NamedAt::Is(_, to) => stop(st, Why::Syntax, token_at(s, to).from),
         NamedAt::Refused(w, p) => stop(st, w, p),
     }
 }
@@ -650,10 +572,7 @@ fn not_end(s: &[u8], st: State, at: usize) -> Turned
 fn ends_body(s: &[u8], kind: Where, t: Lexeme) -> bool
     ensures { result ≡ (D.is_in_body (O.where_of kind) && is_sign_in s.now t (bytes_of "%")) }
 {
-    if is_in_body(kind) {
-        return is_sign(s, t, b"%");
-    }
-    false
+    is_in_body(kind) && is_sign(s, t, b"%")
 }
 
 fn inner_at(
@@ -667,9 +586,7 @@ fn inner_at(
     ensures { T.Inners deck.now s.now rows.old names.old st «at» rows.new names.new result }
 {
     let t = token_at(s, at);
-    let opened = st.opened;
-    let kind = top_kind(opened);
-    if ends_body(s, kind, t) {
+    if ends_body(s, top_kind(st.opened), t) {
         return procedure_end(deck, s, names, st, t.to);
     }
     if begins(s, t) {
@@ -690,12 +607,9 @@ fn alternative_at(
     ensures { T.Alternatives deck.now s.now rows.old names.old st «at» rows.new names.new result }
 {
     let t = token_at(s, at);
-    let scope = st.scope;
-    let found = alternative_from(s, scope, t, at);
-    match found {
+    match alternative_from(s, st.scope, t, at) {
         Mark::Marked(q) => {
-            let opened = st.opened;
-            if depth(opened) <= Nesting::GROUPS {
+            if depth(st.opened) <= Nesting::GROUPS {
                 return clause_at(deck, s, rows, names, st, t.from, q);
             }
             stop(st, Why::OverLimit, t.from)
@@ -746,15 +660,12 @@ pub struct Source {
 fn source_of(st: State, f: Fault) -> Source
     ensures { result ≡ T.source_of st f }
 {
-    let first = st.first;
-    let lead = st.lead;
-    let tally = st.tally;
     Source {
-        first,
-        lead,
+        first: st.first,
+        lead: st.lead,
         rows: st.rows,
         names: st.tally.names,
-        fault: fault_of(tally, f),
+        fault: fault_of(st.tally, f),
     }
 }
 
@@ -804,23 +715,16 @@ pub fn read_member(
     let mut st = start(member, base, entered, name_count);
     let mut mode = Mode::Leading;
     let mut at: usize = 0;
-    let mut turns = turns_for(s);
-    while 0 < turns {
-        turns -= 1;
+    for left in (0..turns_for(s)).rev() {
         let t = turn(deck, s, rows, names, st, mode, at);
-        let next = t.next;
         st = t.state;
-        match next {
+        match t.next {
             Next::Go(m, e) => {
                 mode = m;
                 at = e;
             }
-            Next::Stop(w, p) => {
-                return source_of(st, Fault::Faulty(w, p));
-            }
-            Next::Finish => {
-                return source_of(st, Fault::Sound);
-            }
+            Next::Stop(w, p) => return source_of(st, Fault::Faulty(w, p)),
+            Next::Finish => return source_of(st, Fault::Sound),
         }
     }
     source_of(st, Fault::Faulty(Why::Syntax, at))

@@ -2,6 +2,7 @@
 -- Assumes nothing.
 use mathlib.Core.Path.{◌≡◌, refl, sym, ◌∙◌}
 use mathlib.Core.Bool.{Bool, true, false, cond, ◌||◌}
+use mathlib.Core.Logic.{◌⊎◌, inl, inr}
 use mathlib.Core.List.{List, [], ◌∷◌, ◌++◌}
 use Prim.Native.Nat.{ℕ, zero, suc}
 use Prim.Native.String as Str
@@ -29,19 +30,15 @@ use Rattle.expressions.proofs.Reading.{expected_is, expected_word_is}
 use Rattle.rows.specs.declared.Statement.{Statement}
 use Rattle.rows.specs.declared.Statement.TheVariants as S
 use Rattle.entering.specs.declared.Meaning.{Meaning}
-use Rattle.entering.specs.declared.Meaning.TheVariants as M
 use Rattle.statements.specs.declared.Each.TheVariants as Ea
 use Rattle.statements.specs.declared.Opens.TheVariants as O
 use Rattle.statements.specs.declared.Keyword.{Keyword}
 use Rattle.statements.specs.declared.Keyword.TheVariants as K
 use Rattle.statements.specs.declared.Read.{Read}
 use Rattle.statements.specs.declared.Read.TheVariants as R
-use Rattle.statements.specs.declared.Attribute.{Attribute}
-use Rattle.statements.specs.declared.Attribute.TheVariants as A
-use Rattle.statements.specs.declared.Itemized.TheVariants as I
-use Rattle.statements.specs.declared.Typed.{Typed}
-use Rattle.statements.specs.declared.Typed.TheVariants as T
-use Rattle.statements.specs.Clauses.{opens_for, clause_of, read_for, read_up_to, then_sign, then_word, then_expression, bound_past, bounds_past, name_end, rescan_past, rescanned, member_past, item_past, list_next, list_end, names_end, go_clause, do_kind, plain_for, item_of, item_in, attribute_by, worded, itemized, type_from, head_up_to, head_from}
+use Rattle.std.specs.Prelude.{Some, None, Ok, Err}
+use Rattle.std.specs.declared.option.Option.{Option}
+use Rattle.statements.specs.Clauses.{opens_for, clause_of, read_for, read_up_to, then_sign, then_word, then_expression, bound_past, bounds_past, name_end, rescan_past, rescanned, member_past, item_past, list_next, list_end, names_end, go_clause, do_kind, plain_for, item_of, item_in, attribute_by, worded, Part, itemized, type_from, head_up_to, head_from}
 use Rattle.statements.proofs.Laws.{word_in, sign_in_lem, sign_spelled, word_spelled}
 
 -- ---- the end of a clause
@@ -397,17 +394,11 @@ module _ (s : List ℕ) (k : Keyword) (b : Bool) (from at : ℕ) where
     unfolding plain_for D.activate_clause
     plain_activate e x h i = rw (e, i, h) (activations_are at s (length s) [] at)
 
-  pub plain_declare : k ≡ K.Declare → R.Refused Syntax from ≡ plain_for k b s from at
+  pub plain_none : (k ≡ K.Declare) ⊎ ((k ≡ K.Procedure) ⊎ (k ≡ K.Other)) → R.Refused Syntax from ≡ plain_for k b s from at
   unfolding plain_for
-  plain_declare e = rw e
-
-  pub plain_procedure : k ≡ K.Procedure → R.Refused Syntax from ≡ plain_for k b s from at
-  unfolding plain_for
-  plain_procedure e = rw e
-
-  pub plain_other : k ≡ K.Other → R.Refused Syntax from ≡ plain_for k b s from at
-  unfolding plain_for
-  plain_other e = rw e
+  plain_none (inl e) = rw e
+  plain_none (inr (inl e)) = rw e
+  plain_none (inr (inr e)) = rw e
 
 -- ---- the items of a declaration, and a procedure's type
 module _ (s : List ℕ) (at : ℕ) (l : Lexeme) (lex : Lexed s at l) (v : Bool) (c : v ≡ is_sign_in s l (40 ∷ [])) where
@@ -419,54 +410,25 @@ module _ (s : List ℕ) (at : ℕ) (l : Lexeme) (lex : Lexed s at l) (v : Bool) 
   unfolding item_in
   item_one d x h = rw (h, ← sign_in_lem s at l lex (40 ∷ []), ← c, d)
 
-module _ (is : List ℕ → Bool) (i a : Bool) (ha : a ≡ (is (67 ∷ 72 ∷ 65 ∷ 82 ∷ 65 ∷ 67 ∷ 84 ∷ 69 ∷ 82 ∷ []) || is (67 ∷ 72 ∷ 65 ∷ 82 ∷ []))) where
-  pub attr_character : a ≡ true → A.Means (M.Variable CharacterType) ≡ attribute_by i is
-  unfolding attribute_by
-  attr_character e = rw (← ha, e)
-
-  module _ (na : a ≡ false) (b : Bool) (hb : b ≡ is (70 ∷ 73 ∷ 88 ∷ 69 ∷ 68 ∷ [])) where
-    pub attr_fixed : b ≡ true → A.Means (M.Variable FixedType) ≡ attribute_by i is
-    unfolding attribute_by
-    attr_fixed e = rw (← ha, na, ← hb, e)
-
-    module _ (nb : b ≡ false) (j : Bool) (hj : j ≡ i) where
-      module _ (d : Bool) (hd : d ≡ is (66 ∷ 85 ∷ 73 ∷ 76 ∷ 84 ∷ 73 ∷ 78 ∷ [])) (tj : j ≡ true) where
-        pub attr_builtin : d ≡ true → A.Means M.BuiltinName ≡ attribute_by i is
-        unfolding attribute_by
-        attr_builtin e = rw (← ha, na, ← hb, nb, ← hj, tj, ← hd, e)
-
-        pub attr_missing : d ≡ false → A.Missing ≡ attribute_by i is
-        unfolding attribute_by
-        attr_missing e = rw (← ha, na, ← hb, nb, ← hj, tj, ← hd, e)
-
-      module _ (d : Bool) (hd : d ≡ is (69 ∷ 78 ∷ 84 ∷ 82 ∷ 89 ∷ [])) (fj : j ≡ false) where
-        pub attr_entry : d ≡ true → A.Means M.EntryOnly ≡ attribute_by i is
-        unfolding attribute_by
-        attr_entry e = rw (← ha, na, ← hb, nb, ← hj, fj, ← hd, e)
-
-        pub attr_none : d ≡ false → A.Missing ≡ attribute_by i is
-        unfolding attribute_by
-        attr_none e = rw (← ha, na, ← hb, nb, ← hj, fj, ← hd, e)
-
 -- the same tests on the definition's token
 attribute_same : (i : Bool) (is js : List ℕ → Bool) → ((w : List ℕ) → is w ≡ js w) → attribute_by i is ≡ attribute_by i js
 unfolding attribute_by
 attribute_same i is js h = rw (h (67 ∷ 72 ∷ 65 ∷ 82 ∷ 65 ∷ 67 ∷ 84 ∷ 69 ∷ 82 ∷ []), h (67 ∷ 72 ∷ 65 ∷ 82 ∷ []), h (70 ∷ 73 ∷ 88 ∷ 69 ∷ 68 ∷ []), h (66 ∷ 85 ∷ 73 ∷ 76 ∷ 84 ∷ 73 ∷ 78 ∷ []), h (69 ∷ 78 ∷ 84 ∷ 82 ∷ 89 ∷ []))
 
 module _ (s : List ℕ) (x : Expected) (i : Bool) where
-  pub itemized_refused : (w : Why) (p : ℕ) → x ≡ Refused w p → I.Refused w p ≡ itemized s x i
+  pub itemized_refused : (w : Why) (p : ℕ) → x ≡ Refused w p → Err (w, p) ≡ itemized s x i
   unfolding itemized
   itemized_refused w p e = rw e
 
-  module _ (q : ℕ) (e : x ≡ Past q) (l : Lexeme) (lex : Lexed s q l) (a : Attribute) (h : a ≡ attribute_by i (is_word_in s l)) where
+  module _ (q : ℕ) (e : x ≡ Past q) (l : Lexeme) (lex : Lexed s q l) (a : Option Meaning) (h : a ≡ attribute_by i (is_word_in s l)) where
     attribute_there : attribute_by i (worded (token_at mixed s q).token) ≡ a
     attribute_there = sym (h ∙ attribute_same i (is_word_in s l) (worded (token_at mixed s q).token) (word_in s q l lex))
 
-    pub itemized_means : (m : Meaning) → a ≡ A.Means m → I.Means m l.to ≡ itemized s x i
+    pub itemized_means : (m : Meaning) → a ≡ Some m → Ok (m, l.to) ≡ itemized s x i
     unfolding itemized
     itemized_means m f = rw (e, attribute_there, f, lex.to)
 
-    pub itemized_missing : a ≡ A.Missing → I.Refused Syntax l.from ≡ itemized s x i
+    pub itemized_missing : a ≡ None → Err (Syntax, l.from) ≡ itemized s x i
     unfolding itemized
     itemized_missing f = rw (e, attribute_there, f, lex.from)
 
@@ -477,7 +439,7 @@ module _ (s : List ℕ) (e x y : Expected) (f : x ≡ then_word (82 ∷ 69 ∷ 8
   opened : y ≡ wide
   opened = rw f at g
 
-  pub type_refused : (w : Why) (p : ℕ) → y ≡ Refused w p → T.Refused w p ≡ type_from s (then_sign (40 ∷ []) s (then_word (82 ∷ 69 ∷ 84 ∷ 85 ∷ 82 ∷ 78 ∷ 83 ∷ []) s e))
+  pub type_refused : (w : Why) (p : ℕ) → y ≡ Refused w p → Err (w, p) ≡ type_from s (then_sign (40 ∷ []) s (then_word (82 ∷ 69 ∷ 84 ∷ 85 ∷ 82 ∷ 78 ∷ 83 ∷ []) s e))
   unfolding type_from
   type_refused w p h = rw (← opened, h)
 
@@ -485,25 +447,25 @@ module _ (s : List ℕ) (e x y : Expected) (f : x ≡ then_word (82 ∷ 69 ∷ 8
     characters : (is_worded (67 ∷ 72 ∷ 65 ∷ 82 ∷ 65 ∷ 67 ∷ 84 ∷ 69 ∷ 82 ∷ []) (token_at mixed s q).token || is_worded (67 ∷ 72 ∷ 65 ∷ 82 ∷ []) (token_at mixed s q).token) ≡ a
     characters = sym (rw (word_in s q l lex (67 ∷ 72 ∷ 65 ∷ 82 ∷ 65 ∷ 67 ∷ 84 ∷ 69 ∷ 82 ∷ []), word_in s q l lex (67 ∷ 72 ∷ 65 ∷ 82 ∷ [])) at ha)
 
-    pub type_character : a ≡ true → T.Is CharacterType l.to ≡ type_from s (then_sign (40 ∷ []) s (then_word (82 ∷ 69 ∷ 84 ∷ 85 ∷ 82 ∷ 78 ∷ 83 ∷ []) s e))
+    pub type_character : a ≡ true → Ok (CharacterType, l.to) ≡ type_from s (then_sign (40 ∷ []) s (then_word (82 ∷ 69 ∷ 84 ∷ 85 ∷ 82 ∷ 78 ∷ 83 ∷ []) s e))
     unfolding type_from
     type_character d = rw (← opened, h, characters, d, lex.to)
 
     module _ (na : a ≡ false) (b : Bool) (hb : b ≡ is_word_in s l (70 ∷ 73 ∷ 88 ∷ 69 ∷ 68 ∷ [])) where
-      pub type_fixed : b ≡ true → T.Is FixedType l.to ≡ type_from s (then_sign (40 ∷ []) s (then_word (82 ∷ 69 ∷ 84 ∷ 85 ∷ 82 ∷ 78 ∷ 83 ∷ []) s e))
+      pub type_fixed : b ≡ true → Ok (FixedType, l.to) ≡ type_from s (then_sign (40 ∷ []) s (then_word (82 ∷ 69 ∷ 84 ∷ 85 ∷ 82 ∷ 78 ∷ 83 ∷ []) s e))
       unfolding type_from
       type_fixed d = rw (← opened, h, characters, na, ← word_in s q l lex (70 ∷ 73 ∷ 88 ∷ 69 ∷ 68 ∷ []), ← hb, d, lex.to)
 
-      pub type_missing : b ≡ false → T.Refused Syntax l.from ≡ type_from s (then_sign (40 ∷ []) s (then_word (82 ∷ 69 ∷ 84 ∷ 85 ∷ 82 ∷ 78 ∷ 83 ∷ []) s e))
+      pub type_missing : b ≡ false → Err (Syntax, l.from) ≡ type_from s (then_sign (40 ∷ []) s (then_word (82 ∷ 69 ∷ 84 ∷ 85 ∷ 82 ∷ 78 ∷ 83 ∷ []) s e))
       unfolding type_from
       type_missing d = rw (← opened, h, characters, na, ← word_in s q l lex (70 ∷ 73 ∷ 88 ∷ 69 ∷ 68 ∷ []), ← hb, d, lex.from)
 
-module _ (s : List ℕ) (c : ℕ) (X t : Typed) (h : t ≡ X) where
-  pub head_refused : (w : Why) (p : ℕ) → t ≡ T.Refused w p → R.Refused w p ≡ head_from s c X
+module _ (s : List ℕ) (c : ℕ) (X t : Part ValueType) (h : t ≡ X) where
+  pub head_refused : (w : Why) (p : ℕ) → t ≡ Err (w, p) → R.Refused w p ≡ head_from s c X
   unfolding head_from
   head_refused w p e = rw (← h, e)
 
-  module _ (v : ValueType) (q : ℕ) (e : t ≡ T.Is v q) (x y : Expected) (f : x ≡ expected (41 ∷ []) s q) (g : y ≡ then_sign (59 ∷ []) s x) where
+  module _ (v : ValueType) (q : ℕ) (e : t ≡ Ok (v, q)) (x y : Expected) (f : x ≡ expected (41 ∷ []) s q) (g : y ≡ then_sign (59 ∷ []) s x) where
     pub head_there : (to : ℕ) → y ≡ Past to → R.Is (clause_of S.Procedure O.Body c to v) ≡ head_from s c X
     unfolding head_from head_up_to
     head_there to i = rw (← h, e, ← f, ← g, i)

@@ -29,7 +29,7 @@ use Rattle.statements.specs.declared.Clause.{Clause}
 use Rattle.statements.specs.declared.Read.{Read}
 use Rattle.statements.specs.declared.Read.TheVariants as R
 use Rattle.statements.specs.Clauses.{then_sign, then_word, names_end, names_read, type_by, type_from, head_up_to, head_from, read_procedure, spelled_as, listed_before, parameter_twice, tally_twice, is_read, procedure_tally, Heads}
-use lib.Dec.{leb}
+use lib.Dec.{leb, eqb}
 use borrow.Author.Tests.{le-leb, lt-leb, eq-eqb, ne_eqb}
 use Rattle.entering.specs.declared.Mark.{Mark}
 use Rattle.entering.specs.declared.Mark.TheVariants.{Unmarked, Marked}
@@ -114,13 +114,13 @@ module _ (s : List ℕ) (t : Tally) (from : ℕ) (l : Lexeme) (lex : Lexed s fro
       no_tally false x y = refl
 
   module _ (d : v ≡ true) (x : Expected) (r : Read) (f : x ≡ names_end (41 ∷ []) s (length s) l.to) (e : r ≡ head_from s from (type_from s (then_sign (40 ∷ []) s (then_word (82 ∷ 69 ∷ 84 ∷ 85 ∷ 82 ∷ 78 ∷ 83 ∷ []) s x)))) where
-    pub heads_refused : (w : Why) (p : ℕ) → r ≡ R.Refused w p → Heads s t from (record { tally = t; read = R.Refused w p })
+    pub heads_refused : (w : Why) (p : ℕ) → r ≡ R.Refused w p → Heads s t from (record { tally = t; read = r })
     unfolding procedure_tally
-    heads_refused w p h = record { is = λ k. sym h ∙ head_listed s from l lex v b k d x r f e; tally = refl }
+    heads_refused w p h = record { is = λ k. head_listed s from l lex v b k d x r f e; tally = rw h }
 
-    pub heads_there : (c : Clause) (y : Tally) → r ≡ R.Is c → y ≡ tally_twice (parameter_twice s l.to (length s) l.to) t → Heads s t from (record { tally = y; read = R.Is c })
+    pub heads_there : (c : Clause) (y : Tally) → r ≡ R.Is c → y ≡ tally_twice (parameter_twice s l.to (length s) l.to) t → Heads s t from (record { tally = y; read = r })
     unfolding procedure_tally
-    heads_there c y h g = record { is = λ k. sym h ∙ head_listed s from l lex v b k d x r f e; tally = rw (← sign_in_lem s from l lex (40 ∷ []), ← b, d, ← lex.to) g }
+    heads_there c y h g = record { is = λ k. head_listed s from l lex v b k d x r f e; tally = rw (h, ← sign_in_lem s from l lex (40 ∷ []), ← b, d, ← lex.to) g }
 
 -- ---- parameters that are listed twice
 pub record Before (s : List ℕ) (from to list turns at : ℕ) : Type 0 where
@@ -160,7 +160,7 @@ module _ (s : List ℕ) (from to p q n a : ℕ) (hn : n ≡ to - from) (ha : a �
   unfolding spelled_as
   spelled_so i b f = rw (← ha, ← hn, eq-eqb a n i) f
 
-  pub spelled_not : (a ≡ n → ⊥) → false ≡ spelled_as s from to p q
+  pub spelled_not : (a ≡ n → ⊥) → eqb a n ≡ spelled_as s from to p q
   unfolding spelled_as
   spelled_not i = rw (← ha, ← hn, ne_eqb a n i)
 

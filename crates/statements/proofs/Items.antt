@@ -29,11 +29,9 @@ use Rattle.statements.specs.declared.Opens.TheVariants as O
 use Rattle.statements.specs.declared.Read.{Read}
 use Rattle.statements.specs.declared.Read.TheVariants as R
 use Rattle.statements.specs.declared.Item.{Item}
-use Rattle.statements.specs.declared.Attribute.{Attribute}
-use Rattle.statements.specs.declared.Attribute.TheVariants as A
-use Rattle.statements.specs.declared.Itemized.{Itemized}
-use Rattle.statements.specs.declared.Itemized.TheVariants as I
-use Rattle.statements.specs.Clauses.{read_for, read_up_to, name_end, item_past, list_next, list_end, names_end, is_inside, item_of, item_in, attribute_by, worded, itemized_by, itemized, meaning_in, names_next, names_read, scope_of, clause_in, names_in, Ready, NamedIf, Declares, DeclaresIf}
+use Rattle.std.specs.Prelude.{Some, None, Ok, Err}
+use Rattle.std.specs.declared.option.Option.{Option}
+use Rattle.statements.specs.Clauses.{read_for, read_up_to, name_end, item_past, list_next, list_end, names_end, is_inside, item_of, item_in, attribute_by, worded, Part, itemized_by, itemized, meaning_in, names_next, names_read, scope_of, clause_in, names_in, Ready, NamedIf, Declares, DeclaresIf}
 use lib.ListN.{length-append}
 use Rattle.tokens.specs.Answer.{lexeme_for, kind_of, is_token}
 use Rattle.tokens.proofs.Reach.{token_low, token_past, token_inside}
@@ -107,12 +105,12 @@ module _ (k : P.Scope) (g : P.Meaning) (s : List ℕ) (ds : List P.Declared) (co
 
 -- ---- the attribute
 module _ (t : Token) (from to : ℕ) (found : P.Meaning → ℕ → D.Declaring) (absent : Unit {0} → D.Declaring) where
-  abbrev attributed : Attribute → D.Declaring
-  attributed (A.Means m) = found (meaning_of m) to
-  attributed A.Missing = absent tt
+  abbrev attributed : Option Meaning → D.Declaring
+  attributed (Some m) = found (meaning_of m) to
+  attributed None = absent tt
 
   three : (m : Meaning) (a b c : Bool) → when a (λ _. found (P.variable CharacterType) to) (λ _. when b (λ _. found (P.variable FixedType) to) (λ _. when c (λ _. found (meaning_of m) to) absent))
-      ≡ attributed (cond a (A.Means (M.Variable CharacterType)) (cond b (A.Means (M.Variable FixedType)) (cond c (A.Means m) A.Missing)))
+      ≡ attributed (cond a (Some (M.Variable CharacterType)) (cond b (Some (M.Variable FixedType)) (cond c (Some m) None)))
   three m true b c = refl
   three m false true c = refl
   three m false false true = refl
@@ -125,13 +123,13 @@ module _ (t : Token) (from to : ℕ) (found : P.Meaning → ℕ → D.Declaring)
 
 -- ---- one item
 module _ (o : Owner) (s : List ℕ) (ds : List P.Declared) (next : List P.Declared → ℕ → D.Declaring) where
-  abbrev stepped : Itemized → List Named → D.Declaring
-  stepped (I.Means m e) ns = next (ds ++ D.means (scope_of o) (meaning_of m) ns) e
-  stepped (I.Refused w p) ns = D.undeclared w p (ds ++ D.means (scope_of o) (P.variable FixedType) ns)
+  abbrev stepped : Part Meaning → List Named → D.Declaring
+  stepped (Ok (m, e)) ns = next (ds ++ D.means (scope_of o) (meaning_of m) ns) e
+  stepped (Err (w, p)) ns = D.undeclared w p (ds ++ D.means (scope_of o) (P.variable FixedType) ns)
 
-  stepped_by : (a : Attribute) (ns : List Named) (from to : ℕ) → attributed nothing from to (λ m e. next (ds ++ D.means (scope_of o) m ns) e) (λ _. D.undeclared Syntax from (ds ++ D.means (scope_of o) (P.variable FixedType) ns)) a ≡ stepped (itemized_by a from to) ns
-  stepped_by (A.Means m) ns from to = refl
-  stepped_by A.Missing ns from to = refl
+  stepped_by : (a : Option Meaning) (ns : List Named) (from to : ℕ) → attributed nothing from to (λ m e. next (ds ++ D.means (scope_of o) m ns) e) (λ _. D.undeclared Syntax from (ds ++ D.means (scope_of o) (P.variable FixedType) ns)) a ≡ stepped (itemized_by a from to) ns
+  stepped_by (Some m) ns from to = refl
+  stepped_by None ns from to = refl
 
   names_then : (ns : List Named) (e : ℕ) → D.declare_names mixed (scope_of o) s ds ns e next ≡ stepped (itemized s (Past e) (is_inside o)) ns
   unfolding D.declare_names itemized
@@ -191,7 +189,7 @@ module _ (d s t₀ : List ℕ) (o : Owner) (x₀ : Tally) (r : Ready d s t₀ x�
     unfolding D.declare_from read_for
     items_none k = let z : turns ≡ 0 = omega arith in declares from (D.undeclared Syntax at h.done) t (record { tally = x; read = R.Refused Syntax at }) (rw z at h.left) h.entered refl
 
-    module _ (k : 0 < turns) (i : Item) (hi : i ≡ item_in s at) (y : Itemized) (hy : y ≡ itemized s i.to (is_inside o)) (m : Meaning) (hm : m ≡ meaning_in y)
+    module _ (k : 0 < turns) (i : Item) (hi : i ≡ item_in s at) (y : Part Meaning) (hy : y ≡ itemized s i.to (is_inside o)) (m : Meaning) (hm : m ≡ meaning_in y)
         (u : List ℕ) (z : Tally) (size : length u ≡ length t) (b : Entered d t x (book_all x.member (D.means (scope_of o) (meaning_of m) (names_read s i.most i.names))) u z) where
       turned : stepped o s h.done (D.declare_next mixed s (D.declare_from mixed (scope_of o) s (turns - 1))) y (names_read s i.most i.names) ≡ D.declare_from mixed (scope_of o) s (length s) [] from
       turned = rw (hy, hi) (sym (declare_turn o s turns h.done at k) ∙ h.left)
@@ -199,11 +197,11 @@ module _ (d s t₀ : List ℕ) (o : Owner) (x₀ : Tally) (r : Ready d s t₀ x�
       more : Entered d t₀ x₀ (book_all x₀.member (h.done ++ D.means (scope_of o) (meaning_of m) (names_read s i.most i.names))) u z
       more = entered_more d t₀ t u x₀ x z h.done (D.means (scope_of o) (meaning_of m) (names_read s i.most i.names)) h.entered b
 
-      pub items_refused : (w : Why) (p : ℕ) → y ≡ I.Refused w p → Declares d s t₀ x₀ o from u (record { tally = z; read = R.Refused w p })
+      pub items_refused : (w : Why) (p : ℕ) → y ≡ Err (w, p) → Declares d s t₀ x₀ o from u (record { tally = z; read = R.Refused w p })
       unfolding read_for
       items_refused w p e = declares from (D.undeclared w p (h.done ++ D.means (scope_of o) (P.variable FixedType) (names_read s i.most i.names))) u (record { tally = z; read = R.Refused w p }) (rw e at turned) (rw (hm, e) at more) refl
 
-      module _ (g : Meaning) (e : ℕ) (j : y ≡ I.Means g e) (l : Lexeme) (lex : Lexed s e l) (v : Bool) (c : v ≡ is_sign_in s l (44 ∷ [])) where
+      module _ (g : Meaning) (e : ℕ) (j : y ≡ Ok (g, e)) (l : Lexeme) (lex : Lexed s e l) (v : Bool) (c : v ≡ is_sign_in s l (44 ∷ [])) where
         both : Entered d t₀ x₀ (book_all x₀.member (h.done ++ D.means (scope_of o) (meaning_of g) (names_read s i.most i.names))) u z
         both = rw (hm, j) at more
 
@@ -236,12 +234,12 @@ module _ (d s t₀ : List ℕ) (o : Owner) (x₀ : Tally) where
     pub if_none : turns ≤ 0 → DeclaresIf d s t₀ x₀ o from t (record { tally = x; read = R.Refused Syntax at })
     if_none k = record { is = λ r. items_none d s t₀ o x₀ r from t x at turns (h.is r) k }
 
-    module _ (k : 0 < turns) (i : Item) (hi : i ≡ item_in s at) (y : Itemized) (hy : y ≡ itemized s i.to (is_inside o)) (m : Meaning) (hm : m ≡ meaning_in y)
+    module _ (k : 0 < turns) (i : Item) (hi : i ≡ item_in s at) (y : Part Meaning) (hy : y ≡ itemized s i.to (is_inside o)) (m : Meaning) (hm : m ≡ meaning_in y)
         (u : List ℕ) (z : Tally) (size : length u ≡ length t) (b : NamedIf d s t x o (book_all x.member (D.means (scope_of o) (meaning_of m) (names_read s i.most i.names))) u z) where
-      pub if_refused : (w : Why) (p : ℕ) → y ≡ I.Refused w p → DeclaresIf d s t₀ x₀ o from u (record { tally = z; read = R.Refused w p })
+      pub if_refused : (w : Why) (p : ℕ) → y ≡ Err (w, p) → DeclaresIf d s t₀ x₀ o from u (record { tally = z; read = R.Refused w p })
       if_refused w p e = record { is = λ r. items_refused d s t₀ o x₀ r from t x at turns (h.is r) k i hi y hy m hm u z size (b.is (items_ready d s t₀ o x₀ r from t x at turns (h.is r))) w p e }
 
-      module _ (g : Meaning) (e : ℕ) (j : y ≡ I.Means g e) (l : Lexeme) (lex : Lexed s e l) (v : Bool) (c : v ≡ is_sign_in s l (44 ∷ [])) where
+      module _ (g : Meaning) (e : ℕ) (j : y ≡ Ok (g, e)) (l : Lexeme) (lex : Lexed s e l) (v : Bool) (c : v ≡ is_sign_in s l (44 ∷ [])) where
         pub if_more : v ≡ true → ItemizingIf d s t₀ o x₀ from u z l.to (turns - 1)
         if_more f = record { is = λ r. items_more d s t₀ o x₀ r from t x at turns (h.is r) k i hi y hy m hm u z size (b.is (items_ready d s t₀ o x₀ r from t x at turns (h.is r))) g e j l lex v c f; size = size ∙ h.size }
 

@@ -27,21 +27,13 @@ use Rattle.expressions.specs.declared.NamedAt.{NamedAt}
 use Rattle.expressions.specs.declared.NamedAt.TheVariants as N
 use Rattle.expressions.specs.Check.{is_spelled, expected, is_worded, expected_word, named_for, end_for}
 use Rattle.rows.specs.declared.Statement.{Statement}
-use Rattle.entering.specs.declared.Meaning.TheVariants as M
 use Rattle.statements.specs.declared.Opens.{Opens}
-use Rattle.statements.specs.declared.Keyword.{Keyword}
-use Rattle.statements.specs.declared.Keyword.TheVariants as K
 use Rattle.statements.specs.declared.Read.TheVariants as R
 use Rattle.statements.specs.declared.Each.{Each}
 use Rattle.statements.specs.declared.Each.TheVariants as Ea
-use Rattle.statements.specs.declared.Itemized.{Itemized}
-use Rattle.statements.specs.declared.Itemized.TheVariants as I
-use Rattle.statements.specs.Clauses.{other_by, keyword_by, clause_of, read_up_to, then_sign, then_word, then_expression, bound_past, bounds_past, name_end, rescan_past, member_past, item_past, list_next, list_end, names_end, meaning_in}
+use Rattle.statements.specs.Clauses.{clause_of, read_up_to, then_sign, then_word, then_expression, bound_past, bounds_past, name_end, rescan_past, member_past, item_past, list_next, list_end}
 
 -- ---- one answer after the other
-pub meaning_none : (x : Itemized) (w : Why) (p : ℕ) → x ≡ I.Refused w p → M.Variable FixedType ≡ meaning_in x
-meaning_none x w p e = rw e
-
 pub name_there : (x : NamedAt) (R : Reading Named) (from to : ℕ) → x ≡ named_for R → x ≡ N.Is from to → Past to ≡ name_end R
 unfolding name_end
 name_there x (read n) from to h k = let z : to ≡ n.to = cc in rw z
@@ -88,12 +80,6 @@ module _ (s : List ℕ) (e : Expected) where
     word_refused w p h = rw h
 
 -- ---- tests on a token
-pub either_first : (x a b : Bool) → x ≡ a → x ≡ true → true ≡ (a || b)
-either_first x a b e h = rw (← e, h)
-
-pub either_second : (x y a b : Bool) → x ≡ a → x ≡ false → y ≡ b → y ≡ (a || b)
-either_second x y a b e h k = rw (← e, h) k
-
 module _ (s : List ℕ) (at : ℕ) (l : Lexeme) (lex : Lexed s at l) where
   pub word_in : (w : List ℕ) → is_word_in s l w ≡ is_worded w (token_at mixed s at).token
   unfolding is_word_in
@@ -139,65 +125,6 @@ module _ (W : Str.String) (w : List ℕ) (e : bytes_of W ≡ w) where
   word_spelled (sign x) = refl
   word_spelled nothing = refl
   word_spelled wrong = refl
-
--- ---- which word begins a statement
-module _ (is : List ℕ → Bool) (a : Bool) (ha : a ≡ is (73 ∷ 70 ∷ [])) where
-  pub is_if : a ≡ true → K.If ≡ keyword_by is
-  unfolding keyword_by
-  is_if e = rw (← ha, e)
-
-  module _ (na : a ≡ false) (b : Bool) (hb : b ≡ is (68 ∷ 79 ∷ [])) where
-    pub is_do : b ≡ true → K.Do ≡ keyword_by is
-    unfolding keyword_by
-    is_do e = rw (← ha, na, ← hb, e)
-
-    module _ (nb : b ≡ false) (c : Bool) (hc : c ≡ is (71 ∷ 79 ∷ 84 ∷ 79 ∷ [])) where
-      pub is_goto : c ≡ true → K.Goto ≡ keyword_by is
-      unfolding keyword_by
-      is_goto e = rw (← ha, na, ← hb, nb, ← hc, e)
-
-      module _ (nc : c ≡ false) (d : Bool) (hd : d ≡ is (71 ∷ 79 ∷ [])) where
-        pub is_go : d ≡ true → K.Go ≡ keyword_by is
-        unfolding keyword_by
-        is_go e = rw (← ha, na, ← hb, nb, ← hc, nc, ← hd, e)
-
-        pub is_rest : d ≡ false → (k : Keyword) → k ≡ other_by is → k ≡ keyword_by is
-        unfolding keyword_by
-        is_rest e k h = rw (← ha, na, ← hb, nb, ← hc, nc, ← hd, e) h
-
-module _ (is : List ℕ → Bool) (a : Bool) (ha : a ≡ is (73 ∷ 78 ∷ 67 ∷ 76 ∷ 85 ∷ 68 ∷ 69 ∷ [])) where
-  pub is_include_lem : a ≡ true → K.Include ≡ other_by is
-  unfolding other_by
-  is_include_lem e = rw (← ha, e)
-
-  module _ (na : a ≡ false) (b : Bool) (hb : b ≡ (is (65 ∷ 67 ∷ 84 ∷ 73 ∷ 86 ∷ 65 ∷ 84 ∷ 69 ∷ []) || is (65 ∷ 67 ∷ 84 ∷ []))) where
-    pub is_activate : b ≡ true → K.Activate ≡ other_by is
-    unfolding other_by
-    is_activate e = rw (← ha, na, ← hb, e)
-
-    module _ (nb : b ≡ false) (c : Bool) (hc : c ≡ (is (68 ∷ 69 ∷ 65 ∷ 67 ∷ 84 ∷ 73 ∷ 86 ∷ 65 ∷ 84 ∷ 69 ∷ []) || is (68 ∷ 69 ∷ 65 ∷ 67 ∷ 84 ∷ []))) where
-      pub is_deactivate : c ≡ true → K.Deactivate ≡ other_by is
-      unfolding other_by
-      is_deactivate e = rw (← ha, na, ← hb, nb, ← hc, e)
-
-      module _ (nc : c ≡ false) (d : Bool) (hd : d ≡ is (82 ∷ 69 ∷ 84 ∷ 85 ∷ 82 ∷ 78 ∷ [])) where
-        pub is_return : d ≡ true → K.Return ≡ other_by is
-        unfolding other_by
-        is_return e = rw (← ha, na, ← hb, nb, ← hc, nc, ← hd, e)
-
-        module _ (nd : d ≡ false) (f : Bool) (hf : f ≡ (is (68 ∷ 69 ∷ 67 ∷ 76 ∷ 65 ∷ 82 ∷ 69 ∷ []) || is (68 ∷ 67 ∷ 76 ∷ []))) where
-          pub is_declare_lem : f ≡ true → K.Declare ≡ other_by is
-          unfolding other_by
-          is_declare_lem e = rw (← ha, na, ← hb, nb, ← hc, nc, ← hd, nd, ← hf, e)
-
-          module _ (nf : f ≡ false) (g : Bool) (hg : g ≡ (is (80 ∷ 82 ∷ 79 ∷ 67 ∷ 69 ∷ 68 ∷ 85 ∷ 82 ∷ 69 ∷ []) || is (80 ∷ 82 ∷ 79 ∷ 67 ∷ []))) where
-            pub is_procedure_lem : g ≡ true → K.Procedure ≡ other_by is
-            unfolding other_by
-            is_procedure_lem e = rw (← ha, na, ← hb, nb, ← hc, nc, ← hd, nd, ← hf, nf, ← hg, e)
-
-            pub is_other : g ≡ false → K.Other ≡ other_by is
-            unfolding other_by
-            is_other e = rw (← ha, na, ← hb, nb, ← hc, nc, ← hd, nd, ← hf, nf, ← hg, e)
 
 -- ---- BY and TO
 module _ (s w : List ℕ) (e : Expected) where
@@ -303,18 +230,3 @@ module _ (w : List ℕ) (j : Each) (s : List ℕ) where
 
         pub listing_done : v ≡ false → (y : Expected) → y ≡ expected w s e → y ≡ list_end w j s (length s) from
         listing_done d y f = f ∙ (rw (i, ← sign_in_lem s e l lex (44 ∷ []), ← c, d) at turned)
-
--- names alone
-module _ (w s : List ℕ) (from turns at : ℕ) (h : Listing w Ea.Name s from turns at) (k : 0 < turns) (x : Expected) (a : x ≡ name_end (name_at mixed s at)) where
-  item : x ≡ item_past Ea.Name s at
-  item = item_plain s at Ea.Name x a refl
-
-  pub naming_refused : (y : Why) (p : ℕ) → x ≡ Refused y p → Refused y p ≡ names_end w s (length s) from
-  naming_refused = listing_refused w Ea.Name s from turns at h k x item
-
-  module _ (e : ℕ) (i : x ≡ Past e) (l : Lexeme) (lex : Lexed s e l) (v : Bool) (c : v ≡ is_sign_in s l (44 ∷ [])) where
-    pub naming_more : v ≡ true → Listing w Ea.Name s from (turns - 1) l.to
-    naming_more = listing_more w Ea.Name s from turns at h k x item e i l lex v c
-
-    pub naming_done : v ≡ false → (y : Expected) → y ≡ expected w s e → y ≡ names_end w s (length s) from
-    naming_done = listing_done w Ea.Name s from turns at h k x item e i l lex v c

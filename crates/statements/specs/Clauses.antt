@@ -1,6 +1,8 @@
 -- What the answers about a statement stand for: the clause that the definition reads, with the statement itself forgotten.
 -- `Again` reads it again, from where the answer says.
-use Rattle.std.specs.Prelude.{ℕ, zero, suc, ◌+◌, ◌-◌, ◌≤◌, Bool, true, false, cond, ◌&&◌, ◌||◌, List, [], ◌∷◌, ◌≡◌, leb, eqb, length}
+use Rattle.std.specs.Prelude.{ℕ, zero, suc, ◌+◌, ◌-◌, ◌≤◌, Bool, true, false, cond, ◌&&◌, ◌||◌, List, [], ◌∷◌, ◌≡◌, leb, eqb, length, Some, None, Ok, Err}
+use Rattle.std.specs.declared.option.Option.{Option}
+use Rattle.std.specs.declared.result.Result.{Result}
 use Rattle.definition.specs.Bytes.{mixed, folded}
 use Rattle.definition.specs.Choice.{when}
 use Rattle.definition.specs.Text.{bytes_of}
@@ -9,6 +11,7 @@ use Rattle.definition.specs.Expressions.{Reading, read, refused, then, expect_wo
 use Rattle.definition.specs.Statements as D
 use Rattle.definition.specs.Program as P
 use Rattle.definition.specs.Lists.{part, same}
+use Rattle.definition.specs.declared.Why.{Why}
 use Rattle.definition.specs.declared.Why.TheVariants.{Syntax}
 use Rattle.definition.specs.declared.ValueType.{ValueType}
 use Rattle.definition.specs.declared.ValueType.TheVariants.{FixedType, CharacterType}
@@ -36,12 +39,6 @@ use Rattle.statements.specs.declared.Each.{Each}
 use Rattle.statements.specs.declared.Each.TheVariants as Ea
 use Rattle.statements.specs.declared.Declaring.{Declaring}
 use Rattle.statements.specs.declared.Item.{Item}
-use Rattle.statements.specs.declared.Attribute.{Attribute}
-use Rattle.statements.specs.declared.Attribute.TheVariants as A
-use Rattle.statements.specs.declared.Itemized.{Itemized}
-use Rattle.statements.specs.declared.Itemized.TheVariants as I
-use Rattle.statements.specs.declared.Typed.{Typed}
-use Rattle.statements.specs.declared.Typed.TheVariants as T
 
 -- ---- the words that begin statements, by a test on their spellings
 unfoldable pub other_by : (List ℕ → Bool) → Keyword
@@ -192,43 +189,47 @@ item_in s at =
     (item_of at 1 (name_end (name_at mixed s at)))
 
 -- the attribute that a word is, by a test on its spellings
-unfoldable pub attribute_by : Bool → (List ℕ → Bool) → Attribute
+unfoldable pub attribute_by : Bool → (List ℕ → Bool) → Option Meaning
 attribute_by inside is =
-    cond (is (bytes_of "CHARACTER") || is (bytes_of "CHAR")) (A.Means (M.Variable CharacterType))
-    (cond (is (bytes_of "FIXED")) (A.Means (M.Variable FixedType))
-    (cond inside (cond (is (bytes_of "BUILTIN")) (A.Means M.BuiltinName) A.Missing)
-    (cond (is (bytes_of "ENTRY")) (A.Means M.EntryOnly) A.Missing)))
+    cond (is (bytes_of "CHARACTER") || is (bytes_of "CHAR")) (Some (M.Variable CharacterType))
+    (cond (is (bytes_of "FIXED")) (Some (M.Variable FixedType))
+    (cond inside (cond (is (bytes_of "BUILTIN")) (Some M.BuiltinName) None)
+    (cond (is (bytes_of "ENTRY")) (Some M.EntryOnly) None)))
 
 abbrev pub worded : Token → List ℕ → Bool
 worded t w = is_worded w t
 
-abbrev pub itemized_by : Attribute → ℕ → ℕ → Itemized
-itemized_by (A.Means m) from to = I.Means m to
-itemized_by A.Missing from to = I.Refused Syntax from
+-- a part of a statement that was read, with the place past it, or why it is wrong, and where
+abbrev pub Part : Type 0 → Type 0
+Part A = Result (A × ℕ) (Why × ℕ)
 
-unfoldable pub itemized : List ℕ → Expected → Bool → Itemized
+abbrev pub itemized_by : Option Meaning → ℕ → ℕ → Part Meaning
+itemized_by (Some m) from to = Ok (m, to)
+itemized_by None from to = Err (Syntax, from)
+
+unfoldable pub itemized : List ℕ → Expected → Bool → Part Meaning
 itemized s (Past e) inside = itemized_by (attribute_by inside (worded (token_at mixed s e).token)) (token_at mixed s e).from (token_at mixed s e).to
-itemized s (Refused w p) inside = I.Refused w p
+itemized s (Refused w p) inside = Err (w, p)
 
-abbrev pub meaning_in : Itemized → Meaning
-meaning_in (I.Means m e) = m
-meaning_in (I.Refused w p) = M.Variable FixedType
+abbrev pub meaning_in : Part Meaning → Meaning
+meaning_in (Ok x) = x.0
+meaning_in (Err x) = M.Variable FixedType
 
 -- ---- PROCEDURE
-abbrev pub type_by : Bool → Bool → ℕ → ℕ → Typed
-type_by character fixed from to = cond character (T.Is CharacterType to) (cond fixed (T.Is FixedType to) (T.Refused Syntax from))
+abbrev pub type_by : Bool → Bool → ℕ → ℕ → Part ValueType
+type_by character fixed from to = cond character (Ok (CharacterType, to)) (cond fixed (Ok (FixedType, to)) (Err (Syntax, from)))
 
-unfoldable pub type_from : List ℕ → Expected → Typed
+unfoldable pub type_from : List ℕ → Expected → Part ValueType
 type_from s (Past q) = type_by (is_worded (bytes_of "CHARACTER") (token_at mixed s q).token || is_worded (bytes_of "CHAR") (token_at mixed s q).token) (is_worded (bytes_of "FIXED") (token_at mixed s q).token) (token_at mixed s q).from (token_at mixed s q).to
-type_from s (Refused w p) = T.Refused w p
+type_from s (Refused w p) = Err (w, p)
 
 unfoldable pub head_up_to : ValueType → ℕ → Expected → Read
 head_up_to v c (Past to) = R.Is (clause_of S.Procedure O.Body c to v)
 head_up_to v c (Refused w p) = R.Refused w p
 
-unfoldable pub head_from : List ℕ → ℕ → Typed → Read
-head_from s c (T.Is v q) = head_up_to v c (then_sign (bytes_of ";") s (expected (bytes_of ")") s q))
-head_from s c (T.Refused w p) = R.Refused w p
+unfoldable pub head_from : List ℕ → ℕ → Part ValueType → Read
+head_from s c (Ok (v, q)) = head_up_to v c (then_sign (bytes_of ";") s (expected (bytes_of ")") s q))
+head_from s c (Err (w, p)) = R.Refused w p
 
 -- ---- what the definition's answer about a declaration says
 abbrev pub clause_in : D.Declaring → Reading D.Clause

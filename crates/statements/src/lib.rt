@@ -1,5 +1,6 @@
 // What each statement is, from behind its first word to behind its semicolon, or of an IF to behind THEN.
 // Parts: statements of one clause, DECLARE, PROCEDURE.
+// A loop that goes from token to token has no more turns than there are bytes; they are counted down, as the definition does.
 #![tactic(auto)]
 
 ghost use Rattle.std.specs.Prelude.{◌≡◌, ◌||◌, true, false, ◌∷◌, [], length};
@@ -82,10 +83,7 @@ pub struct Declaring {
 fn is_either(s: &[u8], t: Lexeme, long: &[u8], short: &[u8]) -> bool
     ensures { result ≡ (is_word_in s.now t long.now || is_word_in s.now t short.now) }
 {
-    if is_word(s, t, long) {
-        return true;
-    }
-    is_word(s, t, short)
+    is_word(s, t, long) || is_word(s, t, short)
 }
 
 // The words that may stand outside procedures alone, or in them alone, or in lists alone.
@@ -231,8 +229,7 @@ fn do_bounds(s: &[u8], e: Expected) -> Expected
 fn name_past(s: &[u8], at: usize) -> Expected
     ensures { result ≡ C.name_end (name_at mixed s.now at) }
 {
-    let n = name_at(s, at);
-    match n {
+    match name_at(s, at) {
         NamedAt::Is(_, to) => Expected::Past(to),
         NamedAt::Refused(w, p) => Expected::Refused(w, p),
     }
@@ -261,8 +258,7 @@ fn goto_clause(s: &[u8], at: usize) -> Read
 fn go_clause(s: &[u8], at: usize) -> Read
     ensures { result ≡ C.read_for S.Goto (token_at mixed s.now at).to FixedType (C.go_clause s.now at) }
 {
-    let e = expect_word(s, at, b"TO");
-    match e {
+    match expect_word(s, at, b"TO") {
         Expected::Past(q) => goto_clause(s, q),
         Expected::Refused(w, p) => Read::Refused(w, p),
     }
@@ -310,27 +306,21 @@ pub fn past_rescan(s: &[u8], at: usize) -> usize
     at
 }
 
-// Items with commas between them, and the semicolon.
-fn name_list(s: &[u8], from: usize, each: Each) -> Expected
-    ensures { result ≡ C.list_end (bytes_of ";") each s.now (length s.now) from }
+// Items with commas between them, and behind them `close`: the place past it.
+fn name_list(s: &[u8], from: usize, each: Each, close: &[u8]) -> Expected
+    ensures { result ≡ C.list_end close.now each s.now (length s.now) from }
 {
     let mut at = from;
-    let mut turns = s.len();
-    while 0 < turns {
-        turns -= 1;
-        let e = list_item(s, at, each);
-        match e {
+    for left in (0..s.len()).rev() {
+        match list_item(s, at, each) {
             Expected::Past(q) => {
                 let t = token_at(s, q);
-                if is_sign(s, t, b",") {
-                    at = t.to;
-                } else {
-                    return expect_sign(s, q, b";");
+                if !is_sign(s, t, b",") {
+                    return expect_sign(s, q, close);
                 }
+                at = t.to;
             }
-            Expected::Refused(w, p) => {
-                return Expected::Refused(w, p);
-            }
+            Expected::Refused(w, p) => return Expected::Refused(w, p),
         }
     }
     Expected::Refused(Why::Syntax, at)
@@ -359,54 +349,28 @@ pub fn plain_clause(s: &[u8], k: Keyword, t: Lexeme, in_body: bool) -> Read
             Statement::Include,
             Opens::Nothing,
             at,
-            name_list(s, at, Each::Member),
+            name_list(s, at, Each::Member, b";"),
         ),
         Keyword::Activate => read_up_to(
             Statement::Activate,
             Opens::Nothing,
             at,
-            name_list(s, at, Each::Activation),
+            name_list(s, at, Each::Activation, b";"),
         ),
         Keyword::Deactivate => read_up_to(
             Statement::Deactivate,
             Opens::Nothing,
             at,
-            name_list(s, at, Each::Name),
+            name_list(s, at, Each::Name, b";"),
         ),
         Keyword::Return => return_clause(s, at),
-        Keyword::Declare => Read::Refused(Why::Syntax, t.from),
-        Keyword::Procedure => Read::Refused(Why::Syntax, t.from),
-        Keyword::Other => Read::Refused(Why::Syntax, t.from),
+        Keyword::Declare | Keyword::Procedure | Keyword::Other => {
+            Read::Refused(Why::Syntax, t.from)
+        }
     }
 }
 
 // ---- DECLARE
-
-// Names in parentheses, from behind `(`: the place past `)`.
-fn names_in(s: &[u8], from: usize) -> Expected
-    ensures { result ≡ C.names_end (bytes_of ")") s.now (length s.now) from }
-{
-    let mut at = from;
-    let mut turns = s.len();
-    while 0 < turns {
-        turns -= 1;
-        let e = name_past(s, at);
-        match e {
-            Expected::Past(q) => {
-                let t = token_at(s, q);
-                if is_sign(s, t, b",") {
-                    at = t.to;
-                } else {
-                    return expect_sign(s, q, b")");
-                }
-            }
-            Expected::Refused(w, p) => {
-                return Expected::Refused(w, p);
-            }
-        }
-    }
-    Expected::Refused(Why::Syntax, at)
-}
 
 // Declares the name at a place, or those in parentheses, as far as they can be read.
 fn declare_names(
@@ -422,23 +386,17 @@ fn declare_names(
 {
     let mut tally = t0;
     let mut at = x.names;
-    let mut turns = x.most;
-    while 0 < turns {
-        turns -= 1;
-        let n = name_at(s, at);
-        match n {
+    for left in (0..x.most).rev() {
+        match name_at(s, at) {
             NamedAt::Is(from, to) => {
                 tally = declare(deck, s, names, tally, Spelling { from, to }, owner, meaning);
                 let t = token_at(s, to);
-                if is_sign(s, t, b",") {
-                    at = t.to;
-                } else {
+                if !is_sign(s, t, b",") {
                     return tally;
                 }
+                at = t.to;
             }
-            NamedAt::Refused(_, _) => {
-                return tally;
-            }
+            NamedAt::Refused(_, _) => return tally,
         }
     }
     tally
@@ -460,7 +418,7 @@ fn item_at(s: &[u8], at: usize) -> Item
         return Item {
             names: t.to,
             most: s.len(),
-            to: names_in(s, t.to),
+            to: name_list(s, t.to, Each::Name, b")"),
         };
     }
     Item {
@@ -468,12 +426,6 @@ fn item_at(s: &[u8], at: usize) -> Item
         most: 1,
         to: name_past(s, at),
     }
-}
-
-#[derive(Clone, Copy)]
-enum Attribute {
-    Means(Meaning),
-    Missing,
 }
 
 pub fn is_inside(owner: Owner) -> bool
@@ -485,58 +437,51 @@ pub fn is_inside(owner: Owner) -> bool
     }
 }
 
-// ENTRY stands outside procedures, BUILTIN inside.
-fn attribute_at(s: &[u8], t: Lexeme, owner: Owner) -> Attribute
+// What the attribute that a token is says. ENTRY stands outside procedures, BUILTIN inside.
+fn attribute_at(s: &[u8], t: Lexeme, owner: Owner) -> Option<Meaning>
     ensures { result ≡ C.attribute_by (C.is_inside owner) (is_word_in s.now t) }
 {
     if is_either(s, t, b"CHARACTER", b"CHAR") {
-        return Attribute::Means(Meaning::Variable(ValueType::CharacterType));
+        return Some(Meaning::Variable(ValueType::CharacterType));
     }
     if is_word(s, t, b"FIXED") {
-        return Attribute::Means(Meaning::Variable(ValueType::FixedType));
+        return Some(Meaning::Variable(ValueType::FixedType));
     }
     if is_inside(owner) {
         if is_word(s, t, b"BUILTIN") {
-            return Attribute::Means(Meaning::BuiltinName);
+            return Some(Meaning::BuiltinName);
         }
-        return Attribute::Missing;
+        return None;
     }
     if is_word(s, t, b"ENTRY") {
-        return Attribute::Means(Meaning::EntryOnly);
+        return Some(Meaning::EntryOnly);
     }
-    Attribute::Missing
+    None
 }
 
-// What an item is: its meaning and the place past its attribute, or why it is wrong.
-#[derive(Clone, Copy)]
-enum Itemized {
-    Means(Meaning, usize),
-    Refused(Why, usize),
-}
-
-fn item_means(s: &[u8], x: Item, owner: Owner) -> Itemized
+// The meaning of an item and the place past its attribute, or why it is wrong, and where.
+fn item_means(s: &[u8], x: Item, owner: Owner) -> Result<(Meaning, usize), (Why, usize)>
     ensures { result ≡ C.itemized s.now x.to (C.is_inside owner) }
 {
-    let to = x.to;
-    match to {
+    match x.to {
         Expected::Past(e) => {
             let t = token_at(s, e);
-            let a = attribute_at(s, t, owner);
-            match a {
-                Attribute::Means(m) => Itemized::Means(m, t.to),
-                Attribute::Missing => Itemized::Refused(Why::Syntax, t.from),
-            }
+            let Some(m) = attribute_at(s, t, owner) else {
+                return Err((Why::Syntax, t.from));
+            };
+            Ok((m, t.to))
         }
-        Expected::Refused(w, p) => Itemized::Refused(w, p),
+        Expected::Refused(w, p) => Err((w, p)),
     }
 }
 
-fn meaning_of(x: Itemized) -> Meaning
+// A wrong item counts as a variable.
+fn meaning_of(x: Result<(Meaning, usize), (Why, usize)>) -> Meaning
     ensures { result ≡ C.meaning_in x }
 {
     match x {
-        Itemized::Means(m, _) => m,
-        Itemized::Refused(_, _) => Meaning::Variable(ValueType::FixedType),
+        Ok((m, _)) => m,
+        Err(_) => Meaning::Variable(ValueType::FixedType),
     }
 }
 
@@ -553,18 +498,14 @@ pub fn declare_clause(
 {
     let mut tally = t0;
     let mut at = from;
-    let mut turns = s.len();
-    while 0 < turns {
-        turns -= 1;
+    for left in (0..s.len()).rev() {
         let x = item_at(s, at);
         let y = item_means(s, x, owner);
         tally = declare_names(deck, s, names, tally, owner, x, meaning_of(y));
         match y {
-            Itemized::Means(_, e) => {
+            Ok((_, e)) => {
                 let t = token_at(s, e);
-                if is_sign(s, t, b",") {
-                    at = t.to;
-                } else {
+                if !is_sign(s, t, b",") {
                     let read = read_up_to(
                         Statement::Declare,
                         Opens::Nothing,
@@ -573,8 +514,9 @@ pub fn declare_clause(
                     );
                     return Declaring { tally, read };
                 }
+                at = t.to;
             }
-            Itemized::Refused(w, p) => {
+            Err((w, p)) => {
                 return Declaring {
                     tally,
                     read: Read::Refused(w, p),
@@ -594,10 +536,7 @@ fn is_spelled_as(s: &[u8], t: Lexeme, x: Spelling) -> bool
     ensures { result ≡ C.spelled_as s.now x.from x.to t.from t.to }
 {
     let n = length_of(x);
-    if width(t) == n {
-        return is_one_name(s, t.from, s, x.from, n);
-    }
-    false
+    width(t) == n && is_one_name(s, t.from, s, x.from, n)
 }
 
 // Whether the name x is among those from a place on, before its own place.
@@ -605,9 +544,7 @@ fn is_listed_before(s: &[u8], list: usize, x: Spelling) -> bool
     ensures { result ≡ C.listed_before s.now x.from x.to (length s.now) list }
 {
     let mut at = list;
-    let mut turns = s.len();
-    while 0 < turns {
-        turns -= 1;
+    for left in (0..s.len()).rev() {
         let t = token_at(s, at);
         if x.from <= t.from {
             return false;
@@ -626,53 +563,40 @@ fn parameters(s: &[u8], tally: Tally, list: usize) -> Tally
     ensures { result ≡ C.tally_twice (C.parameter_twice s.now list (length s.now) list) tally }
 {
     let mut at = list;
-    let mut turns = s.len();
-    while 0 < turns {
-        turns -= 1;
+    for left in (0..s.len()).rev() {
         let t = token_at(s, at);
-        if is_listed_before(
-            s,
-            list,
-            Spelling {
-                from: t.from,
-                to: t.to,
-            },
-        ) {
+        let x = Spelling {
+            from: t.from,
+            to: t.to,
+        };
+        if is_listed_before(s, list, x) {
             return with_second(tally, t.from);
         }
         let comma = token_at(s, t.to);
-        if is_sign(s, comma, b",") {
-            at = comma.to;
-        } else {
+        if !is_sign(s, comma, b",") {
             return tally;
         }
+        at = comma.to;
     }
     tally
 }
 
 // The type that a procedure returns, and the place past it.
-#[derive(Clone, Copy)]
-enum Typed {
-    Is(ValueType, usize),
-    Refused(Why, usize),
-}
-
-fn returned_type(s: &[u8], e: Expected) -> Typed
+fn returned_type(s: &[u8], e: Expected) -> Result<(ValueType, usize), (Why, usize)>
     ensures { result ≡ C.type_from s.now (C.then_sign (bytes_of "(") s.now (C.then_word (bytes_of "RETURNS") s.now e)) }
 {
-    let open = then_sign(s, then_word(s, e, b"RETURNS"), b"(");
-    match open {
+    match then_sign(s, then_word(s, e, b"RETURNS"), b"(") {
         Expected::Past(q) => {
             let t = token_at(s, q);
             if is_either(s, t, b"CHARACTER", b"CHAR") {
-                return Typed::Is(ValueType::CharacterType, t.to);
+                return Ok((ValueType::CharacterType, t.to));
             }
             if is_word(s, t, b"FIXED") {
-                return Typed::Is(ValueType::FixedType, t.to);
+                return Ok((ValueType::FixedType, t.to));
             }
-            Typed::Refused(Why::Syntax, t.from)
+            Err((Why::Syntax, t.from))
         }
-        Expected::Refused(w, p) => Typed::Refused(w, p),
+        Expected::Refused(w, p) => Err((w, p)),
     }
 }
 
@@ -680,22 +604,18 @@ fn returned_type(s: &[u8], e: Expected) -> Typed
 fn procedure_head(s: &[u8], e: Expected, from: usize) -> Read
     ensures { result ≡ C.head_from s.now from (C.type_from s.now (C.then_sign (bytes_of "(") s.now (C.then_word (bytes_of "RETURNS") s.now e))) }
 {
-    let t = returned_type(s, e);
-    match t {
-        Typed::Is(value_type, q) => {
-            let end = then_sign(s, expect_sign(s, q, b")"), b";");
-            match end {
-                Expected::Past(to) => Read::Is(Clause {
-                    statement: Statement::Procedure,
-                    opens: Opens::Body,
-                    content: from,
-                    to,
-                    value_type,
-                }),
-                Expected::Refused(w, p) => Read::Refused(w, p),
-            }
-        }
-        Typed::Refused(w, p) => Read::Refused(w, p),
+    match returned_type(s, e) {
+        Ok((value_type, q)) => match then_sign(s, expect_sign(s, q, b")"), b";") {
+            Expected::Past(to) => Read::Is(Clause {
+                statement: Statement::Procedure,
+                opens: Opens::Body,
+                content: from,
+                to,
+                value_type,
+            }),
+            Expected::Refused(w, p) => Read::Refused(w, p),
+        },
+        Err((w, p)) => Read::Refused(w, p),
     }
 }
 
@@ -705,16 +625,13 @@ pub fn procedure_clause(s: &[u8], tally: Tally, from: usize) -> Declaring
 {
     let t = token_at(s, from);
     if is_sign(s, t, b"(") {
-        let read = procedure_head(s, names_in(s, t.to), from);
+        let read = procedure_head(s, name_list(s, t.to, Each::Name, b")"), from);
         return match read {
-            Read::Is(c) => Declaring {
+            Read::Is(_) => Declaring {
                 tally: parameters(s, tally, t.to),
-                read: Read::Is(c),
+                read,
             },
-            Read::Refused(w, p) => Declaring {
-                tally,
-                read: Read::Refused(w, p),
-            },
+            Read::Refused(_, _) => Declaring { tally, read },
         };
     }
     Declaring {

@@ -1,17 +1,15 @@
 -- Each way out is one law of `Reading`, whose premises `search` finds in what the code has shown.
-use Rattle.definition.specs.Expressions.{primitive as primitive_of}
-use Rattle.expressions.specs.Check.{end_for}
-use Rattle.expressions.proofs.Reading.{chaining_start, chaining_more, chaining_refused, chaining_done, chaining_end, levels_none, levels_more, levels_refused, inside_none, inside_some, arguing_start, arguing_more, arguing_done, arguing_refused, arguing_end, reference_call, reference_name, reference_refused, by_name_lem, by_kind, not_open, open_refused, open_closed, operand_ends}
+use Rattle.expressions.proofs.Reading.{chaining_start, chaining_more, chaining_refused, chaining_done, chaining_end, levels_none, levels_more, levels_refused, inside_none, inside_some, arguing_start, arguing_more, arguing_done, arguing_refused, arguing_end, reference_call, reference_name, reference_refused, by_name_lem, by_kind, is_constant, is_none, not_open, open_refused, open_closed, operand_ends}
 use Rattle.expressions.proofs.+expression.Goals as goal
 
-pub arguments-loop-turns-init : goal.arguments-loop-turns-init
-arguments-loop-turns-init t c = arguing_start _ _ _
+pub arguments-loop-turn-init : goal.arguments-loop-turn-init
+arguments-loop-turn-init t c = arguing_start _ _ _
 
-pub arguments-loop-turns-preserved : goal.arguments-loop-turns-preserved
-arguments-loop-turns-preserved t c = search arguing_more
+pub arguments-loop-turn-preserved : goal.arguments-loop-turn-preserved
+arguments-loop-turn-preserved t c = search arguing_more
 
-pub arguments-returns-else-is_sign : goal.arguments-returns-else-is_sign
-arguments-returns-else-is_sign t c = search arguing_done
+pub arguments-returns-then-not-is_sign : goal.arguments-returns-then-not-is_sign
+arguments-returns-then-not-is_sign t c = search arguing_done
 
 pub arguments-returns-in-Refused : goal.arguments-returns-in-Refused
 arguments-returns-in-Refused t c = search arguing_refused
@@ -19,11 +17,11 @@ arguments-returns-in-Refused t c = search arguing_refused
 pub arguments-returns : goal.arguments-returns
 arguments-returns t c = search arguing_end
 
-pub chain-loop-turns-init : goal.chain-loop-turns-init
-chain-loop-turns-init t c = chaining_start _ _ _ _
+pub chain-loop-turn-init : goal.chain-loop-turn-init
+chain-loop-turn-init t c = chaining_start _ _ _ _
 
-pub chain-loop-turns-preserved : goal.chain-loop-turns-preserved
-chain-loop-turns-preserved t c = search chaining_more
+pub chain-loop-turn-preserved : goal.chain-loop-turn-preserved
+chain-loop-turn-preserved t c = search chaining_more
 
 pub chain-returns-in-Refused : goal.chain-returns-in-Refused
 chain-returns-in-Refused t c = search chaining_refused
@@ -65,27 +63,13 @@ pub primitive-returns-in-Word : goal.primitive-returns-in-Word
 primitive-returns-in-Word t c = search by_name_lem
 
 pub primitive-returns-in-Integer : goal.primitive-returns-in-Integer
-unfolding primitive_of end_for
-primitive-returns-in-Integer t c = search by_kind
-
-pub primitive-returns-in-String : goal.primitive-returns-in-String
-unfolding primitive_of end_for
-primitive-returns-in-String t c = search by_kind
-
-pub primitive-returns-in-Bits : goal.primitive-returns-in-Bits
-unfolding primitive_of end_for
-primitive-returns-in-Bits t c = search by_kind
+primitive-returns-in-Integer t c = search is_constant
 
 pub primitive-returns-in-Sign : goal.primitive-returns-in-Sign
 primitive-returns-in-Sign t c = search by_kind
 
 pub primitive-returns-in-Nothing : goal.primitive-returns-in-Nothing
-unfolding primitive_of end_for
-primitive-returns-in-Nothing t c = search by_kind
-
-pub primitive-returns-in-Wrong : goal.primitive-returns-in-Wrong
-unfolding primitive_of end_for
-primitive-returns-in-Wrong t c = search by_kind
+primitive-returns-in-Nothing t c = search is_none
 
 pub reference-returns-then-is_sign : goal.reference-returns-then-is_sign
 reference-returns-then-is_sign t c = search reference_call

@@ -28,14 +28,8 @@ decreases-primitive l = 32 * l.left + 5
 abbrev pub decreases-reference : goal.decreases-reference
 decreases-reference l = 32 * l.left + 4
 
-abbrev pub invariant-arguments-loop-turns : goal.invariant-arguments-loop-turns
-invariant-arguments-loop-turns l = Arguing (inside_of l.left l.s l.p) l.s l.from l.turns l.at
+abbrev pub invariant-arguments-loop-turn : goal.invariant-arguments-loop-turn
+invariant-arguments-loop-turn l = Arguing (inside_of l.left l.s l.p) l.s l.from l.turn l.at
 
-abbrev pub decreases-arguments-loop-turns : goal.decreases-arguments-loop-turns
-decreases-arguments-loop-turns l = l.turns
-
-abbrev pub invariant-chain-loop-turns : goal.invariant-chain-loop-turns
-invariant-chain-loop-turns l = Chaining l.level (levels_in l.left l.s l.level) l.s l.from l.turns l.at
-
-abbrev pub decreases-chain-loop-turns : goal.decreases-chain-loop-turns
-decreases-chain-loop-turns l = l.turns
+abbrev pub invariant-chain-loop-turn : goal.invariant-chain-loop-turn
+invariant-chain-loop-turn l = Chaining l.level (levels_in l.left l.s l.level) l.s l.from l.turn l.at

@@ -1,20 +1,14 @@
 -- The first sign that stands there, or none.
-use Rattle.std.proofs.Common.{refl}
-use mathlib.Core.Bool.{true, false}
-use mathlib.Core.List.{◌∷◌, []}
-use Rattle.definition.specs.Expressions.{infix_of}
-use Rattle.expressions.specs.Check.{infix_at}
-use Rattle.expressions.proofs.Laws.{told}
+use Rattle.std.proofs.Common.{arith}
+use Rattle.std.proofs.lemmas.Grind.{common_steps}
+use Rattle.expressions.proofs.Laws.{product_tests}
 use Rattle.expressions.proofs.product_at.Goals as goal
 
 pub returns-then-is_sign : goal.returns-then-is_sign
-unfolding infix_at infix_of
-returns-then-is_sign c = rw (told c.args.s.now c.args.at c.token_at-t.result c.token_at-t.ensures "*" (42 ∷ []) c.is_sign.result true refl c.is_sign.ensures c.if-is_sign.true, c.token_at-t.ensures.to)
+returns-then-is_sign c = rw (product_tests _ _ _ c.token_at-t.ensures) (grind (arith, common_steps))
 
 pub returns-then-is_sign-2 : goal.returns-then-is_sign-2
-unfolding infix_at infix_of
-returns-then-is_sign-2 c = rw (told c.args.s.now c.args.at c.token_at-t.result c.token_at-t.ensures "*" (42 ∷ []) c.is_sign.result false refl c.is_sign.ensures c.if-is_sign.false, told c.args.s.now c.args.at c.token_at-t.result c.token_at-t.ensures "/" (47 ∷ []) c.is_sign-2.result true refl c.is_sign-2.ensures c.if-is_sign-2.true, c.token_at-t.ensures.to)
+returns-then-is_sign-2 c = rw (product_tests _ _ _ c.token_at-t.ensures) (grind (arith, common_steps))
 
 pub returns : goal.returns
-unfolding infix_at infix_of
-returns c = rw (told c.args.s.now c.args.at c.token_at-t.result c.token_at-t.ensures "*" (42 ∷ []) c.is_sign.result false refl c.is_sign.ensures c.if-is_sign.false, told c.args.s.now c.args.at c.token_at-t.result c.token_at-t.ensures "/" (47 ∷ []) c.is_sign-2.result false refl c.is_sign-2.ensures c.if-is_sign-2.false)
+returns c = rw (product_tests _ _ _ c.token_at-t.ensures) (grind (arith, common_steps))

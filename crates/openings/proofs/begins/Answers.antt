@@ -5,5 +5,5 @@ use Rattle.openings.proofs.begins.Goals as goal
 pub returns-then-is_word_kind : goal.returns-then-is_word_kind
 returns-then-is_word_kind c = search begins_word
 
-pub returns : goal.returns
-returns c = search begins_sign
+pub returns-else-is_word_kind : goal.returns-else-is_word_kind
+returns-else-is_word_kind c = search begins_sign

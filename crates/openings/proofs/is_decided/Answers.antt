@@ -2,8 +2,8 @@
 use Rattle.openings.proofs.Laws.{decided_equals, decided_rest}
 use Rattle.openings.proofs.is_decided.Goals as goal
 
-pub returns-then-is_sign : goal.returns-then-is_sign
-returns-then-is_sign c = search decided_equals
+pub returns-then-not-is_sign : goal.returns-then-not-is_sign
+returns-then-not-is_sign c = search decided_rest
 
-pub returns : goal.returns
-returns c = search decided_rest
+pub returns-else-not-is_sign : goal.returns-else-not-is_sign
+returns-else-not-is_sign c = search decided_equals

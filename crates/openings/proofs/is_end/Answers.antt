@@ -1,9 +1,13 @@
 -- In a group, where END is no label and no target.
-use Rattle.openings.proofs.Ends.{end_decided, end_other}
+use Rattle.std.proofs.Common.{arith}
+use Rattle.std.proofs.lemmas.Grind.{common_steps}
+use Rattle.openings.specs.Open.{is_end_in}
 use Rattle.openings.proofs.is_end.Goals as goal
 
 pub returns-then-is_word : goal.returns-then-is_word
-returns-then-is_word c = search end_decided
+unfolding is_end_in
+returns-then-is_word c = grind (arith, common_steps)
 
 pub returns-else-is_word : goal.returns-else-is_word
-returns-else-is_word c = search end_other
+unfolding is_end_in
+returns-else-is_word c = grind (arith, common_steps)

@@ -1,14 +1,14 @@
 use Rattle.openings.proofs.Labelling.{seeking_start, seeking_more, seeking_found, seeking_none, seeking_over}
 use Rattle.openings.proofs.is_label.Goals as goal
 
-pub loop-turns-init : goal.loop-turns-init
-loop-turns-init c = search seeking_start
+pub loop-left-init : goal.loop-left-init
+loop-left-init c = search seeking_start
 
 pub returns-then-is_named_alike : goal.returns-then-is_named_alike
 returns-then-is_named_alike c = search seeking_found
 
-pub loop-turns-preserved : goal.loop-turns-preserved
-loop-turns-preserved c = search seeking_more
+pub loop-left-preserved : goal.loop-left-preserved
+loop-left-preserved c = search seeking_more
 
 pub returns-in-Unmarked : goal.returns-in-Unmarked
 returns-in-Unmarked c = search seeking_none

@@ -5,5 +5,5 @@ use Rattle.openings.proofs.may_name.Goals as goal
 pub returns-then-is_word_kind : goal.returns-then-is_word_kind
 returns-then-is_word_kind c = search may_name_word
 
-pub returns : goal.returns
-returns c = search may_name_none
+pub returns-else-is_word_kind : goal.returns-else-is_word_kind
+returns-else-is_word_kind c = search may_name_none

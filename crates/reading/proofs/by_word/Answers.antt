@@ -1,8 +1,8 @@
 -- One law for each keyword.
-use Rattle.reading.proofs.Wording.{word_if, word_do, word_deep, word_goto, word_go, word_include, word_activate, word_deactivate, word_return, word_other, word_declare, word_procedure}
+use Rattle.reading.proofs.Wording.{word_if, word_do, word_deep, word_alone, word_other, word_declare, word_procedure}
 use Rattle.reading.proofs.by_word.Goals as goal
 
-ruleset words = (word_if, word_do, word_deep, word_goto, word_go, word_include, word_activate, word_deactivate, word_return, word_other, word_declare, word_procedure)
+ruleset words = (word_if, word_do, word_deep, word_alone, word_other, word_declare, word_procedure)
 
 pub returns-then-depth-lt-GROUPS : goal.returns-then-depth-lt-GROUPS
 returns-then-depth-lt-GROUPS c = search words
@@ -23,19 +23,4 @@ pub returns-in-If : goal.returns-in-If
 returns-in-If c = search words
 
 pub returns-in-Goto : goal.returns-in-Goto
-returns-in-Goto c = search words
-
-pub returns-in-Go : goal.returns-in-Go
-returns-in-Go c = search words
-
-pub returns-in-Include : goal.returns-in-Include
-returns-in-Include c = search words
-
-pub returns-in-Activate : goal.returns-in-Activate
-returns-in-Activate c = search words
-
-pub returns-in-Deactivate : goal.returns-in-Deactivate
-returns-in-Deactivate c = search words
-
-pub returns-in-Return : goal.returns-in-Return
-returns-in-Return c = search words
+returns-in-Goto c = search word_alone

@@ -1,11 +1,11 @@
 use Rattle.reading.proofs.Labelling.{labels_start, labels_more, labels_end, labels_last}
 use Rattle.reading.proofs.declare_labels.Goals as goal
 
-pub loop-turns-init : goal.loop-turns-init
-loop-turns-init c = search labels_start
+pub loop-left-init : goal.loop-left-init
+loop-left-init c = search labels_start
 
-pub loop-turns-preserved : goal.loop-turns-preserved
-loop-turns-preserved c = search labels_more
+pub loop-left-preserved : goal.loop-left-preserved
+loop-left-preserved c = search labels_more
 
 pub returns-in-Unmarked : goal.returns-in-Unmarked
 returns-in-Unmarked c = search labels_end

@@ -1,5 +1,5 @@
 -- By what is open.
-use Rattle.reading.proofs.Adding.{leads_program, leads_group, leads_body, leads_then, leads_else}
+use Rattle.reading.proofs.Adding.{leads_program, leads_group, leads_nowhere}
 use Rattle.reading.proofs.lead_in.Goals as goal
 
 pub returns-in-InProgram : goal.returns-in-InProgram
@@ -9,10 +9,4 @@ pub returns-in-InGroup : goal.returns-in-InGroup
 returns-in-InGroup c = search leads_group
 
 pub returns-in-InBody : goal.returns-in-InBody
-returns-in-InBody c = search leads_body
-
-pub returns-in-InThen : goal.returns-in-InThen
-returns-in-InThen c = search leads_then
-
-pub returns-in-InElse : goal.returns-in-InElse
-returns-in-InElse c = search leads_else
+returns-in-InBody c = search leads_nowhere

@@ -2,11 +2,11 @@ use Rattle.std.proofs.Common.{rules}
 use Rattle.reading.proofs.Membering.{loop_start, loop_again as again, loop_out, loop_stop, loop_finish}
 use Rattle.reading.proofs.read_member.Goals as goal
 
-pub loop-turns-init : goal.loop-turns-init
-loop-turns-init c = search (rules, loop_start, c.turns_for-turns.ensures, c.start-st.ensures, c.place16-base.ensures, c.offset.ensures, c.body-s.ensures)
+pub loop-left-init : goal.loop-left-init
+loop-left-init c = search (rules, loop_start, c.turns_for-left.ensures, c.start-st.ensures, c.place16-base.ensures, c.offset.ensures, c.body-s.ensures)
 
-pub loop-turns-preserved : goal.loop-turns-preserved
-loop-turns-preserved c = search (rules, again)
+pub loop-left-preserved : goal.loop-left-preserved
+loop-left-preserved c = search (rules, again)
 
 pub returns-in-Stop : goal.returns-in-Stop
 returns-in-Stop c = search loop_stop

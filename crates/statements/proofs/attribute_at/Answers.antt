@@ -1,21 +1,29 @@
 -- The first that it is.
-use Rattle.statements.proofs.Clauses.{attr_character, attr_fixed, attr_builtin, attr_missing, attr_entry, attr_none}
+use Rattle.std.proofs.Common.{arith}
+use Rattle.std.proofs.lemmas.Grind.{common_steps}
+use Rattle.statements.specs.Clauses.{attribute_by}
 use Rattle.statements.proofs.attribute_at.Goals as goal
 
 pub returns-then-is_either : goal.returns-then-is_either
-returns-then-is_either c = search attr_character
+unfolding attribute_by
+returns-then-is_either c = grind (arith, common_steps)
 
 pub returns-then-is_word : goal.returns-then-is_word
-returns-then-is_word c = search attr_fixed
+unfolding attribute_by
+returns-then-is_word c = grind (arith, common_steps)
 
 pub returns-then-is_word-2 : goal.returns-then-is_word-2
-returns-then-is_word-2 c = search attr_builtin
+unfolding attribute_by
+returns-then-is_word-2 c = grind (arith, common_steps)
 
 pub returns-then-is_inside : goal.returns-then-is_inside
-returns-then-is_inside c = search attr_missing
+unfolding attribute_by
+returns-then-is_inside c = grind (arith, common_steps)
 
 pub returns-then-is_word-3 : goal.returns-then-is_word-3
-returns-then-is_word-3 c = search attr_entry
+unfolding attribute_by
+returns-then-is_word-3 c = grind (arith, common_steps)
 
 pub returns : goal.returns
-returns c = search attr_none
+unfolding attribute_by
+returns c = grind (arith, common_steps)

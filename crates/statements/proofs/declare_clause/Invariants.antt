@@ -2,8 +2,5 @@
 use Rattle.statements.proofs.Items.{ItemizingIf}
 use Rattle.statements.proofs.declare_clause.Given as goal
 
-abbrev pub invariant-loop-turns : goal.invariant-loop-turns
-invariant-loop-turns l = ItemizingIf l.deck l.s l.initial.names l.owner l.initial.tally l.from l.names l.tally l.at l.turns
-
-abbrev pub decreases-loop-turns : goal.decreases-loop-turns
-decreases-loop-turns l = l.turns
+abbrev pub invariant-loop-left : goal.invariant-loop-left
+invariant-loop-left l = ItemizingIf l.deck l.s l.initial.names l.owner l.initial.tally l.from l.names l.tally l.at l.left

@@ -1,14 +1,14 @@
 use Rattle.statements.proofs.Listed.{if_start, if_more, if_done, if_refused, if_none}
 use Rattle.statements.proofs.declare_names.Goals as goal
 
-pub loop-turns-init : goal.loop-turns-init
-loop-turns-init c = search if_start
+pub loop-left-init : goal.loop-left-init
+loop-left-init c = search if_start
 
-pub loop-turns-preserved : goal.loop-turns-preserved
-loop-turns-preserved c = search if_more
+pub loop-left-preserved : goal.loop-left-preserved
+loop-left-preserved c = search if_more
 
-pub returns-else-is_sign : goal.returns-else-is_sign
-returns-else-is_sign c = search if_done
+pub returns-then-not-is_sign : goal.returns-then-not-is_sign
+returns-then-not-is_sign c = search if_done
 
 pub returns-in-Refused : goal.returns-in-Refused
 returns-in-Refused c = search if_refused

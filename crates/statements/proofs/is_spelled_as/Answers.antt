@@ -5,5 +5,5 @@ use Rattle.statements.proofs.is_spelled_as.Goals as goal
 pub returns-then-width-n : goal.returns-then-width-n
 returns-then-width-n c = search spelled_so
 
-pub returns : goal.returns
-returns c = search spelled_not
+pub returns-else-width-n : goal.returns-else-width-n
+returns-else-width-n c = search spelled_not

@@ -1,18 +1,25 @@
 -- The first that it is.
-use Rattle.statements.proofs.Laws.{is_if, is_do, is_goto, is_go, is_rest}
+use Rattle.std.proofs.Common.{arith}
+use Rattle.std.proofs.lemmas.Grind.{common_steps}
+use Rattle.statements.specs.Clauses.{keyword_by}
 use Rattle.statements.proofs.keyword_of.Goals as goal
 
 pub returns-then-is_word : goal.returns-then-is_word
-returns-then-is_word c = search is_if
+unfolding keyword_by
+returns-then-is_word c = grind (arith, common_steps)
 
 pub returns-then-is_word-2 : goal.returns-then-is_word-2
-returns-then-is_word-2 c = search is_do
+unfolding keyword_by
+returns-then-is_word-2 c = grind (arith, common_steps)
 
 pub returns-then-is_word-3 : goal.returns-then-is_word-3
-returns-then-is_word-3 c = search is_goto
+unfolding keyword_by
+returns-then-is_word-3 c = grind (arith, common_steps)
 
 pub returns-then-is_word-4 : goal.returns-then-is_word-4
-returns-then-is_word-4 c = search is_go
+unfolding keyword_by
+returns-then-is_word-4 c = grind (arith, common_steps)
 
 pub returns : goal.returns
-returns c = search is_rest
+unfolding keyword_by
+returns c = grind (arith, common_steps)

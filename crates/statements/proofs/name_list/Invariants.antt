@@ -1,10 +1,6 @@
 -- What is left ends where all of it does.
-use mathlib.Core.List.{◌∷◌, []}
 use Rattle.statements.proofs.Laws.{Listing}
 use Rattle.statements.proofs.name_list.Given as goal
 
-abbrev pub invariant-loop-turns : goal.invariant-loop-turns
-invariant-loop-turns l = Listing (59 ∷ []) l.each l.s l.from l.turns l.at
-
-abbrev pub decreases-loop-turns : goal.decreases-loop-turns
-decreases-loop-turns l = l.turns
+abbrev pub invariant-loop-left : goal.invariant-loop-left
+invariant-loop-left l = Listing l.close l.each l.s l.from l.left l.at

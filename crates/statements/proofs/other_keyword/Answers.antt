@@ -1,24 +1,33 @@
 -- The first that it is.
-use Rattle.statements.proofs.Laws.{is_include_lem, is_activate, is_deactivate, is_return, is_declare_lem, is_procedure_lem, is_other}
+use Rattle.std.proofs.Common.{arith}
+use Rattle.std.proofs.lemmas.Grind.{common_steps}
+use Rattle.statements.specs.Clauses.{other_by}
 use Rattle.statements.proofs.other_keyword.Goals as goal
 
 pub returns-then-is_word : goal.returns-then-is_word
-returns-then-is_word c = search is_include_lem
+unfolding other_by
+returns-then-is_word c = grind (arith, common_steps)
 
 pub returns-then-is_either : goal.returns-then-is_either
-returns-then-is_either c = search is_activate
+unfolding other_by
+returns-then-is_either c = grind (arith, common_steps)
 
 pub returns-then-is_either-2 : goal.returns-then-is_either-2
-returns-then-is_either-2 c = search is_deactivate
+unfolding other_by
+returns-then-is_either-2 c = grind (arith, common_steps)
 
 pub returns-then-is_word-2 : goal.returns-then-is_word-2
-returns-then-is_word-2 c = search is_return
+unfolding other_by
+returns-then-is_word-2 c = grind (arith, common_steps)
 
 pub returns-then-is_either-3 : goal.returns-then-is_either-3
-returns-then-is_either-3 c = search is_declare_lem
+unfolding other_by
+returns-then-is_either-3 c = grind (arith, common_steps)
 
 pub returns-then-is_either-4 : goal.returns-then-is_either-4
-returns-then-is_either-4 c = search is_procedure_lem
+unfolding other_by
+returns-then-is_either-4 c = grind (arith, common_steps)
 
 pub returns : goal.returns
-returns c = search is_other
+unfolding other_by
+returns c = grind (arith, common_steps)

@@ -2,8 +2,5 @@
 use Rattle.statements.proofs.Heads.{Twice}
 use Rattle.statements.proofs.parameters.Given as goal
 
-abbrev pub invariant-loop-turns : goal.invariant-loop-turns
-invariant-loop-turns l = Twice l.s l.list l.turns l.at
-
-abbrev pub decreases-loop-turns : goal.decreases-loop-turns
-decreases-loop-turns l = l.turns
+abbrev pub invariant-loop-left : goal.invariant-loop-left
+invariant-loop-left l = Twice l.s l.list l.left l.at

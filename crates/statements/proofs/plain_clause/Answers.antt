@@ -1,5 +1,5 @@
 -- By the word.
-use Rattle.statements.proofs.Clauses.{plain_if, plain_do, plain_goto, plain_go, plain_include, plain_activate, plain_deactivate, plain_return, plain_declare, plain_procedure, plain_other}
+use Rattle.statements.proofs.Clauses.{plain_if, plain_do, plain_goto, plain_go, plain_include, plain_activate, plain_deactivate, plain_return, plain_none}
 use Rattle.statements.proofs.plain_clause.Goals as goal
 
 pub returns-in-If : goal.returns-in-If
@@ -27,10 +27,4 @@ pub returns-in-Return : goal.returns-in-Return
 returns-in-Return c = search plain_return
 
 pub returns-in-Declare : goal.returns-in-Declare
-returns-in-Declare c = search plain_declare
-
-pub returns-in-Procedure : goal.returns-in-Procedure
-returns-in-Procedure c = search plain_procedure
-
-pub returns-in-Other : goal.returns-in-Other
-returns-in-Other c = search plain_other
+returns-in-Declare c = search plain_none

@@ -5,8 +5,8 @@ use Rattle.statements.proofs.procedure_head.Goals as goal
 pub returns-in-Past : goal.returns-in-Past
 returns-in-Past c = search head_there
 
-pub returns-in-Refused-end : goal.returns-in-Refused-end
-returns-in-Refused-end c = search head_stopped
-
 pub returns-in-Refused : goal.returns-in-Refused
-returns-in-Refused c = search head_refused
+returns-in-Refused c = search head_stopped
+
+pub returns-in-Err : goal.returns-in-Err
+returns-in-Err c = search head_refused
