@@ -102,6 +102,7 @@ pub fn none_running() -> Running
 pub fn is_running(g: Running, p: Place) -> bool
     ensures { result ≡ is_running p.member p.row (on_of g) }
 {
+    // stays: a loop, as the two arrays are read at one place
     for i in g.left..16 {
         if is_here(g.members[i], g.rows[i], p) {
             return true;
@@ -236,6 +237,7 @@ pub fn callee_of(
     };
     let s = body(deck, p.member);
     let part = part_of(rows, starts, p.member);
+    // stays: as; with usize::from the goals of both ends did not close
     let t = token_at(s, row_at(part, p.row).content as usize);
     if is_sign(s, t, b"(") {
         return counted(deck, s, names, count, p, t.to);

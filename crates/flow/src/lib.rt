@@ -77,7 +77,7 @@ fn leads_to(x: Link, n: u16) -> bool
 pub fn frame_of(rows: &[u16], fs: Frames, g: u16) -> Frame
     ensures { result ≡ frame_in rows.now fs g }
 {
-    let d = row_at(rows, g).depth as usize;
+    let d = usize::from(row_at(rows, g).depth);
     if d < 16 && leads_to(fs.items[d].group, g) {
         return fs.items[d];
     }
@@ -89,7 +89,7 @@ pub fn frame_of(rows: &[u16], fs: Frames, g: u16) -> Frame
 pub fn with_frame(rows: &[u16], fs: Frames, g: u16, f: Frame) -> Frames
     ensures { result ≡ frames_with rows.now fs g f }
 {
-    let d = row_at(rows, g).depth as usize;
+    let d = usize::from(row_at(rows, g).depth);
     let mut all = fs;
     if d < 16 {
         all.items[d] = f;
@@ -189,6 +189,7 @@ pub fn behind(rows: &[u16], fs: Frames, n: u16) -> Next
     ensures { result ≡ behind_on rows.now fs (n + 1) n }
 {
     let mut at = n;
+    // stays: as, and no 0..=n; with either the goals of the loop did not close
     for _ in 0..n as usize + 1 {
         match walk_behind(rows, fs, at) {
             Walk::To(x) => return x,

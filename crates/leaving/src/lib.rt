@@ -43,6 +43,7 @@ pub fn with_below(b: Below, member: u16, row: u16) -> Below
 fn row_below(b: Below, member: u16) -> Link
     ensures { result ≡ row_for (below_of b) member }
 {
+    // stays: a loop; a chain of take, rev and find is no plainer
     for i in (0..16).rev() {
         if i < b.count && b.places[i].member == member {
             return Link::To(b.places[i].row);

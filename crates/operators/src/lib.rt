@@ -334,6 +334,7 @@ fn order_at(work: &[u8], u: usize, n: usize, m: usize, pad: u8) -> Order
 fn compared(work: &[u8], u: usize, x: Value, y: Value) -> Result<Order, Why>
     ensures { order_answer result ≡ D.compared (value_in work.now u x) (value_in work.now (top_of u (size_for x)) y) }
 {
+    // stays: a match in a match; tried on the pair (x, y), but where two pairs share an arm no answer can name its facts
     match x {
         Value::Number(_) => numeric_order(work, u, x, y),
         Value::Characters(n) => match y {
