@@ -6,6 +6,7 @@ use mathlib.Core.List.{List, [], ◌∷◌, ◌++◌, append_assoc, append-nil}
 use Prim.Native.Nat.{ℕ, zero, suc, ◌+◌, ◌-◌, ◌<◌, ◌≤◌}
 use Prim.Native.String.{String}
 use native.Mathlib.Omega.{arith}
+use Rattle.std.specs.Prelude.{Option, Some, None}
 use lib.ListN.{length}
 use Rattle.definition.specs.Bytes.{mixed}
 use Rattle.definition.specs.Choice.{when}
@@ -32,8 +33,6 @@ use Rattle.statements.specs.Clauses.{rescan_past}
 use Rattle.statements.proofs.Laws.{word_spelled}
 use Rattle.activating.specs.declared.Listed.{Listed}
 use Rattle.activating.specs.declared.Listed.TheVariants.{Plainly, WithRescan, WithAttributes}
-use Rattle.activating.specs.declared.Following.{Following}
-use Rattle.activating.specs.declared.Following.TheVariants.{NameAt, AtEnd}
 use Rattle.activating.specs.Lists.{past_sign, behind_comma, declared_next, next_in, activity_behind, onward, name_end, set_from}
 use Rattle.activating.specs.Sets.{SetsAll, DeclaresAll, ActivatesAll, DeactivatesAll}
 use Rattle.activating.proofs.Walks.{set_from_lem, set_name}
@@ -221,7 +220,7 @@ module _ (s : List ℕ) where
       (λ g. item again n.to refl (rw c) (rw (past_is n.to, c, g)))
 
   -- ---- DECLARE
-  next_comma : (e : ℕ) → is_sign "," (token_at mixed s e).token ≡ true → declared_next s e ≡ NameAt (token_at mixed s e).to
+  next_comma : (e : ℕ) → is_sign "," (token_at mixed s e).token ≡ true → declared_next s e ≡ Some (token_at mixed s e).to
   unfolding declared_next
   next_comma e c = rw c
 
@@ -233,11 +232,11 @@ module _ (s : List ℕ) where
   unfolding declared_next past_sign
   next_word e w = rw (w.plain ",", w.plain ")")
 
-  comma_next : (e : ℕ) → is_sign "," (token_at mixed s e).token ≡ true → behind_comma s e ≡ NameAt (token_at mixed s e).to
+  comma_next : (e : ℕ) → is_sign "," (token_at mixed s e).token ≡ true → behind_comma s e ≡ Some (token_at mixed s e).to
   unfolding behind_comma
   comma_next e c = rw c
 
-  comma_end : (e : ℕ) → is_sign "," (token_at mixed s e).token ≡ false → behind_comma s e ≡ AtEnd
+  comma_end : (e : ℕ) → is_sign "," (token_at mixed s e).token ≡ false → behind_comma s e ≡ None
   unfolding behind_comma
   comma_end e c = rw c
 
@@ -272,12 +271,12 @@ module _ (s : List ℕ) where
   abbrev Leads : Run → Run → List (List ℕ) → Type 0
   Leads S T ms = (ys : List (List ℕ)) → ((v : World) → T v ≡ all ys v) → (w : World) → S w ≡ all (ms ++ ys) w
 
-  lead_one : (g at : ℕ) (n : Named) → name_at mixed s at ≡ read n → 0 < g → (T U : Run) (ms : List (List ℕ)) (x : Following) → declared_next s n.to ≡ x → ((v : World) → onward x (λ e. sets (g - 1) e) v ≡ T v)
+  lead_one : (g at : ℕ) (n : Named) → name_at mixed s at ≡ read n → 0 < g → (T U : Run) (ms : List (List ℕ)) (x : Option ℕ) → declared_next s n.to ≡ x → ((v : World) → onward x (λ e. sets (g - 1) e) v ≡ T v)
       → Leads T U ms → Leads (sets g at) U (n.spelling ∷ ms)
   unfolding activity_behind next_in
   lead_one g at n e h T U ms x p q l = λ ys i w.
       step_name WithAttributes Rescanned g at n e h w
-      ∙ ap (λ (z : Following). bind (activate_name W.rescanned n.spelling w) λ _ v. onward z (λ y. sets (g - 1) y) v) p
+      ∙ ap (λ (z : Option ℕ). bind (activate_name W.rescanned n.spelling w) λ _ v. onward z (λ y. sets (g - 1) y) v) p
       ∙ bind_same (activate_name W.rescanned n.spelling w) (λ v. onward x (λ y. sets (g - 1) y) v) (λ v. all (ms ++ ys) v) (λ v. q v ∙ l ys i v)
       ∙ sym (all_more W.rescanned n.spelling (ms ++ ys) w)
 
@@ -327,7 +326,7 @@ module _ (s : List ℕ) where
         when_has (λ (T : D.Declaring). HeldD S xs T) (is_sign "," (token_at mixed s n.to).token) (λ _. D.names_at mixed k m s ds f (ns ++ n ∷ []) (token_at mixed s n.to).to K) _
         (λ c. list_so m ds f (ns ++ n ∷ []) (token_at mixed s n.to).to (g - 1) (omega (arith, p, q.0, low, token_up n.to)) S xs K λ ms e j r _ l.
         subst (λ (zs : List Named). HeldD S xs (K zs e)) (sym (append_assoc ns (n ∷ []) ms))
-        (h (n ∷ ms) e j r o (lead_one g at n i low (λ v. sets (g - 1) (token_at mixed s n.to).to v) (λ v. rest j e v) (spelled ms) (NameAt (token_at mixed s n.to).to) (next_comma n.to c) (λ v. refl) l))) λ c.
+        (h (n ∷ ms) e j r o (lead_one g at n i low (λ v. sets (g - 1) (token_at mixed s n.to).to v) (λ v. rest j e v) (spelled ms) (Some (token_at mixed s n.to).to) (next_comma n.to c) (λ v. refl) l))) λ c.
         after_declared S xs (ds ++ D.means k m (ns ++ n ∷ [])) (expect_sign mixed ")" s n.to) (λ e. K (ns ++ n ∷ []) e) λ e l.
         let z : (is_sign ")" (token_at mixed s n.to).token ≡ true) × ((token_at mixed s n.to).to ≡ e) = close_read n.to e l in
         h (n ∷ []) e (g - 1) (omega (arith, p, q.0, low, token_up n.to, z.1)) o
@@ -344,13 +343,13 @@ module _ (s : List ℕ) where
         let sp : D.spellings es ≡ D.spellings ds ++ spelled ns = spellings_more ds m ns in
         when_has (λ (T : D.Declaring). HeldD S (D.spellings ds) T) (is_sign "," (token_at mixed s to).token) (λ _. again es (token_at mixed s to).to) _
         (λ c. declared_more S (λ v. sets j (token_at mixed s to).to v) (D.spellings ds) (spelled ns) (again es (token_at mixed s to).to)
-        (λ ys y w. l wd ys (λ v. ap (λ (z : Following). onward z (λ q. sets j q) v) (comma_next to c) ∙ y v) w)
+        (λ ys y w. l wd ys (λ v. ap (λ (z : Option ℕ). onward z (λ q. sets j q) v) (comma_next to c) ∙ y v) w)
         (subst (λ (zs : List (List ℕ)). HeldD (λ v. sets j (token_at mixed s to).to v) zs (again es (token_at mixed s to).to)) sp (ih es (token_at mixed s to).to (omega (arith, p, token_up e, token_up to))))) λ c.
         after_declared S (D.spellings ds) es (expect_sign mixed ";" s to) (λ q. D.declared (D.clause (P.declare (D.spellings es)) D.opens_nothing q) es) λ q _.
         record {
           names = spelled ns;
           is = ap P.declare sp;
-          does = λ w. l wd [] (λ v. ap (λ (z : Following). onward z (λ y. sets j y) v) (comma_end to c) ∙ sym (all_none W.rescanned v)) w ∙ ap (λ (zs : List (List ℕ)). all zs w) (append-nil (spelled ns));
+          does = λ w. l wd [] (λ v. ap (λ (z : Option ℕ). onward z (λ y. sets j y) v) (comma_end to c) ∙ sym (all_none W.rescanned v)) w ∙ ap (λ (zs : List (List ℕ)). all zs w) (append-nil (spelled ns));
         }) tt
 
     declare_so : (f : ℕ) (ds : List P.Declared) (at g : ℕ) → length s ≤ g + at → HeldD (sets g at) (D.spellings ds) (D.declare_from mixed k s f ds at)

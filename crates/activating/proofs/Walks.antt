@@ -2,12 +2,16 @@
 -- Assumes nothing.
 use mathlib.Core.Path.{◌≡◌, refl, sym, ap, ◌∙◌}
 use mathlib.Core.Bool.{Bool, true, false}
+use mathlib.Core.Logic.{◌⊎◌, inl, inr}
 use mathlib.Core.List.{List, [], ◌∷◌}
-use Prim.Native.Nat.{ℕ, zero, suc, ◌-◌, ◌*◌, ◌<◌, ◌≤◌}
+use Prim.Native.Nat.{ℕ, zero, suc, ◌+◌, ◌-◌, ◌*◌, ◌<◌, ◌≤◌}
+use Prim.Native.String.{String}
 use native.Mathlib.Omega.{arith}
+use Rattle.std.specs.Prelude.{Option, Some, None}
 use lib.ListN.{length}
 use Rattle.definition.specs.Bytes.{mixed, folded}
 use Rattle.definition.specs.Lists.{part}
+use Rattle.definition.specs.Text.{bytes_of}
 use Rattle.definition.specs.Tokens.{token_at}
 use Rattle.definition.specs.World as W
 use Rattle.definition.specs.World.{World, Res, bind}
@@ -26,42 +30,33 @@ use Rattle.outcomes.specs.Texts.{Awake}
 use Rattle.statements.specs.Clauses.{rescan_past}
 use Rattle.activating.specs.declared.Listed.{Listed}
 use Rattle.activating.specs.declared.Listed.TheVariants.{Plainly, WithRescan, WithAttributes}
-use Rattle.activating.specs.declared.Following.{Following}
-use Rattle.activating.specs.declared.Following.TheVariants.{NameAt, AtEnd}
 use Rattle.activating.specs.Lists.{past_sign, behind_comma, declared_next, next_in, activity_behind, onward, name_end, set_from}
 use Rattle.activating.specs.Sets.{awake, outcome, Kept, SetsName, SetsAll}
 
 -- ---- signs and words
 module _ (s : List ℕ) (at : ℕ) (l : Lexeme) (lex : Lexed s at l) (b : Bool) where
-  pub open_there : b ≡ is_sign_in s l (40 ∷ []) → b ≡ true → l.to ≡ past_sign "(" s at
-  unfolding past_sign
-  open_there f g = rw (told s at l lex "(" (40 ∷ []) b true refl f g, lex.to)
+  module _ (bs : List ℕ) (f : b ≡ is_sign_in s l bs) (w : String) (e : bytes_of w ≡ bs) where
+    pub sign_there : b ≡ true → l.to ≡ past_sign w s at
+    unfolding past_sign
+    sign_there g = rw (told s at l lex w bs b true e f g, lex.to)
 
-  pub open_absent : b ≡ is_sign_in s l (40 ∷ []) → b ≡ false → at ≡ past_sign "(" s at
-  unfolding past_sign
-  open_absent f g = rw (told s at l lex "(" (40 ∷ []) b false refl f g)
+    pub sign_absent : b ≡ false → at ≡ past_sign w s at
+    unfolding past_sign
+    sign_absent g = rw (told s at l lex w bs b false e f g)
 
-  pub close_there : b ≡ is_sign_in s l (41 ∷ []) → b ≡ true → l.to ≡ past_sign ")" s at
-  unfolding past_sign
-  close_there f g = rw (told s at l lex ")" (41 ∷ []) b true refl f g, lex.to)
-
-  pub close_absent : b ≡ is_sign_in s l (41 ∷ []) → b ≡ false → at ≡ past_sign ")" s at
-  unfolding past_sign
-  close_absent f g = rw (told s at l lex ")" (41 ∷ []) b false refl f g)
-
-  pub comma_there : b ≡ is_sign_in s l (44 ∷ []) → b ≡ true → NameAt l.to ≡ behind_comma s at
+  pub comma_there : b ≡ is_sign_in s l (44 ∷ []) → b ≡ true → Some l.to ≡ behind_comma s at
   unfolding behind_comma
   comma_there f g = rw (told s at l lex "," (44 ∷ []) b true refl f g, lex.to)
 
-  pub comma_absent : b ≡ is_sign_in s l (44 ∷ []) → b ≡ false → AtEnd ≡ behind_comma s at
+  pub comma_absent : b ≡ is_sign_in s l (44 ∷ []) → b ≡ false → None ≡ behind_comma s at
   unfolding behind_comma
   comma_absent f g = rw (told s at l lex "," (44 ∷ []) b false refl f g)
 
-  pub comma_inside : b ≡ is_sign_in s l (44 ∷ []) → b ≡ true → NameAt l.to ≡ declared_next s at
+  pub comma_inside : b ≡ is_sign_in s l (44 ∷ []) → b ≡ true → Some l.to ≡ declared_next s at
   unfolding declared_next
   comma_inside f g = rw (told s at l lex "," (44 ∷ []) b true refl f g, lex.to)
 
-  pub comma_behind : b ≡ is_sign_in s l (44 ∷ []) → b ≡ false → (p : ℕ) → p ≡ past_sign ")" s at → (a : Lexeme) → Lexed s p a → (y : Following) → y ≡ behind_comma s a.to
+  pub comma_behind : b ≡ is_sign_in s l (44 ∷ []) → b ≡ false → (p : ℕ) → p ≡ past_sign ")" s at → (a : Lexeme) → Lexed s p a → (y : Option ℕ) → y ≡ behind_comma s a.to
       → y ≡ declared_next s at
   unfolding declared_next
   comma_behind f g p h a q y k = rw (told s at l lex "," (44 ∷ []) b false refl f g, ← h, ← q.to) k
@@ -76,23 +71,20 @@ module _ (s : List ℕ) (at : ℕ) (l : Lexeme) (lex : Lexed s at l) (b : Bool) 
     copied_absent g k x h = rw (h, ← L.is_word_lem s at l lex "NORESCAN" (78 ∷ 79 ∷ 82 ∷ 69 ∷ 83 ∷ 67 ∷ 65 ∷ 78 ∷ []) refl, ← f, g)
 
 module _ (k : Listed) (s : List ℕ) (at : ℕ) where
-  pub activity_plain : (x : Activity) → k ≡ Plainly → x ≡ activity_behind k x s at
+  pub activity_given : (x : Activity) → (k ≡ Plainly) ⊎ (k ≡ WithAttributes) → x ≡ activity_behind k x s at
   unfolding activity_behind
-  activity_plain x e = rw e
+  activity_given x (inl e) = rw e
+  activity_given x (inr e) = rw e
 
-  pub activity_declared : (x : Activity) → k ≡ WithAttributes → x ≡ activity_behind k x s at
-  unfolding activity_behind
-  activity_declared x e = rw e
-
-  pub next_plain : (y : Following) → k ≡ Plainly → y ≡ behind_comma s at → y ≡ next_in k s at
+  pub next_plain : (y : Option ℕ) → k ≡ Plainly → y ≡ behind_comma s at → y ≡ next_in k s at
   unfolding next_in
   next_plain y e f = rw e f
 
-  pub next_rescan : (y : Following) (p : ℕ) → k ≡ WithRescan → p ≡ rescan_past s at → y ≡ behind_comma s p → y ≡ next_in k s at
+  pub next_rescan : (y : Option ℕ) (p : ℕ) → k ≡ WithRescan → p ≡ rescan_past s at → y ≡ behind_comma s p → y ≡ next_in k s at
   unfolding next_in
   next_rescan y p e g f = rw (e, ← g) f
 
-  pub next_attribute : (y : Following) → k ≡ WithAttributes → y ≡ declared_next s at → y ≡ next_in k s at
+  pub next_attribute : (y : Option ℕ) → k ≡ WithAttributes → y ≡ declared_next s at → y ≡ next_in k s at
   unfolding next_in
   next_attribute y e f = rw e f
 
@@ -118,22 +110,32 @@ kept_then d t u v n a b = record {
   denotations = λ room. b.denotations (omega (arith, room, a.size)) ∙ a.denotations room;
 }
 
-pub record Setting (d s t₀ : List ℕ) (n : ℕ) (k : Listed) (x : Activity) (from : ℕ) (t : List ℕ) (at turns : ℕ) : Type 0 where
-  pub kept : Kept d t₀ t n
-  pub is : (B : World) → Named d t₀ n B → Awake d t₀ n B → 16 * n ≤ length t₀ → set_from k x s (length s) from B ≡ set_from k x s turns at (awake t n B)
+pub none_if : (o : Option ℕ) → ((e : ℕ) → o ≡ Some e → ⊥) → o ≡ None
+none_if None h = refl
+none_if (Some e) h = absurd (h e refl)
 
-pub setting_start : (d s t : List ℕ) (n : ℕ) (k : Listed) (x : Activity) (from : ℕ) → Setting d s t n k x from t from (length s)
+-- after i names
+pub record Setting (d s t₀ : List ℕ) (n : ℕ) (k : Listed) (x : Activity) (from : ℕ) (t : List ℕ) (at i : ℕ) : Type 0 where
+  pub kept : Kept d t₀ t n
+  pub is : (B : World) → Named d t₀ n B → Awake d t₀ n B → 16 * n ≤ length t₀ → set_from k x s (length s) from B ≡ set_from k x s (length s - i) at (awake t n B)
+
+pub setting_start : (d s t : List ℕ) (n : ℕ) (k : Listed) (x : Activity) (from : ℕ) → Setting d s t n k x from t from 0
 setting_start d s t n k x from = record {
   kept = record { size = refl; identifiers = λ _. refl; denotations = λ _. refl };
-  is = λ B nd aw room. ap (λ (zs : List W.Activity). set_from k x s (length s) from (W.with_tables B.identifiers B.denotations B.values zs B)) aw.activities;
+  is = λ B nd aw room.
+      let e : length s - 0 ≡ length s = omega arith in
+      rw e (ap (λ (zs : List W.Activity). set_from k x s (length s) from (W.with_tables B.identifiers B.denotations B.values zs B)) aw.activities);
 }
 
-module _ (d s t₀ : List ℕ) (n : ℕ) (k : Listed) (x : Activity) (from : ℕ) (t : List ℕ) (at turns : ℕ) (c : Setting d s t₀ n k x from t at turns) where
-  pub setting_done : turns ≤ 0 → SetsAll d s t₀ t n from k x true
+module _ (d s t₀ : List ℕ) (n : ℕ) (k : Listed) (x : Activity) (from : ℕ) (t : List ℕ) (at i : ℕ) (c : Setting d s t₀ n k x from t at i) where
+  abbrev turns : ℕ
+  turns = length s - i
+
+  pub setting_done : length s ≤ i → SetsAll d s t₀ t n from k x true
   unfolding set_from
   setting_done h = let e : turns ≡ 0 = omega arith in record { kept = c.kept; does = record { is = λ B nd aw room. rw e at (c.is B nd aw room) } }
 
-  module _ (h : 0 < turns) (p : ℕ) (hp : p ≡ past_sign "(" s at) (l : Lexeme) (lex : Lexed s p l) (y : Activity) (hy : y ≡ activity_behind k x s l.to) (u : List ℕ) (b : Bool)
+  module _ (lt : i < length s) (p : ℕ) (hp : p ≡ past_sign "(" s at) (l : Lexeme) (lex : Lexed s p l) (y : Activity) (hy : y ≡ activity_behind k x s l.to) (u : List ℕ) (b : Bool)
       (one : SetsName d s t u n l y b) where
     both_kept : Kept d t₀ u n
     both_kept = kept_then d t₀ t u n c.kept one.kept
@@ -154,17 +156,18 @@ module _ (d s t₀ : List ℕ) (n : ℕ) (k : Listed) (x : Activity) (from : ℕ
         (omega (arith, room, c.kept.size))
 
     step : (B : World) → Named d t₀ n B → Awake d t₀ n B → 16 * n ≤ length t₀
-        → set_from k x s (length s) from B ≡ bind (outcome b (awake u n B)) λ _ v. onward (next_in k s l.to) (λ e. set_from k x s (turns - 1) e) v
+        → set_from k x s (length s) from B ≡ bind (outcome b (awake u n B)) λ _ v. onward (next_in k s l.to) (λ e. set_from k x s (length s - (i + 1)) e) v
     step B nd aw room =
-        c.is B nd aw room ∙ set_name k x s turns at (awake t n B) h l.to name_end_lem (folded mixed (part (l.to - l.from) l.from s)) name_spelled
-        ∙ ap (λ (r : Res Why (Unit {0})). bind r λ _ v. onward (next_in k s l.to) (λ e. set_from k x s (turns - 1) e) v) (first B nd aw room)
+        let q : length s - (i + 1) ≡ turns - 1 = omega arith in
+        rw q (c.is B nd aw room ∙ set_name k x s turns at (awake t n B) (omega arith) l.to name_end_lem (folded mixed (part (l.to - l.from) l.from s)) name_spelled
+        ∙ ap (λ (r : Res Why (Unit {0})). bind r λ _ v. onward (next_in k s l.to) (λ e. set_from k x s (turns - 1) e) v) (first B nd aw room))
 
     pub setting_wrong : b ≡ false → SetsAll d s t₀ u n from k x false
     setting_wrong g = record { kept = both_kept; does = record { is = λ B nd aw room. rw g at (step B nd aw room) } }
 
-    module _ (g : b ≡ true) (f : Following) (hf : f ≡ next_in k s l.to) where
-      pub setting_end : f ≡ AtEnd → SetsAll d s t₀ u n from k x true
+    module _ (g : b ≡ true) (f : Option ℕ) (hf : f ≡ next_in k s l.to) where
+      pub setting_end : f ≡ None → SetsAll d s t₀ u n from k x true
       setting_end e = record { kept = both_kept; does = record { is = λ B nd aw room. rw (g, ← hf, e) at (step B nd aw room) } }
 
-      pub setting_on : (q : ℕ) → f ≡ NameAt q → Setting d s t₀ n k x from u q (turns - 1)
+      pub setting_on : (q : ℕ) → f ≡ Some q → Setting d s t₀ n k x from u q (i + 1)
       setting_on q e = record { kept = both_kept; is = λ B nd aw room. rw (g, ← hf, e) at (step B nd aw room) }

@@ -3,7 +3,7 @@
 
 ghost use Rattle.std.specs.Prelude.{◌≡◌};
 ghost use Rattle.names.specs.Table.{denotation_of};
-ghost use Rattle.activating.specs.Lists.{past_sign, behind_comma, declared_next, next_in, activity_behind};
+ghost use Rattle.activating.specs.Lists.{PastSign, behind_comma, declared_next, next_in, activity_behind};
 ghost use Rattle.activating.specs.Sets.{can_wake, SetsName, SetsAll, DeclaresAll, ActivatesAll, DeactivatesAll};
 
 use names::{Activity, Denotation, Found, Name, Owner, find, name_at, put_name};
@@ -15,13 +15,10 @@ use tokens::{Lexeme, is_sign, is_word, token_at, width};
 fn is_active_kind(x: Name) -> bool
     ensures { result ≡ can_wake (denotation_of x.denotation) }
 {
-    let d = x.denotation;
-    match d {
-        Denotation::Variable(_) => true,
-        Denotation::EntryName(_) => true,
-        Denotation::LabelName(_) => false,
-        Denotation::Builtin => false,
-    }
+    matches!(
+        x.denotation,
+        Denotation::Variable(_) | Denotation::EntryName(_)
+    )
 }
 
 // Sets the activity of a variable or an entry, and says whether the name is one.
@@ -29,29 +26,15 @@ fn activate(deck: &[u8], s: &[u8], names: &mut [u16], count: u16, t: Lexeme, act
     ensures { SetsName deck.now s.now names.old names.new count t act result }
 {
     let found = find(deck, names, count, s, t.from, width(t), Owner::Everyone);
-    match found {
-        Found::Unknown => false,
-        Found::Known(a) => {
-            let x = name_at(names, a);
-            if is_active_kind(x) {
-                let identifier = x.identifier;
-                let owner = x.owner;
-                let denotation = x.denotation;
-                put_name(
-                    names,
-                    a,
-                    Name {
-                        identifier,
-                        owner,
-                        denotation,
-                        activity: act,
-                    },
-                );
-                return true;
-            }
-            false
-        }
+    let Found::Known(a) = found else {
+        return false;
+    };
+    let x = name_at(names, a);
+    if is_active_kind(x) {
+        put_name(names, a, Name { activity: act, ..x });
+        return true;
     }
+    false
 }
 
 // ---- from name to name
@@ -69,8 +52,7 @@ fn activity_at(s: &[u8], at: usize, kind: Listed, act: Activity) -> Activity
     ensures { result ≡ activity_behind kind act s.now at }
 {
     match kind {
-        Listed::Plainly => act,
-        Listed::WithAttributes => act,
+        Listed::Plainly | Listed::WithAttributes => act,
         Listed::WithRescan => {
             let t = token_at(s, at);
             if is_word(s, t, b"NORESCAN") {
@@ -81,57 +63,42 @@ fn activity_at(s: &[u8], at: usize, kind: Listed, act: Activity) -> Activity
     }
 }
 
-// The place past a parenthesis that opens, if one stands there.
-fn past_open(s: &[u8], at: usize) -> usize
-    ensures { result ≡ past_sign "(" s.now at }
+// The place past a sign, if it stands there.
+fn past_sign(s: &[u8], at: usize, sign: &[u8]) -> usize
+    ensures { PastSign sign.now s.now at result }
 {
     let t = token_at(s, at);
-    if is_sign(s, t, b"(") {
+    if is_sign(s, t, sign) {
         return t.to;
     }
     at
 }
 
-fn past_close(s: &[u8], at: usize) -> usize
-    ensures { result ≡ past_sign ")" s.now at }
-{
-    let t = token_at(s, at);
-    if is_sign(s, t, b")") {
-        return t.to;
-    }
-    at
-}
+// ---- the place of the next name, if there is one
 
-// The place of the next name, or that there is none.
-#[derive(Clone, Copy)]
-enum Following {
-    NameAt(usize),
-    AtEnd,
-}
-
-fn behind_comma(s: &[u8], at: usize) -> Following
+fn behind_comma(s: &[u8], at: usize) -> Option<usize>
     ensures { result ≡ behind_comma s.now at }
 {
     let t = token_at(s, at);
     if is_sign(s, t, b",") {
-        return Following::NameAt(t.to);
+        return Some(t.to);
     }
-    Following::AtEnd
+    None
 }
 
 // In DECLARE a comma stands inside parentheses, or behind the attribute.
-fn next_declared(s: &[u8], at: usize) -> Following
+fn next_declared(s: &[u8], at: usize) -> Option<usize>
     ensures { result ≡ declared_next s.now at }
 {
     let t = token_at(s, at);
     if is_sign(s, t, b",") {
-        return Following::NameAt(t.to);
+        return Some(t.to);
     }
-    let attribute = token_at(s, past_close(s, at));
+    let attribute = token_at(s, past_sign(s, at, b")"));
     behind_comma(s, attribute.to)
 }
 
-fn next_name(s: &[u8], at: usize, kind: Listed) -> Following
+fn next_name(s: &[u8], at: usize, kind: Listed) -> Option<usize>
     ensures { result ≡ next_in kind s.now at }
 {
     match kind {
@@ -155,23 +122,15 @@ fn set_all(
     ensures { SetsAll deck.now s.now names.old names.new count from kind act result }
 {
     let mut at = from;
-    let mut turns = s.len();
-    while 0 < turns {
-        turns -= 1;
-        let t = token_at(s, past_open(s, at));
-        if activate(deck, s, names, count, t, activity_at(s, t.to, kind, act)) {
-            let next = next_name(s, t.to, kind);
-            match next {
-                Following::NameAt(e) => {
-                    at = e;
-                }
-                Following::AtEnd => {
-                    return true;
-                }
-            }
-        } else {
+    for _ in 0..s.len() {
+        let t = token_at(s, past_sign(s, at, b"("));
+        if !activate(deck, s, names, count, t, activity_at(s, t.to, kind, act)) {
             return false;
         }
+        let Some(next) = next_name(s, t.to, kind) else {
+            return true;
+        };
+        at = next;
     }
     true
 }

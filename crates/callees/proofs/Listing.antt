@@ -48,11 +48,13 @@ module _ (s : List ℕ) (at : ℕ) (l : Lexeme) (lex : Lexed s at l) (c : Lexeme
   comma : (b : Bool) → r ≡ b → is_sign "," (token_at mixed s (token_at mixed s at).to).token ≡ b
   comma b g = rw lex.to at (told s l.to c y "," (44 ∷ []) r b refl f g)
 
-  pub last_not : r ≡ true → false ≡ not (is_sign "," (token_at mixed s (token_at mixed s at).to).token)
-  last_not g = rw (comma true g)
+  pub last_is : not r ≡ not (is_sign "," (token_at mixed s (token_at mixed s at).to).token)
+  last_is = rw (comma r refl)
 
-  pub last_is : r ≡ false → true ≡ not (is_sign "," (token_at mixed s (token_at mixed s at).to).token)
-  last_is g = rw (comma false g)
+-- ---- what is no parameter
+pub wrong_if : (x : ParameterAt) → ((y : Parameter) → x ≡ P.Is y → ⊥) → x ≡ P.Wrong
+wrong_if (P.Is y) h = absurd (h y refl)
+wrong_if P.Wrong h = refl
 
 -- ---- a name is the bytes of its token
 word_spelled : (k : T.Token) (x y w : List ℕ) → k ≡ token_for (kind_of k) x y → k ≡ T.word w → w ≡ folded mixed x
@@ -213,8 +215,8 @@ module _ (d s t : List ℕ) (c : ℕ) (p : Place) (list : ℕ) where
 
 -- ---- the callee of a body
 module _ (d rows : List ℕ) (starts : Starts) (t : List ℕ) (n : ℕ) (b : Body) where
-  pub callee_none : b ≡ B.Nothing → CalleeOf d rows starts t n b (K.Fails WrongName)
-  callee_none e = record { none = λ f. refl; some = λ p f. absurd (let z : ◌≡◌ {A = ℕ} 0 1 = cc in omega arith) }
+  pub callee_none : ((p : Place) → b ≡ B.At p → ⊥) → CalleeOf d rows starts t n b (K.Fails WrongName)
+  callee_none h = record { none = λ f. refl; some = λ p f. absurd (h p f) }
 
   module _ (p : Place) (e : b ≡ At p) (s : List ℕ) (f : s ≡ body_in d p.member) (own : List ℕ) (u : own ≡ part_in rows starts p.member) (x : Row) (g : x ≡ row_in own p.row) (l : Lexeme) (lex : Lexed s x.content l) (v : Bool) (h : v ≡ is_sign_in s l (40 ∷ [])) where
     open_is : (o : Bool) → v ≡ o → is_sign "(" (token_at mixed s x.content).token ≡ o

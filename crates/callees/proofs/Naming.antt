@@ -6,6 +6,8 @@ use mathlib.Core.List.{List, [], ◌∷◌}
 use Prim.Native.Nat.{ℕ, zero, suc, ◌+◌, ◌-◌, ◌<◌}
 use native.Mathlib.Nat.{add-zero, zero-add}
 use native.Mathlib.Omega.{arith}
+use borrow.Author.Tests.{ne_eqb}
+use lib.Dec.{eqb}
 use lib.ListN.{length, get_or}
 use Rattle.definition.specs.Bytes.{mixed, folded}
 use Rattle.definition.specs.Choice.{when}
@@ -37,20 +39,19 @@ use Rattle.callees.specs.declared.ParameterAt.TheVariants as P
 use Rattle.callees.specs.Shown.{denotations_from, names_world}
 use Rattle.callees.specs.Answer.{meant_for, owner_at, spelled_at, parameter_of, ParameterIs}
 
+-- ---- no name
+pub unknown_if : (f : Found) → ((a : Address) → f ≡ Known a → ⊥) → f ≡ Unknown
+unknown_if (Known a) h = absurd (h a refl)
+unknown_if Unknown h = refl
+
 -- ---- SUBSTR
 pub substr_six : (s : List ℕ) (from n : ℕ) (r : Bool) → n ≡ 6 → r ≡ same (folded mixed (part 6 from s)) (83 ∷ 85 ∷ 66 ∷ 83 ∷ 84 ∷ 82 ∷ []) → r ≡ E.is_substr (folded mixed (part n from s))
 unfolding E.is_substr
 substr_six s from n r e f = f ∙ rw e
 
-pub substr_other : (s : List ℕ) (from n : ℕ) → (n ≡ 6 → ⊥) → false ≡ E.is_substr (folded mixed (part n from s))
+pub substr_other : (s : List ℕ) (from n : ℕ) → (n ≡ 6 → ⊥) → eqb n 6 ≡ E.is_substr (folded mixed (part n from s))
 unfolding E.is_substr
-substr_other s from n h = same_length (folded mixed (part n from s)) (bytes_of "SUBSTR") (λ e. h (sym (length_folded mixed (part n from s) ∙ length_part n from s) ∙ e))
-
-pub substr_some : (b : Bool) → b ≡ true → TheSubstr ≡ cond b TheSubstr NoSuch
-substr_some b e = rw e
-
-pub substr_none : (b : Bool) → b ≡ false → NoSuch ≡ cond b TheSubstr NoSuch
-substr_none b e = rw e
+substr_other s from n h = ne_eqb n 6 h ∙ same_length (folded mixed (part n from s)) (bytes_of "SUBSTR") (λ e. h (sym (length_folded mixed (part n from s) ∙ length_part n from s) ∙ e))
 
 -- ---- addresses are numbers of the table
 ids_length : (d t : List ℕ) (a n : ℕ) → length (identifiers_from d t a n) ≡ n

@@ -6,7 +6,6 @@ use mathlib.Core.List.{List}
 use Prim.Native.Nat.{ℕ, zero, suc, ◌+◌, ◌-◌, ◌<◌, ◌≤◌}
 use native.Mathlib.Numerals.{add-one}
 use native.Mathlib.Omega.{arith}
-use borrow.Author.Tests.{eq-eqb, ne_eqb}
 use lib.Dec.{eqb}
 use lib.ListN.{length, get_or, set}
 use lib.Seq.{get_or-set_same, get_or-set_other}
@@ -14,17 +13,6 @@ use Rattle.definition.specs.Calls.{is_running}
 use Rattle.names.specs.declared.Place.{Place}
 use Rattle.callees.specs.declared.Running.{Running}
 use Rattle.callees.specs.Answer.{on_from, on_of, StartedIs}
-
-pub here_both : (m r : ℕ) (p : Place) → m ≡ p.member → r ≡ p.row → true ≡ (eqb m p.member && eqb r p.row)
-here_both m r p e f = rw (eq-eqb m p.member e, eq-eqb r p.row f)
-
-pub here_member : (m r : ℕ) (p : Place) → m ≡ p.member → (r ≡ p.row → ⊥) → false ≡ (eqb m p.member && eqb r p.row)
-here_member m r p e f = rw (eq-eqb m p.member e, ne_eqb r p.row f)
-
-pub here_none : (m r : ℕ) (p : Place) → (m ≡ p.member → ⊥) → false ≡ (eqb m p.member && eqb r p.row)
-here_none m r p e = rw (ne_eqb m p.member e)
-
-pub ruleset heres = (here_both, here_member, here_none)
 
 -- ---- what is left to look at decides
 pub record Looking (g : Running) (p : Place) (i : ℕ) : Type 0 where
@@ -57,19 +45,19 @@ on_set ms rs j x y i (suc k) h =
     rw (get_or-set_other ms j i x 0 (λ e. omega (arith, e)), get_or-set_other rs j i y 0 (λ e. omega (arith, e)), on_set ms rs j x y (suc i) k (omega arith))
 
 module _ (g : Running) (p : Place) where
-  pub starts_none : g.left < 1 → StartedIs g p g
+  pub starts_none : g.left ≡ 0 → StartedIs g p g
   starts_none h = record { left = omega arith; on = λ a b. absurd (omega (arith, h, a)) }
 
-  pub starts_past : 16 < g.left → (r : Running) → r.left ≡ g.left - 1 → StartedIs g p r
+  pub starts_past : 16 ≤ g.left - 1 → (r : Running) → r.left ≡ g.left - 1 → StartedIs g p r
   starts_past h r e = record { left = e; on = λ a b. absurd (omega (arith, h, b)) }
 
-  pub starts_one : (n : ℕ) → n ≡ g.left → 1 ≤ n → length g.members ≡ 16 → length g.rows ≡ 16 → n ≤ 16
-      → StartedIs g p (record { left = n - 1; members = set g.members (n - 1) p.member; rows = set g.rows (n - 1) p.row })
+  pub starts_one : length g.members ≡ 16 → length g.rows ≡ 16
+      → StartedIs g p (record { left = g.left - 1; members = set g.members (g.left - 1) p.member; rows = set g.rows (g.left - 1) p.row })
   unfolding on_from
-  starts_one n e a x y b = record {
-    left = rw e;
+  starts_one x y = record {
+    left = refl;
     on = λ h k.
-        let f : 16 - (n - 1) ≡ suc (16 - n) = omega arith in
-        let q : suc (n - 1) ≡ n = omega arith in
-        rw (f, get_or-set_same g.members (n - 1) p.member 0 (omega arith), get_or-set_same g.rows (n - 1) p.row 0 (omega arith), q, on_set g.members g.rows (n - 1) p.member p.row n (16 - n) (omega arith), e);
+        let f : 16 - (g.left - 1) ≡ suc (16 - g.left) = omega arith in
+        let q : suc (g.left - 1) ≡ g.left = omega arith in
+        rw (f, get_or-set_same g.members (g.left - 1) p.member 0 (omega arith), get_or-set_same g.rows (g.left - 1) p.row 0 (omega arith), q, on_set g.members g.rows (g.left - 1) p.member p.row g.left (16 - g.left) (omega arith));
   }

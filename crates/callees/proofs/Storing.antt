@@ -53,31 +53,10 @@ use Rattle.callees.specs.declared.Parameter.{Parameter}
 use Rattle.callees.specs.declared.Callee.{Callee}
 use Rattle.callees.specs.declared.Held.{Held}
 use Rattle.callees.specs.Shown.{denotations_from, names_world, cell_as, values_from, Slots, Typed}
-use Rattle.callees.specs.Answer.{owner_at, spelled_at, parameter_for, parameter_of, ParameterIs, Names, held_number, HeldWith, held_at, number_of, fixed_in, FixedHeld, held_size, held_from, Waiting, HeldIs, VariableIs, ValueStored, store_cells, AllStored}
+use Rattle.callees.specs.Answer.{owner_at, spelled_at, parameter_for, parameter_of, ParameterIs, Names, held_at, number_of, fixed_in, FixedHeld, held_size, held_from, Waiting, HeldIs, VariableIs, ValueStored, store_cells, AllStored}
 use Rattle.callees.proofs.Listing.{First, first_of}
 
 -- ---- a number that is held
-pub held_number_lem : (v : Value) (x : Fixed) (r : ℕ) → v ≡ O.Number x → r ≡ stored_of x.value → r ≡ held_number v
-held_number_lem v x r e f = f ∙ rw e
-
-pub held_text : (v : Value) (n : ℕ) → v ≡ O.Characters n → n % 65536 ≡ held_number v
-held_text v n e = rw e
-
-pub held_bits : (v : Value) (n : ℕ) → v ≡ O.Bits n → n % 65536 ≡ held_number v
-held_bits v n e = rw e
-
-pub with_some : (h : Held) (i : ℕ) (v : Value) (n : ℕ) → n ≡ held_number v → HeldWith h i v (record { numbers = set h.numbers i n })
-with_some h i v n e = record { is = λ l. rw e }
-
-pub with_none : (h : Held) (i : ℕ) (v : Value) → 256 ≤ i → HeldWith h i v h
-with_none h i v k = record { is = λ l. absurd (omega (arith, k, l)) }
-
-pub held_there : (h : Held) (i : ℕ) → i < 256 → get_or h.numbers i 0 ≡ held_at h i
-held_there h i k = rw (lt-ltb i 256 k)
-
-pub held_past : (h : Held) (i : ℕ) → 256 ≤ i → 0 ≡ held_at h i
-held_past h i k = rw (le-ltb i 256 k)
-
 ranged_is : (z y : ℤ) → F.ranged z ≡ F.is y → F.in_range y ≡ true
 unfolding F.ranged
 ranged_is z y e = by (F.in_range z) refl e
@@ -95,13 +74,10 @@ module _ (h : Held) (i n : ℕ) (x : Answer) (e : n ≡ held_at h i) (f : result
   unfolding from_stored
   fixed_number m g = record { is = sym (fixed_is ∙ rw g); small = ranged_is _ m.value (sym f ∙ rw g) }
 
-  pub fixed_range : x ≡ OutOfRange → FixedHeld h i (record { value = pos 0 })
+  pub fixed_none : (x ≡ OutOfRange) ⊎ (x ≡ ZeroDivisor) → FixedHeld h i (record { value = pos 0 })
   unfolding F.in_range
-  fixed_range g = record { is = sym (fixed_is ∙ rw g); small = refl }
-
-  pub fixed_zero : x ≡ ZeroDivisor → FixedHeld h i (record { value = pos 0 })
-  unfolding F.in_range
-  fixed_zero g = record { is = sym (fixed_is ∙ rw g); small = refl }
+  fixed_none (inl g) = record { is = sym (fixed_is ∙ rw g); small = refl }
+  fixed_none (inr g) = record { is = sym (fixed_is ∙ rw g); small = refl }
 
 pub value_number : (h : Held) (i : ℕ) (t : ValueType) (x : Fixed) → t ≡ FixedType → FixedHeld h i x → HeldIs h i t (O.Number x)
 unfolding value_in size_for

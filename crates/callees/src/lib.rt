@@ -41,10 +41,7 @@ pub enum Meant {
 fn is_substr(s: &[u8], from: usize, n: usize) -> bool
     ensures { result ≡ E.is_substr (folded mixed (part n from s.now)) }
 {
-    if n == 6 {
-        return spells(s, from, b"SUBSTR", 0, 6);
-    }
-    false
+    n == 6 && spells(s, from, b"SUBSTR", 0, 6)
 }
 
 fn substr_or(is_builtin: bool) -> Meant
@@ -69,22 +66,14 @@ pub fn meant_by(
     ensures { meant_for result ≡ E.meant (owner_of owner) (folded mixed (part (to - from) from s.now)) (names_world deck.now names.now count) }
 {
     let n = less(to, from);
-    let found = seen_from(deck, names, count, s, from, n, owner);
-    match found {
-        Found::Unknown => substr_or(is_substr(s, from, n)),
-        Found::Known(a) => {
-            let x = name_at(names, a);
-            let d = x.denotation;
-            match d {
-                Denotation::Variable(t) => Meant::AVariable(a.0, t),
-                Denotation::EntryName(e) => {
-                    let b = e.body;
-                    Meant::AnEntry(b)
-                }
-                Denotation::LabelName(_) => Meant::NoSuch,
-                Denotation::Builtin => substr_or(is_substr(s, from, n)),
-            }
-        }
+    let Found::Known(a) = seen_from(deck, names, count, s, from, n, owner) else {
+        return substr_or(is_substr(s, from, n));
+    };
+    match name_at(names, a).denotation {
+        Denotation::Variable(t) => Meant::AVariable(a.0, t),
+        Denotation::EntryName(e) => Meant::AnEntry(e.body),
+        Denotation::LabelName(_) => Meant::NoSuch,
+        Denotation::Builtin => substr_or(is_substr(s, from, n)),
     }
 }
 
@@ -94,6 +83,7 @@ pub fn meant_by(
 pub struct Running {
     // how many may still be started
     pub left: usize,
+    // stays: two arrays, as the specification none_on of texts names both
     pub members: [u16; 16],
     pub rows: [u16; 16],
 }
@@ -112,12 +102,11 @@ pub fn none_running() -> Running
 pub fn is_running(g: Running, p: Place) -> bool
     ensures { result ≡ is_running p.member p.row (on_of g) }
 {
-    let mut i = g.left;
-    while i < 16 {
+    // stays: a loop, as the two arrays are read at one place
+    for i in g.left..16 {
         if is_here(g.members[i], g.rows[i], p) {
             return true;
         }
-        i += 1;
     }
     false
 }
@@ -125,31 +114,23 @@ pub fn is_running(g: Running, p: Place) -> bool
 fn is_here(member: u16, row: u16, p: Place) -> bool
     ensures { result ≡ (eqb member p.member && eqb row p.row) }
 {
-    if member == p.member {
-        if row == p.row {
-            return true;
-        }
-        return false;
-    }
-    false
+    member == p.member && row == p.row
 }
 
 // The procedure at p started.
 pub fn started(g: Running, p: Place) -> Running
     ensures { StartedIs g p result }
 {
-    let n = g.left;
     let mut all = g;
-    if n < 1 {
+    if g.left == 0 {
         return all;
     }
-    if n <= 16 {
-        all.members[n - 1] = p.member;
-        all.rows[n - 1] = p.row;
-        all.left = n - 1;
-        return all;
+    let n = g.left - 1;
+    all.left = n;
+    if n < 16 {
+        all.members[n] = p.member;
+        all.rows[n] = p.row;
     }
-    all.left = n - 1;
     all
 }
 
@@ -182,24 +163,17 @@ pub fn parameter_at(
 {
     let t = token_at(s, at);
     let found = find(deck, names, count, s, t.from, width(t), Owner::Procedure(p));
-    match found {
-        Found::Unknown => ParameterAt::Wrong,
-        Found::Known(a) => {
-            let x = name_at(names, a);
-            let d = x.denotation;
-            match d {
-                Denotation::Variable(value_type) => {
-                    let comma = token_at(s, t.to);
-                    ParameterAt::Is(Parameter {
-                        address: a.0,
-                        value_type,
-                        to: comma.to,
-                    })
-                }
-                Denotation::EntryName(_) => ParameterAt::Wrong,
-                Denotation::LabelName(_) => ParameterAt::Wrong,
-                Denotation::Builtin => ParameterAt::Wrong,
-            }
+    let Found::Known(a) = found else {
+        return ParameterAt::Wrong;
+    };
+    match name_at(names, a).denotation {
+        Denotation::Variable(value_type) => ParameterAt::Is(Parameter {
+            address: a.0,
+            value_type,
+            to: token_at(s, t.to).to,
+        }),
+        Denotation::EntryName(_) | Denotation::LabelName(_) | Denotation::Builtin => {
+            ParameterAt::Wrong
         }
     }
 }
@@ -223,25 +197,18 @@ fn counted(deck: &[u8], s: &[u8], names: &[u16], count: u16, p: Place, list: usi
     ensures { CountedIs deck.now s.now names.now count p list result }
 {
     let mut at = list;
-    let mut n: usize = 0;
-    while n < s.len() {
-        let x = parameter_at(deck, s, names, count, p, at);
-        match x {
-            ParameterAt::Is(y) => {
-                n += 1;
-                if is_last(s, at) {
-                    return Called::Is(Callee {
-                        place: p,
-                        list,
-                        count: n,
-                    });
-                }
-                at = y.to;
-            }
-            ParameterAt::Wrong => {
-                return Called::Fails(Why::WrongName);
-            }
+    for n in 0..s.len() {
+        let ParameterAt::Is(y) = parameter_at(deck, s, names, count, p, at) else {
+            return Called::Fails(Why::WrongName);
+        };
+        if is_last(s, at) {
+            return Called::Is(Callee {
+                place: p,
+                list,
+                count: n + 1,
+            });
         }
+        at = y.to;
     }
     Called::Fails(Why::WrongName)
 }
@@ -251,11 +218,7 @@ fn is_last(s: &[u8], at: usize) -> bool
     ensures { result ≡ not (is_sign "," (token_at mixed s.now (token_at mixed s.now at).to).token) }
 {
     let t = token_at(s, at);
-    let comma = token_at(s, t.to);
-    if is_sign(s, comma, b",") {
-        return false;
-    }
-    true
+    !is_sign(s, token_at(s, t.to), b",")
 }
 
 // "as is an entry without a body"
@@ -269,23 +232,21 @@ pub fn callee_of(
 ) -> Called
     ensures { CalleeOf deck.now rows.now starts names.now count b result }
 {
-    match b {
-        Body::Nothing => Called::Fails(Why::WrongName),
-        Body::At(p) => {
-            let s = body(deck, p.member);
-            let part = part_of(rows, starts, p.member);
-            let r = row_at(part, p.row);
-            let t = token_at(s, r.content as usize);
-            if is_sign(s, t, b"(") {
-                return counted(deck, s, names, count, p, t.to);
-            }
-            Called::Is(Callee {
-                place: p,
-                list: t.from,
-                count: 0,
-            })
-        }
+    let Body::At(p) = b else {
+        return Called::Fails(Why::WrongName);
+    };
+    let s = body(deck, p.member);
+    let part = part_of(rows, starts, p.member);
+    // stays: as; with usize::from the goals of both ends did not close
+    let t = token_at(s, row_at(part, p.row).content as usize);
+    if is_sign(s, t, b"(") {
+        return counted(deck, s, names, count, p, t.to);
     }
+    Called::Is(Callee {
+        place: p,
+        list: t.from,
+        count: 0,
+    })
 }
 
 // ---- arguments that wait: of a FIXED the number as it is stored, of a CHARACTER the length of what lies in the work room
@@ -306,19 +267,16 @@ fn held_number(v: Value) -> u32
 {
     match v {
         Value::Number(x) => x.stored(),
-        Value::Characters(n) => (n % 65_536) as u32,
-        Value::Bits(n) => (n % 65_536) as u32,
+        Value::Characters(n) | Value::Bits(n) => (n % 65_536) as u32,
     }
 }
 
 pub fn with_held(h: Held, i: usize, v: Value) -> Held
     ensures { HeldWith h i v result }
 {
-    let n = held_number(v);
     let mut all = h;
     if i < 256 {
-        all.numbers[i] = n;
-        return all;
+        all.numbers[i] = held_number(v);
     }
     all
 }
@@ -336,11 +294,9 @@ pub fn held_at(h: Held, i: usize) -> u32
 pub fn fixed_held(h: Held, i: usize) -> Fixed
     ensures { FixedHeld h i result }
 {
-    let x = Fixed::from_stored(held_at(h, i));
-    match x {
+    match Fixed::from_stored(held_at(h, i)) {
         Answer::Is(n) => n,
-        Answer::OutOfRange => Fixed { value: 0 },
-        Answer::ZeroDivisor => Fixed { value: 0 },
+        Answer::OutOfRange | Answer::ZeroDivisor => Fixed { value: 0 },
     }
 }
 
@@ -359,24 +315,18 @@ pub fn variable_value(
     ensures { VariableIs cells.now low.now high.now work.old a t u work.new result }
 {
     match t {
-        ValueType::FixedType => {
-            let x = number_at(cells, a);
-            match x {
-                Number::Holds(n) => Given::Gives(Value::Number(n)),
-                Number::NoNumber => Given::Fails(Why::NoValue),
+        ValueType::FixedType => match number_at(cells, a) {
+            Number::Holds(n) => Given::Gives(Value::Number(n)),
+            Number::NoNumber => Given::Fails(Why::NoValue),
+        },
+        ValueType::CharacterType => match characters_at(cells, a) {
+            Length::Bytes(n) => {
+                let size = n as usize;
+                copy_characters(low, high, a, size, work, u);
+                operators::among(u, Value::Characters(size))
             }
-        }
-        ValueType::CharacterType => {
-            let x = characters_at(cells, a);
-            match x {
-                Length::Bytes(n) => {
-                    let size = n as usize;
-                    copy_characters(low, high, a, size, work, u);
-                    operators::among(u, Value::Characters(size))
-                }
-                Length::NoCharacters => Given::Fails(Why::NoValue),
-            }
-        }
+            Length::NoCharacters => Given::Fails(Why::NoValue),
+        },
     }
 }
 
@@ -394,8 +344,9 @@ pub fn store_value(
 {
     match v {
         Value::Number(x) => store_number(cells, a, x),
-        Value::Characters(n) => store_characters(cells, low, high, a, work, u, (n % 65_536) as u16),
-        Value::Bits(n) => store_characters(cells, low, high, a, work, u, (n % 65_536) as u16),
+        Value::Characters(n) | Value::Bits(n) => {
+            store_characters(cells, low, high, a, work, u, (n % 65_536) as u16)
+        }
     }
 }
 
@@ -428,21 +379,13 @@ pub fn store_all(
     let s = body(deck, p.member);
     let mut at = c.list;
     let mut top = u;
-    let mut i: usize = 0;
-    while i < c.count {
-        let x = parameter_at(deck, s, names, count, p, at);
-        match x {
-            ParameterAt::Is(y) => {
-                let t = y.value_type;
-                let v = held_value(h, i, t);
-                store_value(cells, low, high, work, y.address, top, v);
-                top = above(top, size_of(v));
-                at = y.to;
-            }
-            ParameterAt::Wrong => {
-                return;
-            }
-        }
-        i += 1;
+    for i in 0..c.count {
+        let ParameterAt::Is(y) = parameter_at(deck, s, names, count, p, at) else {
+            return;
+        };
+        let v = held_value(h, i, y.value_type);
+        store_value(cells, low, high, work, y.address, top, v);
+        top = above(top, size_of(v));
+        at = y.to;
     }
 }

@@ -43,6 +43,7 @@ pub struct Frames {
     pub items: [Frame; 16],
 }
 
+#[tactic(auto, unfolding(crate::specs::Walks::no_frame))]
 fn no_frame() -> Frame
     ensures { result ≡ no_frame }
 {
@@ -55,6 +56,7 @@ fn no_frame() -> Frame
     }
 }
 
+#[tactic(auto, unfolding(crate::specs::Walks::no_frames))]
 pub fn no_frames() -> Frames
     ensures { result ≡ no_frames }
 {
@@ -63,38 +65,31 @@ pub fn no_frames() -> Frames
     }
 }
 
+#[tactic(auto, unfolding(crate::specs::Walks::leads_to))]
 fn leads_to(x: Link, n: u16) -> bool
     ensures { result ≡ leads_to x n }
 {
-    match x {
-        Link::Nowhere => false,
-        Link::To(m) => m == n,
-    }
+    matches!(x, Link::To(m) if m == n)
 }
 
 // The frame of the group g.
+#[tactic(auto, unfolding(crate::specs::Walks::frame_in, crate::specs::Walks::frame_at))]
 pub fn frame_of(rows: &[u16], fs: Frames, g: u16) -> Frame
     ensures { result ≡ frame_in rows.now fs g }
 {
-    let r = row_at(rows, g);
-    let d = r.depth as usize;
-    if d < 16 {
-        let f = fs.items[d];
-        let group = f.group;
-        if leads_to(group, g) {
-            return f;
-        }
-        return no_frame();
+    let d = usize::from(row_at(rows, g).depth);
+    if d < 16 && leads_to(fs.items[d].group, g) {
+        return fs.items[d];
     }
     no_frame()
 }
 
 // With the frame of a group that is entered.
+#[tactic(auto, unfolding(crate::specs::Walks::frames_with))]
 pub fn with_frame(rows: &[u16], fs: Frames, g: u16, f: Frame) -> Frames
     ensures { result ≡ frames_with rows.now fs g f }
 {
-    let r = row_at(rows, g);
-    let d = r.depth as usize;
+    let d = usize::from(row_at(rows, g).depth);
     let mut all = fs;
     if d < 16 {
         all.items[d] = f;
@@ -106,75 +101,68 @@ pub fn with_frame(rows: &[u16], fs: Frames, g: u16, f: Frame) -> Frames
 pub fn passes(f: Frame, x: Fixed) -> bool
     ensures { result ≡ passes_by (from_stored f.limit) (from_stored f.step) x.value }
 {
-    let to = Fixed::from_stored(f.limit);
     let by = Fixed::from_stored(f.step);
-    match to {
+    match Fixed::from_stored(f.limit) {
         Answer::Is(limit) => {
             if is_down(by) {
                 return !x.is_less(limit);
             }
             !limit.is_less(x)
         }
-        Answer::OutOfRange => true,
-        Answer::ZeroDivisor => true,
+        Answer::OutOfRange | Answer::ZeroDivisor => true,
     }
 }
 
+#[tactic(auto, unfolding(crate::specs::Walks::is_down))]
 fn is_down(by: Answer) -> bool
     ensures { result ≡ is_down (result_of by) }
 {
-    match by {
-        Answer::Is(x) => x.is_negative(),
-        Answer::OutOfRange => false,
-        Answer::ZeroDivisor => false,
-    }
+    matches!(by, Answer::Is(x) if x.is_negative())
 }
 
 // ---- behind a statement
 
 // The end of what stands in the row g: a pass of an iterated group is over, or the row itself is.
+#[tactic(auto, unfolding(crate::specs::Walks::end_walk, crate::specs::Walks::end_as))]
 pub fn end_in(rows: &[u16], fs: Frames, g: u16) -> Walk
     ensures { result ≡ end_walk rows.now fs g }
 {
-    let r = row_at(rows, g);
-    let x = r.statement;
-    match x {
+    match row_at(rows, g).statement {
         Statement::Procedure => Walk::To(Next::Over),
         Statement::Iterated => {
-            let f = frame_of(rows, fs, g);
-            if f.is_once {
+            if frame_of(rows, fs, g).is_once {
                 return Walk::Up(g);
             }
             Walk::To(Next::Again(g))
         }
-        Statement::Null => Walk::Up(g),
-        Statement::Declare => Walk::Up(g),
-        Statement::Assign => Walk::Up(g),
-        Statement::Conditional => Walk::Up(g),
-        Statement::Group => Walk::Up(g),
-        Statement::Goto => Walk::Up(g),
-        Statement::Include => Walk::Up(g),
-        Statement::Activate => Walk::Up(g),
-        Statement::Deactivate => Walk::Up(g),
-        Statement::Return => Walk::Up(g),
+        Statement::Null
+        | Statement::Declare
+        | Statement::Assign
+        | Statement::Conditional
+        | Statement::Group
+        | Statement::Goto
+        | Statement::Include
+        | Statement::Activate
+        | Statement::Deactivate
+        | Statement::Return => Walk::Up(g),
     }
 }
 
 // The next of a list, or the end of what the list stands in.
+#[tactic(auto, unfolding(crate::specs::Walks::next_walk))]
 fn next_in(rows: &[u16], fs: Frames, x: Row) -> Walk
     ensures { result ≡ next_walk rows.now fs x.next x.parent }
 {
-    let next = x.next;
-    let parent = x.parent;
-    match next {
+    match x.next {
         Link::To(m) => Walk::To(Next::Begin(m)),
-        Link::Nowhere => match parent {
+        Link::Nowhere => match x.parent {
             Link::To(g) => end_in(rows, fs, g),
             Link::Nowhere => Walk::To(Next::Over),
         },
     }
 }
 
+#[tactic(auto, unfolding(crate::specs::Walks::up_walk))]
 fn up_from(parent: Link) -> Walk
     ensures { result ≡ up_walk parent }
 {
@@ -185,16 +173,14 @@ fn up_from(parent: Link) -> Walk
 }
 
 // Behind the row n: behind an alternative comes what is behind its IF.
+#[tactic(auto, unfolding(crate::specs::Walks::behind_walk, crate::specs::Walks::behind_as))]
 pub fn walk_behind(rows: &[u16], fs: Frames, n: u16) -> Walk
     ensures { result ≡ behind_walk rows.now fs n }
 {
     let r = row_at(rows, n);
-    let role = r.role;
-    let parent = r.parent;
-    match role {
+    match r.role {
         Role::Listed => next_in(rows, fs, r),
-        Role::ThenPart => up_from(parent),
-        Role::ElsePart => up_from(parent),
+        Role::ThenPart | Role::ElsePart => up_from(r.parent),
     }
 }
 
@@ -203,23 +189,18 @@ pub fn behind(rows: &[u16], fs: Frames, n: u16) -> Next
     ensures { result ≡ behind_on rows.now fs (n + 1) n }
 {
     let mut at = n;
-    let mut turns = n as usize + 1;
-    while 0 < turns {
-        turns -= 1;
-        let w = walk_behind(rows, fs, at);
-        match w {
-            Walk::To(x) => {
-                return x;
-            }
-            Walk::Up(g) => {
-                at = g;
-            }
+    // stays: as, and no 0..=n; with either the goals of the loop did not close
+    for _ in 0..n as usize + 1 {
+        match walk_behind(rows, fs, at) {
+            Walk::To(x) => return x,
+            Walk::Up(g) => at = g,
         }
     }
     Next::Over
 }
 
 // Where a walk leads, if nothing is put out on the way.
+#[tactic(auto, unfolding(crate::specs::Walks::arrived_at))]
 pub fn arrived(rows: &[u16], fs: Frames, w: Walk) -> Next
     ensures { result ≡ arrived_at rows.now fs w }
 {
@@ -230,30 +211,29 @@ pub fn arrived(rows: &[u16], fs: Frames, w: Walk) -> Next
 }
 
 // The first row in the group g, or its end.
+#[tactic(auto, unfolding(crate::specs::Walks::first_walk, crate::specs::Walks::first_as))]
 pub fn first_in(rows: &[u16], fs: Frames, g: u16) -> Walk
     ensures { result ≡ first_walk rows.now fs g }
 {
-    let r = row_at(rows, g);
-    let child = r.child;
-    match child {
+    match row_at(rows, g).child {
         Link::To(m) => Walk::To(Next::Begin(m)),
         Link::Nowhere => end_in(rows, fs, g),
     }
 }
 
 // The alternative that an IF takes, or what is behind it.
+#[tactic(auto, unfolding(crate::specs::Walks::chosen_walk))]
 pub fn chosen(rows: &[u16], n: u16, holds: bool) -> Walk
     ensures { result ≡ chosen_walk rows.now n holds }
 {
     let r = row_at(rows, n);
-    let first = r.child;
-    let second = r.other;
     if holds {
-        return link_walk(first, n);
+        return link_walk(r.child, n);
     }
-    link_walk(second, n)
+    link_walk(r.other, n)
 }
 
+#[tactic(auto, unfolding(crate::specs::Walks::link_walk))]
 fn link_walk(x: Link, n: u16) -> Walk
     ensures { result ≡ link_walk x n }
 {
@@ -263,6 +243,7 @@ fn link_walk(x: Link, n: u16) -> Walk
     }
 }
 
+#[tactic(auto, unfolding(crate::specs::Walks::first_of))]
 pub fn first_of(x: Link) -> Next
     ensures { result ≡ first_of x }
 {
@@ -274,32 +255,18 @@ pub fn first_of(x: Link) -> Next
 
 // ---- GOTO
 
+#[tactic(auto, unfolding(crate::specs::Walks::iterated_at, crate::specs::Walks::is_iterated))]
 fn is_iterated(rows: &[u16], n: u16) -> bool
     ensures { result ≡ iterated_at rows.now n }
 {
-    let r = row_at(rows, n);
-    let x = r.statement;
-    match x {
-        Statement::Iterated => true,
-        Statement::Null => false,
-        Statement::Declare => false,
-        Statement::Procedure => false,
-        Statement::Assign => false,
-        Statement::Conditional => false,
-        Statement::Group => false,
-        Statement::Goto => false,
-        Statement::Include => false,
-        Statement::Activate => false,
-        Statement::Deactivate => false,
-        Statement::Return => false,
-    }
+    matches!(row_at(rows, n).statement, Statement::Iterated)
 }
 
+#[tactic(auto, unfolding(crate::specs::Walks::parent_at))]
 fn parent_of(rows: &[u16], n: u16) -> Link
     ensures { result ≡ parent_at rows.now n }
 {
-    let r = row_at(rows, n);
-    r.parent
+    row_at(rows, n).parent
 }
 
 // More turns than rows can stand in each other.
@@ -310,34 +277,27 @@ fn is_around(rows: &[u16], g: u16, n: u16) -> bool
     ensures { result ≡ around_on rows.now g 2048 (parent_at rows.now n) }
 {
     let mut up = parent_of(rows, n);
-    let mut turns = TURNS;
-    while 0 < turns {
-        turns -= 1;
-        match up {
-            Link::Nowhere => {
-                return false;
-            }
-            Link::To(p) => {
-                if p == g {
-                    return true;
-                }
-                up = parent_of(rows, p);
-            }
+    for _ in 0..TURNS {
+        let Link::To(p) = up else {
+            return false;
+        };
+        if p == g {
+            return true;
         }
+        up = parent_of(rows, p);
     }
     false
 }
 
 // Whether a group may be around the target of a GOTO from row n.
+#[tactic(auto, unfolding(crate::specs::Walks::may_stand))]
 fn may_be_around(rows: &[u16], g: u16, n: u16) -> bool
     ensures { result ≡ may_stand rows.now g n }
 {
-    if is_iterated(rows, g) {
-        return is_around(rows, g, n);
-    }
-    true
+    !is_iterated(rows, g) || is_around(rows, g, n)
 }
 
+#[tactic(auto, unfolding(crate::specs::Walks::label_from))]
 fn label_from(rows: &[u16], r: u16, is_end: bool) -> Link
     ensures { result ≡ label_from rows.now r is_end }
 {
@@ -352,32 +312,25 @@ pub fn may_go(rows: &[u16], n: u16, r: u16, is_end: bool) -> bool
     ensures { result ≡ may_go_on rows.now n 2048 (label_from rows.now r is_end) }
 {
     let mut up = label_from(rows, r, is_end);
-    let mut turns = TURNS;
-    while 0 < turns {
-        turns -= 1;
-        match up {
-            Link::Nowhere => {
-                return true;
-            }
-            Link::To(g) => {
-                if may_be_around(rows, g, n) {
-                    up = parent_of(rows, g);
-                } else {
-                    return false;
-                }
-            }
+    for _ in 0..TURNS {
+        let Link::To(g) = up else {
+            return true;
+        };
+        if !may_be_around(rows, g, n) {
+            return false;
         }
+        up = parent_of(rows, g);
     }
     true
 }
 
 // Where a GOTO to a label lands.
+#[tactic(auto, unfolding(crate::specs::Walks::landing_walk))]
 pub fn landing(rows: &[u16], fs: Frames, x: Label) -> Walk
     ensures { result ≡ landing_walk rows.now fs x.place.row x.is_end }
 {
-    let p = x.place;
     if x.is_end {
-        return end_in(rows, fs, p.row);
+        return end_in(rows, fs, x.place.row);
     }
-    Walk::To(Next::Begin(p.row))
+    Walk::To(Next::Begin(x.place.row))
 }

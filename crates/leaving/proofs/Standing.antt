@@ -10,12 +10,14 @@ use borrow.Author.Tests.{lt-ltb, le-ltb, eq-eqb, ne_eqb, eqb-true, eqb-false}
 use lib.Dec.{eqb}
 use lib.ListN.{length, get_or, set}
 use lib.Seq.{get_or-set_same, get_or-set_other}
+use Rattle.names.specs.declared.Place.{Place}
 use Rattle.rows.specs.declared.Link.TheVariants.{Nowhere, To}
+use Rattle.callees.specs.Answer.{place_of}
 use Rattle.leaving.specs.declared.Below.{Below}
-use Rattle.leaving.specs.Places.{place_at, places_in, below_of, row_for, NoneBelow, WithBelow}
+use Rattle.leaving.specs.Places.{place_at, blank, places_in, below_of, row_for, NoneBelow, WithBelow}
 
 -- ---- one slot of the list
-taken : (b : Below) (n : ℕ) → n < b.count → places_in b (suc n) ≡ place_at (get_or b.members n 0) (get_or b.rows n 0) ∷ places_in b n
+taken : (b : Below) (n : ℕ) → n < b.count → places_in b (suc n) ≡ place_of (get_or b.places n blank) ∷ places_in b n
 unfolding places_in
 taken b n h = rw (lt-ltb n b.count h)
 
@@ -28,25 +30,28 @@ unfolding places_in
 none_in b zero e = refl
 none_in b (suc n) e = free b n (omega (arith, e)) ∙ none_in b n e
 
-pub none_is : (ms rs : List ℕ) → NoneBelow (record { count = 0; members = ms; rows = rs })
+pub none_is : (ps : List Place) → NoneBelow (record { count = 0; places = ps })
 unfolding below_of
-none_is ms rs = record { is = none_in (record { count = 0; members = ms; rows = rs }) 16 refl; count = refl }
+none_is ps = record { is = none_in (record { count = 0; places = ps }) 16 refl; count = refl }
 
 -- ---- one more
-module _ (b : Below) (m r : ℕ) (x : length b.members ≡ 16) (y : length b.rows ≡ 16) (h : b.count < 16) where
+module _ (b : Below) (m r : ℕ) (x : length b.places ≡ 16) (h : b.count < 16) where
+  abbrev here : Place
+  here = record { member = m; row = r }
+
   abbrev more : Below
-  more = record { count = b.count + 1; members = set b.members b.count m; rows = set b.rows b.count r }
+  more = record { count = b.count + 1; places = set b.places b.count here }
 
   under : (n : ℕ) → n ≤ b.count → places_in more n ≡ places_in b n
   unfolding places_in
   under zero k = refl
   under (suc n) k =
-      rw (lt-ltb n (b.count + 1) (omega arith), lt-ltb n b.count (omega arith), get_or-set_other b.members b.count n m 0 (λ e. omega (arith, e)), get_or-set_other b.rows b.count n r 0 (λ e. omega (arith, e)), under n (omega arith))
+      rw (lt-ltb n (b.count + 1) (omega arith), lt-ltb n b.count (omega arith), get_or-set_other b.places b.count n here blank (λ e. omega (arith, e)), under n (omega arith))
 
   newest : places_in more (suc b.count) ≡ place_at m r ∷ places_in b (suc b.count)
   newest =
       taken more b.count (omega arith)
-      ∙ rw (get_or-set_same b.members b.count m 0 (omega (arith, x, h)), get_or-set_same b.rows b.count r 0 (omega (arith, y, h)), under b.count (omega arith), free b b.count (omega arith))
+      ∙ rw (get_or-set_same b.places b.count here blank (omega (arith, x, h)), under b.count (omega arith), free b b.count (omega arith))
 
   over : (n : ℕ) → b.count < n → places_in more n ≡ place_at m r ∷ places_in b n
   over zero k = absurd (omega arith)
@@ -59,10 +64,10 @@ module _ (b : Below) (m r : ℕ) (x : length b.members ≡ 16) (y : length b.row
           let j : b.count < n = omega (arith, k, g) in
           free more n (omega arith) ∙ f j ∙ rw (free b n (omega arith))
 
-pub with_one : (b : Below) (m r : ℕ) → length b.members ≡ 16 → length b.rows ≡ 16 → b.count < 16
-    → WithBelow b m r (record { count = b.count + 1; members = set b.members b.count m; rows = set b.rows b.count r })
+pub with_one : (b : Below) (m r : ℕ) → length b.places ≡ 16 → b.count < 16
+    → WithBelow b m r (record { count = b.count + 1; places = set b.places b.count (record { member = m; row = r }) })
 unfolding below_of
-with_one b m r x y h = record { is = λ _. over b m r x y h 16 h; count = λ _. add-one b.count }
+with_one b m r x h = record { is = λ _. over b m r x h 16 h; count = λ _. add-one b.count }
 
 pub with_none : (b : Below) (m r : ℕ) → 16 ≤ b.count → WithBelow b m r b
 with_none b m r h = record { is = λ k. absurd (omega (arith, h, k)); count = λ k. absurd (omega (arith, h, k)) }
@@ -70,11 +75,10 @@ with_none b m r h = record { is = λ k. absurd (omega (arith, h, k)); count = λ
 -- ---- what is left to look at decides
 pub record Looking (b : Below) (m i : ℕ) : Type 0 where
   pub is : row_for (places_in b i) m ≡ row_for (below_of b) m
-  pub low : i ≤ 16
 
 pub looking_start : (b : Below) (m : ℕ) → Looking b m 16
 unfolding below_of
-looking_start b m = record { is = refl; low = omega arith }
+looking_start b m = record { is = refl }
 
 module _ (b : Below) (m i : ℕ) (k : Looking b m i) where
   pub looking_done : i ≤ 0 → Nowhere ≡ row_for (below_of b) m
@@ -86,15 +90,15 @@ module _ (b : Below) (m i : ℕ) (k : Looking b m i) where
     one_less = omega arith
 
     pub looking_free : b.count ≤ i - 1 → Looking b m (i - 1)
-    looking_free g = record { is = ap (λ z. row_for z m) (sym (free b (i - 1) g) ∙ ap (places_in b) one_less) ∙ k.is; low = omega (arith, k.low) }
+    looking_free g = record { is = ap (λ z. row_for z m) (sym (free b (i - 1) g) ∙ ap (places_in b) one_less) ∙ k.is }
 
     module _ (g : i - 1 < b.count) where
-      here_is : row_for (below_of b) m ≡ cond (eqb (get_or b.members (i - 1) 0) m) (To (get_or b.rows (i - 1) 0)) (row_for (places_in b (i - 1)) m)
+      here_is : row_for (below_of b) m ≡ cond (eqb (get_or b.places (i - 1) blank).member m) (To (get_or b.places (i - 1) blank).row) (row_for (places_in b (i - 1)) m)
       unfolding row_for
       here_is = sym k.is ∙ ap (λ z. row_for z m) (ap (places_in b) (sym one_less) ∙ taken b (i - 1) g)
 
-      pub looking_here : get_or b.members (i - 1) 0 ≡ m → To (get_or b.rows (i - 1) 0) ≡ row_for (below_of b) m
-      looking_here e = sym (here_is ∙ rw (eq-eqb (get_or b.members (i - 1) 0) m e))
+      pub looking_here : (get_or b.places (i - 1) blank).member ≡ m → To (get_or b.places (i - 1) blank).row ≡ row_for (below_of b) m
+      looking_here e = sym (here_is ∙ rw (eq-eqb (get_or b.places (i - 1) blank).member m e))
 
-      pub looking_on : (get_or b.members (i - 1) 0 ≡ m → ⊥) → Looking b m (i - 1)
-      looking_on e = record { is = sym (here_is ∙ rw (ne_eqb (get_or b.members (i - 1) 0) m e)); low = omega (arith, k.low) }
+      pub looking_on : ((get_or b.places (i - 1) blank).member ≡ m → ⊥) → Looking b m (i - 1)
+      looking_on e = record { is = sym (here_is ∙ rw (ne_eqb (get_or b.places (i - 1) blank).member m e)) }

@@ -1,18 +1,24 @@
 -- The members that run below this one, each with the row where it stands: the definition's list of places.
 use Rattle.std.specs.Prelude.{ℕ, zero, suc, ◌<◌, ◌≡◌, cond, List, [], ◌∷◌, eqb, ltb, length, get_or}
 use Rattle.definition.specs.Calls.{Place}
+use Rattle.names.specs.declared.Place as N
 use Rattle.definition.specs.World.{World, rows_of}
 use Rattle.rows.specs.declared.Link.{Link}
 use Rattle.rows.specs.declared.Link.TheVariants.{Nowhere, To}
+use Rattle.callees.specs.Answer.{place_of}
 use Rattle.leaving.specs.declared.Below.{Below}
 
 abbrev pub place_at : ℕ → ℕ → Place
 place_at m r = record { member = m; row = r }
 
+-- what no array has at a place within it
+abbrev pub blank : N.Place
+blank = record { member = 0; row = 0 }
+
 -- those of the first n slots that are taken, newest first
 unfoldable pub places_in : Below → ℕ → List Place
 places_in b zero = []
-places_in b (suc n) = cond (ltb n b.count) (place_at (get_or b.members n 0) (get_or b.rows n 0) ∷ places_in b n) (places_in b n)
+places_in b (suc n) = cond (ltb n b.count) (place_of (get_or b.places n blank) ∷ places_in b n) (places_in b n)
 
 unfoldable pub below_of : Below → List Place
 below_of b = places_in b 16

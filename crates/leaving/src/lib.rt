@@ -7,7 +7,7 @@ ghost use Rattle.leaving.specs.Leads.{away_to, label_to, JumpIs};
 
 use definition::Why;
 use flow::may_go;
-use names::{Denotation, Found, Label, Owner, find, name_at};
+use names::{Denotation, Found, Label, Owner, Place, find, name_at};
 use rows::{Link, Starts, part_of};
 use tokens::{token_at, width};
 
@@ -15,8 +15,7 @@ use tokens::{token_at, width};
 #[derive(Clone, Copy)]
 pub struct Below {
     pub count: usize,
-    pub members: [u16; 16],
-    pub rows: [u16; 16],
+    pub places: [Place; 16],
 }
 
 pub fn none_below() -> Below
@@ -24,8 +23,7 @@ pub fn none_below() -> Below
 {
     Below {
         count: 0,
-        members: [0; 16],
-        rows: [0; 16],
+        places: [Place { member: 0, row: 0 }; 16],
     }
 }
 
@@ -35,8 +33,7 @@ pub fn with_below(b: Below, member: u16, row: u16) -> Below
     let n = b.count;
     let mut all = b;
     if n < 16 {
-        all.members[n] = member;
-        all.rows[n] = row;
+        all.places[n] = Place { member, row };
         all.count = n + 1;
     }
     all
@@ -46,13 +43,10 @@ pub fn with_below(b: Below, member: u16, row: u16) -> Below
 fn row_below(b: Below, member: u16) -> Link
     ensures { result ≡ row_for (below_of b) member }
 {
-    let mut i: usize = 16;
-    while 0 < i {
-        i -= 1;
-        if i < b.count {
-            if b.members[i] == member {
-                return Link::To(b.rows[i]);
-            }
+    // stays: a loop; a chain of take, rev and find is no plainer
+    for i in (0..16).rev() {
+        if i < b.count && b.places[i].member == member {
+            return Link::To(b.places[i].row);
         }
     }
     Link::Nowhere
@@ -70,17 +64,13 @@ pub enum Jump {
 fn jump_away(part: &[u16], below: Below, l: Label) -> Jump
     ensures { result ≡ away_to (row_for (below_of below) l.place.member) part.now l }
 {
-    let p = l.place;
-    let from = row_below(below, p.member);
-    match from {
-        Link::To(n) => {
-            if may_go(part, n, p.row, l.is_end) {
-                return Jump::Away(l);
-            }
-            Jump::Bad(Why::WrongGoto)
-        }
-        Link::Nowhere => Jump::Bad(Why::WrongGoto),
+    let Link::To(n) = row_below(below, l.place.member) else {
+        return Jump::Bad(Why::WrongGoto);
+    };
+    if may_go(part, n, l.place.row, l.is_end) {
+        return Jump::Away(l);
     }
+    Jump::Bad(Why::WrongGoto)
 }
 
 fn jump_label(rows: &[u16], below: Below, member: u16, starts: Starts, n: u16, l: Label) -> Jump
@@ -114,17 +104,13 @@ pub fn jump_from(
 {
     let t = token_at(s, at);
     let found = find(deck, names, count, s, t.from, width(t), Owner::Everyone);
-    match found {
-        Found::Unknown => Jump::Bad(Why::WrongName),
-        Found::Known(a) => {
-            let x = name_at(names, a);
-            let d = x.denotation;
-            match d {
-                Denotation::LabelName(l) => jump_label(rows, below, member, starts, n, l),
-                Denotation::Variable(_) => Jump::Bad(Why::WrongName),
-                Denotation::EntryName(_) => Jump::Bad(Why::WrongName),
-                Denotation::Builtin => Jump::Bad(Why::WrongName),
-            }
+    let Found::Known(a) = found else {
+        return Jump::Bad(Why::WrongName);
+    };
+    match name_at(names, a).denotation {
+        Denotation::LabelName(l) => jump_label(rows, below, member, starts, n, l),
+        Denotation::Variable(_) | Denotation::EntryName(_) | Denotation::Builtin => {
+            Jump::Bad(Why::WrongName)
         }
     }
 }

@@ -2,6 +2,7 @@
 -- Assumes nothing.
 use mathlib.Core.Path.{◌≡◌, refl, sym, ap, ◌∙◌}
 use mathlib.Core.Bool.{Bool, true, false, cond}
+use mathlib.Core.Logic.{◌⊎◌, inl, inr}
 use mathlib.Core.List.{List, []}
 use Prim.Native.Nat.{ℕ, ◌+◌, ◌<◌, ◌≤◌}
 use native.Mathlib.Nat.{add-zero}
@@ -170,13 +171,10 @@ module _ (w : List ℕ) (u : ℕ) (x : Value) (m : ℕ) (w' : List ℕ) (g : Giv
           let y : length l ≡ size_for x = bits_size w u x l c ∙ e in
           (omega (arith, h.top), omega (arith, h.top)))
 
-  pub first_characters : (n : ℕ) → x ≡ Characters n → First w u x m w' g
+  pub first_has : ((n : ℕ) × (x ≡ Characters n)) ⊎ ((n : ℕ) × (x ≡ Bits n)) → First w u x m w' g
   unfolding bit_size size_for bits_put
-  first_characters n e = first_bytes (rw e) (rw e)
-
-  pub first_bits_lem : (n : ℕ) → x ≡ Bits n → First w u x m w' g
-  unfolding bit_size size_for bits_put
-  first_bits_lem n e = first_bytes (rw e) (rw e)
+  first_has (inl (n, e)) = first_bytes (rw e) (rw e)
+  first_has (inr (n, e)) = first_bytes (rw e) (rw e)
 
 -- ---- both sides
 value_moved : (w w' : List ℕ) (t t' : ℕ) (y : Value) → part (size_for y) t w ≡ part (size_for y) t' w' → value_in w t y ≡ value_in w' t' y

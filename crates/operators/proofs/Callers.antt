@@ -4,23 +4,19 @@ use mathlib.Core.Path.{◌≡◌, refl, sym, ap, ◌∙◌}
 use mathlib.Core.Bool.{Bool, true, false, cond}
 use mathlib.Core.List.{List}
 use Prim.Native.Nat.{ℕ, ◌+◌, ◌≤◌}
-use native.Mathlib.Omega.{arith}
 use borrow.Author.Tests.{leb-true}
 use lib.Dec.{leb}
-use lib.ListN.{length, take}
+use lib.ListN.{take}
 use lib.Seq.{take-take}
 use Rattle.definition.specs.declared.Why.TheVariants.{TooLong as too_long}
-use Rattle.definition.specs.declared.Operator.{Operator}
-use Rattle.definition.specs.declared.Prefix.{Prefix}
 use Rattle.definition.specs.Values as D
 use Rattle.definition.specs.World.{World, ask}
 use Rattle.definition.specs.Evaluate.{put}
 use Rattle.operators.specs.declared.Value.{Value}
 use Rattle.operators.specs.declared.Value.TheVariants.{Number, Characters, Bits}
-use Rattle.operators.specs.declared.Given.{Given}
 use Rattle.operators.specs.declared.Given.TheVariants.{Gives}
-use Rattle.operators.specs.Stands.{value_in, given_in, size_for, stacked, Ready, Stood, Gave, top_of}
-use Rattle.operators.proofs.Room.{part_below, top_in_lem}
+use Rattle.operators.specs.Stands.{value_in, given_in, size_for, stacked, Stood}
+use Rattle.operators.proofs.Room.{part_below}
 use Rattle.operators.proofs.Answers.{size_is}
 use Rattle.operators.proofs.Texts.{never}
 
@@ -44,19 +40,7 @@ module _ (w : List ℕ) (u : ℕ) (a : D.Answer D.Value) (w' : List ℕ) (v : Va
   unfolding given_in
   stood_fits = rw size_is at (stacked_fits u a (value_in w' u v) s.is)
 
-  -- the premise of what works on it next
-  pub stood_ready : (n : ℕ) → Ready w u n → length w' ≡ length w → Ready w' u (size_for v)
-  stood_ready n h l = record { room = omega (arith, h.room); top = stood_fits }
-
 -- ---- places
-pub ready_top : (w : List ℕ) (u n : ℕ) → Ready w u n → top_of u n ≡ u + n
-ready_top w u n h = top_in_lem u n h.top
-
-pub ready_above : (w : List ℕ) (u n : ℕ) → Ready w u n → Ready w (u + n) 0
-ready_above w u n h = record { room = h.room; top = omega (arith, h.top) }
-
-pub ready_less : (w : List ℕ) (u n m : ℕ) → m ≤ n → Ready w u n → Ready w u m
-ready_less w u n m k h = record { room = h.room; top = omega (arith, h.top) }
 
 -- ---- what stands below stays
 pub below_less : (k u : ℕ) (w w' : List ℕ) → k ≤ u → take u w' ≡ take u w → take k w' ≡ take k w
@@ -69,15 +53,3 @@ value_below k u w w' (Characters n) e h = ap D.characters (part_below n u k w w'
 value_below k u w w' (Bits n) e h = ap D.bit_value (part_below n u k w w' e h)
 
 -- ---- one node: the first side stood at u in w₁, the second was evaluated above it and left w₂, and the operator left w₃
-pub binary_node : (w₁ w₂ w₃ : List ℕ) (u : ℕ) (o : Operator) (x y : Value) (g : Given) → Ready w₁ u (size_for x) → length w₂ ≡ length w₁
-    → take (u + size_for x) w₂ ≡ take (u + size_for x) w₁ → u + size_for x + size_for y ≤ 65536
-    → Gave w₂ u (size_for x + size_for y) (stacked u (D.infixed u o (value_in w₂ u x) (value_in w₂ (u + size_for x) y))) w₃ g
-    → Stood w₁ u (stacked u (D.infixed u o (value_in w₁ u x) (value_in w₂ (u + size_for x) y))) w₃ g
-binary_node w₁ w₂ w₃ u o x y g r l b t h =
-    let k = h.so (record { room = omega (arith, r.room); top = omega arith }) in
-    let e : value_in w₂ u x ≡ value_in w₁ u x = value_below (u + size_for x) u w₁ w₂ x b (omega arith) in
-    record { is = rw (← e) k.is; below = k.below ∙ below_less u (u + size_for x) w₁ w₂ (omega arith) b }
-
-pub unary_node : (w w' : List ℕ) (u : ℕ) (o : Prefix) (v : Value) (g : Given) → Ready w u (size_for v)
-    → Gave w u (size_for v) (stacked u (D.prefixed o (value_in w u v))) w' g → Stood w u (stacked u (D.prefixed o (value_in w u v))) w' g
-unary_node w w' u o v g r h = h.so r

@@ -14,50 +14,30 @@ use Rattle.definition.specs.Lists.{part}
 use Rattle.definition.specs.Room.{over}
 use Rattle.definition.specs.declared.Why.{Why}
 use Rattle.definition.specs.declared.Why.TheVariants.{TooLong as too_long}
-use Rattle.definition.specs.declared.Operator.{Operator}
-use Rattle.definition.specs.declared.Operator.TheVariants as O
 use Rattle.definition.specs.Values as D
 use Rattle.definition.proofs.Parts.{length_part, part_append}
 use Rattle.definition.proofs.Ranges.{text_wide}
 use Rattle.definition.proofs.Rooms.{over_nil, over_next, over_under}
 use Rattle.fixed.specs.declared.Fixed.{Fixed}
-use Rattle.values.specs.declared.Comparison.TheVariants.{Greater, GreaterEqual, Equal, Less, LessEqual, NotGreater, NotEqual, NotLess}
-use Rattle.values.specs.declared.Logic.TheVariants.{And, Or}
-use Rattle.values.specs.Bits.{logic_of}
 use Rattle.operators.specs.declared.Value.{Value}
 use Rattle.operators.specs.declared.Value.TheVariants.{Number, Characters, Bits}
 use Rattle.operators.specs.declared.Given.{Given}
 use Rattle.operators.specs.declared.Given.TheVariants.{Gives, Fails}
 use Rattle.operators.specs.Stands.{value_in, given_in, size_for, stacked, Ready, Stood, Gave, top_of, among_for, limited_for}
-use Rattle.operators.specs.Sides.{calc_of, wanted_by, Judged, Raised, text_size, number_text, first_text, WroteFirst, both_bits, joined_value}
+use Rattle.operators.specs.Sides.{Raised, text_size, number_text, first_text, WroteFirst, both_bits, joined_value}
 use Rattle.operators.proofs.Room.{part_written, below_over, over_self, over_behind, top_in_lem, top_out}
-use Rattle.operators.proofs.Sides.{judged_gave}
 use Rattle.operators.proofs.Texts.{never}
 
 -- ---- the bytes of a side as CHARACTER
-pub text_number : (v : Value) (x : Fixed) → v ≡ Number x → fixed_width ≡ text_size v
-unfolding text_size
-text_number v x e = rw e
-
-pub text_characters : (v : Value) (n : ℕ) → v ≡ Characters n → n ≡ text_size v
-unfolding text_size
-text_characters v n e = rw e
-
-pub text_bits : (v : Value) (n : ℕ) → v ≡ Bits n → n ≡ text_size v
-unfolding text_size
-text_bits v n e = rw e
-
 pub digits_written : (w : List ℕ) (u : ℕ) (v : Value) (x : Fixed) (w' : List ℕ) → v ≡ Number x → w' ≡ over w u (D.fixed_text x.value) → w' ≡ over w u (number_text v)
 unfolding number_text
 digits_written w u v x w' e f = rw e f
 
-pub characters_stay : (w : List ℕ) (u : ℕ) (v : Value) (n : ℕ) → v ≡ Characters n → w ≡ over w u (number_text v)
+pub nothing_written : (w : List ℕ) (u : ℕ) (v : Value) → ((x : Fixed) → v ≡ Number x → ⊥) → w ≡ over w u (number_text v)
 unfolding number_text
-characters_stay w u v n e = rw e (sym (over_nil w u))
-
-pub bits_stay : (w : List ℕ) (u : ℕ) (v : Value) (n : ℕ) → v ≡ Bits n → w ≡ over w u (number_text v)
-unfolding number_text
-bits_stay w u v n e = rw e (sym (over_nil w u))
+nothing_written w u (Number x) h = absurd (h x refl)
+nothing_written w u (Characters n) h = sym (over_nil w u)
+nothing_written w u (Bits n) h = sym (over_nil w u)
 
 pub first_written : (w : List ℕ) (u m : ℕ) (v : Value) (x : Fixed) (w₁ w₂ : List ℕ) → v ≡ Number x
     → Raised w u m fixed_width w₁ → w₂ ≡ over w₁ u (D.fixed_text x.value) → WroteFirst w u m v w₂
@@ -68,42 +48,13 @@ first_written w u m v x w₁ w₂ e g h = rw e (record {
       h ∙ rw c (over_under w u fixed_width (D.fixed_text x.value) (part m u w) (sym (text_wide x.value)));
 })
 
-pub first_characters_stay : (w : List ℕ) (u m : ℕ) (v : Value) (n : ℕ) → v ≡ Characters n → WroteFirst w u m v w
+pub first_stays : (w : List ℕ) (u m : ℕ) (v : Value) → ((x : Fixed) → v ≡ Number x → ⊥) → WroteFirst w u m v w
 unfolding first_text
-first_characters_stay w u m v n e = rw e (record { is = λ l. sym (over_nil w u) })
-
-pub first_bits_stay : (w : List ℕ) (u m : ℕ) (v : Value) (n : ℕ) → v ≡ Bits n → WroteFirst w u m v w
-unfolding first_text
-first_bits_stay w u m v n e = rw e (record { is = λ l. sym (over_nil w u) })
+first_stays w u m (Number x) h = absurd (h x refl)
+first_stays w u m (Characters n) h = record { is = λ l. sym (over_nil w u) }
+first_stays w u m (Bits n) h = record { is = λ l. sym (over_nil w u) }
 
 -- ---- both BIT
-pub both_number : (x y : Value) (z : Fixed) → x ≡ Number z → false ≡ both_bits x y
-unfolding both_bits
-both_number x y z e = rw e
-
-pub both_characters : (x y : Value) (n : ℕ) → x ≡ Characters n → false ≡ both_bits x y
-unfolding both_bits
-both_characters x y n e = rw e
-
-pub both_then_number : (x y : Value) (n : ℕ) (z : Fixed) → x ≡ Bits n → y ≡ Number z → false ≡ both_bits x y
-unfolding both_bits
-both_then_number x y n z e f = rw (e, f)
-
-pub both_then_characters : (x y : Value) (n m : ℕ) → x ≡ Bits n → y ≡ Characters m → false ≡ both_bits x y
-unfolding both_bits
-both_then_characters x y n m e f = rw (e, f)
-
-pub both_then_bits : (x y : Value) (n m : ℕ) → x ≡ Bits n → y ≡ Bits m → true ≡ both_bits x y
-unfolding both_bits
-both_then_bits x y n m e f = rw (e, f)
-
-pub joined_bits : (x y : Value) (n : ℕ) (t : Bool) → t ≡ both_bits x y → t ≡ true → Bits n ≡ joined_value x y n
-unfolding joined_value
-joined_bits x y n t e f = rw (← e, f)
-
-pub joined_characters : (x y : Value) (n : ℕ) (t : Bool) → t ≡ both_bits x y → t ≡ false → Characters n ≡ joined_value x y n
-unfolding joined_value
-joined_characters x y n t e f = rw (← e, f)
 
 -- ---- `||`
 abbrev kind_of : Bool → List ℕ → D.Value
@@ -231,63 +182,3 @@ module _ (w : List ℕ) (u : ℕ) (x y : Value) (n m s : ℕ) (en : n ≡ text_s
       go false p b q c h = never _ (cc)
 
 -- ---- one operator after the other
-module _ (w : List ℕ) (u n : ℕ) (o : Operator) (X Y : D.Value) (w' : List ℕ) (g : Given) where
-  pub infix_or : o ≡ O.OrOp → Gave w u n (stacked u (D.logical u (logic_of Or) X Y)) w' g → Gave w u n (stacked u (D.infixed u o X Y)) w' g
-  unfolding D.infixed wanted_by
-  infix_or e h = rw e h
-
-  pub infix_and : o ≡ O.AndOp → Gave w u n (stacked u (D.logical u (logic_of And) X Y)) w' g → Gave w u n (stacked u (D.infixed u o X Y)) w' g
-  unfolding D.infixed wanted_by
-  infix_and e h = rw e h
-
-  pub infix_greater : o ≡ O.Greater → Judged w u n (stacked u (D.comparing (wanted_by Greater) X Y)) w' g → Gave w u n (stacked u (D.infixed u o X Y)) w' g
-  unfolding D.infixed wanted_by
-  infix_greater e h = rw e (judged_gave h)
-
-  pub infix_greaterequal : o ≡ O.GreaterEqual → Judged w u n (stacked u (D.comparing (wanted_by GreaterEqual) X Y)) w' g → Gave w u n (stacked u (D.infixed u o X Y)) w' g
-  unfolding D.infixed wanted_by
-  infix_greaterequal e h = rw e (judged_gave h)
-
-  pub infix_equal : o ≡ O.Equal → Judged w u n (stacked u (D.comparing (wanted_by Equal) X Y)) w' g → Gave w u n (stacked u (D.infixed u o X Y)) w' g
-  unfolding D.infixed wanted_by
-  infix_equal e h = rw e (judged_gave h)
-
-  pub infix_less : o ≡ O.Less → Judged w u n (stacked u (D.comparing (wanted_by Less) X Y)) w' g → Gave w u n (stacked u (D.infixed u o X Y)) w' g
-  unfolding D.infixed wanted_by
-  infix_less e h = rw e (judged_gave h)
-
-  pub infix_lessequal : o ≡ O.LessEqual → Judged w u n (stacked u (D.comparing (wanted_by LessEqual) X Y)) w' g → Gave w u n (stacked u (D.infixed u o X Y)) w' g
-  unfolding D.infixed wanted_by
-  infix_lessequal e h = rw e (judged_gave h)
-
-  pub infix_notgreater : o ≡ O.NotGreater → Judged w u n (stacked u (D.comparing (wanted_by NotGreater) X Y)) w' g → Gave w u n (stacked u (D.infixed u o X Y)) w' g
-  unfolding D.infixed wanted_by
-  infix_notgreater e h = rw e (judged_gave h)
-
-  pub infix_notequal : o ≡ O.NotEqual → Judged w u n (stacked u (D.comparing (wanted_by NotEqual) X Y)) w' g → Gave w u n (stacked u (D.infixed u o X Y)) w' g
-  unfolding D.infixed wanted_by
-  infix_notequal e h = rw e (judged_gave h)
-
-  pub infix_notless : o ≡ O.NotLess → Judged w u n (stacked u (D.comparing (wanted_by NotLess) X Y)) w' g → Gave w u n (stacked u (D.infixed u o X Y)) w' g
-  unfolding D.infixed wanted_by
-  infix_notless e h = rw e (judged_gave h)
-
-  pub infix_cat : o ≡ O.CatOp → Gave w u n (stacked u (D.joined X Y)) w' g → Gave w u n (stacked u (D.infixed u o X Y)) w' g
-  unfolding D.infixed wanted_by
-  infix_cat e h = rw e h
-
-  pub infix_plus : o ≡ O.Plus → Gave w u n (stacked u (D.arithmetic (calc_of o) X Y)) w' g → Gave w u n (stacked u (D.infixed u o X Y)) w' g
-  unfolding D.infixed calc_of
-  infix_plus e h = rw e (rw e at h)
-
-  pub infix_minus : o ≡ O.Minus → Gave w u n (stacked u (D.arithmetic (calc_of o) X Y)) w' g → Gave w u n (stacked u (D.infixed u o X Y)) w' g
-  unfolding D.infixed calc_of
-  infix_minus e h = rw e (rw e at h)
-
-  pub infix_times : o ≡ O.Times → Gave w u n (stacked u (D.arithmetic (calc_of o) X Y)) w' g → Gave w u n (stacked u (D.infixed u o X Y)) w' g
-  unfolding D.infixed calc_of
-  infix_times e h = rw e (rw e at h)
-
-  pub infix_divided : o ≡ O.Divided → Gave w u n (stacked u (D.arithmetic (calc_of o) X Y)) w' g → Gave w u n (stacked u (D.infixed u o X Y)) w' g
-  unfolding D.infixed calc_of
-  infix_divided e h = rw e (rw e at h)

@@ -14,7 +14,6 @@ use Rattle.definition.specs.Room.{over}
 use Rattle.definition.specs.declared.Why.TheVariants.{SubstrOutside as substr_outside}
 use Rattle.definition.specs.Values as D
 use Rattle.definition.proofs.Parts.{length_part}
-use Rattle.fixed.specs.declared.Fixed.{Fixed}
 use Rattle.values.specs.declared.Cut.{Cut}
 use Rattle.values.specs.declared.Cut.TheVariants.{Stretch, Outside}
 use Rattle.values.specs.Substr.{stretch, cut_at, cut_part, cut_rest}
@@ -27,18 +26,6 @@ use Rattle.operators.specs.Stands.{value_in, given_in, size_for, stacked, Gave, 
 use Rattle.operators.specs.Sides.{same_kind, Within, piece_of, Took}
 use Rattle.operators.proofs.Room.{part_written, below_over, top_in_lem}
 use Rattle.operators.proofs.Answers.{size_is, among_is}
-
-pub kind_number : (v : Value) (n : ℕ) (x : Fixed) → v ≡ Number x → Characters n ≡ same_kind v n
-unfolding same_kind
-kind_number v n x e = rw e
-
-pub kind_characters : (v : Value) (n k : ℕ) → v ≡ Characters k → Characters n ≡ same_kind v n
-unfolding same_kind
-kind_characters v n k e = rw e
-
-pub kind_bits : (v : Value) (n k : ℕ) → v ≡ Bits k → Bits n ≡ same_kind v n
-unfolding same_kind
-kind_bits v n k e = rw e
 
 -- n bytes that came down to u are the piece
 piece_is : (w w' : List ℕ) (u : ℕ) (v : Value) (i n : ℕ) → i + n ≤ size_for v → part n u w' ≡ part n (u + i) w → value_in w' u (same_kind v n) ≡ D.piece (value_in w u v) i n

@@ -1,13 +1,11 @@
 -- Stretches of the work room: read, written, moved, and what is below them.
 -- Assumes nothing.
 use mathlib.Core.Path.{◌≡◌, refl, sym, ap, ◌∙◌}
-use mathlib.Core.Bool.{Bool, true, false}
 use mathlib.Core.List.{List, [], ◌∷◌, ◌++◌}
 use Prim.Native.Nat.{ℕ, zero, suc, ◌+◌, ◌-◌, ◌<◌, ◌≤◌}
 use native.Mathlib.Nat.{add-zero, not-suc-le-zero, le_of_suc-le-suc}
 use native.Mathlib.Omega.{arith}
-use borrow.Author.Tests.{le-leb, lt-leb, leb-true, leb-false}
-use lib.Dec.{leb}
+use borrow.Author.Tests.{le-leb, lt-leb}
 use lib.ListN.{length, get_or, take}
 use lib.Seq.{get_or-take}
 use Rattle.definition.specs.Lists.{part}
@@ -80,25 +78,6 @@ top_in_lem u n h = rw (le-leb (u + n) 65536 h)
 pub top_out : (u n : ℕ) → 65536 < u + n → top_of u n ≡ 65536
 unfolding top_of
 top_out u n h = rw (lt-leb (u + n) 65536 h)
-
-pub above_in : (u n : ℕ) → u ≤ 65536 → n ≤ 65536 - u → u + n ≡ top_of u n
-above_in u n h k = sym (top_in_lem u n (omega arith))
-
-pub above_out : (u n : ℕ) → u ≤ 65536 → 65536 - u < n → 65536 ≡ top_of u n
-above_out u n h k = sym (top_out u n (omega arith))
-
-pub above_past : (u n : ℕ) → 65536 < u → 65536 ≡ top_of u n
-above_past u n h = sym (top_out u n (omega arith))
-
-pub fits_past : (u n : ℕ) → 65536 < u → false ≡ leb (u + n) 65536
-fits_past u n h = sym (lt-leb (u + n) 65536 (omega arith))
-
-pub fits_in : (u n : ℕ) → u ≤ 65536 → leb n (65536 - u) ≡ leb (u + n) 65536
-fits_in u n h = go (leb n (65536 - u)) refl
-  where
-    go : (t : Bool) → leb n (65536 - u) ≡ t → t ≡ leb (u + n) 65536
-    go true e = sym (le-leb (u + n) 65536 (omega (arith, leb-true n (65536 - u) e)))
-    go false e = sym (lt-leb (u + n) 65536 (omega (arith, leb-false n (65536 - u) e)))
 
 -- ---- bytes come down: the first j are there
 pub record Lowering (r₀ : List ℕ) (from n to : ℕ) (r : List ℕ) (j : ℕ) : Type 0 where

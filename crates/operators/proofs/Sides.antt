@@ -2,6 +2,7 @@
 -- Assumes nothing.
 use mathlib.Core.Path.{◌≡◌, refl, sym, ap, ◌∙◌}
 use mathlib.Core.Bool.{Bool, true, false}
+use mathlib.Core.Logic.{◌⊎◌, inl, inr}
 use mathlib.Core.List.{List, [], ◌∷◌}
 use Prim.Native.Nat.{ℕ, ◌+◌}
 use native.Mathlib.Nat.{add-zero}
@@ -9,14 +10,13 @@ use native.Mathlib.Omega.{arith}
 use borrow.Author.Tests.{leb-true}
 use lib.Dec.{leb}
 use lib.IntN.{ℤ}
+use Rattle.std.specs.Prelude.{Result, Ok, Err}
 use Rattle.definition.specs.Lists.{part}
 use Rattle.definition.specs.Room.{over}
 use Rattle.definition.specs.declared.Why.{Why}
 use Rattle.definition.specs.declared.Why.TheVariants.{TooLong as too_long}
 use Rattle.definition.specs.declared.Operator.{Operator}
-use Rattle.definition.specs.declared.Operator.TheVariants as O
 use Rattle.definition.specs.Values as D
-use Rattle.definition.specs.Fixed as F
 use Rattle.definition.proofs.Rooms.{over_nil}
 use Rattle.fixed.specs.declared.Fixed.{Fixed}
 use Rattle.fixed.specs.declared.Answer.{Answer}
@@ -30,40 +30,13 @@ use Rattle.operators.specs.declared.Value.TheVariants.{Number, Characters, Bits}
 use Rattle.operators.specs.declared.Given.{Given}
 use Rattle.operators.specs.declared.Given.TheVariants.{Gives, Fails}
 use Rattle.operators.specs.declared.NumberGiven.{NumberGiven}
-use Rattle.operators.specs.declared.NumberGiven.TheVariants.{Is as is_number, Fails as no_number}
-use Rattle.operators.specs.declared.Pair.{Pair}
-use Rattle.operators.specs.declared.Pair.TheVariants.{Are as are_pair, Fails as no_pair}
-use Rattle.operators.specs.declared.OrderGiven.{OrderGiven}
-use Rattle.operators.specs.declared.OrderGiven.TheVariants.{Is as is_order, Fails as no_order}
 use Rattle.operators.specs.Stands.{value_in, given_in, number_for, size_for, stacked, Ready, Gave, top_of, number_value}
-use Rattle.operators.specs.Sides.{calc_of, numbers, numbers_in, pair_for, order_answer, numeric_of, bytes_ordered, wanted_by, bits_given, Judged}
+use Rattle.operators.specs.Sides.{calc_of, numbers, numbers_in, pair_for, order_answer, numeric_of, wanted_by, bits_given, Judged}
 use Rattle.operators.proofs.Room.{part_written, below_over, top_in_lem}
 use Rattle.operators.proofs.Answers.{value_number}
 use Rattle.operators.proofs.Texts.{never}
 
--- ---- two numbers
-module _ (w : List ℕ) (u : ℕ) (x y : Value) (a : NumberGiven) (f : number_for a ≡ D.to_fixed (value_in w u x)) where
-  pub first_none : (e : Why) → a ≡ no_number e → pair_for (no_pair e) ≡ numbers_in (value_in w u x) (value_in w (top_of u (size_for x)) y)
-  unfolding number_for pair_for numbers_in
-  first_none e g = let h : D.fails e ≡ D.to_fixed (value_in w u x) = rw g at f in rw (← h)
-
-  module _ (n : Fixed) (g : a ≡ is_number n) (s t : ℕ) (p : s ≡ size_for x) (q : t ≡ top_of u s) (b : NumberGiven) (k : number_for b ≡ D.to_fixed (value_in w t y)) where
-    first : D.gives n.value ≡ D.to_fixed (value_in w u x)
-    unfolding number_for
-    first = rw g at f
-
-    second : number_for b ≡ D.to_fixed (value_in w (top_of u (size_for x)) y)
-    second = rw (← p, ← q) k
-
-    pub second_none : (e : Why) → b ≡ no_number e → pair_for (no_pair e) ≡ numbers_in (value_in w u x) (value_in w (top_of u (size_for x)) y)
-    unfolding number_for pair_for numbers_in
-    second_none e h = let i : D.fails e ≡ D.to_fixed (value_in w (top_of u (size_for x)) y) = rw h at second in rw (← first, ← i)
-
-    pub second_is : (m : Fixed) → b ≡ is_number m → pair_for (are_pair n m) ≡ numbers_in (value_in w u x) (value_in w (top_of u (size_for x)) y)
-    unfolding number_for pair_for numbers_in
-    second_is m h = let i : D.gives m.value ≡ D.to_fixed (value_in w (top_of u (size_for x)) y) = rw h at second in rw (← first, ← i)
-
--- what follows two numbers, or none
+-- ---- what follows two numbers, or none
 both_are : (x y : D.Value) (a b : ℤ) → D.gives (numbers a b) ≡ numbers_in x y → (A : Type 0) (f : ℤ → ℤ → D.Answer A)
     → D.and_then (D.to_fixed x) (λ a. D.and_then (D.to_fixed y) λ b. f a b) ≡ f a b
 unfolding numbers_in
@@ -91,72 +64,9 @@ not_both x y r e A f = go (D.to_fixed x) (D.to_fixed y) e
 top_of_lem : (w : List ℕ) (u : ℕ) (x y : Value) → Ready w u (size_for x + size_for y) → top_of u (size_for x) ≡ u + size_for x
 top_of_lem w u x y h = top_in_lem u (size_for x) (omega (arith, h.top))
 
--- ---- the arithmetic of an operator
-module _ (o : Operator) (a b : ℤ) (r : Answer) where
-  pub calc_plus : o ≡ O.Plus → result_of r ≡ F.sum a b → result_of r ≡ calc_of o a b
-  unfolding calc_of
-  calc_plus e h = rw e h
-
-  pub calc_minus : o ≡ O.Minus → result_of r ≡ F.difference a b → result_of r ≡ calc_of o a b
-  unfolding calc_of
-  calc_minus e h = rw e h
-
-  pub calc_times : o ≡ O.Times → result_of r ≡ F.product a b → result_of r ≡ calc_of o a b
-  unfolding calc_of
-  calc_times e h = rw e h
-
-  pub calc_divided : o ≡ O.Divided → result_of r ≡ F.quotient a b → result_of r ≡ calc_of o a b
-  unfolding calc_of
-  calc_divided e h = rw e h
-
-module _ (o : Operator) (a b : ℤ) where
-  pub none_orop : o ≡ O.OrOp → F.out_of_range ≡ calc_of o a b
-  unfolding calc_of
-  none_orop e = rw e
-
-  pub none_andop : o ≡ O.AndOp → F.out_of_range ≡ calc_of o a b
-  unfolding calc_of
-  none_andop e = rw e
-
-  pub none_greater : o ≡ O.Greater → F.out_of_range ≡ calc_of o a b
-  unfolding calc_of
-  none_greater e = rw e
-
-  pub none_greaterequal : o ≡ O.GreaterEqual → F.out_of_range ≡ calc_of o a b
-  unfolding calc_of
-  none_greaterequal e = rw e
-
-  pub none_equal : o ≡ O.Equal → F.out_of_range ≡ calc_of o a b
-  unfolding calc_of
-  none_equal e = rw e
-
-  pub none_less : o ≡ O.Less → F.out_of_range ≡ calc_of o a b
-  unfolding calc_of
-  none_less e = rw e
-
-  pub none_lessequal : o ≡ O.LessEqual → F.out_of_range ≡ calc_of o a b
-  unfolding calc_of
-  none_lessequal e = rw e
-
-  pub none_notgreater : o ≡ O.NotGreater → F.out_of_range ≡ calc_of o a b
-  unfolding calc_of
-  none_notgreater e = rw e
-
-  pub none_notequal : o ≡ O.NotEqual → F.out_of_range ≡ calc_of o a b
-  unfolding calc_of
-  none_notequal e = rw e
-
-  pub none_notless : o ≡ O.NotLess → F.out_of_range ≡ calc_of o a b
-  unfolding calc_of
-  none_notless e = rw e
-
-  pub none_catop : o ≡ O.CatOp → F.out_of_range ≡ calc_of o a b
-  unfolding calc_of
-  none_catop e = rw e
-
 -- ---- arithmetic
-module _ (w : List ℕ) (u : ℕ) (o : Operator) (x y : Value) (p : Pair) (h : pair_for p ≡ numbers_in (value_in w u x) (value_in w (top_of u (size_for x)) y)) where
-  pub calculated_is : (a b : Fixed) (r : Answer) (k : NumberGiven) (g : Given) → p ≡ are_pair a b → result_of r ≡ calc_of o a.value b.value
+module _ (w : List ℕ) (u : ℕ) (o : Operator) (x y : Value) (p : Result (Fixed × Fixed) Why) (h : pair_for p ≡ numbers_in (value_in w u x) (value_in w (top_of u (size_for x)) y)) where
+  pub calculated_is : (a b : Fixed) (r : Answer) (k : NumberGiven) (g : Given) → p ≡ Ok (a, b) → result_of r ≡ calc_of o a.value b.value
       → number_for k ≡ D.from_fixed (result_of r) → g ≡ number_value k
       → Gave w u (size_for x + size_for y) (stacked u (D.arithmetic (calc_of o) (value_in w u x) (value_in w (u + size_for x) y))) w g
   unfolding D.arithmetic pair_for
@@ -171,7 +81,7 @@ module _ (w : List ℕ) (u : ℕ) (o : Operator) (x y : Value) (p : Pair) (h : p
         };
   }
 
-  pub calculated_not : (e : Why) → p ≡ no_pair e
+  pub calculated_not : (e : Why) → p ≡ Err e
       → Gave w u (size_for x + size_for y) (stacked u (D.arithmetic (calc_of o) (value_in w u x) (value_in w (u + size_for x) y))) w (Fails e)
   unfolding D.arithmetic pair_for given_in stacked
   calculated_not r e = record {
@@ -189,25 +99,19 @@ order_back D.below = refl
 order_back D.alike = refl
 order_back D.above = refl
 
-module _ (X Y : D.Value) (p : Pair) (h : pair_for p ≡ numbers_in X Y) where
-  pub numeric_is : (a b : Fixed) (o : Order) → p ≡ are_pair a b → o ≡ order_for (D.numbers_order a.value b.value) → order_answer (is_order o) ≡ numeric_of X Y
-  unfolding pair_for order_answer numeric_of
-  numeric_is a b o e f =
-      let q : D.gives (numbers a.value b.value) ≡ numbers_in X Y = rw e at h in
-      rw (f, order_back) (sym (both_are X Y a.value b.value q D.Order (λ a b. D.gives (D.numbers_order a b))))
+pub numeric_is : (X Y : D.Value) (a b : Fixed) (o : Order) → pair_for (Ok (a, b)) ≡ numbers_in X Y → o ≡ order_for (D.numbers_order a.value b.value) → order_answer (Ok o) ≡ numeric_of X Y
+unfolding pair_for order_answer numeric_of
+numeric_is X Y a b o q f = rw (f, order_back) (sym (both_are X Y a.value b.value q D.Order (λ a b. D.gives (D.numbers_order a b))))
 
-  pub numeric_not : (e : Why) → p ≡ no_pair e → order_answer (no_order e) ≡ numeric_of X Y
-  unfolding pair_for order_answer numeric_of
-  numeric_not r e =
-      let q : D.fails r ≡ numbers_in X Y = rw e at h in
-      sym (not_both X Y r q D.Order (λ a b. D.gives (D.numbers_order a b)))
+pub numeric_not : (X Y : D.Value) (e : Why) → pair_for (Err e) ≡ numbers_in X Y → order_answer (Err e) ≡ numeric_of X Y
+unfolding pair_for order_answer numeric_of
+numeric_not X Y e q = sym (not_both X Y e q D.Order (λ a b. D.gives (D.numbers_order a b)))
 
 pub order_at : (w : List ℕ) (u n m pad t : ℕ) (o : Order) → t ≡ top_of u n → o ≡ order_for (D.bytes_order pad (part n u w) (part m t w))
-    → order_answer (is_order o) ≡ bytes_ordered pad (part n u w) (part m (top_of u n) w)
-unfolding order_answer bytes_ordered
+    → order_in o ≡ D.bytes_order pad (part n u w) (part m (top_of u n) w)
 order_at w u n m pad t o e f = rw (f, order_back, e)
 
-module _ (w : List ℕ) (u : ℕ) (x y : Value) (r : OrderGiven) where
+module _ (w : List ℕ) (u : ℕ) (x y : Value) (r : Result Order Why) where
   pub compared_number : (z : Fixed) → x ≡ Number z → order_answer r ≡ numeric_of (value_in w u x) (value_in w (top_of u (size_for x)) y)
       → order_answer r ≡ D.compared (value_in w u x) (value_in w (top_of u (size_for x)) y)
   unfolding numeric_of value_in D.compared
@@ -223,25 +127,22 @@ module _ (w : List ℕ) (u : ℕ) (x y : Value) (r : OrderGiven) where
   unfolding numeric_of value_in D.compared
   compared_bits n z e f h = rw e (h ∙ rw f)
 
-  pub compared_cc : (n m : ℕ) → x ≡ Characters n → y ≡ Characters m → order_answer r ≡ bytes_ordered 32 (part n u w) (part m (top_of u n) w)
-      → order_answer r ≡ D.compared (value_in w u x) (value_in w (top_of u (size_for x)) y)
-  unfolding bytes_ordered value_in D.compared size_for
-  compared_cc n m e f h = rw (e, f) h
+module _ (w : List ℕ) (u : ℕ) (x y : Value) (n m : ℕ) (o : Order) where
+  pub compared_text : x ≡ Characters n → (y ≡ Characters m) ⊎ (y ≡ Bits m) → order_in o ≡ D.bytes_order 32 (part n u w) (part m (top_of u n) w)
+      → order_answer (Ok o) ≡ D.compared (value_in w u x) (value_in w (top_of u (size_for x)) y)
+  unfolding order_answer value_in D.compared size_for
+  compared_text e (inl f) h = rw (e, f, h)
+  compared_text e (inr f) h = rw (e, f, h)
 
-  pub compared_cb : (n m : ℕ) → x ≡ Characters n → y ≡ Bits m → order_answer r ≡ bytes_ordered 32 (part n u w) (part m (top_of u n) w)
-      → order_answer r ≡ D.compared (value_in w u x) (value_in w (top_of u (size_for x)) y)
-  unfolding bytes_ordered value_in D.compared size_for
-  compared_cb n m e f h = rw (e, f) h
+  pub compared_bc : x ≡ Bits n → y ≡ Characters m → order_in o ≡ D.bytes_order 32 (part n u w) (part m (top_of u n) w)
+      → order_answer (Ok o) ≡ D.compared (value_in w u x) (value_in w (top_of u (size_for x)) y)
+  unfolding order_answer value_in D.compared size_for
+  compared_bc e f h = rw (e, f, h)
 
-  pub compared_bc : (n m : ℕ) → x ≡ Bits n → y ≡ Characters m → order_answer r ≡ bytes_ordered 32 (part n u w) (part m (top_of u n) w)
-      → order_answer r ≡ D.compared (value_in w u x) (value_in w (top_of u (size_for x)) y)
-  unfolding bytes_ordered value_in D.compared size_for
-  compared_bc n m e f h = rw (e, f) h
-
-  pub compared_bb : (n m : ℕ) → x ≡ Bits n → y ≡ Bits m → order_answer r ≡ bytes_ordered 48 (part n u w) (part m (top_of u n) w)
-      → order_answer r ≡ D.compared (value_in w u x) (value_in w (top_of u (size_for x)) y)
-  unfolding bytes_ordered value_in D.compared size_for
-  compared_bb n m e f h = rw (e, f) h
+  pub compared_bb : x ≡ Bits n → y ≡ Bits m → order_in o ≡ D.bytes_order 48 (part n u w) (part m (top_of u n) w)
+      → order_answer (Ok o) ≡ D.compared (value_in w u x) (value_in w (top_of u (size_for x)) y)
+  unfolding order_answer value_in D.compared size_for
+  compared_bb e f h = rw (e, f, h)
 
 -- ---- the outcome of a comparison
 wanted_is : (c : Comparison) (o : Order) → is_wanted c o ≡ wanted_by c (order_in o)
@@ -255,15 +156,15 @@ wanted_is NotGreater o = refl
 wanted_is NotEqual o = refl
 wanted_is NotLess o = refl
 
-module _ (w : List ℕ) (u : ℕ) (c : Comparison) (x y : Value) (q : OrderGiven) (h : order_answer q ≡ D.compared (value_in w u x) (value_in w (top_of u (size_for x)) y)) where
-  pub comparing_not : (e : Why) → q ≡ no_order e → Judged w u (size_for x + size_for y) (stacked u (D.comparing (wanted_by c) (value_in w u x) (value_in w (u + size_for x) y))) w (Fails e)
+module _ (w : List ℕ) (u : ℕ) (c : Comparison) (x y : Value) (q : Result Order Why) (h : order_answer q ≡ D.compared (value_in w u x) (value_in w (top_of u (size_for x)) y)) where
+  pub comparing_not : (e : Why) → q ≡ Err e → Judged w u (size_for x + size_for y) (stacked u (D.comparing (wanted_by c) (value_in w u x) (value_in w (u + size_for x) y))) w (Fails e)
   unfolding order_answer D.comparing given_in stacked bits_given
   comparing_not r e = record { so = λ d. record { is = rw (← k d); below = refl }; only = λ d. rw (← k d) (sym (over_nil w u)) }
     where
       k : Ready w u (size_for x + size_for y) → D.fails r ≡ D.compared (value_in w u x) (value_in w (u + size_for x) y)
       k d = rw (e, top_of_lem w u x y d) at h
 
-  module _ (o : Order) (e : q ≡ is_order o) (t : Bool) (f : t ≡ leb (u + 1) 65536) where
+  module _ (o : Order) (e : q ≡ Ok o) (t : Bool) (f : t ≡ leb (u + 1) 65536) where
     order_is : Ready w u (size_for x + size_for y) → D.gives (order_in o) ≡ D.compared (value_in w u x) (value_in w (u + size_for x) y)
     unfolding order_answer
     order_is d = rw (e, top_of_lem w u x y d) at h

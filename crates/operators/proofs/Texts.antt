@@ -2,7 +2,8 @@
 -- Assumes nothing.
 use mathlib.Core.Path.{◌≡◌, refl, sym, ap, ◌∙◌}
 use mathlib.Core.Bool.{Bool, true, false, cond}
-use mathlib.Core.List.{List, []}
+use mathlib.Core.Logic.{◌⊎◌, inl, inr}
+use mathlib.Core.List.{List}
 use Prim.Native.Nat.{ℕ, zero, suc, ◌+◌, ◌≤◌}
 use native.Mathlib.Omega.{arith}
 use borrow.Author.Tests.{le-leb, leb-true}
@@ -31,17 +32,12 @@ use Rattle.operators.specs.declared.Given.{Given}
 use Rattle.operators.specs.declared.Given.TheVariants.{Gives, Fails}
 use Rattle.operators.specs.declared.NumberGiven.{NumberGiven}
 use Rattle.operators.specs.declared.Truth.TheVariants.{Is as is_truth, Fails as no_truth}
-use Rattle.operators.specs.Stands.{value_in, given_in, number_for, truth_for, size_for, stacked, Ready, Gave, Told, Made, among_for, number_value, as_bit, as_subject, if_fits, text_put, bits_put}
+use Rattle.operators.specs.Stands.{value_in, given_in, number_for, truth_for, size_for, stacked, Ready, Gave, Told, Made, among_for, number_value, as_bit, as_subject, text_put, bits_put}
 use Rattle.operators.specs.Sides.{negated_for}
 use Rattle.operators.proofs.Room.{part_written, below_over}
 use Rattle.operators.proofs.Answers.{among_is, gave_number, made_gave}
 
 -- ---- a list that goes to u as one value
-put_in : (u : ℕ) (l : List ℕ) → leb (u + length l) 65536 ≡ true → if_fits u l ≡ l
-put_in u l e = rw e
-
-put_out_lem : (u : ℕ) (l : List ℕ) → leb (u + length l) 65536 ≡ false → if_fits u l ≡ []
-put_out_lem u l e = rw e
 
 -- ---- to CHARACTER
 module _ (w : List ℕ) (u : ℕ) (v : Value) (x : Fixed) (e : v ≡ Number x) (t : Bool) (g : t ≡ leb (u + fixed_width) 65536) where
@@ -68,13 +64,10 @@ module _ (w : List ℕ) (u : ℕ) (v : Value) (x : Fixed) (e : v ≡ Number x) (
       rw e (record { wrote = rw b (sym (over_nil w u)); is = λ room. rw b })
 
 module _ (w : List ℕ) (u : ℕ) (v : Value) (n : ℕ) (g : Given) where
-  pub text_characters : v ≡ Characters n → g ≡ among_for u (Characters n) → Made w u (text_put u v) (stacked u (D.convert CharacterType (value_in w u v))) w g
+  pub text_bytes : (v ≡ Characters n) ⊎ (v ≡ Bits n) → g ≡ among_for u (Characters n) → Made w u (text_put u v) (stacked u (D.convert CharacterType (value_in w u v))) w g
   unfolding text_put value_in stacked D.convert D.to_characters
-  text_characters e f = rw (e, f) (record { wrote = sym (over_nil w u); is = λ room. among_is w u (Characters n) })
-
-  pub text_bits : v ≡ Bits n → g ≡ among_for u (Characters n) → Made w u (text_put u v) (stacked u (D.convert CharacterType (value_in w u v))) w g
-  unfolding text_put value_in stacked D.convert D.to_characters
-  text_bits e f = rw (e, f) (record { wrote = sym (over_nil w u); is = λ room. among_is w u (Characters n) })
+  text_bytes (inl e) f = rw (e, f) (record { wrote = sym (over_nil w u); is = λ room. among_is w u (Characters n) })
+  text_bytes (inr e) f = rw (e, f) (record { wrote = sym (over_nil w u); is = λ room. among_is w u (Characters n) })
 
 -- ---- to BIT
 pub length_binary : (k n : ℕ) → length (D.binary k n) ≡ k
@@ -158,18 +151,15 @@ bits_at a k u w x e = go (D.to_bits a) refl e
 
 -- ---- SUBSTR's subject
 pub subject_number : (w : List ℕ) (u n : ℕ) (v : Value) (x : Fixed) (l w' : List ℕ) (g : Given) → v ≡ Number x
-    → Made w u l (stacked u (D.convert CharacterType (value_in w u (Number x)))) w' g → Gave w u n (stacked u (as_subject (value_in w u v))) w' g
+    → Made w u l (stacked u (D.convert CharacterType (value_in w u v))) w' g → Gave w u n (stacked u (as_subject (value_in w u v))) w' g
 unfolding as_subject value_in D.convert D.to_characters
-subject_number w u n v x l w' g e m = rw e (made_gave w u n l _ w' g m)
+subject_number w u n v x l w' g e m = rw e (made_gave w u n l _ w' g (rw e at m))
 
-module _ (w : List ℕ) (u n : ℕ) (v : Value) (k : ℕ) (g : Given) where
-  pub subject_characters : v ≡ Characters k → g ≡ among_for u (Characters k) → Gave w u n (stacked u (as_subject (value_in w u v))) w g
-  unfolding as_subject value_in stacked
-  subject_characters e f = rw (e, f) (record { so = λ h. record { is = among_is w u (Characters k); below = refl } })
-
-  pub subject_bits : v ≡ Bits k → g ≡ among_for u (Bits k) → Gave w u n (stacked u (as_subject (value_in w u v))) w g
-  unfolding as_subject value_in stacked
-  subject_bits e f = rw (e, f) (record { so = λ h. record { is = among_is w u (Bits k); below = refl } })
+pub subject_bytes : (w : List ℕ) (u n : ℕ) (v : Value) (g : Given) → ((k : ℕ) × (v ≡ Characters k)) ⊎ ((k : ℕ) × (v ≡ Bits k)) → g ≡ among_for u v
+    → Gave w u n (stacked u (as_subject (value_in w u v))) w g
+unfolding as_subject value_in stacked
+subject_bytes w u n v g (inl (k, e)) f = rw (e, f, e) (record { so = λ h. record { is = among_is w u (Characters k); below = refl } })
+subject_bytes w u n v g (inr (k, e)) f = rw (e, f, e) (record { so = λ h. record { is = among_is w u (Bits k); below = refl } })
 
 -- ---- IF: the digits of a value that was made BIT, and was put among those that wait
 abbrev bits_hold : D.Value → D.Answer Bool

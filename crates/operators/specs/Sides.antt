@@ -1,5 +1,6 @@
 -- The operators: x at u, and y directly above it.
-use Rattle.std.specs.Prelude.{ℕ, ◌+◌, ◌≤◌, ◌≡◌, Bool, true, false, not, cond, List, [], ◌++◌, ℤ, length, take}
+use Rattle.std.specs.Prelude.{ℕ, ◌+◌, ◌≤◌, ◌≡◌, Bool, true, false, not, cond, List, [], ◌++◌, ℤ, length, take, Result, Ok, Err}
+use Rattle.definition.specs.declared.Why.{Why}
 use Rattle.definition.specs.Lists.{part}
 use Rattle.definition.specs.Room.{over}
 use Rattle.definition.specs.Limits.{fixed_width, unfinished_bytes}
@@ -9,6 +10,8 @@ use Rattle.definition.specs.declared.Operator.{Operator}
 use Rattle.definition.specs.declared.Operator.TheVariants as O
 use Rattle.values.specs.declared.Comparison.{Comparison}
 use Rattle.values.specs.declared.Comparison.TheVariants.{Greater, GreaterEqual, Equal, Less, LessEqual, NotGreater, NotEqual, NotLess}
+use Rattle.fixed.specs.declared.Fixed.{Fixed}
+use Rattle.values.specs.declared.Order.{Order}
 use Rattle.values.specs.declared.Cut.{Cut}
 use Rattle.values.specs.declared.Cut.TheVariants.{Stretch, Outside}
 use Rattle.values.specs.Answers.{order_in}
@@ -17,10 +20,6 @@ use Rattle.operators.specs.declared.Value.{Value}
 use Rattle.operators.specs.declared.Value.TheVariants.{Number, Characters, Bits}
 use Rattle.operators.specs.declared.Given.{Given}
 use Rattle.operators.specs.declared.Given.TheVariants.{Gives}
-use Rattle.operators.specs.declared.Pair.{Pair}
-use Rattle.operators.specs.declared.Pair.TheVariants.{Are as are_pair, Fails as no_pair}
-use Rattle.operators.specs.declared.OrderGiven.{OrderGiven}
-use Rattle.operators.specs.declared.OrderGiven.TheVariants.{Is as is_order, Fails as no_order}
 use Rattle.operators.specs.Stands.{value_in, given_in, size_for, stacked, as_bit, Ready, Stood}
 
 -- ---- numbers
@@ -51,20 +50,17 @@ pub data Numbers : Type 0 where
 unfoldable pub numbers_in : D.Value → D.Value → D.Answer Numbers
 numbers_in x y = D.and_then (D.to_fixed x) λ a. D.and_then (D.to_fixed y) λ b. D.gives (numbers a b)
 
-unfoldable pub pair_for : Pair → D.Answer Numbers
-pair_for (are_pair a b) = D.gives (numbers a.value b.value)
-pair_for (no_pair y) = D.fails y
+unfoldable pub pair_for : Result (Fixed × Fixed) Why → D.Answer Numbers
+pair_for (Ok p) = D.gives (numbers p.0.value p.1.value)
+pair_for (Err y) = D.fails y
 
 -- ---- comparison
-unfoldable pub order_answer : OrderGiven → D.Answer D.Order
-order_answer (is_order o) = D.gives (order_in o)
-order_answer (no_order y) = D.fails y
+unfoldable pub order_answer : Result Order Why → D.Answer D.Order
+order_answer (Ok o) = D.gives (order_in o)
+order_answer (Err y) = D.fails y
 
 unfoldable pub numeric_of : D.Value → D.Value → D.Answer D.Order
 numeric_of x y = D.numeric x y
-
-unfoldable pub bytes_ordered : ℕ → List ℕ → List ℕ → D.Answer D.Order
-bytes_ordered pad l k = D.gives (D.bytes_order pad l k)
 
 unfoldable pub wanted_by : Comparison → D.Order → Bool
 wanted_by Greater = D.is_above

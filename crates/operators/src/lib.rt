@@ -9,10 +9,10 @@ ghost use Rattle.definition.specs.Room.{over};
 ghost use Rattle.definition.specs.Limits.{unfinished_bytes};
 ghost use Rattle.definition.specs.Values as D;
 ghost use Rattle.fixed.specs.Answer.{result_of};
-ghost use Rattle.values.specs.Answers.{answer_of};
+ghost use Rattle.values.specs.Answers.{answer_of, order_in};
 ghost use Rattle.values.specs.Bits.{logic_of};
 ghost use Rattle.operators.specs.Stands.{value_in, number_for, size_for, stacked, Gave, Told, Made, top_of, among_for, limited_for, MovedDown, MovedUp, number_value, as_bit, as_subject, text_put, bits_put};
-ghost use Rattle.operators.specs.Sides.{negated_for, calc_of, numbers_in, pair_for, order_answer, numeric_of, bytes_ordered, wanted_by, Judged, Raised, First, text_size, number_text, WroteFirst, both_bits, joined_value, same_kind, Took};
+ghost use Rattle.operators.specs.Sides.{negated_for, calc_of, numbers_in, pair_for, order_answer, numeric_of, wanted_by, Judged, Raised, First, text_size, number_text, WroteFirst, both_bits, joined_value, same_kind, Took};
 
 use definition::{Operator, Prefix, ValueType, Why};
 use fixed::{Answer, Fixed};
@@ -50,13 +50,13 @@ const BITS: usize = 17;
 // ---- the work room
 
 // The bytes that a value takes while it waits.
+#[tactic(auto, unfolding(crate::specs::Stands::size_for))]
 pub fn size_of(v: Value) -> usize
     ensures { result ≡ size_for v }
 {
     match v {
         Value::Number(_) => 0,
-        Value::Characters(n) => n,
-        Value::Bits(n) => n,
+        Value::Characters(n) | Value::Bits(n) => n,
     }
 }
 
@@ -64,25 +64,22 @@ pub fn size_of(v: Value) -> usize
 pub fn fits(u: usize, n: usize) -> bool
     ensures { result ≡ leb (u + n) unfinished_bytes }
 {
-    if Filling::UNFINISHED < u {
-        return false;
-    }
-    n <= Filling::UNFINISHED - u
+    u <= Filling::UNFINISHED && n <= Filling::UNFINISHED - u
 }
 
 // The place above n bytes at u, which fit.
+#[tactic(auto, unfolding(crate::specs::Stands::top_of))]
 pub fn above(u: usize, n: usize) -> usize
     ensures { result ≡ top_of u n }
 {
-    if u <= Filling::UNFINISHED {
-        if n <= Filling::UNFINISHED - u {
-            return u + n;
-        }
+    if fits(u, n) {
+        return u + n;
     }
     Filling::UNFINISHED
 }
 
 // A value put above u bytes.
+#[tactic(auto, unfolding(crate::specs::Stands::among_for))]
 pub fn among(u: usize, v: Value) -> Given
     ensures { result ≡ among_for u v }
 {
@@ -92,6 +89,7 @@ pub fn among(u: usize, v: Value) -> Given
     Given::Fails(Why::TooLong)
 }
 
+#[tactic(auto, unfolding(crate::specs::Stands::limited_for))]
 fn limited(u: usize, v: Value) -> Given
     ensures { result ≡ limited_for u v }
 {
@@ -105,11 +103,10 @@ fn limited(u: usize, v: Value) -> Given
 pub fn move_down(room: &mut [u8], from: usize, n: usize, to: usize)
     ensures { MovedDown room.old from n to room.new }
 {
-    let mut j: usize = 0;
-    while j < n {
+    // stays: a loop, as copy_within panics where the bytes reach past the room, and the contract holds at every place
+    for j in 0..n {
         let b = byte(room, from, j);
         put_byte(room, to, j, b);
-        j += 1;
     }
 }
 
@@ -117,9 +114,7 @@ pub fn move_down(room: &mut [u8], from: usize, n: usize, to: usize)
 pub fn move_up(room: &mut [u8], from: usize, n: usize, to: usize)
     ensures { MovedUp room.old from n to room.new }
 {
-    let mut j = n;
-    while 0 < j {
-        j -= 1;
+    for j in (0..n).rev() {
         let b = byte(room, from, j);
         put_byte(room, to, j, b);
     }
@@ -127,6 +122,7 @@ pub fn move_up(room: &mut [u8], from: usize, n: usize, to: usize)
 
 // ---- conversions
 
+#[tactic(auto, unfolding(crate::specs::Stands::number_for))]
 fn number_given(x: NumberAnswer) -> NumberGiven
     ensures { number_for result ≡ answer_of x }
 {
@@ -137,6 +133,7 @@ fn number_given(x: NumberAnswer) -> NumberGiven
     }
 }
 
+#[tactic(auto, unfolding(crate::specs::Stands::number_for))]
 fn answer_given(x: Answer) -> NumberGiven
     ensures { number_for result ≡ D.from_fixed (result_of x) }
 {
@@ -147,6 +144,7 @@ fn answer_given(x: Answer) -> NumberGiven
     }
 }
 
+#[tactic(auto, unfolding(crate::specs::Stands::number_for, crate::specs::Stands::value_in, definition::specs::Values::to_fixed))]
 pub fn to_fixed(work: &[u8], u: usize, v: Value) -> NumberGiven
     ensures { number_for result ≡ D.to_fixed (value_in work.now u v) }
 {
@@ -162,6 +160,7 @@ pub fn to_characters(work: &mut [u8], u: usize, v: Value) -> Given
     ensures { Made work.old u (text_put u v) (stacked u (D.convert ValueType.CharacterType (value_in work.old u v))) work.new result }
 {
     match v {
+        // stays: this arm and that of to_bits differ in width, writer and variant; one function of all three is no plainer
         Value::Number(x) => {
             if fits(u, Fixed::WIDTH) {
                 put_fixed(x, work, u);
@@ -169,8 +168,7 @@ pub fn to_characters(work: &mut [u8], u: usize, v: Value) -> Given
             }
             Given::Fails(Why::TooLong)
         }
-        Value::Characters(n) => among(u, Value::Characters(n)),
-        Value::Bits(n) => among(u, Value::Characters(n)),
+        Value::Characters(n) | Value::Bits(n) => among(u, Value::Characters(n)),
     }
 }
 
@@ -196,6 +194,7 @@ pub fn to_bits(work: &mut [u8], u: usize, v: Value) -> Given
     }
 }
 
+#[tactic(auto, unfolding(crate::specs::Stands::number_value))]
 fn number_value(x: NumberGiven) -> Given
     ensures { result ≡ number_value x }
 {
@@ -220,9 +219,8 @@ pub fn subject(work: &mut [u8], u: usize, v: Value) -> Given
     ensures { Gave work.old u (size_for v) (stacked u (as_subject (value_in work.old u v))) work.new result }
 {
     match v {
-        Value::Number(x) => to_characters(work, u, Value::Number(x)),
-        Value::Characters(n) => among(u, Value::Characters(n)),
-        Value::Bits(n) => among(u, Value::Bits(n)),
+        Value::Number(_) => to_characters(work, u, v),
+        Value::Characters(_) | Value::Bits(_) => among(u, v),
     }
 }
 
@@ -236,8 +234,7 @@ pub enum Truth {
 pub fn holds(work: &mut [u8], u: usize, v: Value) -> Truth
     ensures { Told work.old u (size_for v) (D.holds u (value_in work.old u v)) work.new result }
 {
-    let b = to_bits(work, u, v);
-    match b {
+    match to_bits(work, u, v) {
         Given::Gives(x) => Truth::Is(any_one(work, u, size_of(x))),
         Given::Fails(w) => Truth::Fails(w),
     }
@@ -251,19 +248,17 @@ pub fn prefixed(work: &mut [u8], u: usize, o: Prefix, v: Value) -> Given
     match o {
         Prefix::Positive => number_value(to_fixed(work, u, v)),
         Prefix::Negative => number_value(negated(to_fixed(work, u, v))),
-        Prefix::Complement => {
-            let b = to_bits(work, u, v);
-            match b {
-                Given::Gives(x) => {
-                    invert(work, u, size_of(x));
-                    Given::Gives(x)
-                }
-                Given::Fails(w) => Given::Fails(w),
+        Prefix::Complement => match to_bits(work, u, v) {
+            Given::Gives(x) => {
+                invert(work, u, size_of(x));
+                Given::Gives(x)
             }
-        }
+            Given::Fails(w) => Given::Fails(w),
+        },
     }
 }
 
+#[tactic(auto, unfolding(crate::specs::Stands::number_for, crate::specs::Sides::negated_for))]
 fn negated(x: NumberGiven) -> NumberGiven
     ensures { number_for result ≡ negated_for (number_for x) }
 {
@@ -275,6 +270,7 @@ fn negated(x: NumberGiven) -> NumberGiven
 
 // ---- infix operators: x at u, y directly above it
 
+#[tactic(auto, unfolding(crate::specs::Sides::calc_of))]
 fn arithmetic(o: Operator, a: Fixed, b: Fixed) -> Answer
     ensures { result_of result ≡ calc_of o a.value b.value }
 {
@@ -283,91 +279,72 @@ fn arithmetic(o: Operator, a: Fixed, b: Fixed) -> Answer
         Operator::Minus => a.subtract(b),
         Operator::Times => a.multiply(b),
         Operator::Divided => a.divide(b),
-        Operator::OrOp => Answer::OutOfRange,
-        Operator::AndOp => Answer::OutOfRange,
-        Operator::Greater => Answer::OutOfRange,
-        Operator::GreaterEqual => Answer::OutOfRange,
-        Operator::Equal => Answer::OutOfRange,
-        Operator::Less => Answer::OutOfRange,
-        Operator::LessEqual => Answer::OutOfRange,
-        Operator::NotGreater => Answer::OutOfRange,
-        Operator::NotEqual => Answer::OutOfRange,
-        Operator::NotLess => Answer::OutOfRange,
-        Operator::CatOp => Answer::OutOfRange,
+        Operator::OrOp
+        | Operator::AndOp
+        | Operator::Greater
+        | Operator::GreaterEqual
+        | Operator::Equal
+        | Operator::Less
+        | Operator::LessEqual
+        | Operator::NotGreater
+        | Operator::NotEqual
+        | Operator::NotLess
+        | Operator::CatOp => Answer::OutOfRange,
     }
 }
 
 // Two sides as numbers, the first converted first.
-#[derive(Clone, Copy)]
-enum Pair {
-    Are(Fixed, Fixed),
-    Fails(Why),
-}
-
-fn numbers_of(work: &[u8], u: usize, x: Value, y: Value) -> Pair
+#[tactic(auto, unfolding(crate::specs::Stands::number_for, crate::specs::Sides::pair_for, crate::specs::Sides::numbers_in))]
+fn numbers_of(work: &[u8], u: usize, x: Value, y: Value) -> Result<(Fixed, Fixed), Why>
     ensures { pair_for result ≡ numbers_in (value_in work.now u x) (value_in work.now (top_of u (size_for x)) y) }
 {
-    let a = to_fixed(work, u, x);
-    match a {
-        NumberGiven::Is(n) => {
-            let b = to_fixed(work, above(u, size_of(x)), y);
-            match b {
-                NumberGiven::Is(m) => Pair::Are(n, m),
-                NumberGiven::Fails(w) => Pair::Fails(w),
-            }
-        }
-        NumberGiven::Fails(w) => Pair::Fails(w),
+    match to_fixed(work, u, x) {
+        NumberGiven::Is(n) => match to_fixed(work, above(u, size_of(x)), y) {
+            NumberGiven::Is(m) => Ok((n, m)),
+            NumberGiven::Fails(w) => Err(w),
+        },
+        NumberGiven::Fails(w) => Err(w),
     }
 }
 
 fn calculated(work: &[u8], u: usize, o: Operator, x: Value, y: Value) -> Given
     ensures { Gave work.now u (size_for x + size_for y) (stacked u (D.arithmetic (calc_of o) (value_in work.now u x) (value_in work.now (u + size_for x) y))) work.now result }
 {
-    let p = numbers_of(work, u, x, y);
-    match p {
-        Pair::Are(a, b) => number_value(answer_given(arithmetic(o, a, b))),
-        Pair::Fails(w) => Given::Fails(w),
+    match numbers_of(work, u, x, y) {
+        Ok((a, b)) => number_value(answer_given(arithmetic(o, a, b))),
+        Err(w) => Given::Fails(w),
     }
 }
 
-#[derive(Clone, Copy)]
-enum OrderGiven {
-    Is(Order),
-    Fails(Why),
-}
-
-fn numeric_order(work: &[u8], u: usize, x: Value, y: Value) -> OrderGiven
+fn numeric_order(work: &[u8], u: usize, x: Value, y: Value) -> Result<Order, Why>
     ensures { order_answer result ≡ numeric_of (value_in work.now u x) (value_in work.now (top_of u (size_for x)) y) }
 {
-    let p = numbers_of(work, u, x, y);
-    match p {
-        Pair::Are(a, b) => OrderGiven::Is(numbers_order(a, b)),
-        Pair::Fails(w) => OrderGiven::Fails(w),
-    }
+    let (a, b) = numbers_of(work, u, x, y)?;
+    Ok(numbers_order(a, b))
 }
 
 // Where they stand: n bytes at u, and m above them.
-fn order_at(work: &[u8], u: usize, n: usize, m: usize, pad: u8) -> OrderGiven
-    ensures { order_answer result ≡ bytes_ordered pad (part n u work.now) (part m (top_of u n) work.now) }
+fn order_at(work: &[u8], u: usize, n: usize, m: usize, pad: u8) -> Order
+    ensures { order_in result ≡ D.bytes_order pad (part n u work.now) (part m (top_of u n) work.now) }
 {
-    OrderGiven::Is(bytes_order(work, u, n, work, above(u, n), m, pad))
+    bytes_order(work, u, n, work, above(u, n), m, pad)
 }
 
 // "numeric if one side is FIXED; else as characters if one is CHARACTER; else bits padded with zeros"
-fn compared(work: &[u8], u: usize, x: Value, y: Value) -> OrderGiven
+fn compared(work: &[u8], u: usize, x: Value, y: Value) -> Result<Order, Why>
     ensures { order_answer result ≡ D.compared (value_in work.now u x) (value_in work.now (top_of u (size_for x)) y) }
 {
+    // stays: a match in a match; tried on the pair (x, y), but where two pairs share an arm no answer can name its facts
     match x {
         Value::Number(_) => numeric_order(work, u, x, y),
         Value::Characters(n) => match y {
             Value::Number(_) => numeric_order(work, u, x, y),
-            Value::Characters(m) => order_at(work, u, n, m, b' '),
-            Value::Bits(m) => order_at(work, u, n, m, b' '),
+            Value::Characters(m) | Value::Bits(m) => Ok(order_at(work, u, n, m, b' ')),
         },
         Value::Bits(n) => match y {
             Value::Number(_) => numeric_order(work, u, x, y),
-            Value::Characters(m) => order_at(work, u, n, m, b' '),
-            Value::Bits(m) => order_at(work, u, n, m, b'0'),
+            Value::Characters(m) => Ok(order_at(work, u, n, m, b' ')),
+            Value::Bits(m) => Ok(order_at(work, u, n, m, b'0')),
         },
     }
 }
@@ -376,16 +353,15 @@ fn compared(work: &[u8], u: usize, x: Value, y: Value) -> OrderGiven
 fn comparing(work: &mut [u8], u: usize, c: Comparison, x: Value, y: Value) -> Given
     ensures { Judged work.old u (size_for x + size_for y) (stacked u (D.comparing (wanted_by c) (value_in work.old u x) (value_in work.old (u + size_for x) y))) work.new result }
 {
-    let o = compared(work, u, x, y);
-    match o {
-        OrderGiven::Is(order) => {
+    match compared(work, u, x, y) {
+        Ok(order) => {
             if fits(u, 1) {
                 put_byte(work, u, 0, bit_of(is_wanted(c, order)));
                 return Given::Gives(Value::Bits(1));
             }
             Given::Fails(Why::TooLong)
         }
-        OrderGiven::Fails(w) => Given::Fails(w),
+        Err(w) => Given::Fails(w),
     }
 }
 
@@ -408,20 +384,17 @@ fn first_bits(work: &mut [u8], u: usize, x: Value, m: usize) -> Given
             }
             Given::Fails(Why::TooLong)
         }
-        Value::Characters(_) => to_bits(work, u, x),
-        Value::Bits(_) => to_bits(work, u, x),
+        Value::Characters(_) | Value::Bits(_) => to_bits(work, u, x),
     }
 }
 
 fn logical(work: &mut [u8], u: usize, o: Logic, x: Value, y: Value) -> Given
     ensures { Gave work.old u (size_for x + size_for y) (stacked u (D.logical u (logic_of o) (value_in work.old u x) (value_in work.old (u + size_for x) y))) work.new result }
 {
-    let a = first_bits(work, u, x, size_of(y));
-    match a {
+    match first_bits(work, u, x, size_of(y)) {
         Given::Gives(first) => {
             let n = size_of(first);
-            let b = to_bits(work, above(u, n), y);
-            match b {
+            match to_bits(work, above(u, n), y) {
                 Given::Gives(second) => {
                     Given::Gives(Value::Bits(combine(o, work, u, n, size_of(second))))
                 }
@@ -433,13 +406,13 @@ fn logical(work: &mut [u8], u: usize, o: Logic, x: Value, y: Value) -> Given
 }
 
 // The bytes that a value has as CHARACTER.
+#[tactic(auto, unfolding(crate::specs::Sides::text_size))]
 fn text_size(v: Value) -> usize
     ensures { result ≡ text_size v }
 {
     match v {
         Value::Number(_) => Fixed::WIDTH,
-        Value::Characters(n) => n,
-        Value::Bits(n) => n,
+        Value::Characters(n) | Value::Bits(n) => n,
     }
 }
 
@@ -447,12 +420,8 @@ fn text_size(v: Value) -> usize
 fn write_number(work: &mut [u8], u: usize, v: Value)
     ensures { work.new ≡ over work.old u (number_text v) }
 {
-    match v {
-        Value::Number(x) => {
-            put_fixed(x, work, u);
-        }
-        Value::Characters(_) => {}
-        Value::Bits(_) => {}
+    if let Value::Number(x) = v {
+        put_fixed(x, work, u);
     }
 }
 
@@ -460,31 +429,21 @@ fn write_number(work: &mut [u8], u: usize, v: Value)
 fn write_first(work: &mut [u8], u: usize, v: Value, m: usize)
     ensures { WroteFirst work.old u m v work.new }
 {
-    match v {
-        Value::Number(x) => {
-            raise(work, u, m, Fixed::WIDTH);
-            put_fixed(x, work, u);
-        }
-        Value::Characters(_) => {}
-        Value::Bits(_) => {}
+    if let Value::Number(x) = v {
+        raise(work, u, m, Fixed::WIDTH);
+        put_fixed(x, work, u);
     }
 }
 
+#[tactic(auto, unfolding(crate::specs::Sides::both_bits))]
 fn are_both_bits(x: Value, y: Value) -> bool
     ensures { result ≡ both_bits x y }
 {
-    match x {
-        Value::Number(_) => false,
-        Value::Characters(_) => false,
-        Value::Bits(_) => match y {
-            Value::Number(_) => false,
-            Value::Characters(_) => false,
-            Value::Bits(_) => true,
-        },
-    }
+    matches!((x, y), (Value::Bits(_), Value::Bits(_)))
 }
 
 // "`||` of two BIT is BIT, else CHARACTER."
+#[tactic(auto, unfolding(crate::specs::Sides::joined_value))]
 fn joined_value(x: Value, y: Value, n: usize) -> Value
     ensures { result ≡ joined_value x y n }
 {
@@ -499,8 +458,7 @@ fn joined(work: &mut [u8], u: usize, x: Value, y: Value) -> Given
 {
     let n = text_size(x);
     let m = text_size(y);
-    let g = limited(u, joined_value(x, y, above(n, m)));
-    match g {
+    match limited(u, joined_value(x, y, above(n, m))) {
         Given::Gives(v) => {
             write_first(work, u, x, size_of(y));
             write_number(work, above(u, n), y);
@@ -511,6 +469,7 @@ fn joined(work: &mut [u8], u: usize, x: Value, y: Value) -> Given
 }
 
 // THE INFIX OPERATORS.
+#[tactic(auto, using(crate::proofs::Sides::judged_gave), unfolding(definition::specs::Values::infixed, crate::specs::Sides::wanted_by, crate::specs::Sides::calc_of))]
 pub fn infixed(work: &mut [u8], u: usize, o: Operator, x: Value, y: Value) -> Given
     ensures { Gave work.old u (size_for x + size_for y) (stacked u (D.infixed u o (value_in work.old u x) (value_in work.old (u + size_for x) y))) work.new result }
 {
@@ -526,21 +485,20 @@ pub fn infixed(work: &mut [u8], u: usize, o: Operator, x: Value, y: Value) -> Gi
         Operator::NotEqual => comparing(work, u, Comparison::NotEqual, x, y),
         Operator::NotLess => comparing(work, u, Comparison::NotLess, x, y),
         Operator::CatOp => joined(work, u, x, y),
-        Operator::Plus => calculated(work, u, o, x, y),
-        Operator::Minus => calculated(work, u, o, x, y),
-        Operator::Times => calculated(work, u, o, x, y),
-        Operator::Divided => calculated(work, u, o, x, y),
+        Operator::Plus | Operator::Minus | Operator::Times | Operator::Divided => {
+            calculated(work, u, o, x, y)
+        }
     }
 }
 
 // ---- SUBSTR
 
+#[tactic(auto, unfolding(crate::specs::Sides::same_kind))]
 fn same_kind(v: Value, n: usize) -> Value
     ensures { result ≡ same_kind v n }
 {
     match v {
-        Value::Number(_) => Value::Characters(n),
-        Value::Characters(_) => Value::Characters(n),
+        Value::Number(_) | Value::Characters(_) => Value::Characters(n),
         Value::Bits(_) => Value::Bits(n),
     }
 }

@@ -1,4 +1,5 @@
 -- A comma inside parentheses, or behind the attribute.
+use Rattle.std.proofs.Common.{refl}
 use Rattle.activating.proofs.Walks.{comma_inside, comma_behind}
 use Rattle.activating.proofs.next_declared.Goals as goal
 
@@ -6,4 +7,4 @@ pub returns-then-is_sign : goal.returns-then-is_sign
 returns-then-is_sign c = search comma_inside
 
 pub returns : goal.returns
-returns c = search comma_behind
+returns c = let p = c.past_sign.ensures ")" refl in search comma_behind

@@ -1,17 +1,18 @@
-use Rattle.activating.proofs.Walks.{setting_start, setting_done, setting_wrong, setting_end, setting_on}
+use Rattle.std.proofs.Common.{refl}
+use Rattle.activating.proofs.Walks.{none_if, setting_start, setting_done, setting_wrong, setting_end, setting_on}
 use Rattle.activating.proofs.set_all.Goals as goal
 
-pub loop-turns-init : goal.loop-turns-init
-loop-turns-init c = search setting_start
+pub loop-init : goal.loop-init
+loop-init c = search setting_start
 
-pub loop-turns-preserved : goal.loop-turns-preserved
-loop-turns-preserved c = search setting_on
+pub loop-preserved : goal.loop-preserved
+loop-preserved c = let p = c.past_sign.ensures "(" refl in search setting_on
 
-pub returns-in-AtEnd : goal.returns-in-AtEnd
-returns-in-AtEnd c = search setting_end
+pub returns-in_default : goal.returns-in_default
+returns-in_default c = let p = c.past_sign.ensures "(" refl in let u = none_if _ c.in_default.not-Some in search setting_end
 
-pub returns-else-activate : goal.returns-else-activate
-returns-else-activate c = search setting_wrong
+pub returns-then-not-activate : goal.returns-then-not-activate
+returns-then-not-activate c = let p = c.past_sign.ensures "(" refl in search setting_wrong
 
 pub returns : goal.returns
 returns c = search setting_done

@@ -5,8 +5,8 @@ use Rattle.callees.proofs.callee_of.Goals as goal
 pub returns-then-is_sign : goal.returns-then-is_sign
 returns-then-is_sign c = search callee_some
 
-pub returns-in-Nothing : goal.returns-in-Nothing
-returns-in-Nothing c = search callee_none
+pub returns-in_default : goal.returns-in_default
+returns-in_default c = callee_none _ _ _ _ _ _ c.in_default.not-At
 
-pub returns-else-is_sign : goal.returns-else-is_sign
-returns-else-is_sign c = search callee_plain
+pub returns : goal.returns
+returns c = search callee_plain

@@ -5,5 +5,5 @@ use Rattle.callees.proofs.is_substr.Goals as goal
 pub returns-then-n-eq6 : goal.returns-then-n-eq6
 returns-then-n-eq6 c = search substr_six
 
-pub returns : goal.returns
-returns c = search substr_other
+pub returns-else-n-eq6 : goal.returns-else-n-eq6
+returns-else-n-eq6 c = search substr_other

@@ -1,14 +1,14 @@
 use Rattle.flow.proofs.Steps.{walking_start, walking_done, walking_there, walking_up}
 use Rattle.flow.proofs.behind.Goals as goal
 
-pub loop-turns-init : goal.loop-turns-init
-loop-turns-init c = search walking_start
+pub loop-init : goal.loop-init
+loop-init c = walking_start _ _ _ _
 
 pub returns-in-To : goal.returns-in-To
 returns-in-To c = search walking_there
 
-pub loop-turns-preserved : goal.loop-turns-preserved
-loop-turns-preserved c = search walking_up
+pub loop-preserved : goal.loop-preserved
+loop-preserved c = search walking_up
 
 pub returns : goal.returns
 returns c = search walking_done

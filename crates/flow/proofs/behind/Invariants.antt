@@ -4,8 +4,5 @@ use Rattle.flow.specs.Walks.{behind_on}
 use Rattle.flow.proofs.Steps.{Walking}
 use Rattle.flow.proofs.behind.Given as goal
 
-abbrev pub invariant-loop-turns : goal.invariant-loop-turns
-invariant-loop-turns l = Walking l.rows l.fs (behind_on l.rows l.fs (l.n + 1) l.n) l.at l.turns
-
-abbrev pub decreases-loop-turns : goal.decreases-loop-turns
-decreases-loop-turns l = l.turns
+abbrev pub invariant-loop : goal.invariant-loop
+invariant-loop l = Walking l.rows l.fs (behind_on l.rows l.fs (l.n + 1) l.n) l.at (l.n + 1) l.counter

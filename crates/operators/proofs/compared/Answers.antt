@@ -1,5 +1,5 @@
 -- A case for each two kinds.
-use Rattle.operators.proofs.Sides.{compared_number, compared_first, compared_bits, compared_cc, compared_cb, compared_bc, compared_bb}
+use Rattle.operators.proofs.Sides.{compared_number, compared_first, compared_bits, compared_text, compared_bc, compared_bb}
 use Rattle.operators.proofs.compared.Goals as goal
 
 pub returns-in-Number : goal.returns-in-Number
@@ -9,10 +9,7 @@ pub returns-in-Number-y : goal.returns-in-Number-y
 returns-in-Number-y c = search compared_first
 
 pub returns-in-Characters-y : goal.returns-in-Characters-y
-returns-in-Characters-y c = search compared_cc
-
-pub returns-in-Bits-y : goal.returns-in-Bits-y
-returns-in-Bits-y c = search compared_cb
+returns-in-Characters-y c = search compared_text
 
 pub returns-in-Number-y-2 : goal.returns-in-Number-y-2
 returns-in-Number-y-2 c = search compared_bits
@@ -20,5 +17,5 @@ returns-in-Number-y-2 c = search compared_bits
 pub returns-in-Characters-y-2 : goal.returns-in-Characters-y-2
 returns-in-Characters-y-2 c = search compared_bc
 
-pub returns-in-Bits-y-2 : goal.returns-in-Bits-y-2
-returns-in-Bits-y-2 c = search compared_bb
+pub returns-in-Bits-y : goal.returns-in-Bits-y
+returns-in-Bits-y c = search compared_bb

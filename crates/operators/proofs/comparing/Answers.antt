@@ -8,5 +8,5 @@ returns-then-fits c = search comparing_is
 pub returns-else-fits : goal.returns-else-fits
 returns-else-fits c = search comparing_out
 
-pub returns-in-Fails : goal.returns-in-Fails
-returns-in-Fails c = search comparing_not
+pub returns-in-Err : goal.returns-in-Err
+returns-in-Err c = search comparing_not

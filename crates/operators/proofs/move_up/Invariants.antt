@@ -4,6 +4,3 @@ use Rattle.operators.proofs.move_up.Given as goal
 
 abbrev pub invariant-loop-j : goal.invariant-loop-j
 invariant-loop-j l = Raising l.initial.room l.from l.n l.to l.room l.j
-
-abbrev pub decreases-loop-j : goal.decreases-loop-j
-decreases-loop-j l = l.j

@@ -1,5 +1,5 @@
 -- A case for each value.
-use Rattle.operators.proofs.Texts.{text_in_lem, text_out_lem, text_characters, text_bits}
+use Rattle.operators.proofs.Texts.{text_in_lem, text_out_lem, text_bytes}
 use Rattle.operators.proofs.to_characters.Goals as goal
 
 pub returns-then-fits : goal.returns-then-fits
@@ -9,7 +9,4 @@ pub returns-else-fits : goal.returns-else-fits
 returns-else-fits c = search text_out_lem
 
 pub returns-in-Characters : goal.returns-in-Characters
-returns-in-Characters c = search text_characters
-
-pub returns-in-Bits : goal.returns-in-Bits
-returns-in-Bits c = search text_bits
+returns-in-Characters c = search text_bytes

@@ -1,12 +1,9 @@
--- A case for each value.
-use Rattle.operators.proofs.Joining.{digits_written, characters_stay, bits_stay}
+-- The digits of a number, or nothing.
+use Rattle.operators.proofs.Joining.{digits_written, nothing_written}
 use Rattle.operators.proofs.write_number.Goals as goal
 
 pub returns-in-Number : goal.returns-in-Number
 returns-in-Number c = search digits_written
 
-pub returns-in-Characters : goal.returns-in-Characters
-returns-in-Characters c = search characters_stay
-
-pub returns-in-Bits : goal.returns-in-Bits
-returns-in-Bits c = search bits_stay
+pub returns-in_default : goal.returns-in_default
+returns-in_default c = search nothing_written
