@@ -3,6 +3,7 @@
 use mathlib.Core.Path.{◌≡◌, refl, sym, ap, ◌∙◌}
 use mathlib.Core.Bool.{Bool, true, false, cond}
 use mathlib.Core.List.{List, [], ◌∷◌}
+use mathlib.Core.Logic.{◌⊎◌, inl, inr}
 use Prim.Native.Nat.{ℕ, zero, suc, ◌+◌, ◌-◌, ◌<◌, ◌≤◌}
 use native.Mathlib.Nat.{add-zero, zero-add}
 use native.Mathlib.Omega.{arith}
@@ -237,16 +238,14 @@ module _ (c l h w : List ℕ) (u to : ℕ) (m : Meter) (y : Meant) where
     limit = given_meter g to m;
   }
 
-  pub plain_entry : (b : Rattle.names.specs.declared.Body.Body) → y ≡ M.AnEntry b → PlainIs c l h w u m y to w (Failed WrongName m)
-  plain_entry b e = rw e record { is = λ i z q x B j. true_false i; end = refl; below = below_same u w; fits = λ z q. omega (arith, q); limit = refl }
+  pub plain_wrong : ((b : Rattle.names.specs.declared.Body.Body) × (y ≡ M.AnEntry b)) ⊎ (y ≡ M.NoSuch) → PlainIs c l h w u m y to w (Failed WrongName m)
+  unfolding plain_name
+  plain_wrong (inl (b, e)) = rw e record { is = λ i z q x B j. true_false i; end = refl; below = below_same u w; fits = λ z q. omega (arith, q); limit = refl }
+  plain_wrong (inr e) = rw e record { is = λ i z q x B j. refl; end = refl; below = below_same u w; fits = λ z q. omega (arith, q); limit = refl }
 
   pub plain_substr : y ≡ M.TheSubstr → PlainIs c l h w u m y to w (Failed WrongArguments m)
   unfolding plain_name
   plain_substr e = rw e record { is = λ i z q x B j. refl; end = refl; below = below_same u w; fits = λ z q. omega (arith, q); limit = refl }
-
-  pub plain_none : y ≡ M.NoSuch → PlainIs c l h w u m y to w (Failed WrongName m)
-  unfolding plain_name
-  plain_none e = rw e record { is = λ i z q x B j. refl; end = refl; below = below_same u w; fits = λ z q. omega (arith, q); limit = refl }
 
 -- ---- what an operator gave, as an answer
 module _ (w : List ℕ) (u v : ℕ) (x : Value) (to : ℕ) (m : Meter) (F : Res Why Val.Value → Res Why Val.Value) (A : Val.Answer Val.Value) (w' : List ℕ) (g : Given)

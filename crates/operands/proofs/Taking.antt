@@ -45,7 +45,7 @@ use Rattle.operands.specs.declared.Wished.{Wished}
 use Rattle.operands.specs.declared.Target.{Target}
 use Rattle.operands.specs.declared.Target.TheVariants as T
 use Rattle.operands.specs.Answer.{evaluated_for, Turns}
-use Rattle.operands.specs.Takes.{wish_for, wished_on, WithWish, substr_from, Coming, WishIs, first_listed, wanted_by, Path}
+use Rattle.operands.specs.Takes.{wish_for, wished_on, WithWish, substr_from, Coming, WishIs, Path}
 use Rattle.operands.proofs.Trees.{clash}
 use Rattle.operands.proofs.Leaves.{stood_turns, failed_turns}
 
@@ -138,18 +138,6 @@ module _ (deck names : List ℕ) (n : ℕ) (t : Target) (i at : ℕ) where
 
       pub wish_some : WishIs deck names n t i at (record { wish = Wi.As z.value_type; to = z.to })
       wish_some = rw e record { is = λ g gs k. some_by g gs k.0 k.1 (rw es k.2) k.3 k.4 }
-
-pub first_entry : (t : Target) (c : Callee) → t ≡ T.Entry c → c.list ≡ first_listed t
-first_entry t c e = rw e
-
-pub first_substr : (t : Target) (k : ℕ) → t ≡ T.Substr k → 0 ≡ first_listed t
-first_substr t k e = rw e
-
-pub wanted_entry : (t : Target) (c : Callee) → t ≡ T.Entry c → c.count ≡ wanted_by t
-wanted_entry t c e = rw e
-
-pub wanted_substr : (t : Target) (k : ℕ) → t ≡ T.Substr k → k ≡ wanted_by t
-wanted_substr t k e = rw e
 
 -- a subject is the first of all
 pub subject_first : (deck names : List ℕ) (n : ℕ) (t : Target) (i at : ℕ) (gs : List Ev.Wish) → Coming deck names n t i at (Ev.as_subject ∷ gs) → i ≡ 0
