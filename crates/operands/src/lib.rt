@@ -72,17 +72,16 @@ pub fn string_value(
     ensures { ConstantIs (string_tree is_bits (content s.now t.from)) work.old u t.to m work.new result }
 {
     let n = content_size(s, t.from);
-    if limits::Value::LONGEST < n {
+    if limits::Value::LONGEST < n || !operators::fits(u, n) {
         return Evaluated::Failed(Why::TooLong, m);
     }
-    if operators::fits(u, n) {
-        unquote(s, t.from, work, u);
-        if is_bits {
-            return Evaluated::Is(Value::Bits(n), t.to, m);
-        }
-        return Evaluated::Is(Value::Characters(n), t.to, m);
-    }
-    Evaluated::Failed(Why::TooLong, m)
+    unquote(s, t.from, work, u);
+    let v = if is_bits {
+        Value::Bits(n)
+    } else {
+        Value::Characters(n)
+    };
+    Evaluated::Is(v, t.to, m)
 }
 
 // ---- operators

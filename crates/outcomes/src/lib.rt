@@ -480,23 +480,14 @@ pub fn copied_variable(
     ensures { CopiedFrom (held_by (cell_in cells.now low.now high.now t a)) work.old text.old d u m work.new text.new result }
 {
     match t {
-        ValueType::FixedType => {
-            let x = number_at(cells, a);
-            match x {
-                Number::Holds(n) => copied_number(work, text, n, d, u, m),
-                Number::NoNumber => Scanned::Bad(Why::NoValue, m),
-            }
-        }
-        ValueType::CharacterType => {
-            let x = characters_at(cells, a);
-            match x {
-                Length::Bytes(n) => {
-                    let size = n as usize;
-                    copied_characters(low, high, work, text, a, size, d, u, m)
-                }
-                Length::NoCharacters => Scanned::Bad(Why::NoValue, m),
-            }
-        }
+        ValueType::FixedType => match number_at(cells, a) {
+            Number::Holds(n) => copied_number(work, text, n, d, u, m),
+            Number::NoNumber => Scanned::Bad(Why::NoValue, m),
+        },
+        ValueType::CharacterType => match characters_at(cells, a) {
+            Length::Bytes(n) => { copied_characters(low, high, work, text, a, n as usize, d, u, m) }
+            Length::NoCharacters => Scanned::Bad(Why::NoValue, m),
+        },
     }
 }
 
