@@ -22,7 +22,6 @@ use Rattle.fixed.specs.declared.Fixed.{Fixed}
 use Rattle.fixed.specs.Signed.{stored_of, from_stored}
 use Rattle.fixed.proofs.Magnitude.{stored_back}
 use Rattle.meter.specs.declared.Meter.{Meter}
-use Rattle.rows.specs.declared.Link.TheVariants as L
 use Rattle.tokens.specs.declared.Lexeme.{Lexeme}
 use Rattle.tokens.specs.Answer.{Lexed, is_word_in}
 use Rattle.tokens.proofs.Lexemes.{is_word_lem}
@@ -35,16 +34,13 @@ use Rattle.operators.specs.Stands.{value_in}
 use Rattle.callees.specs.Shown.{world_in, Slots}
 use Rattle.callees.specs.Answer.{ValueStored}
 use Rattle.callees.proofs.Storing.{stored_number}
-use Rattle.bodies.specs.declared.Bound.{Bound}
-use Rattle.bodies.specs.declared.Bound.TheVariants as Bo
-use Rattle.bodies.specs.declared.Side.{Side}
 use Rattle.bodies.specs.declared.Side.TheVariants as Si
 use Rattle.bodies.specs.declared.Word.TheVariants as Wo
 use Rattle.bodies.specs.declared.Widened.{Widened}
 use Rattle.bodies.specs.declared.Widened.TheVariants as Wd
 use Rattle.bodies.specs.declared.Started.{Started}
 use Rattle.bodies.specs.declared.Started.TheVariants as Sd
-use Rattle.bodies.specs.Groups.{word_at, frame_by, frame_to, first_frame, frame_with, widened_by, SetOff}
+use Rattle.bodies.specs.Groups.{word_at, frame_by, frame_to, first_frame, SetOff}
 use Rattle.bodies.proofs.Doing.{stored_world}
 
 -- ---- BY or TO
@@ -67,16 +63,6 @@ module _ (s : List ℕ) (at : ℕ) (t : Lexeme) (lex : Lexed s at t) (a : Bool) 
     pub word_neither : b ≡ false → Wo.Neither ≡ word_at s at
     unfolding word_at
     word_neither e = rw (← by_is, na, ← to_is, e)
-
--- ---- a frame with a number as stored
-pub new_frame : (g a n : ℕ) → n ≡ stored_of (pos 1) → record { group = L.To g; address = a; step = n; limit = 0; is_once = true } ≡ first_frame g a
-new_frame g a n e = rw e
-
-pub widened_some : (f : Frame) (w : Side) (b : Bound) (x : Fixed) (q : ℕ) (m : Meter) → b ≡ Bo.Is x q m → (r : Frame) → r ≡ frame_with f w (stored_of x.value) → Wd.Is r q m ≡ widened_by f w b
-widened_some f w b x q m e r h = rw (e, h)
-
-pub widened_none : (f : Frame) (w : Side) (b : Bound) (y : Why) (m : Meter) → b ≡ Bo.Bad y m → Wd.Bad y m ≡ widened_by f w b
-widened_none f w b y m e = rw e
 
 -- ---- the start
 module _ (c : List ℕ) (x : Fixed) (w : Widened) where

@@ -1,13 +1,11 @@
 -- Arguments that are taken one after the other: what waits, and what is left to take.
 -- Assumes nothing.
 use mathlib.Core.Path.{◌≡◌, refl, sym, ap, subst, ◌∙◌}
-use mathlib.Core.Bool.{cond}
 use mathlib.Core.List.{List, [], ◌∷◌, ◌++◌}
 use Prim.Native.Nat.{ℕ, zero, suc, ◌+◌, ◌<◌, ◌≤◌}
 use native.Mathlib.Nat.{mod-eq_of_lt}
 use native.Mathlib.Omega.{arith}
-use borrow.Author.Tests.{lt-ltb, le-ltb}
-use lib.Dec.{ltb}
+use borrow.Author.Tests.{lt-ltb}
 use lib.ListN.{length, get_or, set, take}
 use Rattle.definition.specs.Bytes.{mixed}
 use Rattle.definition.specs.Tokens.{token_at}
@@ -237,10 +235,3 @@ module _ (w : List ℕ) (f : Value) (k : Held) (j t : ℕ) (g : Ev.Wish) (gs : L
   path_more i u [] (x ∷ vs) p = absurd p
   path_more i u (Ev.as_type q ∷ ws) (x ∷ vs) (a, c, d, p) = (a, c, d, path_more (suc i) (u + held_size k i q) ws vs p)
   path_more i u (Ev.as_subject ∷ ws) (x ∷ vs) (a, d, p) = (a, d, path_more (suc i) (u + size_for f) ws vs p)
-
--- ---- the first argument is kept
-pub first_new : (i : ℕ) (f v : Value) → i < 1 → v ≡ cond (ltb i 1) v f
-first_new i f v h = rw (lt-ltb i 1 h)
-
-pub first_old : (i : ℕ) (f v : Value) → 1 ≤ i → f ≡ cond (ltb i 1) v f
-first_old i f v h = rw (le-ltb i 1 h)
