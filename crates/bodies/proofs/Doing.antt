@@ -3,6 +3,7 @@
 use mathlib.Core.Path.{◌≡◌, refl, sym, ap, ◌∙◌}
 use mathlib.Core.Bool.{Bool, true}
 use mathlib.Core.List.{List, [], ◌∷◌}
+use mathlib.Core.Logic.{◌⊎◌, inl, inr}
 use Prim.Native.Nat.{ℕ, ◌+◌, ◌-◌, ◌≤◌}
 use native.Mathlib.Omega.{arith}
 use lib.IntN.{ℤ, pos}
@@ -215,14 +216,10 @@ module _ (deck s names : List ℕ) (n : ℕ) (o : Owned) (t : Lexeme) (y : Meant
   pub target_variable : (a : ℕ) (k : ValueType) → y ≡ M.AVariable a k → TargetIs deck s names n o t (Va.At a k)
   target_variable a k f = record { name = y; is = e; variable = rw f }
 
-  pub target_entry : (b : Body) → y ≡ M.AnEntry b → TargetIs deck s names n o t Va.None
-  target_entry b f = record { name = y; is = e; variable = rw f }
-
-  pub target_substr : y ≡ M.TheSubstr → TargetIs deck s names n o t Va.None
-  target_substr f = record { name = y; is = e; variable = rw f }
-
-  pub target_none : y ≡ M.NoSuch → TargetIs deck s names n o t Va.None
-  target_none f = record { name = y; is = e; variable = rw f }
+  pub target_none : ((b : Body) × (y ≡ M.AnEntry b)) ⊎ ((y ≡ M.TheSubstr) ⊎ (y ≡ M.NoSuch)) → TargetIs deck s names n o t Va.None
+  target_none (inl (b, f)) = record { name = y; is = e; variable = rw f }
+  target_none (inr (inl f)) = record { name = y; is = e; variable = rw f }
+  target_none (inr (inr f)) = record { name = y; is = e; variable = rw f }
 
 -- ---- RETURN
 module _ (w : List ℕ) (u : ℕ) (fs : Frames) (t : ValueType) (x : Evaluated) where

@@ -10,38 +10,16 @@ use Rattle.flow.specs.declared.Frame.{Frame}
 use Rattle.flow.specs.declared.Frames.{Frames}
 use Rattle.flow.specs.declared.Next.{Next}
 use Rattle.flow.specs.declared.Walk.{Walk}
-use Rattle.flow.specs.Walks.{frames_with, behind_on, arrived_at, first_walk, chosen_walk}
-use Rattle.bodies.specs.declared.Done.{Done}
-use Rattle.bodies.specs.declared.Done.TheVariants as Dn
+use Rattle.flow.specs.Walks.{frames_with, behind_on, arrived_at, first_walk}
 use Rattle.bodies.specs.declared.Tested.{Tested}
 use Rattle.bodies.specs.declared.Tested.TheVariants as Te
 use Rattle.bodies.specs.declared.Started.{Started}
 use Rattle.bodies.specs.declared.Started.TheVariants as Sd
 use Rattle.bodies.specs.declared.Step.TheVariants as St
 use Rattle.bodies.specs.declared.Turned.{Turned}
-use Rattle.bodies.specs.Ways.{turned_by, after_done, after_test, into_group, after_start, again_in}
+use Rattle.bodies.specs.Ways.{turned_by, after_test, into_group, after_start, again_in}
 
 module _ (t : List ℕ) (fs : Frames) (n : ℕ) where
-  -- ---- a statement that was done
-  module _ (d : Done) where
-    pub behind_good : (m : Meter) → d ≡ Dn.Good m → (x : Next) → x ≡ behind_on t fs (n + 1) n → (r : Turned) → r ≡ turned_by fs (St.On x m)
-        → r ≡ turned_by fs (after_done d (behind_on t fs (n + 1) n))
-    behind_good m e x h r f = f ∙ rw (e, h)
-
-    pub behind_bad : (w : Why) (m : Meter) → d ≡ Dn.Bad w m → (r : Turned) → r ≡ turned_by fs (St.Bad w m)
-        → r ≡ turned_by fs (after_done d (behind_on t fs (n + 1) n))
-    behind_bad w m e r f = f ∙ rw e
-
-  -- ---- IF
-  module _ (y : Tested) where
-    pub test_on : (b : Bool) (m : Meter) → y ≡ Te.Is b m → (w : Walk) → w ≡ chosen_walk t n b → (x : Next) → x ≡ arrived_at t fs w → (r : Turned) → r ≡ turned_by fs (St.On x m)
-        → r ≡ turned_by fs (after_test y (λ b. arrived_at t fs (chosen_walk t n b)))
-    test_on b m e w g x h r f = f ∙ rw (e, h, g)
-
-    pub test_bad : (w : Why) (m : Meter) → y ≡ Te.Bad w m → (r : Turned) → r ≡ turned_by fs (St.Bad w m)
-        → r ≡ turned_by fs (after_test y (λ b. arrived_at t fs (chosen_walk t n b)))
-    test_bad w m e r f = f ∙ rw e
-
   -- ---- into a group
   pub into_first : (w : Walk) → w ≡ first_walk t fs n → (x : Next) → x ≡ arrived_at t fs w → x ≡ into_group t fs n
   unfolding into_group

@@ -17,13 +17,11 @@ use Rattle.definition.specs.World as W
 use Rattle.definition.specs.World.{World, good, bad, variable_of, builtin_name}
 use Rattle.definition.specs.declared.Why.{Why}
 use Rattle.definition.specs.declared.Why.TheVariants.{NoStep}
-use Rattle.definition.specs.declared.ValueType.{ValueType}
-use Rattle.definition.specs.declared.ValueType.TheVariants.{FixedType, CharacterType}
+use Rattle.definition.specs.declared.ValueType.TheVariants.{FixedType}
 use Rattle.fixed.specs.declared.Fixed.{Fixed}
 use Rattle.fixed.specs.Signed.{stored_of, from_stored}
 use Rattle.fixed.proofs.Magnitude.{stored_back}
 use Rattle.meter.specs.declared.Meter.{Meter}
-use Rattle.rows.specs.declared.Link.TheVariants as L
 use Rattle.tokens.specs.declared.Lexeme.{Lexeme}
 use Rattle.tokens.specs.Answer.{Lexed, is_word_in}
 use Rattle.tokens.proofs.Lexemes.{is_word_lem}
@@ -36,18 +34,13 @@ use Rattle.operators.specs.Stands.{value_in}
 use Rattle.callees.specs.Shown.{world_in, Slots}
 use Rattle.callees.specs.Answer.{ValueStored}
 use Rattle.callees.proofs.Storing.{stored_number}
-use Rattle.bodies.specs.declared.Variable.{Variable}
-use Rattle.bodies.specs.declared.Variable.TheVariants as Va
-use Rattle.bodies.specs.declared.Bound.{Bound}
-use Rattle.bodies.specs.declared.Bound.TheVariants as Bo
-use Rattle.bodies.specs.declared.Side.{Side}
 use Rattle.bodies.specs.declared.Side.TheVariants as Si
 use Rattle.bodies.specs.declared.Word.TheVariants as Wo
 use Rattle.bodies.specs.declared.Widened.{Widened}
 use Rattle.bodies.specs.declared.Widened.TheVariants as Wd
 use Rattle.bodies.specs.declared.Started.{Started}
 use Rattle.bodies.specs.declared.Started.TheVariants as Sd
-use Rattle.bodies.specs.Groups.{word_at, frame_by, frame_to, first_frame, frame_with, widened_by, control_of, SetOff}
+use Rattle.bodies.specs.Groups.{word_at, frame_by, frame_to, first_frame, SetOff}
 use Rattle.bodies.proofs.Doing.{stored_world}
 
 -- ---- BY or TO
@@ -70,40 +63,6 @@ module _ (s : List ℕ) (at : ℕ) (t : Lexeme) (lex : Lexed s at t) (a : Bool) 
     pub word_neither : b ≡ false → Wo.Neither ≡ word_at s at
     unfolding word_at
     word_neither e = rw (← by_is, na, ← to_is, e)
-
--- ---- a frame with a number as stored
-pub by_frame : (f : Frame) (x : Fixed) (n : ℕ) → n ≡ stored_of x.value
-    → record { group = f.group; address = f.address; step = n; limit = f.limit; is_once = false } ≡ frame_by f (stored_of x.value)
-by_frame f x n e = rw e
-
-pub to_frame : (f : Frame) (x : Fixed) (n : ℕ) → n ≡ stored_of x.value
-    → record { group = f.group; address = f.address; step = f.step; limit = n; is_once = false } ≡ frame_to f (stored_of x.value)
-to_frame f x n e = rw e
-
-pub new_frame : (g a n : ℕ) → n ≡ stored_of (pos 1) → record { group = L.To g; address = a; step = n; limit = 0; is_once = true } ≡ first_frame g a
-new_frame g a n e = rw e
-
-pub with_by : (f : Frame) (w : Side) (x : Fixed) → w ≡ Si.By → (r : Frame) → r ≡ frame_by f (stored_of x.value) → r ≡ frame_with f w (stored_of x.value)
-with_by f w x e r h = rw e h
-
-pub with_to_lem : (f : Frame) (w : Side) (x : Fixed) → w ≡ Si.Upto → (r : Frame) → r ≡ frame_to f (stored_of x.value) → r ≡ frame_with f w (stored_of x.value)
-with_to_lem f w x e r h = rw e h
-
-pub widened_some : (f : Frame) (w : Side) (b : Bound) (x : Fixed) (q : ℕ) (m : Meter) → b ≡ Bo.Is x q m → (r : Frame) → r ≡ frame_with f w (stored_of x.value) → Wd.Is r q m ≡ widened_by f w b
-widened_some f w b x q m e r h = rw (e, h)
-
-pub widened_none : (f : Frame) (w : Side) (b : Bound) (y : Why) (m : Meter) → b ≡ Bo.Bad y m → Wd.Bad y m ≡ widened_by f w b
-widened_none f w b y m e = rw e
-
--- ---- the control variable
-pub control_fixed : (v : Variable) (a : ℕ) (k : ValueType) → v ≡ Va.At a k → k ≡ FixedType → L.To a ≡ control_of v
-control_fixed v a k e h = rw (e, h)
-
-pub control_text : (v : Variable) (a : ℕ) (k : ValueType) → v ≡ Va.At a k → k ≡ CharacterType → L.Nowhere ≡ control_of v
-control_text v a k e h = rw (e, h)
-
-pub control_none : (v : Variable) → v ≡ Va.None → L.Nowhere ≡ control_of v
-control_none v e = rw e
 
 -- ---- the start
 module _ (c : List ℕ) (x : Fixed) (w : Widened) where

@@ -3,6 +3,7 @@
 use mathlib.Core.Path.{◌≡◌, refl, sym, ap, ◌∙◌}
 use mathlib.Core.Bool.{Bool, true, false, cond}
 use mathlib.Core.List.{List}
+use mathlib.Core.Logic.{◌⊎◌, inl, inr}
 use Prim.Native.Nat.{ℕ, ◌-◌}
 use Rattle.definition.specs.Bytes.{mixed, folded}
 use Rattle.definition.specs.Lists.{part}
@@ -60,14 +61,10 @@ module _ (t : List ℕ) (a : Address) (b : Bool) (x : Name) (h : x ≡ name_in t
   wrong_either true = refl
   wrong_either false = refl
 
-  pub label_variable : (v : ValueType) → x.denotation ≡ Variable v → jump_for (Ju.Bad WrongName) ≡ either (denotation_of (name_in t a.0).denotation)
-  label_variable v e = rw (← h, e) (wrong_either b)
-
-  pub label_entry : (y : Entry) → x.denotation ≡ EntryName y → jump_for (Ju.Bad WrongName) ≡ either (denotation_of (name_in t a.0).denotation)
-  label_entry y e = rw (← h, e) (wrong_either b)
-
-  pub label_builtin : x.denotation ≡ Builtin → jump_for (Ju.Bad WrongName) ≡ either (denotation_of (name_in t a.0).denotation)
-  label_builtin e = rw (← h, e) (wrong_either b)
+  pub label_other : ((v : ValueType) × (x.denotation ≡ Variable v)) ⊎ (((y : Entry) × (x.denotation ≡ EntryName y)) ⊎ (x.denotation ≡ Builtin)) → jump_for (Ju.Bad WrongName) ≡ either (denotation_of (name_in t a.0).denotation)
+  label_other (inl (v, e)) = rw (← h, e) (wrong_either b)
+  label_other (inr (inl (y, e))) = rw (← h, e) (wrong_either b)
+  label_other (inr (inr e)) = rw (← h, e) (wrong_either b)
 
 -- ---- "local names first, every global label is 13"
 module _ (d s t : List ℕ) (n : ℕ) (o : Owner) (x : Lexeme) (m : ℕ) (z : m ≡ x.to - x.from) (f : Found)

@@ -3,6 +3,7 @@
 use mathlib.Core.Path.{◌≡◌, refl, sym, ap, ◌∙◌}
 use mathlib.Core.Bool.{Bool, true, false, cond}
 use mathlib.Core.List.{List, [], ◌∷◌}
+use mathlib.Core.Logic.{◌⊎◌, inl, inr}
 use Prim.Native.Nat.{ℕ, ◌+◌}
 use native.Mathlib.Nat.{zero-add}
 use lib.IntN.{ℤ}
@@ -45,11 +46,9 @@ use Rattle.operands.proofs.Trees.{clash}
 pub summed_some : (x : Fixed) (by : Answer) (n : Fixed) → by ≡ A.Is n → (r : Answer) → result_of r ≡ Fx.sum x.value n.value → SummedIs x by r
 summed_some x by n e r f = record { is = λ z g. let k : Fx.is n.value ≡ Fx.is z = ap result_of (sym e) ∙ g in let j : n.value ≡ z = cc in f ∙ ap (Fx.sum x.value) j }
 
-pub summed_range : (x : Fixed) (by : Answer) → by ≡ A.OutOfRange → (r : Answer) → SummedIs x by r
-summed_range x by e r = record { is = λ z g. clash (let k : Fx.out_of_range ≡ Fx.is z = ap result_of (sym e) ∙ g in cc) }
-
-pub summed_zero : (x : Fixed) (by : Answer) → by ≡ A.ZeroDivisor → (r : Answer) → SummedIs x by r
-summed_zero x by e r = record { is = λ z g. clash (let k : Fx.zero_divisor ≡ Fx.is z = ap result_of (sym e) ∙ g in cc) }
+pub summed_none : (x : Fixed) (by : Answer) → (by ≡ A.OutOfRange) ⊎ (by ≡ A.ZeroDivisor) → (r : Answer) → SummedIs x by r
+summed_none x by (inl e) r = record { is = λ z g. clash (let k : Fx.out_of_range ≡ Fx.is z = ap result_of (sym e) ∙ g in cc) }
+summed_none x by (inr e) r = record { is = λ z g. clash (let k : Fx.zero_divisor ≡ Fx.is z = ap result_of (sym e) ∙ g in cc) }
 
 sum_range : (x y z : ℤ) → Fx.is z ≡ Fx.sum x y → Fx.in_range z ≡ true
 unfolding Fx.sum Fx.ranged
@@ -94,15 +93,13 @@ module _ (c : List ℕ) (f : Frame) (x : Fixed) (by : Answer) (m : Meter) (y : A
   unfolding added_on
   added_no d w g e = rw e
 
-  pub added_range : y ≡ A.OutOfRange → SteppedBy c f x by m c (Te.Bad OutOfRange m)
-  added_range e = record {
+  pub added_none : (y ≡ A.OutOfRange) ⊎ (y ≡ A.ZeroDivisor) → SteppedBy c f x by m c (Te.Bad OutOfRange m)
+  added_none (inl e) = record {
     is = λ B l h d fr g.
         let k : Fx.out_of_range ≡ Fx.sum x.value d.step = ap result_of (sym e) ∙ sum_is B l h d fr g in
         (sym (added_no d (world_in B c l h m.used) OutOfRange (ap Val.from_fixed (sym k))), fr.limit, fr.slots);
   }
-
-  pub added_zero : y ≡ A.ZeroDivisor → SteppedBy c f x by m c (Te.Bad OutOfRange m)
-  added_zero e = record { is = λ B l h d fr g. no_zero x.value d.step (ap result_of (sym e) ∙ sum_is B l h d fr g) }
+  added_none (inr e) = record { is = λ B l h d fr g. no_zero x.value d.step (ap result_of (sym e) ∙ sum_is B l h d fr g) }
 
   module _ (n : Fixed) (e : y ≡ A.Is n) (c' : List ℕ) (ec : c' ≡ over c (f.address + 0) (stored_of n.value ∷ [])) (p : Charged) (ch : Charges m p) where
     number : (B : World) (l h : List ℕ) (d : F.Frame) → Framing B c l h f m d → result_of by ≡ from_stored f.step → Fx.is n.value ≡ Fx.sum x.value d.step

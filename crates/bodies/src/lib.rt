@@ -8,7 +8,7 @@ ghost use Rattle.fixed.specs.Signed.{stored_of};
 ghost use Rattle.names.specs.Table.{denotation_of, name_in};
 ghost use Rattle.flow.specs.Walks.{behind_on, arrived_at, chosen_walk};
 ghost use Rattle.bodies.specs.Deeds.{TargetIs, StoredIs, TruthIs, BoundIs};
-ghost use Rattle.bodies.specs.Groups.{word_at, frame_by, frame_to, first_frame, frame_with, widened_by, control_of, SetOff, SummedIs, SteppedBy, SteppedIs};
+ghost use Rattle.bodies.specs.Groups.{word_at, first_frame, frame_with, widened_by, control_of, SetOff, SummedIs, SteppedBy, SteppedIs};
 ghost use Rattle.bodies.specs.Ways.{turned_by, after_done, after_test, into_group, after_start, again_in, ReturnIs};
 ghost use Rattle.bodies.specs.Jumps.{jump_for, local_target, global_target, LabelIs, JumpsIn};
 
@@ -51,12 +51,9 @@ pub fn target_at(
 ) -> Variable
     ensures { TargetIs deck.now s.now names.now count owner t result }
 {
-    let x = meant_by(deck, s, names, count, owner, t.from, t.to);
-    match x {
+    match meant_by(deck, s, names, count, owner, t.from, t.to) {
         Meant::AVariable(a, k) => Variable::At(a, k),
-        Meant::AnEntry(_) => Variable::None,
-        Meant::TheSubstr => Variable::None,
-        Meant::NoSuch => Variable::None,
+        Meant::AnEntry(_) | Meant::TheSubstr | Meant::NoSuch => Variable::None,
     }
 }
 
@@ -74,16 +71,13 @@ pub fn stored(
     ensures { StoredIs cells.old low.old high.old work.old a k u x cells.new low.new high.new work.new result }
 {
     match x {
-        Evaluated::Is(v, _, m) => {
-            let g = convert(work, u, k, v);
-            match g {
-                Given::Gives(y) => {
-                    store_value(cells, low, high, work, a, u, y);
-                    Done::Good(m)
-                }
-                Given::Fails(w) => Done::Bad(w, m),
+        Evaluated::Is(v, _, m) => match convert(work, u, k, v) {
+            Given::Gives(y) => {
+                store_value(cells, low, high, work, a, u, y);
+                Done::Good(m)
             }
-        }
+            Given::Fails(w) => Done::Bad(w, m),
+        },
         Evaluated::Failed(w, m) => Done::Bad(w, m),
     }
 }
@@ -99,13 +93,10 @@ pub fn truth_of(work: &mut [u8], u: usize, x: Evaluated) -> Tested
     ensures { TruthIs work.old u x work.new result }
 {
     match x {
-        Evaluated::Is(v, _, m) => {
-            let t = holds(work, u, v);
-            match t {
-                Truth::Is(b) => Tested::Is(b, m),
-                Truth::Fails(w) => Tested::Bad(w, m),
-            }
-        }
+        Evaluated::Is(v, _, m) => match holds(work, u, v) {
+            Truth::Is(b) => Tested::Is(b, m),
+            Truth::Fails(w) => Tested::Bad(w, m),
+        },
         Evaluated::Failed(w, m) => Tested::Bad(w, m),
     }
 }
@@ -123,13 +114,10 @@ pub fn bound_of(work: &[u8], u: usize, x: Evaluated) -> Bound
     ensures { BoundIs work.now u x result }
 {
     match x {
-        Evaluated::Is(v, e, m) => {
-            let n = to_fixed(work, u, v);
-            match n {
-                NumberGiven::Is(y) => Bound::Is(y, e, m),
-                NumberGiven::Fails(w) => Bound::Bad(w, m),
-            }
-        }
+        Evaluated::Is(v, e, m) => match to_fixed(work, u, v) {
+            NumberGiven::Is(y) => Bound::Is(y, e, m),
+            NumberGiven::Fails(w) => Bound::Bad(w, m),
+        },
         Evaluated::Failed(w, m) => Bound::Bad(w, m),
     }
 }
@@ -168,32 +156,6 @@ pub enum Widened {
     Bad(Why, Meter),
 }
 
-fn with_by(f: Frame, x: Fixed) -> Frame
-    ensures { result ≡ frame_by f (stored_of x.value) }
-{
-    let group = f.group;
-    Frame {
-        group,
-        address: f.address,
-        step: x.stored(),
-        limit: f.limit,
-        is_once: false,
-    }
-}
-
-fn with_to(f: Frame, x: Fixed) -> Frame
-    ensures { result ≡ frame_to f (stored_of x.value) }
-{
-    let group = f.group;
-    Frame {
-        group,
-        address: f.address,
-        step: f.step,
-        limit: x.stored(),
-        is_once: false,
-    }
-}
-
 // "BY absent is 1."
 pub fn new_frame(g: u16, a: u16) -> Frame
     ensures { result ≡ first_frame g a }
@@ -212,8 +174,16 @@ fn with_bound(f: Frame, a: Side, x: Fixed) -> Frame
     ensures { result ≡ frame_with f a (stored_of x.value) }
 {
     match a {
-        Side::By => with_by(f, x),
-        Side::Upto => with_to(f, x),
+        Side::By => Frame {
+            step: x.stored(),
+            is_once: false,
+            ..f
+        },
+        Side::Upto => Frame {
+            limit: x.stored(),
+            is_once: false,
+            ..f
+        },
     }
 }
 
@@ -232,11 +202,8 @@ pub fn control_address(v: Variable) -> Link
     ensures { result ≡ control_of v }
 {
     match v {
-        Variable::At(a, k) => match k {
-            ValueType::FixedType => Link::To(a),
-            ValueType::CharacterType => Link::Nowhere,
-        },
-        Variable::None => Link::Nowhere,
+        Variable::At(a, ValueType::FixedType) => Link::To(a),
+        Variable::At(_, ValueType::CharacterType) | Variable::None => Link::Nowhere,
     }
 }
 
@@ -266,24 +233,19 @@ pub fn set_off(cells: &mut [u32], x: Fixed, w: Widened) -> Started
 pub fn stepped(cells: &mut [u32], f: Frame, m: Meter) -> Tested
     ensures { SteppedIs cells.old f m cells.new result }
 {
-    let group = f.group;
-    match group {
+    match f.group {
         Link::Nowhere => Tested::Is(false, m),
-        Link::To(_) => {
-            let x = number_at(cells, f.address);
-            match x {
-                Number::Holds(n) => stepped_by(cells, f, n, Fixed::from_stored(f.step), m),
-                Number::NoNumber => Tested::Bad(Why::NoValue, m),
-            }
-        }
+        Link::To(_) => match number_at(cells, f.address) {
+            Number::Holds(n) => stepped_by(cells, f, n, Fixed::from_stored(f.step), m),
+            Number::NoNumber => Tested::Bad(Why::NoValue, m),
+        },
     }
 }
 
 fn stepped_by(cells: &mut [u32], f: Frame, x: Fixed, by: Answer, m: Meter) -> Tested
     ensures { SteppedBy cells.old f x by m cells.new result }
 {
-    let y = summed(x, by);
-    match y {
+    match summed(x, by) {
         Answer::Is(n) => {
             store_number(cells, f.address, n);
             let paid = m.charged();
@@ -293,8 +255,7 @@ fn stepped_by(cells: &mut [u32], f: Frame, x: Fixed, by: Answer, m: Meter) -> Te
             }
             Tested::Bad(Why::NoStep, k)
         }
-        Answer::OutOfRange => Tested::Bad(Why::OutOfRange, m),
-        Answer::ZeroDivisor => Tested::Bad(Why::OutOfRange, m),
+        Answer::OutOfRange | Answer::ZeroDivisor => Tested::Bad(Why::OutOfRange, m),
     }
 }
 
@@ -303,8 +264,7 @@ fn summed(x: Fixed, by: Answer) -> Answer
 {
     match by {
         Answer::Is(n) => x.add(n),
-        Answer::OutOfRange => Answer::OutOfRange,
-        Answer::ZeroDivisor => Answer::OutOfRange,
+        Answer::OutOfRange | Answer::ZeroDivisor => Answer::OutOfRange,
     }
 }
 
@@ -390,13 +350,10 @@ pub fn on_return(work: &mut [u8], fs: Frames, u: usize, t: ValueType, x: Evaluat
     ensures { ReturnIs work.old u fs t x work.new result }
 {
     match x {
-        Evaluated::Is(v, _, m) => {
-            let g = convert(work, u, t, v);
-            match g {
-                Given::Gives(y) => with_step(fs, Step::Gave(y, m)),
-                Given::Fails(w) => with_step(fs, Step::Bad(w, m)),
-            }
-        }
+        Evaluated::Is(v, _, m) => match convert(work, u, t, v) {
+            Given::Gives(y) => with_step(fs, Step::Gave(y, m)),
+            Given::Fails(w) => with_step(fs, Step::Bad(w, m)),
+        },
         Evaluated::Failed(w, m) => with_step(fs, Step::Bad(w, m)),
     }
 }
@@ -414,18 +371,16 @@ pub enum Jump {
 fn label_of(names: &[u16], a: names::Address, is_local: bool) -> Jump
     ensures { jump_for result ≡ cond is_local (local_target (denotation_of (name_in names.now a.0).denotation)) (global_target (denotation_of (name_in names.now a.0).denotation)) }
 {
-    let x = name_at(names, a);
-    let d = x.denotation;
-    match d {
+    match name_at(names, a).denotation {
         Denotation::LabelName(l) => {
             if is_local {
                 return Jump::To(l);
             }
             Jump::Bad(Why::WrongGoto)
         }
-        Denotation::Variable(_) => Jump::Bad(Why::WrongName),
-        Denotation::EntryName(_) => Jump::Bad(Why::WrongName),
-        Denotation::Builtin => Jump::Bad(Why::WrongName),
+        Denotation::Variable(_) | Denotation::EntryName(_) | Denotation::Builtin => {
+            Jump::Bad(Why::WrongName)
+        }
     }
 }
 
@@ -433,12 +388,10 @@ fn label_of(names: &[u16], a: names::Address, is_local: bool) -> Jump
 fn jump_label(deck: &[u8], s: &[u8], names: &[u16], count: u16, owner: Owner, t: Lexeme) -> Jump
     ensures { LabelIs deck.now s.now names.now count owner t result }
 {
-    let local = find(deck, names, count, s, t.from, width(t), owner);
-    match local {
+    match find(deck, names, count, s, t.from, width(t), owner) {
         Found::Known(a) => label_of(names, a, true),
         Found::Unknown => {
-            let global = find(deck, names, count, s, t.from, width(t), Owner::Everyone);
-            match global {
+            match find(deck, names, count, s, t.from, width(t), Owner::Everyone) {
                 Found::Known(a) => label_of(names, a, false),
                 Found::Unknown => Jump::Bad(Why::WrongName),
             }
@@ -460,19 +413,17 @@ pub fn jump_in(
     ensures { JumpsIn deck.now s.now part.now names.now fs n c m result }
 {
     let r = row_at(part, n);
-    let owner = c.owner;
     let j = jump_label(
         deck,
         s,
         names,
         c.names,
-        owner,
+        c.owner,
         token_at(s, r.content as usize),
     );
     match j {
         Jump::To(l) => {
-            let p = l.place;
-            if flow::may_go(part, n, p.row, l.is_end) {
+            if flow::may_go(part, n, l.place.row, l.is_end) {
                 let next = flow::arrived(part, fs, flow::landing(part, fs, l));
                 return with_step(fs, Step::On(next, m));
             }

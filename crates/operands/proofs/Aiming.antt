@@ -2,6 +2,7 @@
 -- Assumes nothing.
 use mathlib.Core.Path.{◌≡◌, refl, sym, ap, ◌∙◌}
 use mathlib.Core.List.{List, [], ◌∷◌}
+use mathlib.Core.Logic.{◌⊎◌, inl, inr}
 use Prim.Native.Nat.{ℕ, ◌+◌, ◌<◌, ◌≤◌}
 use native.Mathlib.Omega.{arith}
 use borrow.Author.Tests.{lt-ltb, le-ltb}
@@ -69,20 +70,16 @@ module _ (w : List ℕ) (u n : ℕ) (k : Held) (f : Value) (to : ℕ) (m : Meter
 
 -- ---- the aim
 module _ (deck rows : List ℕ) (starts : Starts) (names : List ℕ) (k : ℕ) (x : Meant) (n : ℕ) where
-  pub aim_variable : (a : ℕ) (t : ValueType) → x ≡ M.AVariable a t → AimIs deck rows starts names k x n (A.Fails WrongName)
-  aim_variable a t e = rw e record { is = refl }
+  pub aim_none : ((a : ℕ) × (t : ValueType) × (x ≡ M.AVariable a t)) ⊎ (x ≡ M.NoSuch) → AimIs deck rows starts names k x n (A.Fails WrongName)
+  aim_none (inl (a, t, e)) = rw e record { is = refl }
+  aim_none (inr e) = rw e record { is = refl }
 
-  pub aim_none : x ≡ M.NoSuch → AimIs deck rows starts names k x n (A.Fails WrongName)
-  aim_none e = rw e record { is = refl }
+  pub aim_substr : x ≡ M.TheSubstr → (n ≡ 2) ⊎ ((n ≡ 2 → ⊥) × (n ≡ 3)) → AimIs deck rows starts names k x n (A.At (T.Substr n))
+  aim_substr e (inl f) = rw e record { is = rw f }
+  aim_substr e (inr f) = rw e record { is = rw f.1 }
 
-  pub aim_two : x ≡ M.TheSubstr → n ≡ 2 → AimIs deck rows starts names k x n (A.At (T.Substr n))
-  aim_two e f = rw e record { is = rw f }
-
-  pub aim_three : x ≡ M.TheSubstr → n ≡ 3 → AimIs deck rows starts names k x n (A.At (T.Substr n))
-  aim_three e f = rw e record { is = rw f }
-
-  pub aim_wrong : x ≡ M.TheSubstr → (n ≡ 2 → ⊥) → (n ≡ 3 → ⊥) → AimIs deck rows starts names k x n (A.Fails WrongArguments)
-  aim_wrong e f g = rw e record { is = rw (ne_eqb n 2 f, ne_eqb n 3 g) }
+  pub aim_wrong : x ≡ M.TheSubstr → (n ≡ 2 → ⊥) × (n ≡ 3 → ⊥) → AimIs deck rows starts names k x n (A.Fails WrongArguments)
+  aim_wrong e f = rw e record { is = rw (ne_eqb n 2 f.0, ne_eqb n 3 f.1) }
 
   module _ (b : Body) (e : x ≡ M.AnEntry b) (y : Called) (co : CalleeOf deck rows starts names k b y) where
     entry_by : (r : Aim) → r ≡ aim_for y n → AimIs deck rows starts names k x n r

@@ -3,6 +3,7 @@
 use mathlib.Core.Path.{◌≡◌, refl, sym, ap, ◌∙◌}
 use mathlib.Core.Bool.{Bool, true, false, cond}
 use mathlib.Core.List.{List, [], ◌∷◌}
+use mathlib.Core.Logic.{◌⊎◌, inl, inr}
 use Prim.Native.Nat.{ℕ, zero, suc, ◌+◌, ◌-◌, ◌<◌, ◌≤◌}
 use native.Mathlib.Nat.{add-zero, zero-add}
 use native.Mathlib.Omega.{arith}
@@ -22,7 +23,7 @@ use Rattle.definition.specs.declared.ValueType.{ValueType}
 use Rattle.fixed.specs.declared.Fixed.{Fixed}
 use Rattle.meter.specs.declared.Meter.{Meter}
 use Rattle.tokens.specs.declared.Lexeme.{Lexeme}
-use Rattle.tokens.specs.Answer.{Lexed, written, content, Unquoted}
+use Rattle.tokens.specs.Answer.{written, content, Unquoted}
 use Rattle.values.specs.declared.NumberAnswer.{NumberAnswer}
 use Rattle.values.specs.declared.NumberAnswer.TheVariants as N
 use Rattle.values.specs.Answers.{answer_of}
@@ -44,7 +45,7 @@ use Rattle.callees.specs.Answer.{read_in, VariableIs}
 use Rattle.operands.specs.declared.Scene.{Scene}
 use Rattle.operands.specs.declared.Evaluated.{Evaluated}
 use Rattle.operands.specs.declared.Evaluated.TheVariants.{Is, Failed}
-use Rattle.operands.specs.Answer.{Below, res_in, size_of, meter_of, with_end, run_in, value_of, evaluated_for, ConstantIs, IntegerIs, string_tree, ClosedIs, Means, PlainIs, infix_on, Turns, WithInfix}
+use Rattle.operands.specs.Answer.{Below, res_in, size_of, meter_of, with_end, run_in, value_of, evaluated_for, ConstantIs, IntegerIs, string_tree, Means, PlainIs, infix_on, Turns, WithInfix}
 use Rattle.definition.specs.declared.Operator.{Operator}
 
 pub true_false : {A : Type 0} → true ≡ false → A
@@ -57,20 +58,8 @@ given_some g v to m e = rw e
 pub given_none : (g : Given) (w : Why) (to : ℕ) (m : Meter) → g ≡ Fails w → Failed w m ≡ evaluated_for g to m
 given_none g w to m e = rw e
 
-pub up_some : (x : Evaluated) (v : Value) (e to : ℕ) (m : Meter) → x ≡ Is v e m → Is v to m ≡ with_end x to
-up_some x v e to m q = rw q
-
-pub up_none : (x : Evaluated) (w : Why) (to : ℕ) (m : Meter) → x ≡ Failed w m → Failed w m ≡ with_end x to
-up_none x w to m q = rw q
-
 pub end_is : (v : Value) (q e : ℕ) (m : Meter) → Is v q m ≡ with_end (Is v q m) e → q ≡ e
 end_is v q e m h = cc
-
-pub closed_some : (s : List ℕ) (x : Evaluated) (v : Value) (q : ℕ) (m : Meter) (l : Lexeme) → x ≡ Is v q m → Lexed s q l → ClosedIs s x (Is v l.to m)
-closed_some s x v q m l f g = record { is = λ e h. let k : q ≡ e = end_is v q e m (rw f at h) in rw (f, g.to, k) }
-
-pub closed_none : (s : List ℕ) (x : Evaluated) (w : Why) (m : Meter) → x ≡ Failed w m → ClosedIs s x (Failed w m)
-closed_none s x w m f = record { is = λ e h. rw f }
 
 -- ---- rooms
 pub below_same : (u : ℕ) (w : List ℕ) → Below u w w
@@ -237,16 +226,14 @@ module _ (c l h w : List ℕ) (u to : ℕ) (m : Meter) (y : Meant) where
     limit = given_meter g to m;
   }
 
-  pub plain_entry : (b : Rattle.names.specs.declared.Body.Body) → y ≡ M.AnEntry b → PlainIs c l h w u m y to w (Failed WrongName m)
-  plain_entry b e = rw e record { is = λ i z q x B j. true_false i; end = refl; below = below_same u w; fits = λ z q. omega (arith, q); limit = refl }
+  pub plain_wrong : ((b : Rattle.names.specs.declared.Body.Body) × (y ≡ M.AnEntry b)) ⊎ (y ≡ M.NoSuch) → PlainIs c l h w u m y to w (Failed WrongName m)
+  unfolding plain_name
+  plain_wrong (inl (b, e)) = rw e record { is = λ i z q x B j. true_false i; end = refl; below = below_same u w; fits = λ z q. omega (arith, q); limit = refl }
+  plain_wrong (inr e) = rw e record { is = λ i z q x B j. refl; end = refl; below = below_same u w; fits = λ z q. omega (arith, q); limit = refl }
 
   pub plain_substr : y ≡ M.TheSubstr → PlainIs c l h w u m y to w (Failed WrongArguments m)
   unfolding plain_name
   plain_substr e = rw e record { is = λ i z q x B j. refl; end = refl; below = below_same u w; fits = λ z q. omega (arith, q); limit = refl }
-
-  pub plain_none : y ≡ M.NoSuch → PlainIs c l h w u m y to w (Failed WrongName m)
-  unfolding plain_name
-  plain_none e = rw e record { is = λ i z q x B j. refl; end = refl; below = below_same u w; fits = λ z q. omega (arith, q); limit = refl }
 
 -- ---- what an operator gave, as an answer
 module _ (w : List ℕ) (u v : ℕ) (x : Value) (to : ℕ) (m : Meter) (F : Res Why Val.Value → Res Why Val.Value) (A : Val.Answer Val.Value) (w' : List ℕ) (g : Given)

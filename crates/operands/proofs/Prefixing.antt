@@ -6,10 +6,11 @@ use mathlib.Core.List.{List, [], ◌∷◌, ◌++◌}
 use Prim.Native.Nat.{ℕ, zero, suc, ◌+◌, ◌-◌, ◌%◌, ◌<◌, ◌≤◌}
 use native.Mathlib.Nat.{add-zero, zero-add, add-suc, suc-add, mod-lt, mod-le}
 use native.Mathlib.Omega.{arith}
-use borrow.Author.Tests.{lt-ltb, le-ltb, ltb-true, ltb-false, leb-true, le-leb, lt-leb, leb-false}
+use borrow.Author.Tests.{ltb-true, ltb-false, leb-true}
 use lib.Dec.{ltb, leb}
 use lib.Seq.{get_or-set_same, get_or-set_other}
-use lib.ListN.{length, get_or, set, take, replicate}
+use Rattle.std.proofs.Common.{length-set}
+use lib.ListN.{length, get_or, set, take}
 use Rattle.definition.specs.Bytes.{mixed}
 use Rattle.definition.specs.Choice.{when}
 use Rattle.definition.specs.Tokens.{token_at, is_sign}
@@ -21,7 +22,7 @@ use Rattle.definition.specs.Evaluate.{put, count}
 use Rattle.definition.specs.declared.Why.{Why}
 use Rattle.definition.specs.declared.Why.TheVariants.{Syntax}
 use Rattle.definition.specs.declared.Prefix.{Prefix}
-use Rattle.definition.specs.declared.Prefix.TheVariants.{Positive, Negative, Complement}
+use Rattle.definition.specs.declared.Prefix.TheVariants.{Positive}
 use Rattle.tokens.specs.declared.Lexeme.{Lexeme}
 use Rattle.tokens.specs.Answer.{Lexed, is_sign_in}
 use Rattle.expressions.specs.declared.PrefixAt.{PrefixAt}
@@ -42,13 +43,9 @@ use Rattle.operands.specs.declared.Signs.{Signs}
 use Rattle.operands.specs.declared.Evaluated.{Evaluated}
 use Rattle.operands.specs.declared.Evaluated.TheVariants.{Is, Failed}
 use Rattle.operands.specs.Answer.{size_of, evaluated_for, Turns, signs_at, prefixed_by, PrefixesDone}
-use Rattle.operands.specs.Blocks.{code_of, sign_of, sign_in, signs_in, no_signs, all_signs, prefixed_all, WithSign, SignsFrom, Applied, BlockDone, AllDone, CountIs}
+use Rattle.operands.specs.Blocks.{sign_in, signs_in, all_signs, prefixed_all, WithSign, SignsFrom, Applied, BlockDone, AllDone, CountIs}
 use Rattle.operands.proofs.Trees.{never, read_same, IsRead, then_read}
 use Rattle.operands.proofs.Leaves.{end_is, res_given, given_end, given_meter, failed_turns}
-
-pub no_signs_lem : record { items = replicate 256 0 } ≡ no_signs
-unfolding no_signs
-no_signs_lem = refl
 
 -- ---- lists of operators
 abbrev pub pick : List Prefix → ℕ → ℕ → List Prefix
@@ -80,7 +77,7 @@ signs_pick : (all : Signs) (ss : List Prefix) (j b k : ℕ) → ((i : ℕ) → i
 unfolding signs_in
 signs_pick all ss j b zero h = refl
 signs_pick all ss j b (suc k) h =
-    let e : sign_in all j ≡ get_or ss b Positive = rw (add-zero, add-zero) at (h 0 (omega arith)) in
+    let e : sign_in all j ≡ get_or ss b Positive = rw (add-zero j, add-zero b) at (h 0 (omega arith)) in
     let f : signs_in all (suc j) k ≡ pick ss (suc b) k = signs_pick all ss (suc j) (suc b) k (λ i l. let p : suc j + i ≡ j + suc i = omega arith in let q : suc b + i ≡ b + suc i = omega arith in rw (p, q) (h (suc i) (omega (arith, l)))) in
     rw (e, f)
 
@@ -100,76 +97,16 @@ unfolding prefixed_all
 all_one u o os a v e = rw (← e)
 
 -- ---- a block
-pub code_positive : (o : Prefix) → o ≡ Positive → 0 ≡ code_of o
-unfolding code_of
-code_positive o e = rw e
-
-pub code_negative : (o : Prefix) → o ≡ Negative → 1 ≡ code_of o
-unfolding code_of
-code_negative o e = rw e
-
-pub code_complement : (o : Prefix) → o ≡ Complement → 2 ≡ code_of o
-unfolding code_of
-code_complement o e = rw e
-
-pub of_zero : (n : ℕ) → n ≡ 0 → Positive ≡ sign_of n
-unfolding sign_of
-of_zero n e = rw e
-
-pub of_one : (n : ℕ) → n ≡ 1 → Negative ≡ sign_of n
-unfolding sign_of
-of_one n e = rw e
-
-pub of_more : (n : ℕ) → (n ≡ 0 → ⊥) → (n ≡ 1 → ⊥) → Complement ≡ sign_of n
-unfolding sign_of
-of_more zero e f = absurd (e refl)
-of_more (suc zero) e f = absurd (f refl)
-of_more (suc (suc n)) e f = refl
-
-of_code : (o : Prefix) → sign_of (code_of o) ≡ o
-unfolding sign_of code_of
-of_code Positive = refl
-of_code Negative = refl
-of_code Complement = refl
-
-pub sign_there : (all : Signs) (i : ℕ) (o : Prefix) → i < 256 → o ≡ sign_of (get_or all.items i 0) → o ≡ sign_in all i
-unfolding sign_in
-sign_there all i o h e = rw (lt-ltb i 256 h) e
-
-pub sign_past : (all : Signs) (i : ℕ) → 256 ≤ i → Positive ≡ sign_in all i
-unfolding sign_in
-sign_past all i h = rw (le-ltb i 256 h)
-
-set_size : (xs : List ℕ) (i x : ℕ) → length (set xs i x) ≡ length xs
-set_size [] i x = refl
-set_size (y ∷ ys) zero x = refl
-set_size (y ∷ ys) (suc i) x = ap suc (set_size ys i x)
-
 module _ (all : Signs) (first i : ℕ) (o : Prefix) (n : length all.items ≡ 256) where
-  pub sign_before : i < first → WithSign all first i o all
-  sign_before h = record { size = n; here = λ j k e. absurd (omega (arith, h, e)); other = λ j e. refl }
+  pub sign_out : (first ≤ i → 256 ≤ i - first) → WithSign all first i o all
+  sign_out h = record { size = n; here = λ j k e. absurd (omega (arith, h (omega (arith, e)), e, k)); other = λ j e. refl }
 
-  pub sign_behind : first ≤ i → 256 ≤ i - first → WithSign all first i o all
-  sign_behind g h = record { size = n; here = λ j k e. absurd (omega (arith, g, h, e, k)); other = λ j e. refl }
-
-  pub sign_set : (v : ℕ) → v ≡ code_of o → first ≤ i → i - first < 256 → WithSign all first i o (record { items = set all.items (i - first) v })
-  unfolding sign_in
-  sign_set v ev g h = record {
-    size = set_size all.items (i - first) v ∙ n;
-    here = λ j k e. let f : j ≡ i - first = omega (arith, e) in rw (lt-ltb j 256 k, f, get_or-set_same all.items (i - first) v 0 (omega (arith, h, n)), ev) (of_code o);
-    other = λ j e. rw (get_or-set_other all.items (i - first) j v 0 (λ f. e (omega (arith, f, g))));
+  pub sign_set : first ≤ i → i - first < 256 → WithSign all first i o (record { items = set all.items (i - first) o })
+  sign_set g h = record {
+    size = length-set all.items (i - first) o ∙ n;
+    here = λ j k e. let f : j ≡ i - first = omega (arith, e) in rw f (get_or-set_same all.items (i - first) o Positive (omega (arith, h, n)));
+    other = λ j e. get_or-set_other all.items (i - first) j o Positive (λ f. e (omega (arith, f, g)));
   }
-
--- ---- behind a block
-pub behind_not : (first i : ℕ) → i < first → false ≡ leb (first + 256) i
-behind_not first i h = sym (lt-leb (first + 256) i (omega (arith, h)))
-
-pub behind_is : (first i : ℕ) → first ≤ i → leb 256 (i - first) ≡ leb (first + 256) i
-behind_is first i h = by (leb 256 (i - first)) refl
-  where
-    by : (b : Bool) → leb 256 (i - first) ≡ b → b ≡ leb (first + 256) i
-    by true e = sym (le-leb (first + 256) i (omega (arith, h, leb-true 256 (i - first) e)))
-    by false e = sym (lt-leb (first + 256) i (omega (arith, h, leb-false 256 (i - first) e)))
 
 -- ---- the operators from a number on
 signs_next : (f : ℕ) (s : List ℕ) (at : ℕ) (o : Prefix) → prefix_of (token_at mixed s at).token ≡ is o → signs_at (suc f) s at ≡ o ∷ signs_at f s (token_at mixed s at).to
@@ -455,8 +392,8 @@ module _ (s : List ℕ) (from left : ℕ) where
   count_none = refl
 
   module _ (n at : ℕ) (k : Counting n at) where
-    pub counting_end : length s ≤ n → CountIs s from left n
-    counting_end h = record { is = λ p t e q. let c : Counted p t n at = k.is p t e q in let z : length s - n ≡ 0 = omega (arith, h) in no_turn p at (parsed c.tree c.end) (rw z at c.same) }
+    pub counting_end : length s ≤ n → (r : ℕ) → CountIs s from left r
+    counting_end h r = record { is = λ p t e q. let c : Counted p t n at = k.is p t e q in let z : length s - n ≡ 0 = omega (arith, h) in no_turn p at (parsed c.tree c.end) (rw z at c.same) }
 
     module _ (o : n < length s) (x : Expected) (f : x ≡ end_for (inside_of left s 0 at)) where
       first : (p : ℕ) (t : Tree) → (c : Counted p t n at) → IsRead (inside_of left s p at) (next p (length s - (n + 1))) (parsed c.tree c.end)

@@ -1,13 +1,11 @@
 -- Arguments that are taken one after the other: what waits, and what is left to take.
 -- Assumes nothing.
 use mathlib.Core.Path.{◌≡◌, refl, sym, ap, subst, ◌∙◌}
-use mathlib.Core.Bool.{cond}
 use mathlib.Core.List.{List, [], ◌∷◌, ◌++◌}
 use Prim.Native.Nat.{ℕ, zero, suc, ◌+◌, ◌<◌, ◌≤◌}
 use native.Mathlib.Nat.{mod-eq_of_lt}
 use native.Mathlib.Omega.{arith}
-use borrow.Author.Tests.{lt-ltb, le-ltb}
-use lib.Dec.{ltb}
+use borrow.Author.Tests.{lt-ltb}
 use lib.ListN.{length, get_or, set, take}
 use Rattle.definition.specs.Bytes.{mixed}
 use Rattle.definition.specs.Tokens.{token_at}
@@ -45,7 +43,7 @@ use Rattle.operands.specs.declared.Wished.{Wished}
 use Rattle.operands.specs.declared.Target.{Target}
 use Rattle.operands.specs.declared.Target.TheVariants as T
 use Rattle.operands.specs.Answer.{evaluated_for, Turns}
-use Rattle.operands.specs.Takes.{wish_for, wished_on, WithWish, substr_from, Coming, WishIs, first_listed, wanted_by, Path}
+use Rattle.operands.specs.Takes.{wish_for, wished_on, WithWish, substr_from, Coming, WishIs, Path}
 use Rattle.operands.proofs.Trees.{clash}
 use Rattle.operands.proofs.Leaves.{stood_turns, failed_turns}
 
@@ -138,18 +136,6 @@ module _ (deck names : List ℕ) (n : ℕ) (t : Target) (i at : ℕ) where
 
       pub wish_some : WishIs deck names n t i at (record { wish = Wi.As z.value_type; to = z.to })
       wish_some = rw e record { is = λ g gs k. some_by g gs k.0 k.1 (rw es k.2) k.3 k.4 }
-
-pub first_entry : (t : Target) (c : Callee) → t ≡ T.Entry c → c.list ≡ first_listed t
-first_entry t c e = rw e
-
-pub first_substr : (t : Target) (k : ℕ) → t ≡ T.Substr k → 0 ≡ first_listed t
-first_substr t k e = rw e
-
-pub wanted_entry : (t : Target) (c : Callee) → t ≡ T.Entry c → c.count ≡ wanted_by t
-wanted_entry t c e = rw e
-
-pub wanted_substr : (t : Target) (k : ℕ) → t ≡ T.Substr k → k ≡ wanted_by t
-wanted_substr t k e = rw e
 
 -- a subject is the first of all
 pub subject_first : (deck names : List ℕ) (n : ℕ) (t : Target) (i at : ℕ) (gs : List Ev.Wish) → Coming deck names n t i at (Ev.as_subject ∷ gs) → i ≡ 0
@@ -249,10 +235,3 @@ module _ (w : List ℕ) (f : Value) (k : Held) (j t : ℕ) (g : Ev.Wish) (gs : L
   path_more i u [] (x ∷ vs) p = absurd p
   path_more i u (Ev.as_type q ∷ ws) (x ∷ vs) (a, c, d, p) = (a, c, d, path_more (suc i) (u + held_size k i q) ws vs p)
   path_more i u (Ev.as_subject ∷ ws) (x ∷ vs) (a, d, p) = (a, d, path_more (suc i) (u + size_for f) ws vs p)
-
--- ---- the first argument is kept
-pub first_new : (i : ℕ) (f v : Value) → i < 1 → v ≡ cond (ltb i 1) v f
-first_new i f v h = rw (lt-ltb i 1 h)
-
-pub first_old : (i : ℕ) (f v : Value) → 1 ≤ i → f ≡ cond (ltb i 1) v f
-first_old i f v h = rw (le-ltb i 1 h)

@@ -1,7 +1,7 @@
 -- Prefix operators, a block at a time; and how many arguments a list has.
-use Rattle.std.specs.Prelude.{ℕ, zero, suc, ◌+◌, ◌<◌, ◌≤◌, cond, ◌≡◌, List, [], ◌∷◌, ltb, length, get_or, take, replicate}
+use Rattle.std.specs.Prelude.{ℕ, zero, suc, ◌+◌, ◌<◌, ◌≤◌, ◌≡◌, List, [], ◌∷◌, length, get_or, take}
 use Rattle.definition.specs.declared.Prefix.{Prefix}
-use Rattle.definition.specs.declared.Prefix.TheVariants.{Positive, Negative, Complement}
+use Rattle.definition.specs.declared.Prefix.TheVariants.{Positive}
 use Rattle.definition.specs.Bytes.{mixed}
 use Rattle.definition.specs.Expressions as E
 use Rattle.definition.specs.Expressions.{read, parsed, Tree}
@@ -15,23 +15,9 @@ use Rattle.operators.specs.Stands.{size_for, value_in, given_in, stacked, Ready}
 use Rattle.operands.specs.declared.Signs.{Signs}
 use Rattle.operands.specs.Answer.{signs_at}
 
--- an operator as a number
-unfoldable pub code_of : Prefix → ℕ
-code_of Positive = 0
-code_of Negative = 1
-code_of Complement = 2
-
-unfoldable pub sign_of : ℕ → Prefix
-sign_of zero = Positive
-sign_of (suc zero) = Negative
-sign_of (suc (suc n)) = Complement
-
-unfoldable pub no_signs : Signs
-no_signs = record { items = replicate 256 0 }
-
 -- the operator number i of a block
-unfoldable pub sign_in : Signs → ℕ → Prefix
-sign_in all i = cond (ltb i 256) (sign_of (get_or all.items i 0)) Positive
+abbrev pub sign_in : Signs → ℕ → Prefix
+sign_in all i = get_or all.items i Positive
 
 -- k of them from number i on
 unfoldable pub signs_in : Signs → ℕ → ℕ → List Prefix

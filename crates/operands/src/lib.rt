@@ -6,7 +6,7 @@
 ghost use Rattle.std.specs.Prelude.{◌≡◌, cond, ◌+◌, leb, ltb};
 ghost use Rattle.tokens.specs.Answer.{written, content};
 ghost use Rattle.operands.specs.Answer.{evaluated_for, with_end, WithInfix, PrefixesDone, ConstantIs, IntegerIs, string_tree, ClosedIs, PlainIs};
-ghost use Rattle.operands.specs.Blocks.{no_signs, code_of, sign_of, sign_in, WithSign, SignsFrom, BlockDone, AllDone, CountIs};
+ghost use Rattle.operands.specs.Blocks.{sign_in, WithSign, SignsFrom, BlockDone, AllDone, CountIs};
 ghost use Rattle.operands.specs.Takes.{WishIs, first_listed, wanted_by, WithWish, SubstrDone, AimIs};
 
 use callees::{
@@ -54,8 +54,7 @@ pub fn given_up_to(g: Given, to: usize, m: Meter) -> Evaluated
 pub fn integer_value(s: &[u8], t: Lexeme, m: Meter) -> Evaluated
     ensures { IntegerIs (written s.now t) t.to m result }
 {
-    let x = constant_number(s, t.from, width(t));
-    match x {
+    match constant_number(s, t.from, width(t)) {
         NumberAnswer::Is(n) => Evaluated::Is(Value::Number(n), t.to, m),
         NumberAnswer::NoConversion => Evaluated::Failed(Why::NoConversion, m),
         NumberAnswer::OutOfRange => Evaluated::Failed(Why::OutOfRange, m),
@@ -73,17 +72,16 @@ pub fn string_value(
     ensures { ConstantIs (string_tree is_bits (content s.now t.from)) work.old u t.to m work.new result }
 {
     let n = content_size(s, t.from);
-    if limits::Value::LONGEST < n {
+    if limits::Value::LONGEST < n || !operators::fits(u, n) {
         return Evaluated::Failed(Why::TooLong, m);
     }
-    if operators::fits(u, n) {
-        unquote(s, t.from, work, u);
-        if is_bits {
-            return Evaluated::Is(Value::Bits(n), t.to, m);
-        }
-        return Evaluated::Is(Value::Characters(n), t.to, m);
-    }
-    Evaluated::Failed(Why::TooLong, m)
+    unquote(s, t.from, work, u);
+    let v = if is_bits {
+        Value::Bits(n)
+    } else {
+        Value::Characters(n)
+    };
+    Evaluated::Is(v, t.to, m)
 }
 
 // ---- operators
@@ -101,52 +99,19 @@ pub fn with_infix(work: &mut [u8], u: usize, o: Operator, x: Value, y: Evaluated
 // How many prefix operators are kept at once.
 const BLOCK: usize = 256;
 
-// Prefix operators as numbers.
+// The prefix operators of a block.
 #[derive(Clone, Copy)]
 struct Signs {
-    items: [u8; 256],
-}
-
-fn no_signs() -> Signs
-    ensures { result ≡ no_signs }
-{
-    Signs { items: [0; 256] }
-}
-
-fn sign_code(o: Prefix) -> u8
-    ensures { result ≡ code_of o }
-{
-    match o {
-        Prefix::Positive => 0,
-        Prefix::Negative => 1,
-        Prefix::Complement => 2,
-    }
-}
-
-fn sign_of(n: u8) -> Prefix
-    ensures { result ≡ sign_of n }
-{
-    if n == 0 {
-        return Prefix::Positive;
-    }
-    if n == 1 {
-        return Prefix::Negative;
-    }
-    Prefix::Complement
+    items: [Prefix; BLOCK],
 }
 
 // With the operator number i, if it is one of the block that begins with number `first`.
 fn with_sign(all: Signs, first: usize, i: usize, o: Prefix) -> Signs
     ensures { WithSign all first i o result }
 {
-    let n = sign_code(o);
     let mut more = all;
-    if i < first {
-        return more;
-    }
-    if i - first < 256 {
-        more.items[i - first] = n;
-        return more;
+    if first <= i && i - first < BLOCK {
+        more.items[i - first] = o;
     }
     more
 }
@@ -155,34 +120,26 @@ fn with_sign(all: Signs, first: usize, i: usize, o: Prefix) -> Signs
 fn is_behind(first: usize, i: usize) -> bool
     ensures { result ≡ leb (first + 256) i }
 {
-    if i < first {
-        return false;
-    }
-    BLOCK <= i - first
+    first <= i && BLOCK <= i - first
 }
 
 // The operators from number `first` on, of those that begin at a place.
 fn signs_from(s: &[u8], from: usize, first: usize) -> Signs
     ensures { SignsFrom s.now from first result }
 {
-    let mut all = no_signs();
+    let mut all = Signs {
+        items: [Prefix::Positive; BLOCK],
+    };
     let mut at = from;
-    let mut i: usize = 0;
-    while i < s.len() {
+    for i in 0..s.len() {
         if is_behind(first, i) {
             return all;
         }
-        let next = prefix_at(s, at);
-        match next {
-            PrefixAt::Is(o, q) => {
-                all = with_sign(all, first, i, o);
-                at = q;
-            }
-            PrefixAt::Other => {
-                return all;
-            }
-        }
-        i += 1;
+        let PrefixAt::Is(o, q) = prefix_at(s, at) else {
+            return all;
+        };
+        all = with_sign(all, first, i, o);
+        at = q;
     }
     all
 }
@@ -190,10 +147,7 @@ fn signs_from(s: &[u8], from: usize, first: usize) -> Signs
 fn sign_at(all: Signs, i: usize) -> Prefix
     ensures { result ≡ sign_in all i }
 {
-    if i < 256 {
-        return sign_of(all.items[i]);
-    }
-    Prefix::Positive
+    all.items.get(i).copied().unwrap_or(Prefix::Positive)
 }
 
 // Applies the first n operators of a block, the last first.
@@ -201,17 +155,10 @@ fn with_block(work: &mut [u8], u: usize, all: Signs, n: usize, v: Value) -> Give
     ensures { BlockDone work.old u all n v work.new result }
 {
     let mut x = v;
-    let mut i = n;
-    while 0 < i {
-        i -= 1;
-        let g = prefixed(work, u, sign_at(all, i), x);
-        match g {
-            Given::Gives(y) => {
-                x = y;
-            }
-            Given::Fails(w) => {
-                return Given::Fails(w);
-            }
+    for i in (0..n).rev() {
+        match prefixed(work, u, sign_at(all, i), x) {
+            Given::Gives(y) => x = y,
+            Given::Fails(w) => return Given::Fails(w),
         }
     }
     Given::Gives(x)
@@ -223,17 +170,13 @@ fn with_prefixes(s: &[u8], from: usize, n: usize, work: &mut [u8], u: usize, v: 
 {
     let mut x = v;
     let mut rest = n;
+    // a turn for each block, from the last to the first
     while 0 < rest {
         let size = (rest - 1) % BLOCK + 1;
         rest -= size;
-        let g = with_block(work, u, signs_from(s, from, rest), size, x);
-        match g {
-            Given::Gives(y) => {
-                x = y;
-            }
-            Given::Fails(w) => {
-                return Given::Fails(w);
-            }
+        match with_block(work, u, signs_from(s, from, rest), size, x) {
+            Given::Gives(y) => x = y,
+            Given::Fails(w) => return Given::Fails(w),
         }
     }
     Given::Gives(x)
@@ -262,25 +205,17 @@ pub fn count_arguments(s: &[u8], from: usize, left: usize) -> usize
     ensures { CountIs s.now from left result }
 {
     let mut at = from;
-    let mut n: usize = 0;
-    while n < s.len() {
-        n += 1;
-        let x = expressions::inside(s, 0, at, left);
-        match x {
-            Expected::Past(e) => {
-                let t = token_at(s, e);
-                if is_sign(s, t, b",") {
-                    at = t.to;
-                } else {
-                    return n;
-                }
-            }
-            Expected::Refused(_, _) => {
-                return n;
-            }
+    for n in 0..s.len() {
+        let Expected::Past(e) = expressions::inside(s, 0, at, left) else {
+            return n + 1;
+        };
+        let t = token_at(s, e);
+        if !is_sign(s, t, b",") {
+            return n + 1;
         }
+        at = t.to;
     }
-    n
+    s.len()
 }
 
 // What an argument is to be made: of a parameter's type, or what SUBSTR is taken of.
@@ -310,15 +245,11 @@ pub fn wish_for(deck: &[u8], names: &[u16], count: u16, t: Target, i: usize, at:
     match t {
         Target::Entry(c) => {
             let p = c.place;
-            let x = parameter_at(deck, body(deck, p.member), names, count, p, at);
-            match x {
-                ParameterAt::Is(y) => {
-                    let value_type = y.value_type;
-                    Wished {
-                        wish: Wish::As(value_type),
-                        to: y.to,
-                    }
-                }
+            match parameter_at(deck, body(deck, p.member), names, count, p, at) {
+                ParameterAt::Is(y) => Wished {
+                    wish: Wish::As(y.value_type),
+                    to: y.to,
+                },
                 ParameterAt::Wrong => Wished {
                     wish: Wish::AsSubject,
                     to: at,
@@ -432,9 +363,8 @@ pub fn plain_value(
             to,
             m,
         ),
-        Meant::AnEntry(_) => Evaluated::Failed(Why::WrongName, m),
+        Meant::AnEntry(_) | Meant::NoSuch => Evaluated::Failed(Why::WrongName, m),
         Meant::TheSubstr => Evaluated::Failed(Why::WrongArguments, m),
-        Meant::NoSuch => Evaluated::Failed(Why::WrongName, m),
     }
 }
 
@@ -457,29 +387,14 @@ pub fn aim_of(
     ensures { AimIs deck.now rows.now starts names.now count x n result }
 {
     match x {
-        Meant::AVariable(_, _) => Aim::Fails(Why::WrongName),
-        Meant::AnEntry(b) => {
-            let c = callee_of(deck, rows, starts, names, count, b);
-            match c {
-                Called::Is(y) => {
-                    if y.count == n {
-                        return Aim::At(Target::Entry(y));
-                    }
-                    Aim::Fails(Why::WrongArguments)
-                }
-                Called::Fails(w) => Aim::Fails(w),
-            }
-        }
-        Meant::TheSubstr => {
-            if n == 2 {
-                return Aim::At(Target::Substr(n));
-            }
-            if n == 3 {
-                return Aim::At(Target::Substr(n));
-            }
-            Aim::Fails(Why::WrongArguments)
-        }
-        Meant::NoSuch => Aim::Fails(Why::WrongName),
+        Meant::AnEntry(b) => match callee_of(deck, rows, starts, names, count, b) {
+            Called::Is(y) if y.count == n => Aim::At(Target::Entry(y)),
+            Called::Is(_) => Aim::Fails(Why::WrongArguments),
+            Called::Fails(w) => Aim::Fails(w),
+        },
+        Meant::TheSubstr if n == 2 || n == 3 => Aim::At(Target::Substr(n)),
+        Meant::TheSubstr => Aim::Fails(Why::WrongArguments),
+        Meant::AVariable(_, _) | Meant::NoSuch => Aim::Fails(Why::WrongName),
     }
 }
 
@@ -488,10 +403,7 @@ pub fn closed(s: &[u8], x: Evaluated) -> Evaluated
     ensures { ClosedIs s.now x result }
 {
     match x {
-        Evaluated::Is(v, e, m) => {
-            let t = token_at(s, e);
-            Evaluated::Is(v, t.to, m)
-        }
+        Evaluated::Is(v, e, m) => Evaluated::Is(v, token_at(s, e).to, m),
         Evaluated::Failed(w, m) => Evaluated::Failed(w, m),
     }
 }

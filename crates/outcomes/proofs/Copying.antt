@@ -3,6 +3,7 @@
 use mathlib.Core.Path.{◌≡◌, refl, sym, ◌∙◌}
 use mathlib.Core.Bool.{Bool, true, false}
 use mathlib.Core.List.{List, []}
+use mathlib.Core.Logic.{◌⊎◌, inl, inr}
 use Prim.Native.Nat.{ℕ}
 use lib.ListN.{length}
 use Rattle.definition.specs.Limits.{fixed_width}
@@ -121,10 +122,7 @@ module _ (w t : List ℕ) (y : Given) (d : Dest) (u : ℕ) (m : Meter) where
     unfolding given_in value_in Val.to_characters
     result_number x f k = record { is = rw (e, f) k }
 
-    pub result_text : (n : ℕ) → v ≡ O.Characters n → CopiedValue w t (part n u w) d u m w' t' r → CopiedFrom (given_in w u y) w t d u m w' t' r
+    pub result_text : (n : ℕ) → (v ≡ O.Characters n) ⊎ (v ≡ O.Bits n) → CopiedValue w t (part n u w) d u m w' t' r → CopiedFrom (given_in w u y) w t d u m w' t' r
     unfolding given_in value_in Val.to_characters
-    result_text n f k = record { is = rw (e, f) k }
-
-    pub result_bits : (n : ℕ) → v ≡ O.Bits n → CopiedValue w t (part n u w) d u m w' t' r → CopiedFrom (given_in w u y) w t d u m w' t' r
-    unfolding given_in value_in Val.to_characters
-    result_bits n f k = record { is = rw (e, f) k }
+    result_text n (inl f) k = record { is = rw (e, f) k }
+    result_text n (inr f) k = record { is = rw (e, f) k }

@@ -9,7 +9,7 @@ use native.Mathlib.Numerals.{add-one}
 use native.Mathlib.Omega.{arith}
 use borrow.Author.Tests.{le-leb, lt-leb, leb-false, eq-eqb, ne_eqb, eqb-true}
 use lib.Dec.{leb, eqb}
-use lib.ListN.{length, get_or, take, drop}
+use lib.ListN.{length, get_or, drop}
 use Rattle.definition.specs.Choice.{when}
 use Rattle.definition.specs.Lists.{leading}
 use Rattle.definition.specs.Bytes.{mixed, is_blank}
@@ -22,14 +22,13 @@ use Rattle.tokens.specs.Answer.{Cuts}
 use Rattle.tokens.proofs.Laws.{inside, Passing, passing_stop, passing_end}
 use Rattle.sums.specs.Numbers.{greatest, sum_to}
 use Rattle.sums.proofs.Laws.{sum_fits}
-use Rattle.outcomes.specs.declared.Src.{Src}
 use Rattle.outcomes.specs.declared.Ending.{Ending}
 use Rattle.outcomes.specs.declared.Ending.TheVariants as E
 use Rattle.outcomes.specs.declared.Listing.{Listing}
 use Rattle.outcomes.specs.declared.Listing.TheVariants as L
-use Rattle.outcomes.specs.Texts.{room_of, stretch_of}
+use Rattle.outcomes.specs.Texts.{stretch_of, Within}
 use Rattle.outcomes.specs.Arguments.{cut_from, argument, before, EndWithin, EndIs, end_place, listing_for, ListingIs, past_blanks, ListIn, Ends, EndIn}
-use Rattle.outcomes.proofs.Sources.{slice_is, stretch_length, room_work, room_body}
+use Rattle.outcomes.proofs.Sources.{stretch_length}
 use Rattle.outcomes.proofs.Naming.{never}
 
 -- ---- choices
@@ -151,62 +150,64 @@ module _ (t : List ℕ) (d from p : ℕ) (h : p < length t) where
   turn_piece e f g = unfold_turn ∙ rw (in_text, ne_eqb (get_or t p 0) 40 e, ne_eqb (get_or t p 0) 41 f, g)
 
 -- ---- where an argument ends
-pub record Cut (t : List ℕ) (from p d turns : ℕ) : Type 0 where
+pub record Cut (t : List ℕ) (from p d turn : ℕ) : Type 0 where
   pub is : cut_on mixed (suc (length t)) t d from [] p ≡ cut_from t from
-  pub enough : length t ≤ p + turns
+  pub far : turn ≤ p
   pub low : from ≤ p
   pub few : d ≤ p
 
-pub record Ending' (t : List ℕ) (from p d turns : ℕ) : Type 0 where
-  pub so : length t ≤ 4294967295 → Cut t from p d turns
+pub record Ending' (t : List ℕ) (from p d turn : ℕ) : Type 0 where
+  pub so : length t ≤ 4294967295 → Cut t from p d turn
 
-pub ending_start : (t : List ℕ) (from : ℕ) → Ending' t from from 0 (length t)
+pub ending_start : (t : List ℕ) (from : ℕ) → Ending' t from from 0 0
 unfolding cut_from
-ending_start t from = record { so = λ _. record { is = refl; enough = omega arith; low = omega arith; few = omega arith } }
+ending_start t from = record { so = λ _. record { is = refl; far = omega arith; low = omega arith; few = omega arith } }
 
-module _ (t : List ℕ) (from p d turns : ℕ) (k : Ending' t from p d turns) where
+no_comma : (b d : ℕ) → (b ≡ 44 → 1 ≤ d) → (eqb b 44 && eqb d 0) ≡ false
+no_comma b d f = by (eqb b 44) refl
+  where
+    by : (x : Bool) → eqb b 44 ≡ x → (x && eqb d 0) ≡ false
+    by true e = ne_eqb d 0 (λ z. omega (arith, z, f (eqb-true b 44 e)))
+    by false e = refl
+
+module _ (t : List ℕ) (from p d turn : ℕ) (k : Ending' t from p d turn) where
   pub ending_past : length t ≤ p → EndIs t from E.Open
   ending_past h = record { is = λ l. sym (k.so l).is ∙ cut_past (suc (length t)) t d from [] p h; within = λ _. tt }
 
-  pub ending_none : turns ≤ 0 → EndIs t from E.Open
-  ending_none h = record { is = λ l. sym (k.so l).is ∙ cut_past (suc (length t)) t d from [] p (omega (arith, (k.so l).enough)); within = λ _. tt }
+  pub ending_none : length t ≤ turn → EndIs t from E.Open
+  ending_none h = record { is = λ l. sym (k.so l).is ∙ cut_past (suc (length t)) t d from [] p (omega (arith, (k.so l).far)); within = λ _. tt }
 
   module _ (h : p < length t) where
     pub ending_close : get_or t p 0 ≡ 41 → d < 1 → EndIs t from (E.Close p)
     ending_close e z = record { is = λ l. sym (k.so l).is ∙ turn_close t d from p h e (omega arith); within = λ l. ((k.so l).low, h) }
 
-    pub ending_comma : (b : Bool) → b ≡ (eqb (get_or t p 0) 44 && eqb d 0) → b ≡ true → EndIs t from (E.Comma p)
-    ending_comma b e f = by (eqb (get_or t p 0) 44) (eqb d 0) refl refl (sym e ∙ f)
-      where
-        by : (x y : Bool) → eqb (get_or t p 0) 44 ≡ x → eqb d 0 ≡ y → (x && y) ≡ true → EndIs t from (E.Comma p)
-        by true true u v w = record { is = λ l. sym (k.so l).is ∙ turn_comma t d from p h (eqb-true (get_or t p 0) 44 u) (eqb-true d 0 v); within = λ l. ((k.so l).low, h) }
-        by true false u v w = never _ (cc)
-        by false y u v w = never _ (cc)
+    pub ending_comma : get_or t p 0 ≡ 44 → d < 1 → EndIs t from (E.Comma p)
+    ending_comma e z = record { is = λ l. sym (k.so l).is ∙ turn_comma t d from p h e (omega arith); within = λ l. ((k.so l).low, h) }
 
-    pub ending_opened : (q e : ℕ) → get_or t p 0 ≡ 40 → e ≡ sum_to greatest d 1 → q ≡ sum_to greatest p 1 → 0 < turns → Ending' t from q e (turns - 1)
-    ending_opened q e g i j r = record {
+    pub ending_opened : (q e : ℕ) → get_or t p 0 ≡ 40 → e ≡ sum_to greatest d 1 → q ≡ sum_to greatest p 1 → Ending' t from q e (turn + 1)
+    ending_opened q e g i j = record {
       so = λ l.
           let c = k.so l in
           let u : q ≡ p + 1 = j ∙ sum_fits p 1 (omega arith) in
           let v : e ≡ suc d = i ∙ sum_fits d 1 (omega (arith, c.few)) ∙ add-one d in
-          record { is = rw (u, v) (sym (turn_open t d from p h g) ∙ c.is); enough = omega (arith, c.enough); low = omega (arith, c.low); few = omega (arith, c.few) };
+          record { is = rw (u, v) (sym (turn_open t d from p h g) ∙ c.is); far = omega (arith, c.far); low = omega (arith, c.low); few = omega (arith, c.few) };
     }
 
-    pub ending_closed : (q : ℕ) → get_or t p 0 ≡ 41 → 1 ≤ d → q ≡ sum_to greatest p 1 → 0 < turns → Ending' t from q (d - 1) (turns - 1)
-    ending_closed q g i j r = record {
+    pub ending_closed : (q : ℕ) → get_or t p 0 ≡ 41 → 1 ≤ d → q ≡ sum_to greatest p 1 → Ending' t from q (d - 1) (turn + 1)
+    ending_closed q g i j = record {
       so = λ l.
           let c = k.so l in
           let u : q ≡ p + 1 = j ∙ sum_fits p 1 (omega arith) in
-          record { is = rw u (sym (turn_less t d from p h g (omega arith)) ∙ c.is); enough = omega (arith, c.enough); low = omega (arith, c.low); few = omega (arith, c.few) };
+          record { is = rw u (sym (turn_less t d from p h g (omega arith)) ∙ c.is); far = omega (arith, c.far); low = omega (arith, c.low); few = omega (arith, c.few) };
     }
 
-    pub ending_piece : (b : Bool) (x : Piece) → (get_or t p 0 ≡ 40 → ⊥) → (get_or t p 0 ≡ 41 → ⊥) → b ≡ (eqb (get_or t p 0) 44 && eqb d 0) → b ≡ false → Cuts t p x → 0 < turns → Ending' t from x.to d (turns - 1)
-    ending_piece b x e f g i j r = record {
+    pub ending_piece : (x : Piece) → (get_or t p 0 ≡ 40 → ⊥) → (get_or t p 0 ≡ 41 → ⊥) → (get_or t p 0 ≡ 44 → 1 ≤ d) → Cuts t p x → Ending' t from x.to d (turn + 1)
+    ending_piece x e f g j = record {
       so = λ l.
           let c = k.so l in
           let u : x.to ≡ (piece_at mixed t p).to = ap (λ (y : Piece). y.to) (j.is h) in
           let v : p < (piece_at mixed t p).to = (piece_at_past t p h).above in
-          record { is = rw u (sym (turn_piece t d from p h e f (sym g ∙ i)) ∙ c.is); enough = omega (arith, c.enough); low = omega (arith, c.low); few = omega (arith, c.few) };
+          record { is = rw u (sym (turn_piece t d from p h e f (no_comma (get_or t p 0) d g)) ∙ c.is); far = omega (arith, c.far); low = omega (arith, c.low); few = omega (arith, c.few) };
     }
 
 -- ---- how many arguments
@@ -289,22 +290,14 @@ list_none t p q b e f g = record {
 
 -- ---- in a stretch
 module _ (t : List ℕ) (from to p : ℕ) where
-  pub list_order : (r : Listing) → to < from → ListIn t from to p r
-  list_order r h = record { is = λ w. absurd (omega (arith, w.order)) }
+  pub list_in : (k : List ℕ) (r : Listing) → k ≡ stretch_of t from to → ListingIs k (past_blanks k p + 1) (list_at mixed k p) r → ListIn t from to p r
+  list_in k r f g = record { is = λ w. (rw f at g).is (omega (arith, stretch_length t from to, w.short)) }
 
-  pub list_past : (r : Listing) → length t < to → ListIn t from to p r
-  list_past r h = record { is = λ w. absurd (omega (arith, w.within)) }
+  pub list_out : (r : Listing) → (Within t from to → ⊥) → ListIn t from to p r
+  list_out r h = record { is = λ w. absurd (h w) }
 
-  pub list_in : (k : List ℕ) (r : Listing) → k ≡ take (to - from) (drop from t) → from ≤ to → to ≤ length t → ListingIs k (past_blanks k p + 1) (list_at mixed k p) r → ListIn t from to p r
-  list_in k r e h l g =
-      let f : k ≡ stretch_of t from to = slice_is t k from to e h l in
-      record { is = λ w. (rw f at g).is (omega (arith, stretch_length t from to, w.short)) }
-
-  pub end_order : (r : ℕ) → to < from → EndIn t from to p r
-  end_order r h = record { is = λ w. absurd (omega (arith, w.order)) }
-
-  pub end_past : (r : ℕ) → length t < to → EndIn t from to p r
-  end_past r h = record { is = λ w. absurd (omega (arith, w.within)) }
+  pub end_out : (r : ℕ) → (Within t from to → ⊥) → EndIn t from to p r
+  end_out r h = record { is = λ w. absurd (h w) }
 
 ends_first : (t : List ℕ) (p z q : ℕ) (a : D.Arguments) (xs : List Argument) → p ≤ z → z < length t → a ≡ cut_from t (z + 1) → before (argument p z ∷ []) a ≡ list_up_to xs q → Ends t p z xs q
 ends_first t p z q no_list xs h l e f = never _ (cc)
@@ -322,37 +315,8 @@ ends_are t p (E.Comma z) k l xs q c = ends_first t p z q (cut_from t (z + 1)) xs
 ends_are t p (E.Close z) k l xs q c = ends_last t p z q (z + 1) xs (k.within l).0 (k.within l).1 (sym (k.is l) ∙ c)
 ends_are t p E.Open k l xs q c = let z : no_list ≡ list_up_to xs q = sym (k.is l) ∙ c in never _ (cc)
 
-pub end_in_lem : (t : List ℕ) (from to p : ℕ) (k : List ℕ) (e : Ending) (r : ℕ) → k ≡ take (to - from) (drop from t) → from ≤ to → to ≤ length t → EndIs k p e → r ≡ end_place e p → EndIn t from to p r
-end_in_lem t from to p k e r i h l g j =
-    let f : k ≡ stretch_of t from to = slice_is t k from to i h l in
-    record { is = λ w xs q c. rw j (ends_are (stretch_of t from to) p e (rw f at g) (omega (arith, stretch_length t from to, w.short)) xs q c) }
-
--- ---- in the room of a source
-pub list_work : (s w : List ℕ) (x : Src) (p : ℕ) (r : Listing) → x.in_work ≡ true → ListIn w x.from x.to p r → ListIn (room_of s w x) x.from x.to p r
-list_work s w x p r e h = rw (← room_work s w x e) h
-
-pub list_body : (s w : List ℕ) (x : Src) (p : ℕ) (r : Listing) → x.in_work ≡ false → ListIn s x.from x.to p r → ListIn (room_of s w x) x.from x.to p r
-list_body s w x p r e h = rw (← room_body s w x e) h
-
-pub end_work : (s w : List ℕ) (x : Src) (p r : ℕ) → x.in_work ≡ true → EndIn w x.from x.to p r → EndIn (room_of s w x) x.from x.to p r
-end_work s w x p r e h = rw (← room_work s w x e) h
-
-pub end_body : (s w : List ℕ) (x : Src) (p r : ℕ) → x.in_work ≡ false → EndIn s x.from x.to p r → EndIn (room_of s w x) x.from x.to p r
-end_body s w x p r e h = rw (← room_body s w x e) h
-
-pub comma_closed : (b d : ℕ) → 1 ≤ d → false ≡ (eqb b 44 && eqb d 0)
-comma_closed b d h = let e : eqb d 0 ≡ false = ne_eqb d 0 (λ y. omega arith) in rw e (by (eqb b 44))
-  where
-    by : (x : Bool) → false ≡ (x && false)
-    by true = refl
-    by false = refl
-
-pub comma_open : (b d : ℕ) → d < 1 → eqb b 44 ≡ (eqb b 44 && eqb d 0)
-comma_open b d h = let e : d ≡ 0 = omega arith in rw e (by (eqb b 44))
-  where
-    by : (x : Bool) → x ≡ (x && true)
-    by true = refl
-    by false = refl
+pub end_in : (t : List ℕ) (from to p : ℕ) (k : List ℕ) (e : Ending) (r : ℕ) → k ≡ stretch_of t from to → EndIs k p e → r ≡ end_place e p → EndIn t from to p r
+end_in t from to p k e r f g j = record { is = λ w xs q c. rw j (ends_are (stretch_of t from to) p e (rw f at g) (omega (arith, stretch_length t from to, w.short)) xs q c) }
 
 module _ (t : List ℕ) (p i : ℕ) (k : Passing t p is_blank i) where
   pub blanks_stop : (b : Bool) → i < length t → b ≡ is_blank (get_or t i 0) → b ≡ false → i ≡ past_blanks t p

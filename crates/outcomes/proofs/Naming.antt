@@ -2,6 +2,7 @@
 -- Assumes nothing.
 use mathlib.Core.Path.{◌≡◌, refl, sym, ap, ◌∙◌}
 use mathlib.Core.Bool.{Bool, true, false}
+use mathlib.Core.Logic.{◌⊎◌, inl, inr}
 use mathlib.Core.List.{List, [], ◌∷◌}
 use Prim.Native.Nat.{ℕ, zero, suc, ◌+◌, ◌-◌, ◌<◌, ◌≤◌}
 use native.Mathlib.Nat.{zero-add, add-zero}
@@ -17,12 +18,9 @@ use Rattle.definition.specs.Scan as D
 use Rattle.definition.proofs.Parts.{part_of_part}
 use Rattle.definition.proofs.Ends.{piece_at_past}
 use Rattle.tokens.specs.declared.Piece.{Piece}
-use Rattle.tokens.specs.declared.PieceKind.{PieceKind}
 use Rattle.tokens.specs.declared.PieceKind.TheVariants as K
 use Rattle.tokens.specs.Answer.{piece_kind, piece_of}
 use Rattle.tokens.proofs.Pieces.{piece_is}
-use Rattle.names.specs.declared.Activity.{Activity}
-use Rattle.names.specs.declared.Activity.TheVariants as A
 use Rattle.names.specs.declared.Address.{Address}
 use Rattle.names.specs.declared.Name.{Name}
 use Rattle.names.specs.declared.Found.{Found}
@@ -32,22 +30,12 @@ use Rattle.sums.specs.Numbers.{greatest, sum_to}
 use Rattle.sums.proofs.Laws.{sum_fits}
 use Rattle.outcomes.specs.declared.Src.{Src}
 use Rattle.outcomes.specs.declared.Active.{Active}
-use Rattle.outcomes.specs.declared.Active.TheVariants.{NotActive, IsActive}
-use Rattle.outcomes.specs.Texts.{room_of, stretch_of, active_for, activities_from, ActiveIs, is_name, ActiveHere}
-use Rattle.outcomes.proofs.Sources.{stretch_length, room_work, room_body}
+use Rattle.outcomes.specs.declared.Active.TheVariants.{NotActive}
+use Rattle.outcomes.specs.Texts.{stretch_of, active_for, activities_from, ActiveIs, ActiveHere}
+use Rattle.outcomes.proofs.Sources.{stretch_length}
 
 pub never : (A : Type 0) → ◌≡◌ {A = ℕ} 0 1 → A
 never A e = absurd (omega arith)
-
--- ---- an activity
-pub as_inactive : (a : Address) (y : Activity) → y ≡ A.Inactive → active_for NotActive ≡ D.active_as (activity_of y) a.0
-as_inactive a y e = rw e
-
-pub as_rescanned : (a : Address) (y : Activity) → y ≡ A.Rescanned → active_for (IsActive a A.Rescanned) ≡ D.active_as (activity_of y) a.0
-as_rescanned a y e = rw e
-
-pub as_copied : (a : Address) (y : Activity) → y ≡ A.CopiedOnly → active_for (IsActive a A.CopiedOnly) ≡ D.active_as (activity_of y) a.0
-as_copied a y e = rw e
 
 -- ---- addresses are numbers of the table
 ids_length : (d t : List ℕ) (a n : ℕ) → length (identifiers_from d t a n) ≡ n
@@ -95,13 +83,9 @@ module _ (d t : List ℕ) (n : ℕ) (l : List ℕ) (f : Found) (g : f ≡ found_
   }
 
 -- ---- the token at a place of a source
-kind_name : (x : PieceKind) → is_name x ≡ true → x ≡ K.Name
-kind_name K.Name e = refl
-kind_name K.Plain e = never _ (cc)
-kind_name K.Unclosed e = never _ (cc)
-
-not_active_lem : (x : T.Piece) (B : World) → is_name (piece_kind x) ≡ false → D.active_in x B ≡ D.not_active
-not_active_lem (T.name w) B e = never _ (cc)
+not_active_lem : (x : T.Piece) (B : World) → (piece_kind x ≡ K.Plain) ⊎ (piece_kind x ≡ K.Unclosed) → D.active_in x B ≡ D.not_active
+not_active_lem (T.name w) B (inl e) = never _ (cc)
+not_active_lem (T.name w) B (inr e) = never _ (cc)
 not_active_lem T.plain B e = refl
 not_active_lem T.unclosed B e = refl
 
@@ -109,13 +93,12 @@ module _ (d names : List ℕ) (n : ℕ) (t : List ℕ) (x : Src) (p : ℕ) (y : 
   abbrev here : List ℕ
   here = stretch_of t x.from x.to
 
-  pub token_plain : (b : Bool) → b ≡ is_name y.kind → b ≡ false → ActiveHere d names n t x p y NotActive
-  token_plain b e f = record { is = λ B k w h g. sym (not_active_lem (T.piece_at mixed here p).piece B (rw (g) at (sym e ∙ f))) }
+  pub here_plain : (y.kind ≡ K.Plain) ⊎ (y.kind ≡ K.Unclosed) → ActiveHere d names n t x p y NotActive
+  here_plain e = record { is = λ B k w h g. sym (not_active_lem (T.piece_at mixed here p).piece B (rw g at e)) }
 
-  token_named : (b : Bool) (from m : ℕ) (r : Active) → b ≡ is_name y.kind → b ≡ true → from ≡ sum_to greatest x.from p → m ≡ y.to - p → ActiveIs d names n (folded mixed (part m from t)) r
-      → ActiveHere d names n t x p y r
+  pub here_name : (l : List ℕ) (from m : ℕ) (r : Active) → y.kind ≡ K.Name → l ≡ t → from ≡ sum_to greatest x.from p → m ≡ y.to - p → ActiveIs d names n (folded mixed (part m from l)) r → ActiveHere d names n t x p y r
   unfolding stretch_of
-  token_named b from m r e f i j a = record {
+  here_name l from m r e f i j a = record {
     is = λ B k w h g.
         let q : T.piece_at mixed here p ≡ T.cut (piece_of y.kind (part (y.to - p) p here)) y.to = piece_is here p y (record { is = λ _. g }) (rw (stretch_length t x.from x.to) h) in
         let past = piece_at_past here p (rw (stretch_length t x.from x.to) h) in
@@ -123,17 +106,6 @@ module _ (d names : List ℕ) (n : ℕ) (t : List ℕ) (x : Src) (p : ℕ) (y : 
         let up : y.to ≤ x.to - x.from = omega (arith, past.within, stretch_length t x.from x.to) in
         let lower : p < y.to = omega (arith, past.above) in
         let u : from ≡ x.from + p = i ∙ sum_fits x.from p (omega (arith, w.short)) in
-        let v : part (y.to - p) p here ≡ part m from t = part_of_part (y.to - p) p (x.to - x.from) x.from t (omega arith) ∙ rw (u, j) in
-        a.is B k ∙ sym (ap (λ (z : T.Cut). D.active_in z.piece B) q ∙ rw (kind_name y.kind (sym e ∙ f), v));
+        let v : part (y.to - p) p here ≡ part m from l = part_of_part (y.to - p) p (x.to - x.from) x.from t (omega arith) ∙ rw (u, j, f) in
+        a.is B k ∙ sym (ap (λ (z : T.Cut). D.active_in z.piece B) q ∙ rw (e, v));
   }
-
-pub here_plain : (d names : List ℕ) (n : ℕ) (t : List ℕ) (x : Src) (p : ℕ) (y : Piece) (b : Bool) → b ≡ is_name y.kind → b ≡ false → ActiveHere d names n t x p y NotActive
-here_plain d names n t x p y b e f = token_plain d names n t x p y b e f
-
-pub here_work : (d names : List ℕ) (n : ℕ) (s w : List ℕ) (x : Src) (p : ℕ) (y : Piece) (b : Bool) (from m : ℕ) (r : Active) → b ≡ is_name y.kind → b ≡ true → from ≡ sum_to greatest x.from p → m ≡ y.to - p
-    → x.in_work ≡ true → ActiveIs d names n (folded mixed (part m from w)) r → ActiveHere d names n (room_of s w x) x p y r
-here_work d names n s w x p y b from m r e f i j c a = rw (← room_work s w x c) (token_named d names n w x p y b from m r e f i j a)
-
-pub here_body : (d names : List ℕ) (n : ℕ) (s w : List ℕ) (x : Src) (p : ℕ) (y : Piece) (b : Bool) (from m : ℕ) (r : Active) → b ≡ is_name y.kind → b ≡ true → from ≡ sum_to greatest x.from p → m ≡ y.to - p
-    → x.in_work ≡ false → ActiveIs d names n (folded mixed (part m from s)) r → ActiveHere d names n (room_of s w x) x p y r
-here_body d names n s w x p y b from m r e f i j c a = rw (← room_body s w x c) (token_named d names n s x p y b from m r e f i j a)

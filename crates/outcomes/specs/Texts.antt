@@ -1,5 +1,5 @@
 -- THE TEXT THAT IS SCANNED: a stretch of a body or of the work room. And the names in it that are active.
-use Rattle.std.specs.Prelude.{ℕ, zero, suc, ◌-◌, ◌<◌, ◌≤◌, Bool, true, false, cond, ◌≡◌, List, [], ◌∷◌, length}
+use Rattle.std.specs.Prelude.{ℕ, zero, suc, ◌-◌, ◌<◌, ◌≤◌, cond, ◌≡◌, List, [], ◌∷◌, length}
 use Rattle.definition.specs.Bytes.{mixed}
 use Rattle.definition.specs.Limits.{text_bytes}
 use Rattle.definition.specs.Lists.{part}
@@ -8,8 +8,6 @@ use Rattle.definition.specs.World as W
 use Rattle.definition.specs.World.{World}
 use Rattle.definition.specs.Scan as D
 use Rattle.tokens.specs.declared.Piece.{Piece}
-use Rattle.tokens.specs.declared.PieceKind.{PieceKind}
-use Rattle.tokens.specs.declared.PieceKind.TheVariants as K
 use Rattle.tokens.specs.Answer.{piece_for}
 use Rattle.names.specs.Table.{name_in, activity_of, identifiers_from}
 use Rattle.sums.specs.Numbers.{greatest, sum_to}
@@ -58,11 +56,6 @@ pub record Awake (d t : List ℕ) (n : ℕ) (B : World) : Type 0 where
 -- whether the bytes l are a name that is active
 pub record ActiveIs (d t : List ℕ) (n : ℕ) (l : List ℕ) (r : Active) : Type 0 where
   pub is : (B : World) → Awake d t n B → active_for r ≡ D.active_name l B
-
-abbrev pub is_name : PieceKind → Bool
-is_name K.Name = true
-is_name K.Plain = false
-is_name K.Unclosed = false
 
 -- the same of the token y that stands at p of a source in the room t
 pub record ActiveHere (d names : List ℕ) (n : ℕ) (t : List ℕ) (x : Src) (p : ℕ) (y : Piece) (r : Active) : Type 0 where

@@ -3,7 +3,7 @@
 // Parts: the text that is scanned, outcomes, argument lists, values, the copy under NORESCAN.
 #![tactic(auto)]
 
-ghost use Rattle.std.specs.Prelude.{◌≡◌, ◌&&◌, ◌+◌, eqb};
+ghost use Rattle.std.specs.Prelude.{◌≡◌, ◌+◌, MatchOption};
 ghost use Rattle.definition.specs.Bytes.{mixed, folded};
 ghost use Rattle.definition.specs.Lists.{part};
 ghost use Rattle.definition.specs.Scan as D;
@@ -12,7 +12,7 @@ ghost use Rattle.names.specs.Table.{activity_of};
 ghost use Rattle.operators.specs.Stands.{given_in};
 ghost use Rattle.store.specs.Cells.{cell_in, slot, half};
 ghost use Rattle.sums.specs.Numbers.{greatest, sum_to};
-ghost use Rattle.outcomes.specs.Texts.{room_of, PieceIn, active_for, ActiveIs, is_name, ActiveHere, part_of};
+ghost use Rattle.outcomes.specs.Texts.{room_of, stretch_of, Within, PieceIn, active_for, ActiveIs, ActiveHere, part_of};
 ghost use Rattle.outcomes.specs.Places.{into_of, after_of, waiting_of, into_work, Puts, up_to_of, Copied, Settled, TextIs};
 ghost use Rattle.outcomes.specs.Copies.{is_rescanned, CopiedValue, held_by, CopiedFrom};
 ghost use Rattle.outcomes.specs.Arguments.{past_blanks, cut_from, EndIs, ListingIs, ListIn, end_place, EndIn};
@@ -47,32 +47,32 @@ pub struct Dest {
 
 // ---- the text that is scanned
 
-fn piece_in(t: &[u8], from: usize, to: usize, p: usize) -> Piece
-    ensures { PieceIn t.now from to p result }
+// The room that a text lies in.
+#[tactic(auto, unfolding(crate::specs::Texts::room_of))]
+fn room_of<'a>(s: &'a [u8], work: &'a [u8], x: Src) -> &'a [u8]
+    ensures { result.now ≡ room_of s.now work.now x }
 {
-    if from <= to {
-        if to <= t.len() {
-            return piece_at(&t[from..to], p);
-        }
-        return Piece {
-            kind: PieceKind::Plain,
-            to: p,
-        };
-    }
-    Piece {
-        kind: PieceKind::Plain,
-        to: p,
-    }
+    if x.in_work { work } else { s }
+}
+
+// The bytes of a text, if it lies in its room.
+fn bytes_of<'a>(s: &'a [u8], work: &'a [u8], x: Src) -> Option<&'a [u8]>
+    ensures { MatchOption result (Within (room_of s.now work.now x) x.from x.to → ⊥) (λ t. t.now ≡ stretch_of (room_of s.now work.now x) x.from x.to) }
+{
+    room_of(s, work, x).get(x.from..x.to)
 }
 
 // The token of the text at p.
 pub fn piece_of(s: &[u8], work: &[u8], x: Src, p: usize) -> Piece
     ensures { PieceIn (room_of s.now work.now x) x.from x.to p result }
 {
-    if x.in_work {
-        return piece_in(work, x.from, x.to, p);
+    match bytes_of(s, work, x) {
+        Some(t) => piece_at(t, p),
+        None => Piece {
+            kind: PieceKind::Plain,
+            to: p,
+        },
     }
-    piece_in(s, x.from, x.to, p)
 }
 
 // A name that is active, by its address.
@@ -87,8 +87,7 @@ fn active_as(a: Address, y: Activity) -> Active
 {
     match y {
         Activity::Inactive => Active::NotActive,
-        Activity::Rescanned => Active::IsActive(a, Activity::Rescanned),
-        Activity::CopiedOnly => Active::IsActive(a, Activity::CopiedOnly),
+        Activity::CopiedOnly | Activity::Rescanned => Active::IsActive(a, y),
     }
 }
 
@@ -96,24 +95,9 @@ fn active_as(a: Address, y: Activity) -> Active
 fn active_name(deck: &[u8], t: &[u8], names: &[u16], count: u16, from: usize, n: usize) -> Active
     ensures { ActiveIs deck.now names.now count (folded mixed (part n from t.now)) result }
 {
-    let found = find(deck, names, count, t, from, n, Owner::Everyone);
-    match found {
-        Found::Known(a) => {
-            let x = name_at(names, a);
-            let y = x.activity;
-            active_as(a, y)
-        }
+    match find(deck, names, count, t, from, n, Owner::Everyone) {
+        Found::Known(a) => active_as(a, name_at(names, a).activity),
         Found::Unknown => Active::NotActive,
-    }
-}
-
-fn is_name(k: PieceKind) -> bool
-    ensures { result ≡ is_name k }
-{
-    match k {
-        PieceKind::Name => true,
-        PieceKind::Plain => false,
-        PieceKind::Unclosed => false,
     }
 }
 
@@ -130,16 +114,13 @@ pub fn active_in(
 ) -> Active
     ensures { ActiveHere deck.now names.now count (room_of s.now work.now x) x p y result }
 {
-    let kind = y.kind;
-    if is_name(kind) {
-        let from = sum(x.from, p);
-        let n = less(y.to, p);
-        if x.in_work {
-            return active_name(deck, work, names, count, from, n);
+    match y.kind {
+        PieceKind::Name => {
+            let n = less(y.to, p);
+            active_name(deck, room_of(s, work, x), names, count, sum(x.from, p), n)
         }
-        return active_name(deck, s, names, count, from, n);
+        PieceKind::Plain | PieceKind::Unclosed => Active::NotActive,
     }
-    Active::NotActive
 }
 
 // ---- outcomes
@@ -148,16 +129,7 @@ pub fn active_in(
 fn may_put(d: Dest, u: usize, k: usize, n: usize) -> bool
     ensures { result ≡ D.fits (into_of d) u k n }
 {
-    if d.room < k {
-        return false;
-    }
-    if d.room - k < n {
-        return false;
-    }
-    if d.to_work {
-        return fits(u, sum(k, n));
-    }
-    true
+    k <= d.room && n <= d.room - k && (!d.to_work || fits(u, sum(k, n)))
 }
 
 // The number that a full room is refused with.
@@ -206,19 +178,12 @@ fn put_bytes(
     ensures { Puts s.now work.old text.old x p n d u k work.new text.new }
 {
     let from = sum(x.from, p);
-    if d.to_work {
-        if x.in_work {
-            move_up(work, from, n, above(u, k));
-            return;
-        }
-        copy(s, from, n, work, above(u, k));
-        return;
+    match (d.to_work, x.in_work) {
+        (true, true) => move_up(work, from, n, above(u, k)),
+        (true, false) => copy(s, from, n, work, above(u, k)),
+        (false, true) => copy(work, from, n, text, sum(d.at, k)),
+        (false, false) => copy(s, from, n, text, sum(d.at, k)),
     }
-    if x.in_work {
-        copy(work, from, n, text, sum(d.at, k));
-        return;
-    }
-    copy(s, from, n, text, sum(d.at, k));
 }
 
 // An outcome so far, or a refusal; and the steps.
@@ -289,39 +254,25 @@ fn argument_end(t: &[u8], from: usize) -> Ending
 {
     let mut p = from;
     let mut open: usize = 0;
-    let mut turns = t.len();
-    while 0 < turns {
-        turns -= 1;
+    for _ in 0..t.len() {
         if t.len() <= p {
             return Ending::Open;
         }
-        let b = t[p];
-        if b == b'(' {
-            open = sum(open, 1);
-            p = place_after(p);
-        } else if b == b')' {
-            if open < 1 {
-                return Ending::Close(p);
+        match t[p] {
+            b'(' => {
+                open = sum(open, 1);
+                p = place_after(p);
             }
-            open -= 1;
-            p = place_after(p);
-        } else if is_outer_comma(b, open) {
-            return Ending::Comma(p);
-        } else {
-            let x = piece_at(t, p);
-            p = x.to;
+            b')' if open < 1 => return Ending::Close(p),
+            b')' => {
+                open -= 1;
+                p = place_after(p);
+            }
+            b',' if open < 1 => return Ending::Comma(p),
+            _ => p = piece_at(t, p).to,
         }
     }
     Ending::Open
-}
-
-fn is_outer_comma(b: u8, open: usize) -> bool
-    ensures { result ≡ (eqb b 44 && eqb «open» 0) }
-{
-    if open < 1 {
-        return b == b',';
-    }
-    false
 }
 
 // A list: how many arguments it has, where the first begins, and the place past it.
@@ -335,20 +286,11 @@ fn arguments_from(t: &[u8], first: usize) -> Listing
     ensures { ListingIs t.now first (cut_from t.now first) result }
 {
     let mut from = first;
-    let mut n: usize = 0;
-    while n < t.len() {
-        n += 1;
-        let e = argument_end(t, from);
-        match e {
-            Ending::Comma(p) => {
-                from = place_after(p);
-            }
-            Ending::Close(p) => {
-                return Listing::Upto(n, first, place_after(p));
-            }
-            Ending::Open => {
-                return Listing::NoList;
-            }
+    for n in 0..t.len() {
+        match argument_end(t, from) {
+            Ending::Comma(p) => from = place_after(p),
+            Ending::Close(p) => return Listing::Upto(n + 1, first, place_after(p)),
+            Ending::Open => return Listing::NoList,
         }
     }
     Listing::NoList
@@ -358,12 +300,9 @@ fn past_blanks(t: &[u8], p: usize) -> usize
     ensures { result ≡ past_blanks t.now p }
 {
     let mut i = p;
-    while i < t.len() {
-        if is_blank(t[i]) {
-            i += 1;
-        } else {
-            return i;
-        }
+    // stays: (d) over `p..t.len()` the place behind the loop would be the greater of p and the end, a line more
+    while i < t.len() && is_blank(t[i]) {
+        i += 1;
     }
     i
 }
@@ -379,57 +318,32 @@ fn list_at(t: &[u8], p: usize) -> Listing
     Listing::NoList
 }
 
-fn list_in(t: &[u8], from: usize, to: usize, p: usize) -> Listing
-    ensures { ListIn t.now from to p result }
-{
-    if from <= to {
-        if to <= t.len() {
-            return list_at(&t[from..to], p);
-        }
-        return Listing::NoList;
-    }
-    Listing::NoList
-}
-
 pub fn list_of(s: &[u8], work: &[u8], x: Src, p: usize) -> Listing
     ensures { ListIn (room_of s.now work.now x) x.from x.to p result }
 {
-    if x.in_work {
-        return list_in(work, x.from, x.to, p);
+    match bytes_of(s, work, x) {
+        Some(t) => list_at(t, p),
+        None => Listing::NoList,
     }
-    list_in(s, x.from, x.to, p)
 }
 
 fn end_place(e: Ending, p: usize) -> usize
     ensures { result ≡ end_place e p }
 {
     match e {
-        Ending::Comma(q) => q,
-        Ending::Close(q) => q,
+        Ending::Comma(q) | Ending::Close(q) => q,
         Ending::Open => p,
     }
-}
-
-fn end_in(t: &[u8], from: usize, to: usize, p: usize) -> usize
-    ensures { EndIn t.now from to p result }
-{
-    if from <= to {
-        if to <= t.len() {
-            return end_place(argument_end(&t[from..to], p), p);
-        }
-        return p;
-    }
-    p
 }
 
 // Where the argument of a list ends that begins at p.
 pub fn end_of(s: &[u8], work: &[u8], x: Src, p: usize) -> usize
     ensures { EndIn (room_of s.now work.now x) x.from x.to p result }
 {
-    if x.in_work {
-        return end_in(work, x.from, x.to, p);
+    match bytes_of(s, work, x) {
+        Some(t) => end_place(argument_end(t, p), p),
+        None => p,
     }
-    end_in(s, x.from, x.to, p)
 }
 
 // A part of what is scanned.
@@ -461,8 +375,7 @@ pub fn as_text(work: &mut [u8], u: usize, g: Given, m: Meter) -> Scanned
 {
     match g {
         Given::Gives(v) => {
-            let c = to_characters(work, u, v);
-            match c {
+            match to_characters(work, u, v) {
                 Given::Gives(x) => Scanned::Good(size_of(x), m),
                 Given::Fails(w) => Scanned::Bad(w, m),
             }
@@ -475,11 +388,7 @@ pub fn as_text(work: &mut [u8], u: usize, g: Given, m: Meter) -> Scanned
 pub fn is_rescanned(y: Activity) -> bool
     ensures { result ≡ is_rescanned y }
 {
-    match y {
-        Activity::Inactive => false,
-        Activity::Rescanned => true,
-        Activity::CopiedOnly => false,
-    }
+    matches!(y, Activity::Rescanned)
 }
 
 // An outcome of a value that lay at u and of which n bytes were scanned comes down to u.
@@ -490,7 +399,6 @@ pub fn settled(work: &mut [u8], d: Dest, u: usize, n: usize, x: Scanned) -> Scan
         Scanned::Good(k, m) => {
             if d.to_work {
                 move_down(work, above(u, n), k, u);
-                return Scanned::Good(k, m);
             }
             Scanned::Good(k, m)
         }
@@ -499,6 +407,8 @@ pub fn settled(work: &mut [u8], d: Dest, u: usize, n: usize, x: Scanned) -> Scan
 }
 
 // ---- with NORESCAN a value is copied from where it lies to where it goes, and waits nowhere in between
+
+// stays: (d) one function with a closure that writes the bytes would have to say in its contract what every call of the closure writes
 
 // The n bytes that lie at u already.
 fn copied_value(work: &[u8], text: &mut [u8], n: usize, d: Dest, u: usize, m: Meter) -> Scanned
@@ -570,23 +480,14 @@ pub fn copied_variable(
     ensures { CopiedFrom (held_by (cell_in cells.now low.now high.now t a)) work.old text.old d u m work.new text.new result }
 {
     match t {
-        ValueType::FixedType => {
-            let x = number_at(cells, a);
-            match x {
-                Number::Holds(n) => copied_number(work, text, n, d, u, m),
-                Number::NoNumber => Scanned::Bad(Why::NoValue, m),
-            }
-        }
-        ValueType::CharacterType => {
-            let x = characters_at(cells, a);
-            match x {
-                Length::Bytes(n) => {
-                    let size = n as usize;
-                    copied_characters(low, high, work, text, a, size, d, u, m)
-                }
-                Length::NoCharacters => Scanned::Bad(Why::NoValue, m),
-            }
-        }
+        ValueType::FixedType => match number_at(cells, a) {
+            Number::Holds(n) => copied_number(work, text, n, d, u, m),
+            Number::NoNumber => Scanned::Bad(Why::NoValue, m),
+        },
+        ValueType::CharacterType => match characters_at(cells, a) {
+            Length::Bytes(n) => { copied_characters(low, high, work, text, a, n as usize, d, u, m) }
+            Length::NoCharacters => Scanned::Bad(Why::NoValue, m),
+        },
     }
 }
 
@@ -604,8 +505,7 @@ pub fn copied_result(
     match g {
         Given::Gives(v) => match v {
             Value::Number(x) => copied_number(work, text, x, d, u, m),
-            Value::Characters(n) => copied_value(work, text, n, d, u, m),
-            Value::Bits(n) => copied_value(work, text, n, d, u, m),
+            Value::Characters(n) | Value::Bits(n) => copied_value(work, text, n, d, u, m),
         },
         Given::Fails(w) => Scanned::Bad(w, m),
     }

@@ -2,6 +2,7 @@
 -- Assumes nothing.
 use mathlib.Core.Path.{◌≡◌, refl, sym, ap, subst, ◌∙◌}
 use mathlib.Core.Bool.{Bool, true, false}
+use mathlib.Core.Logic.{◌⊎◌, inl, inr}
 use mathlib.Core.List.{List}
 use Prim.Native.Nat.{ℕ, ◌<◌}
 use native.Mathlib.Omega.{arith}
@@ -352,15 +353,10 @@ module _ (deck s part rows names c l h w t ls : List ℕ) (fs : Frames) (n : ℕ
     row_group e c' l' h' w' t' ls' r ii = statement_by names c' l' h' w' t' ls' r (λ inner B G k.
         group_step deck s part rows names c l h w t ls fs n below here g inner B G k (kind_of_lem S.Group e) c' l' h' w' t' ls' r ii)
 
-    pub row_null : q.statement ≡ S.Null → (r : Turned) → r ≡ turned_by fs (St.On (Up n) g) → StatementIs deck s part rows names c l h w t ls fs n below here g names c l h w t ls r
-    row_null e r er = statement_by names c l h w t ls r (λ inner B G k. null_step deck s part rows names c l h w t ls fs n below here g inner B G k (kind_of_lem S.Null e) r er)
-
-    pub row_procedure : q.statement ≡ S.Procedure → (r : Turned) → r ≡ turned_by fs (St.On (Up n) g) → StatementIs deck s part rows names c l h w t ls fs n below here g names c l h w t ls r
-    row_procedure e r er = statement_by names c l h w t ls r (λ inner B G k. procedure_step deck s part rows names c l h w t ls fs n below here g inner B G k (kind_of_lem S.Procedure e) r er)
-
-    pub row_return : q.statement ≡ S.Return → (r : Turned) → r ≡ turned_by fs (St.On (Up n) g) → StatementIs deck s part rows names c l h w t ls fs n below here g names c l h w t ls r
-    row_return e r er = statement_by names c l h w t ls r (λ inner B G k. return_step deck s part rows names c l h w t ls fs n below here g inner B G k (kind_of_lem S.Return e) r er)
-
-    -- INCLUDE does not come here
-    pub row_include : q.statement ≡ S.Include → (r : Turned) → StatementIs deck s part rows names c l h w t ls fs n below here g names c l h w t ls r
-    row_include e r = record { is = λ B st im pe sd inner G at ni. clash (let z : true ≡ false = sym (ap is_include (kind_of_lem S.Include e)) ∙ ni in cc) }
+    -- what does nothing; INCLUDE does not come here
+    pub row_idle : (q.statement ≡ S.Null) ⊎ ((q.statement ≡ S.Procedure) ⊎ ((q.statement ≡ S.Include) ⊎ (q.statement ≡ S.Return))) → (r : Turned) → r ≡ turned_by fs (St.On (Up n) g)
+        → StatementIs deck s part rows names c l h w t ls fs n below here g names c l h w t ls r
+    row_idle (inl e) r er = statement_by names c l h w t ls r (λ inner B G k. null_step deck s part rows names c l h w t ls fs n below here g inner B G k (kind_of_lem S.Null e) r er)
+    row_idle (inr (inl e)) r er = statement_by names c l h w t ls r (λ inner B G k. procedure_step deck s part rows names c l h w t ls fs n below here g inner B G k (kind_of_lem S.Procedure e) r er)
+    row_idle (inr (inr (inl e))) r er = record { is = λ B st im pe sd inner G at ni. clash (let z : true ≡ false = sym (ap is_include (kind_of_lem S.Include e)) ∙ ni in cc) }
+    row_idle (inr (inr (inr e))) r er = statement_by names c l h w t ls r (λ inner B G k. return_step deck s part rows names c l h w t ls fs n below here g inner B G k (kind_of_lem S.Return e) r er)

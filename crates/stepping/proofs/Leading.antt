@@ -9,7 +9,6 @@ use Rattle.definition.specs.declared.Why.{Why}
 use Rattle.definition.specs.declared.Why.TheVariants.{WrongName}
 use Rattle.meter.specs.declared.Meter.{Meter}
 use Rattle.names.specs.declared.Label.{Label}
-use Rattle.rows.specs.declared.Statement.{Statement}
 use Rattle.flow.specs.declared.Frames.{Frames}
 use Rattle.flow.specs.declared.Walk.{Walk}
 use Rattle.flow.specs.declared.Walk.TheVariants.{Up}
@@ -24,7 +23,7 @@ use Rattle.texts.specs.declared.Progress.{Progress}
 use Rattle.texts.specs.Shown.{with_meter}
 use Rattle.stepping.specs.declared.Step.TheVariants as St
 use Rattle.stepping.specs.declared.Turned.{Turned}
-use Rattle.stepping.specs.Ways.{is_include, turned_by, refused_at, done_to, tested_to, jumped_to, activated_to, went_to}
+use Rattle.stepping.specs.Ways.{turned_by, refused_at, done_to, tested_to, jumped_to, activated_to, went_to}
 
 -- ---- a statement that was done
 module _ (fs : Frames) (n : ℕ) (d : Done) (g : Progress) (m p : ℕ) where
@@ -67,7 +66,3 @@ module _ (fs : Frames) (n : ℕ) (b : Bool) (g : Progress) (m p : ℕ) where
 
   pub activated_bad : b ≡ false → (r : Turned) → r ≡ refused_at fs g WrongName m p → r ≡ activated_to fs n b g m p
   activated_bad e r er = rw (er, e)
-
--- ---- whether a statement is INCLUDE
-pub include_is : (x y : Statement) → x ≡ y → is_include y ≡ is_include x
-include_is x y e = rw e

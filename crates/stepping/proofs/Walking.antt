@@ -2,9 +2,10 @@
 -- that the turns do not run out.
 -- Assumes nothing.
 use mathlib.Core.Path.{◌≡◌, refl, sym, ap, subst, ◌∙◌}
-use mathlib.Core.Bool.{Bool, true, false, false≢true}
+use mathlib.Core.Logic.{◌⊎◌, inl, inr}
 use mathlib.Core.List.{List}
-use Prim.Native.Nat.{ℕ, suc, ◌-◌, ◌<◌, ◌≤◌}
+use Prim.Native.Nat.{ℕ, suc, ◌+◌, ◌<◌, ◌≤◌}
+use native.Mathlib.Nat.{add-zero}
 use native.Mathlib.Omega.{arith}
 use lib.ListN.{length}
 use Rattle.definition.specs.Bytes.{mixed}
@@ -39,29 +40,21 @@ use Rattle.texts.proofs.Looping.{out_is}
 use Rattle.stepping.specs.declared.Onward.{Onward}
 use Rattle.stepping.specs.declared.Onward.TheVariants as On
 use Rattle.stepping.specs.Stage.{Stage, InMember, part_here, machine_of, goes}
-use Rattle.stepping.specs.Ways.{is_listed}
 use Rattle.stepping.specs.Steps.{TextBehindIs, FollowIs}
 use Rattle.stepping.proofs.Staging.{stage_after, member_goes, machine_shown, machine_linked, machine_few, machine_written, text_lies, its_body}
 
 -- ---- the text behind a row
 module _ (M : F.Machine Run.Stop) (x : P.Stretch) (v : World) where
-  out_listed : (r : Role) → is_listed r ≡ true → out_behind M r x v ≡ M.out x v
-  out_listed Listed e = refl
-  out_listed ThenPart e = absurd (false≢true e)
-  out_listed ElsePart e = absurd (false≢true e)
+  out_listed : (r : Role) → r ≡ Listed → out_behind M r x v ≡ M.out x v
+  out_listed r e = rw e
 
-  out_none : (r : Role) → is_listed r ≡ false → out_behind M r x v ≡ good tt v
-  out_none Listed e = absurd (false≢true (sym e))
-  out_none ThenPart e = refl
-  out_none ElsePart e = refl
+  out_none : (r : Role) → (r ≡ ThenPart) ⊎ (r ≡ ElsePart) → out_behind M r x v ≡ good tt v
+  out_none r e = elim e [ inl f ↦ rw f | inr f ↦ rw f ]
 
 module _ (deck s part rows names c l h w t ls : List ℕ) (n : ℕ) (here : Here) (g : Progress) (r : Row) (er : r ≡ row_in part n) where
-  role_is : {b c : Bool} → b ≡ is_listed r.role → b ≡ c → is_listed (row_in part n).role ≡ c
-  role_is eb q = ap (λ (x : Row). is_listed x.role) (sym er) ∙ sym eb ∙ q
-
-  pub behind_text : (b : Bool) → b ≡ is_listed r.role → b ≡ true → (c' l' h' w' t' ls' : List ℕ) (z : Ran) → TextIs deck s rows names c l h w t ls r.text here g c' l' h' w' t' ls' z
+  pub behind_text : r.role ≡ Listed → (c' l' h' w' t' ls' : List ℕ) (z : Ran) → TextIs deck s rows names c l h w t ls r.text here g c' l' h' w' t' ls' z
       → TextBehindIs deck s part rows names c l h w t ls n here g c' l' h' w' t' ls' z
-  behind_text b eb q c' l' h' w' t' ls' z k = record { is = ran }
+  behind_text q c' l' h' w' t' ls' z k = record { is = ran }
     where
       ran : (B : World) → Stage deck rows names c l h w t ls here.starts g B → InMember deck s rows here B → part ≡ part_here rows here → (inner : Run.Level) (on : List Place)
           → n < length (machine_of inner deck here.member on).rows
@@ -76,34 +69,34 @@ module _ (deck s part rows names c l h w t ls : List ℕ) (n : ℕ) (here : Here
           let same : stretch_for r.text ≡ (F.at M n).text = rw at (machine_written deck s rows names c l h w t ls here g B st i inner on n lt).text in
           let f : Run.text_out mixed here.member s (stretch_for r.text) v ≡ out_behind M (row_in part n).role (F.at M n).text v =
           ap (λ (y : List ℕ). Run.text_out mixed here.member y (stretch_for r.text) v) (its_body deck s rows names c l h w t ls here g B st i inner on)
-          ∙ ap (λ (y : P.Stretch). Run.text_out mixed here.member (body_of deck here.member) y v) same ∙ sym (out_is inner deck here.member on _ (F.at M n).text v) ∙ sym (out_listed M (F.at M n).text v (row_in part n).role (role_is eb q)) in
+          ∙ ap (λ (y : P.Stretch). Run.text_out mixed here.member (body_of deck here.member) y v) same ∙ sym (out_is inner deck here.member on _ (F.at M n).text v) ∙ sym (out_listed M (F.at M n).text v (row_in part n).role (ap (λ (y : Row). y.role) (sym er) ∙ q)) in
           subst (λ (R : Res Run.Stop (Unit {0})). RanAs deck rows names here.starts g B c' l' h' w' t' ls' z R) f o
 
-  pub behind_no_text : (b : Bool) → b ≡ is_listed r.role → b ≡ false → TextBehindIs deck s part rows names c l h w t ls n here g c l h w t ls (Rn.Good g)
-  behind_no_text b eb q = record {
+  pub behind_no_text : (r.role ≡ ThenPart) ⊎ (r.role ≡ ElsePart) → TextBehindIs deck s part rows names c l h w t ls n here g c l h w t ls (Rn.Good g)
+  behind_no_text q = record {
     is = λ B st i e inner on lt.
         let M : F.Machine Run.Stop = machine_of inner deck here.member on in
         let none : out_behind M (row_in part n).role (F.at M n).text (world_in B c l h g.meter.used) ≡ good tt (world_in B c l h g.meter.used) =
-        out_none M (F.at M n).text (world_in B c l h g.meter.used) (row_in part n).role (role_is eb q) in
+        rw (← er) (out_none M (F.at M n).text (world_in B c l h g.meter.used) r.role q) in
         record { world = B; stage = st.onstage; goes = goes_none B; is = none; tabled = refl; named = refl };
   }
 
--- ---- THE INVARIANT: where the walk leads from here is where it led from the first row; a walk up has turns for all rows before it
+-- ---- THE INVARIANT: where the walk leads from here is where it led from the first row; after so many turns a walk up still has one for each row before it
 abbrev pub height : Walk → ℕ
 height (Arrives y) = 0
 height (Up p) = suc p
 
-pub record Passing (deck rows names : List ℕ) (M : F.Machine Run.Stop) (part : List ℕ) (fs : Frames) (G : List F.Frame) (here : Here) (g₀ : Progress) (B : World) (R : Res Run.Stop F.Next) (turns : ℕ) (x : Walk) (g : Progress) (c l h w t ls : List ℕ) : Type 0 where
+pub record Passing (deck rows names : List ℕ) (M : F.Machine Run.Stop) (part : List ℕ) (fs : Frames) (G : List F.Frame) (here : Here) (g₀ : Progress) (B : World) (R : Res Run.Stop F.Next) (turn : ℕ) (x : Walk) (g : Progress) (c l h w t ls : List ℕ) : Type 0 where
   pub world : World
   pub stage : Stage deck rows names c l h w t ls here.starts g world
   pub moved : Goes B world
   pub same : goes M G x (world_in world c l h g.meter.used) ≡ R
   pub at : AtWalk M part B.denotations fs G x
-  pub enough : height x < turns
+  pub enough : height x + turn < 2049
   pub tabled : g.rows ≡ g₀.rows
   pub named : g.names ≡ g₀.names
 
-pub record Following (deck s part rows names c₀ l₀ h₀ w₀ t₀ ls₀ : List ℕ) (fs : Frames) (first : Walk) (here : Here) (g₀ : Progress) (turns : ℕ) (x : Walk) (g : Progress) (c l h w t ls : List ℕ) : Type 0 where
+pub record Following (deck s part rows names c₀ l₀ h₀ w₀ t₀ ls₀ : List ℕ) (fs : Frames) (first : Walk) (here : Here) (g₀ : Progress) (turn : ℕ) (x : Walk) (g : Progress) (c l h w t ls : List ℕ) : Type 0 where
   pub cells : length c ≡ length c₀
   pub low : length l ≡ length l₀
   pub high : length h ≡ length h₀
@@ -112,14 +105,14 @@ pub record Following (deck s part rows names c₀ l₀ h₀ w₀ t₀ ls₀ : Li
   pub list : length ls ≡ length ls₀
   pub so : (B : World) → Stage deck rows names c₀ l₀ h₀ w₀ t₀ ls₀ here.starts g₀ B → InMember deck s rows here B → part ≡ part_here rows here → (inner : Run.Level) (on : List Place) (G : List F.Frame)
       → AtWalk (machine_of inner deck here.member on) part B.denotations fs G first
-      → Passing deck rows names (machine_of inner deck here.member on) part fs G here g₀ B (goes (machine_of inner deck here.member on) G first (world_in B c₀ l₀ h₀ g₀.meter.used)) turns x g c l h w t ls
+      → Passing deck rows names (machine_of inner deck here.member on) part fs G here g₀ B (goes (machine_of inner deck here.member on) G first (world_in B c₀ l₀ h₀ g₀.meter.used)) turn x g c l h w t ls
 
 -- a walk has the height of a row
 height_first : {M : F.Machine Run.Stop} (t : List ℕ) (B : World) (fs : Frames) (G : List F.Frame) (x : Walk) → AtWalk M t B.denotations fs G x → length M.rows ≤ 2048 → height x < 2049
 height_first t B fs G (Arrives y) a f = omega arith
 height_first t B fs G (Up p) a f = let k = (a.up p refl).within in omega (arith, k, f)
 
-pub follow_start : (deck s part rows names c l h w t ls : List ℕ) (fs : Frames) (first : Walk) (here : Here) (g : Progress) → Following deck s part rows names c l h w t ls fs first here g 2049 first g c l h w t ls
+pub follow_start : (deck s part rows names c l h w t ls : List ℕ) (fs : Frames) (first : Walk) (here : Here) (g : Progress) → Following deck s part rows names c l h w t ls fs first here g 0 first g c l h w t ls
 follow_start deck s part rows names c l h w t ls fs first here g = record {
   cells = refl;
   low = refl;
@@ -133,7 +126,7 @@ follow_start deck s part rows names c l h w t ls fs first here g = record {
     moved = goes_none B;
     same = refl;
     at = a;
-    enough = height_first part B fs G first a (machine_few deck s rows names c l h w t ls here g B st i inner on);
+    enough = rw add-zero (height_first part B fs G first a (machine_few deck s rows names c l h w t ls here g B st i inner on));
     tabled = refl;
     named = refl;
   };
@@ -144,8 +137,8 @@ height_behind : (t : List ℕ) (fs : Frames) (rs : List P.Row) (n : ℕ) (y : Wa
 height_behind t fs rs n (Arrives y) s h e = omega arith
 height_behind t fs rs n (Up p) s h e = let k : p < n = s.tabled.before n p h (behind_up t fs rs n p s h e) in omega (arith, k)
 
-module _ (deck s part rows names c₀ l₀ h₀ w₀ t₀ ls₀ : List ℕ) (fs : Frames) (first : Walk) (here : Here) (g₀ : Progress) (turns : ℕ) (x : Walk) (g : Progress) (c l h w t ls : List ℕ)
-    (i : Following deck s part rows names c₀ l₀ h₀ w₀ t₀ ls₀ fs first here g₀ turns x g c l h w t ls) where
+module _ (deck s part rows names c₀ l₀ h₀ w₀ t₀ ls₀ : List ℕ) (fs : Frames) (first : Walk) (here : Here) (g₀ : Progress) (turn : ℕ) (x : Walk) (g : Progress) (c l h w t ls : List ℕ)
+    (i : Following deck s part rows names c₀ l₀ h₀ w₀ t₀ ls₀ fs first here g₀ turn x g c l h w t ls) where
   -- it arrives
   pub follow_arrived : (y : Next) → x ≡ Arrives y → FollowIs deck s part rows names c₀ l₀ h₀ w₀ t₀ ls₀ fs first here g₀ c l h w t ls (On.Good y g)
   follow_arrived y e = record {
@@ -164,7 +157,7 @@ module _ (deck s part rows names c₀ l₀ h₀ w₀ t₀ ls₀ : List ℕ) (fs 
   }
 
   -- the turns do not run out
-  pub follow_out : turns ≤ 0 → (r : Onward) → FollowIs deck s part rows names c₀ l₀ h₀ w₀ t₀ ls₀ fs first here g₀ c l h w t ls r
+  pub follow_out : 2049 ≤ turn → (r : Onward) → FollowIs deck s part rows names c₀ l₀ h₀ w₀ t₀ ls₀ fs first here g₀ c l h w t ls r
   follow_out e r = record { is = λ B st m f inner on G a. absurd (omega (arith, e, (i.so B st m f inner on G a).enough)) }
 
   -- ---- one row more
@@ -177,7 +170,7 @@ module _ (deck s part rows names c₀ l₀ h₀ w₀ t₀ ls₀ : List ℕ) (fs 
       abbrev whole : Res Run.Stop F.Next
       whole = goes M G first (world_in B c₀ l₀ h₀ g₀.meter.used)
 
-      now_is : Passing deck rows names M part fs G here g₀ B whole turns x g c l h w t ls
+      now_is : Passing deck rows names M part fs G here g₀ B whole turn x g c l h w t ls
       now_is = i.so B st m f inner on G a
 
       row_at : AtRow M part B.denotations fs G n
@@ -203,11 +196,11 @@ module _ (deck s part rows names c₀ l₀ h₀ w₀ t₀ ls₀ : List ℕ) (fs 
           let q : out ≡ bad (stop_for z) k.meter.used = subst (λ (v : Ran). RanAs deck rows names here.starts g now_is.world c' l' h' w' t' ls' v out) e ran in
           sym turn_is ∙ ap (λ (v : Res Run.Stop (Unit {0})). bind v (λ _ u. goes M G (behind_walk part fs n) u)) q
 
-      good_on : (k : Progress) → r ≡ Rn.Good k → length c' ≡ length c → (y : Walk) → y ≡ behind_walk part fs n → Passing deck rows names M part fs G here g₀ B whole (turns - 1) y k c' l' h' w' t' ls'
+      good_on : (k : Progress) → r ≡ Rn.Good k → length c' ≡ length c → (y : Walk) → y ≡ behind_walk part fs n → Passing deck rows names M part fs G here g₀ B whole (turn + 1) y k c' l' h' w' t' ls'
       good_on k e ec y ey =
           let q : After (Unit {0}) deck rows names here.starts g now_is.world c' l' h' w' t' ls' k tt out = subst (λ (v : Ran). RanAs deck rows names here.starts g now_is.world c' l' h' w' t' ls' v out) e ran in
           let up : height y < suc n = height_behind part fs M.rows n y shown row_at.within (sym ey) in
-          let was : suc n < turns = subst (λ (v : Walk). height v < turns) ex now_is.enough in
+          let was : suc n + turn < 2049 = subst (λ (v : Walk). height v + turn < 2049) ex now_is.enough in
           record {
             world = q.world;
             stage = stage_after deck rows names c l h w t ls here.starts g now_is.world now_is.stage c' l' h' w' t' ls' k tt out q ec;
@@ -224,7 +217,7 @@ module _ (deck s part rows names c₀ l₀ h₀ w₀ t₀ ls₀ : List ℕ) (fs 
 
     pub follow_more : (k : Progress) → r ≡ Rn.Good k → (y : Walk) → y ≡ behind_walk part fs n
         → length c' ≡ length c → length l' ≡ length l → length h' ≡ length h → length w' ≡ length w → length t' ≡ length t → length ls' ≡ length ls
-        → Following deck s part rows names c₀ l₀ h₀ w₀ t₀ ls₀ fs first here g₀ (turns - 1) y k c' l' h' w' t' ls'
+        → Following deck s part rows names c₀ l₀ h₀ w₀ t₀ ls₀ fs first here g₀ (turn + 1) y k c' l' h' w' t' ls'
     follow_more k e y ey d₁ d₂ d₃ d₄ d₅ d₆ = record {
       cells = d₁ ∙ i.cells;
       low = d₂ ∙ i.low;

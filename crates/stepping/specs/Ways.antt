@@ -3,8 +3,6 @@ use Rattle.std.specs.Prelude.{ℕ, Bool, true, false, cond, List, eqb}
 use Rattle.definition.specs.declared.Why.{Why}
 use Rattle.definition.specs.declared.Why.TheVariants.{WrongName}
 use Rattle.names.specs.declared.Label.{Label}
-use Rattle.rows.specs.declared.Role.{Role}
-use Rattle.rows.specs.declared.Role.TheVariants.{Listed, ThenPart, ElsePart}
 use Rattle.rows.specs.declared.Statement.{Statement}
 use Rattle.rows.specs.declared.Statement.TheVariants.{Null, Declare, Procedure, Assign, Conditional, Group, Iterated, Goto, Include, Activate, Deactivate, Return}
 use Rattle.flow.specs.declared.Frames.{Frames}
@@ -23,11 +21,6 @@ use Rattle.texts.specs.Shown.{with_meter}
 use Rattle.stepping.specs.declared.Step.{Step}
 use Rattle.stepping.specs.declared.Step.TheVariants as St
 use Rattle.stepping.specs.declared.Turned.{Turned}
-
-abbrev pub is_listed : Role → Bool
-is_listed Listed = true
-is_listed ThenPart = false
-is_listed ElsePart = false
 
 abbrev pub is_include : Statement → Bool
 is_include Null = false

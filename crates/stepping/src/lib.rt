@@ -4,7 +4,7 @@
 
 ghost use Rattle.std.specs.Prelude.{◌≡◌};
 ghost use Rattle.stepping.specs.Stage.{part_here};
-ghost use Rattle.stepping.specs.Ways.{is_listed, is_include, is_over, turned_by, refused_at, done_to, tested_to, jumped_to, activated_to, went_to};
+ghost use Rattle.stepping.specs.Ways.{is_include, is_over, turned_by, refused_at, done_to, tested_to, jumped_to, activated_to, went_to};
 ghost use Rattle.stepping.specs.Steps.{TextBehindIs, FollowIs, IntoIs, StartedIs, AgainIs, StatementIs, SettleIs};
 
 use activating::{activate_all, deactivate_all, declare_all};
@@ -21,8 +21,7 @@ use texts::{Here, Progress, Ran, Stop, lead_out, scene, text_out, with_meter};
 pub fn part_here(rows: &[u16], here: Here) -> &[u16]
     ensures { result.now ≡ part_here rows.now here }
 {
-    let starts = here.starts;
-    part_of(rows, starts, here.member)
+    part_of(rows, here.starts, here.member)
 }
 
 // ---- where control goes, and what is put out on the way
@@ -32,17 +31,6 @@ pub fn part_here(rows: &[u16], here: Here) -> &[u16]
 enum Onward {
     Good(Next, Progress),
     Bad(Stop, Progress),
-}
-
-fn is_listed(r: Row) -> bool
-    ensures { result ≡ is_listed r.role }
-{
-    let role = r.role;
-    match role {
-        Role::Listed => true,
-        Role::ThenPart => false,
-        Role::ElsePart => false,
-    }
 }
 
 // The text behind the row n, if it is one of a list.
@@ -65,12 +53,12 @@ fn text_behind(
     ensures { TextBehindIs deck.now s.now part.now rows.now names.now cells.old low.old high.old work.old text.old list.old n here g cells.new low.new high.new work.new text.new list.new result }
 {
     let r = row_at(part, n);
-    if is_listed(r) {
-        return text_out(
+    match r.role {
+        Role::Listed => text_out(
             deck, s, rows, names, cells, low, high, work, text, list, r.text, here, g,
-        );
+        ),
+        Role::ThenPart | Role::ElsePart => Ran::Good(g),
     }
-    Ran::Good(g)
 }
 
 // Where a walk leads, with the texts behind the rows that it passes.
@@ -96,13 +84,9 @@ fn follow(
     let mut w = first;
     let mut g = g0;
     // a turn for each row of a member, since what is around a row is before it, and one that finds the end
-    let mut turns: usize = 2_049;
-    while 0 < turns {
-        turns -= 1;
+    for _ in 0..2_049usize {
         match w {
-            Walk::To(x) => {
-                return Onward::Good(x, g);
-            }
+            Walk::To(x) => return Onward::Good(x, g),
             Walk::Up(n) => {
                 let r = text_behind(
                     deck, s, part, rows, names, cells, low, high, work, text, list, n, here, g,
@@ -112,9 +96,7 @@ fn follow(
                         g = h;
                         w = flow::walk_behind(part, fs, n);
                     }
-                    Ran::Bad(stop, h) => {
-                        return Onward::Bad(stop, h);
-                    }
+                    Ran::Bad(stop, h) => return Onward::Bad(stop, h),
                 }
             }
         }
@@ -284,8 +266,7 @@ pub fn into_again(
     ensures { AgainIs deck.now s.now part.now rows.now names.now cells.old low.old high.old work.old text.old list.old fs n here g cells.new low.new high.new work.new text.new list.new result }
 {
     let r = row_at(part, n);
-    let m0 = g.meter;
-    let t = stepped(cells, flow::frame_of(part, fs, n), m0);
+    let t = stepped(cells, flow::frame_of(part, fs, n), g.meter);
     match t {
         Tested::Is(b, m) => {
             let h = with_meter(g, m);
@@ -326,8 +307,7 @@ pub fn statement(
     let member = here.member;
     let place = r.place as usize;
     let m = g.meter;
-    let x = r.statement;
-    match x {
+    match r.statement {
         Statement::Assign => {
             let d = assign(
                 deck,
@@ -387,8 +367,18 @@ pub fn statement(
             deck, s, part, rows, names, cells, low, high, work, text, list, fs, n, here, g,
         ),
         Statement::Goto => {
-            let starts = here.starts;
-            let j = jump_from(deck, s, rows, names, g.names, below, member, starts, n, at);
+            let j = jump_from(
+                deck,
+                s,
+                rows,
+                names,
+                g.names,
+                below,
+                member,
+                here.starts,
+                n,
+                at,
+            );
             on_jump(part, fs, j, g, member, place)
         }
         Statement::Declare => {
@@ -403,18 +393,17 @@ pub fn statement(
             let b = deactivate_all(deck, s, names, g.names, at);
             on_activated(fs, n, b, g, member, place)
         }
-        Statement::Null => with_step(fs, Step::On(Walk::Up(n), g)),
-        Statement::Procedure => with_step(fs, Step::On(Walk::Up(n), g)),
-        Statement::Include => with_step(fs, Step::On(Walk::Up(n), g)),
-        Statement::Return => with_step(fs, Step::On(Walk::Up(n), g)),
+        Statement::Null | Statement::Procedure | Statement::Include | Statement::Return => {
+            with_step(fs, Step::On(Walk::Up(n), g))
+        }
     }
 }
+
 // A GOTO that came out of a member: to a label here, or on.
 pub fn went_to(rows: &[u16], fs: Frames, here: Here, l: Label, g: Progress) -> Turned
     ensures { result ≡ went_to (part_here rows.now here) fs here.member l g }
 {
-    let p = l.place;
-    if p.member == here.member {
+    if l.place.member == here.member {
         return with_step(fs, Step::On(flow::landing(part_here(rows, here), fs, l), g));
     }
     with_step(fs, Step::Went(l, g))
@@ -423,22 +412,9 @@ pub fn went_to(rows: &[u16], fs: Frames, here: Here, l: Label, g: Progress) -> T
 pub fn is_include(r: Row) -> bool
     ensures { result ≡ is_include r.statement }
 {
-    let x = r.statement;
-    match x {
-        Statement::Include => true,
-        Statement::Null => false,
-        Statement::Declare => false,
-        Statement::Procedure => false,
-        Statement::Assign => false,
-        Statement::Conditional => false,
-        Statement::Group => false,
-        Statement::Iterated => false,
-        Statement::Goto => false,
-        Statement::Activate => false,
-        Statement::Deactivate => false,
-        Statement::Return => false,
-    }
+    matches!(r.statement, Statement::Include)
 }
+
 // ---- what comes of a turn
 
 // How the rows of a member have ended.
@@ -448,6 +424,7 @@ pub enum Ended {
     Went(Label, Progress),
     Bad(Stop, Progress),
 }
+
 // What a turn gives, with the texts that come behind it.
 #[derive(Clone, Copy)]
 pub enum Settled {
@@ -504,9 +481,5 @@ pub fn settle(
 pub fn is_over(x: Next) -> bool
     ensures { result ≡ is_over x }
 {
-    match x {
-        Next::Begin(_) => false,
-        Next::Again(_) => false,
-        Next::Over => true,
-    }
+    matches!(x, Next::Over)
 }

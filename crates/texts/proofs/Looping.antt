@@ -116,7 +116,7 @@ module _ (deck s rows names c₀ l₀ h₀ w₀ t₀ ls₀ : List ℕ) (x : Src)
   pub texting_out : turns ≤ 0 → TokensAre deck s rows names c₀ l₀ h₀ w₀ t₀ ls₀ x here g₀ c l h w t ls (Rn.Good g)
   texting_out f = end_by turns refl (λ v e. absurd (omega arith))
 
-  module _ (size : ℕ) (e : size ≡ x.to - x.from) (lt : p < size) (go : 0 < turns) (c' l' h' w' t' ls' : List ℕ) (r : Passed) (tk : TokenIs deck s rows names c l h w t ls x p here g c' l' h' w' t' ls' r) where
+  module _ (size : ℕ) (e : size ≡ x.to - x.from) (lt : p < size) (left : ℕ) (go : turns ≡ suc left) (c' l' h' w' t' ls' : List ℕ) (r : Passed) (tk : TokenIs deck s rows names c l h w t ls x p here g c' l' h' w' t' ls' r) where
     module _ (B : World) (st : Onstage deck rows names c₀ l₀ h₀ w₀ t₀ ls₀ here.starts g₀ B) (li : Lies deck here.member s x.from x.to) (wk : x.in_work ≡ false) (mm : here.member < 32) where
       now_is : Along deck s rows names c₀ l₀ h₀ w₀ x here g₀ B turns p g c l h w t ls
       now_is = i.so B st li wk mm
@@ -127,11 +127,10 @@ module _ (deck s rows names c₀ l₀ h₀ w₀ t₀ ls₀ : List ℕ) (x : Src)
       abbrev turn : Res Run.Stop ℕ
       turn = turn_here here.member x.from text p (world_in now_is.world c l h g.meter.used)
 
-      turn_is : bind turn (λ q u. text_on mixed here.member x.from text (turns - 1) q u) ≡ all
+      turn_is : bind turn (λ q u. text_on mixed here.member x.from text left q u) ≡ all
       turn_is =
-          let f : turns ≡ suc (turns - 1) = omega arith in
-          sym (turn_some here.member x.from text (turns - 1) p (world_in now_is.world c l h g.meter.used) (omega (arith, text_length s w₀ x)))
-          ∙ ap (λ (k : ℕ). text_on mixed here.member x.from text k p (world_in now_is.world c l h g.meter.used)) (sym f) ∙ now_is.same
+          sym (turn_some here.member x.from text left p (world_in now_is.world c l h g.meter.used) (omega (arith, text_length s w₀ x)))
+          ∙ ap (λ (k : ℕ). text_on mixed here.member x.from text k p (world_in now_is.world c l h g.meter.used)) (sym go) ∙ now_is.same
 
       passed : PassedAs deck rows names here.starts g now_is.world c' l' h' w' t' ls' r turn
       passed = subst (λ (k : List ℕ). PassedAs deck rows names here.starts g now_is.world c' l' h' w' t' ls' r (turn_here here.member x.from k p (world_in now_is.world c l h g.meter.used))) (body_still s w₀ w x wk)
@@ -140,16 +139,16 @@ module _ (deck s rows names c₀ l₀ h₀ w₀ t₀ ls₀ : List ℕ) (x : Src)
       bad_on : (y : Stop) (k : Progress) → r ≡ Ps.Bad y k → all ≡ bad (stop_for y) k.meter.used
       bad_on y k j =
           let z : turn ≡ bad (stop_for y) k.meter.used = subst (λ (v : Passed). PassedAs deck rows names here.starts g now_is.world c' l' h' w' t' ls' v turn) j passed in
-          sym turn_is ∙ ap (λ (v : Res Run.Stop ℕ). bind v (λ q u. text_on mixed here.member x.from text (turns - 1) q u)) z
+          sym turn_is ∙ ap (λ (v : Res Run.Stop ℕ). bind v (λ q u. text_on mixed here.member x.from text left q u)) z
 
-      good_on : (q : ℕ) (k : Progress) → r ≡ Ps.Good q k → Along deck s rows names c₀ l₀ h₀ w₀ x here g₀ B (turns - 1) q k c' l' h' w' t' ls'
+      good_on : (q : ℕ) (k : Progress) → r ≡ Ps.Good q k → Along deck s rows names c₀ l₀ h₀ w₀ x here g₀ B left q k c' l' h' w' t' ls'
       good_on q k j =
           let z : After ℕ deck rows names here.starts g now_is.world c' l' h' w' t' ls' k q turn = subst (λ (v : Passed). PassedAs deck rows names here.starts g now_is.world c' l' h' w' t' ls' v turn) j passed in
           record {
             world = z.world;
             stage = z.stage;
             goes = goes_on_lem B now_is.world z.world now_is.goes z.goes;
-            same = sym (ap (λ (v : Res Run.Stop ℕ). bind v (λ q₁ u. text_on mixed here.member x.from text (turns - 1) q₁ u)) z.is) ∙ turn_is;
+            same = sym (ap (λ (v : Res Run.Stop ℕ). bind v (λ q₁ u. text_on mixed here.member x.from text left q₁ u)) z.is) ∙ turn_is;
             tabled = z.tabled ∙ now_is.tabled;
             named = z.named ∙ now_is.named;
           }
@@ -158,7 +157,7 @@ module _ (deck s rows names c₀ l₀ h₀ w₀ t₀ ls₀ : List ℕ) (x : Src)
     texting_bad y k j = record { is = λ B st li wk mm. bad_on B st li wk mm y k j }
 
     pub texting_more : (q : ℕ) (k : Progress) → r ≡ Ps.Good q k → length c' ≡ length c → length l' ≡ length l → length h' ≡ length h → length w' ≡ length w → length t' ≡ length t → length ls' ≡ length ls
-        → Texting deck s rows names c₀ l₀ h₀ w₀ t₀ ls₀ x here g₀ (turns - 1) q k c' l' h' w' t' ls'
+        → Texting deck s rows names c₀ l₀ h₀ w₀ t₀ ls₀ x here g₀ left q k c' l' h' w' t' ls'
     texting_more q k j d₁ d₂ d₃ d₄ d₅ d₆ = record {
       cells = d₁ ∙ i.cells;
       low = d₂ ∙ i.low;

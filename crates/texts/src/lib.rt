@@ -56,29 +56,13 @@ pub enum Ran {
 pub fn with_meter(g: Progress, m: Meter) -> Progress
     ensures { result ≡ with_meter g m }
 {
-    let out = g.out;
-    let layout = g.layout;
-    Progress {
-        meter: m,
-        layout,
-        out,
-        rows: g.rows,
-        names: g.names,
-    }
+    Progress { meter: m, ..g }
 }
 
 fn with_out(g: Progress, out: Out) -> Progress
     ensures { result ≡ with_out g out }
 {
-    let meter = g.meter;
-    let layout = g.layout;
-    Progress {
-        meter,
-        layout,
-        out,
-        rows: g.rows,
-        names: g.names,
-    }
+    Progress { out, ..g }
 }
 
 fn bad(g: Progress, why: Why, member: u16, place: usize) -> Ran
@@ -91,10 +75,9 @@ fn bad(g: Progress, why: Why, member: u16, place: usize) -> Ran
 pub fn scene(here: Here, g: Progress) -> Scene
     ensures { SceneIs here.starts g result }
 {
-    let starts = here.starts;
     Scene {
         names: g.names,
-        starts,
+        starts: here.starts,
         owner: Owner::Everyone,
         running: none_running(),
     }
@@ -134,9 +117,7 @@ fn blank_out(
 ) -> Ran
     ensures { PutIs (blank member place) size place text.old list.old g member place text.new list.new result }
 {
-    let o = g.out;
-    let layout = g.layout;
-    let p = tell_blank(layout, size, text, list, o, member8(member), place);
+    let p = tell_blank(g.layout, size, text, list, g.out, member8(member), place);
     put_result(g, p, member, place)
 }
 
@@ -152,9 +133,7 @@ fn token_out(
 ) -> Ran
     ensures { PutIs (copied member from (part (to - from) from s.now)) (length s.now) to text.old list.old g member from text.new list.new result }
 {
-    let o = g.out;
-    let layout = g.layout;
-    let p = tell_copied(layout, s, from, to, text, list, o, member8(member));
+    let p = tell_copied(g.layout, s, from, to, text, list, g.out, member8(member));
     put_result(g, p, member, from)
 }
 
@@ -170,14 +149,12 @@ fn replaced_out(
 ) -> Ran
     ensures { LineIs text.now list.old g member size place n list.new result }
 {
-    let o = g.out;
-    let layout = g.layout;
     let after = tell_replaced(
-        layout,
+        g.layout,
         size,
         text,
         list,
-        o,
+        g.out,
         member8(member),
         place,
         size32(n),
@@ -251,17 +228,15 @@ fn replace_here(
 ) -> Passed
     ensures { ReplacingIs deck.now s.now rows.now names.now cells.old low.old high.old work.old text.old list.old x p to a.0 act here g cells.new low.new high.new work.new text.new list.new result }
 {
-    let o = g.out;
     let place = sum(x.from, p);
-    if o.free < 1 {
+    if g.out.free < 1 {
         return pass_to(bad(g, Why::RoomFull, here.member, place), to);
     }
     let d = Dest {
         to_work: false,
-        at: o.text,
-        room: o.room,
+        at: g.out.text,
+        room: g.out.room,
     };
-    let m = g.meter;
     let r = replace(
         deck,
         s,
@@ -280,7 +255,7 @@ fn replace_here(
         0,
         Levels::REPLACEMENTS,
         scene(here, g),
-        m,
+        g.meter,
     );
     replacement_out(text, list, g, here.member, s.len(), place, r)
 }
@@ -305,10 +280,8 @@ fn token_here(
     ensures { TokenIs deck.now s.now rows.now names.now cells.old low.old high.old work.old text.old list.old x p here g0 cells.new low.new high.new work.new text.new list.new result }
 {
     let place = sum(x.from, p);
-    let before = g0.meter;
-    let paid = before.charged();
-    let m = paid.meter;
-    let g = with_meter(g0, m);
+    let paid = g0.meter.charged();
+    let g = with_meter(g0, paid.meter);
     if !paid.paid {
         return pass_to(bad(g, Why::NoStep, here.member, place), p);
     }
@@ -350,9 +323,8 @@ fn text_on(
     let mut p: usize = 0;
     let mut g = g0;
     // each token has a byte at least, and one more turn finds the end
-    let mut turns = sum(size, 1);
-    while 0 < turns {
-        turns -= 1;
+    let turns = sum(size, 1);
+    for _ in 0..turns {
         if size <= p {
             return Ran::Good(g);
         }
@@ -364,9 +336,7 @@ fn text_on(
                 p = q;
                 g = h;
             }
-            Passed::Bad(stop, h) => {
-                return Ran::Bad(stop, h);
-            }
+            Passed::Bad(stop, h) => return Ran::Bad(stop, h),
         }
     }
     Ran::Good(g)

@@ -1,5 +1,5 @@
 -- By what the address stands for.
-use Rattle.bodies.proofs.Jumping.{label_local, label_global, label_variable, label_entry, label_builtin}
+use Rattle.bodies.proofs.Jumping.{label_local, label_global, label_other}
 use Rattle.bodies.proofs.label_of.Goals as goal
 
 pub returns-then-is_local : goal.returns-then-is_local
@@ -9,10 +9,4 @@ pub returns-else-is_local : goal.returns-else-is_local
 returns-else-is_local c = search label_global
 
 pub returns-in-Variable : goal.returns-in-Variable
-returns-in-Variable c = search label_variable
-
-pub returns-in-EntryName : goal.returns-in-EntryName
-returns-in-EntryName c = search label_entry
-
-pub returns-in-Builtin : goal.returns-in-Builtin
-returns-in-Builtin c = search label_builtin
+returns-in-Variable c = search label_other

@@ -1,5 +1,5 @@
 -- One law for each way out.
-use Rattle.bodies.proofs.Stepping.{added_paid, added_due, added_range, added_zero}
+use Rattle.bodies.proofs.Stepping.{added_paid, added_due, added_none}
 use Rattle.bodies.proofs.stepped_by.Goals as goal
 
 pub returns-then-paid : goal.returns-then-paid
@@ -9,7 +9,4 @@ pub returns-else-paid : goal.returns-else-paid
 returns-else-paid c = search added_due
 
 pub returns-in-OutOfRange : goal.returns-in-OutOfRange
-returns-in-OutOfRange c = search added_range
-
-pub returns-in-ZeroDivisor : goal.returns-in-ZeroDivisor
-returns-in-ZeroDivisor c = search added_zero
+returns-in-OutOfRange c = search added_none

@@ -7,11 +7,11 @@ loop-n-init c = counting_start _ _ _
 pub loop-n-preserved : goal.loop-n-preserved
 loop-n-preserved c = search counting_more
 
-pub returns-else-is_sign : goal.returns-else-is_sign
-returns-else-is_sign c = search counting_last
+pub returns-then-not-is_sign : goal.returns-then-not-is_sign
+returns-then-not-is_sign c = search counting_last
 
-pub returns-in-Refused : goal.returns-in-Refused
-returns-in-Refused c = search counting_refused
+pub returns-in_default : goal.returns-in_default
+returns-in_default c = search counting_refused
 
 pub returns : goal.returns
 returns c = search counting_end

@@ -8,8 +8,8 @@ loop-i-init c = search (rules, signing_start)
 pub returns-then-is_behind : goal.returns-then-is_behind
 returns-then-is_behind c = search signing_full
 
-pub returns-in-Other : goal.returns-in-Other
-returns-in-Other c = search signing_stop
+pub returns-in_default : goal.returns-in_default
+returns-in_default c = search signing_stop
 
 pub loop-i-preserved : goal.loop-i-preserved
 loop-i-preserved c = search signing_more

@@ -1,11 +1,6 @@
 -- Those that were taken are there, and those that are left are the rest.
-use Prim.Native.Nat.{◌-◌}
-use lib.ListN.{length}
 use Rattle.operands.proofs.Prefixing.{Signing}
 use Rattle.operands.proofs.signs_from.Given as goal
 
 abbrev pub invariant-loop-i : goal.invariant-loop-i
 invariant-loop-i l = Signing l.s l.from l.first l.all l.i l.at
-
-abbrev pub decreases-loop-i : goal.decreases-loop-i
-decreases-loop-i l = length l.s - l.i

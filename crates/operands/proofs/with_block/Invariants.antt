@@ -4,6 +4,3 @@ use Rattle.operands.proofs.with_block.Given as goal
 
 abbrev pub invariant-loop-i : goal.invariant-loop-i
 invariant-loop-i l = Blocking l.initial.work l.u l.all l.n l.initial.x l.i l.x l.work
-
-abbrev pub decreases-loop-i : goal.decreases-loop-i
-decreases-loop-i l = l.i

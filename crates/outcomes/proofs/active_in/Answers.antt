@@ -1,12 +1,9 @@
--- By the token and the room.
-use Rattle.outcomes.proofs.Naming.{here_work, here_body, here_plain}
+-- By the token.
+use Rattle.outcomes.proofs.Naming.{here_name, here_plain}
 use Rattle.outcomes.proofs.active_in.Goals as goal
 
-pub returns-then-x : goal.returns-then-x
-returns-then-x c = search here_work
+pub returns-in-Name : goal.returns-in-Name
+returns-in-Name c = search here_name
 
-pub returns-then-is_name : goal.returns-then-is_name
-returns-then-is_name c = search here_body
-
-pub returns : goal.returns
-returns c = search here_plain
+pub returns-in-Plain : goal.returns-in-Plain
+returns-in-Plain c = search here_plain

@@ -2,8 +2,5 @@
 use Rattle.outcomes.proofs.Cutting.{Ending'}
 use Rattle.outcomes.proofs.argument_end.Given as goal
 
-abbrev pub invariant-loop-turns : goal.invariant-loop-turns
-invariant-loop-turns l = Ending' l.t l.from l.p l.open l.turns
-
-abbrev pub decreases-loop-turns : goal.decreases-loop-turns
-decreases-loop-turns l = l.turns
+abbrev pub invariant-loop : goal.invariant-loop
+invariant-loop l = Ending' l.t l.from l.p l.open l.counter

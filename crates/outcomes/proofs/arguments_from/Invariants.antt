@@ -1,11 +1,6 @@
 -- What was counted, with what is left, is all.
-use Prim.Native.Nat.{◌-◌}
-use lib.ListN.{length}
 use Rattle.outcomes.proofs.Cutting.{Counting}
 use Rattle.outcomes.proofs.arguments_from.Given as goal
 
 abbrev pub invariant-loop-n : goal.invariant-loop-n
 invariant-loop-n l = Counting l.t l.first l.n l.from
-
-abbrev pub decreases-loop-n : goal.decreases-loop-n
-decreases-loop-n l = length l.t - l.n

@@ -1,5 +1,5 @@
 -- By the value, if there is one.
-use Rattle.outcomes.proofs.Copying.{result_number, result_text, result_bits, result_none}
+use Rattle.outcomes.proofs.Copying.{result_number, result_text, result_none}
 use Rattle.outcomes.proofs.copied_result.Goals as goal
 
 pub returns-in-Number : goal.returns-in-Number
@@ -7,9 +7,6 @@ returns-in-Number c = search result_number
 
 pub returns-in-Characters : goal.returns-in-Characters
 returns-in-Characters c = search result_text
-
-pub returns-in-Bits : goal.returns-in-Bits
-returns-in-Bits c = search result_bits
 
 pub returns-in-Fails : goal.returns-in-Fails
 returns-in-Fails c = search result_none

@@ -1,9 +1,9 @@
--- By the room.
-use Rattle.outcomes.proofs.Cutting.{list_work, list_body}
+-- Where the text lies in its room, or not.
+use Rattle.outcomes.proofs.Cutting.{list_in, list_out}
 use Rattle.outcomes.proofs.list_of.Goals as goal
 
-pub returns-then-x : goal.returns-then-x
-returns-then-x c = search list_work
+pub returns-in-Some : goal.returns-in-Some
+returns-in-Some c = list_in _ _ _ _ _ _ c.in-Some.ensures c.list_at.ensures
 
-pub returns : goal.returns
-returns c = search list_body
+pub returns-in-None : goal.returns-in-None
+returns-in-None c = list_out _ _ _ _ _ c.in-None.ensures

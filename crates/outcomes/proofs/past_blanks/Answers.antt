@@ -11,5 +11,5 @@ loop-i-preserved c = search passing_more
 pub returns-else-is_blank : goal.returns-else-is_blank
 returns-else-is_blank c = search blanks_stop
 
-pub returns : goal.returns
-returns c = search blanks_end
+pub returns-after-loop-i : goal.returns-after-loop-i
+returns-after-loop-i c = search blanks_end

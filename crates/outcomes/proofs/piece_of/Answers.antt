@@ -1,9 +1,9 @@
--- By the room.
-use Rattle.outcomes.proofs.Sources.{piece_work, piece_body}
+-- Where the text lies in its room, or not.
+use Rattle.outcomes.proofs.Sources.{piece_in, piece_none}
 use Rattle.outcomes.proofs.piece_of.Goals as goal
 
-pub returns-then-x : goal.returns-then-x
-returns-then-x c = search piece_work
+pub returns-in-Some : goal.returns-in-Some
+returns-in-Some c = piece_in _ _ _ _ _ _ c.in-Some.ensures c.piece_at.ensures
 
-pub returns : goal.returns
-returns c = search piece_body
+pub returns-in-None : goal.returns-in-None
+returns-in-None c = piece_none _ _ _ _ _ c.in-None.ensures

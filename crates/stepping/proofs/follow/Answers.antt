@@ -1,75 +1,72 @@
-use Rattle.std.proofs.Common.{arith, ◌∙◌}
+use Rattle.std.proofs.Common.{◌∙◌}
 use Rattle.stepping.proofs.Walking.{follow_start, follow_arrived, follow_out, follow_bad, follow_more}
 use Rattle.stepping.proofs.follow.Goals as goal
 
-pub loop-turns-init : goal.loop-turns-init
-loop-turns-init c = follow_start _ _ _ _ _ _ _ _ _ _ _ _ _ _ _
+pub loop-init : goal.loop-init
+loop-init c = follow_start _ _ _ _ _ _ _ _ _ _ _ _ _ _ _
 
 pub shape_of-cells-in-To : goal.shape_of-cells-in-To
-shape_of-cells-in-To c = c.loop-turns.invariant.cells
+shape_of-cells-in-To c = c.loop.invariant.cells
 
 pub shape_of-low-in-To : goal.shape_of-low-in-To
-shape_of-low-in-To c = c.loop-turns.invariant.low
+shape_of-low-in-To c = c.loop.invariant.low
 
 pub shape_of-high-in-To : goal.shape_of-high-in-To
-shape_of-high-in-To c = c.loop-turns.invariant.high
+shape_of-high-in-To c = c.loop.invariant.high
 
 pub shape_of-work-in-To : goal.shape_of-work-in-To
-shape_of-work-in-To c = c.loop-turns.invariant.work
+shape_of-work-in-To c = c.loop.invariant.work
 
 pub shape_of-text-in-To : goal.shape_of-text-in-To
-shape_of-text-in-To c = c.loop-turns.invariant.long
+shape_of-text-in-To c = c.loop.invariant.long
 
 pub shape_of-list-in-To : goal.shape_of-list-in-To
-shape_of-list-in-To c = c.loop-turns.invariant.list
+shape_of-list-in-To c = c.loop.invariant.list
 
 pub returns-in-To : goal.returns-in-To
-returns-in-To c = follow_arrived _ _ _ _ _ _ _ _ _ _ _ _ _ _ _ _ _ _ _ _ _ _ _ _ c.loop-turns.invariant _ c.in-To.is
+returns-in-To c = follow_arrived _ _ _ _ _ _ _ _ _ _ _ _ _ _ _ _ _ _ _ _ _ _ _ _ c.loop.invariant _ c.in-To.is
 
-pub loop-turns-smaller : goal.loop-turns-smaller
-loop-turns-smaller c = omega (arith, c.loop-turns-test.true)
-
-pub loop-turns-preserved : goal.loop-turns-preserved
-loop-turns-preserved c = follow_more _ _ _ _ _ _ _ _ _ _ _ _ _ _ _ _ _ _ _ _ _ _ _ _ c.loop-turns.invariant _ c.in-Up.is _ _ _ _ _ _ _ c.text_behind-r.ensures _ c.in-Good.is _ c.walk_behind-w.ensures c.text_behind-r.auto.cells c.text_behind-r.auto.low c.text_behind-r.auto.high c.text_behind-r.auto.work c.text_behind-r.auto.text c.text_behind-r.auto.list
+pub loop-preserved : goal.loop-preserved
+loop-preserved c = follow_more _ _ _ _ _ _ _ _ _ _ _ _ _ _ _ _ _ _ _ _ _ _ _ _ c.loop.invariant _ c.in-Up.is _ _ _ _ _ _ _ c.text_behind-r.ensures _ c.in-Good.is _ c.walk_behind-w.ensures c.text_behind-r.auto.cells c.text_behind-r.auto.low c.text_behind-r.auto.high c.text_behind-r.auto.work c.text_behind-r.auto.text c.text_behind-r.auto.list
 
 pub shape_of-cells-in-Bad : goal.shape_of-cells-in-Bad
-shape_of-cells-in-Bad c = c.text_behind-r.auto.cells ∙ c.loop-turns.invariant.cells
+shape_of-cells-in-Bad c = c.text_behind-r.auto.cells ∙ c.loop.invariant.cells
 
 pub shape_of-low-in-Bad : goal.shape_of-low-in-Bad
-shape_of-low-in-Bad c = c.text_behind-r.auto.low ∙ c.loop-turns.invariant.low
+shape_of-low-in-Bad c = c.text_behind-r.auto.low ∙ c.loop.invariant.low
 
 pub shape_of-high-in-Bad : goal.shape_of-high-in-Bad
-shape_of-high-in-Bad c = c.text_behind-r.auto.high ∙ c.loop-turns.invariant.high
+shape_of-high-in-Bad c = c.text_behind-r.auto.high ∙ c.loop.invariant.high
 
 pub shape_of-work-in-Bad : goal.shape_of-work-in-Bad
-shape_of-work-in-Bad c = c.text_behind-r.auto.work ∙ c.loop-turns.invariant.work
+shape_of-work-in-Bad c = c.text_behind-r.auto.work ∙ c.loop.invariant.work
 
 pub shape_of-text-in-Bad : goal.shape_of-text-in-Bad
-shape_of-text-in-Bad c = c.text_behind-r.auto.text ∙ c.loop-turns.invariant.long
+shape_of-text-in-Bad c = c.text_behind-r.auto.text ∙ c.loop.invariant.long
 
 pub shape_of-list-in-Bad : goal.shape_of-list-in-Bad
-shape_of-list-in-Bad c = c.text_behind-r.auto.list ∙ c.loop-turns.invariant.list
+shape_of-list-in-Bad c = c.text_behind-r.auto.list ∙ c.loop.invariant.list
 
 pub returns-in-Bad : goal.returns-in-Bad
-returns-in-Bad c = follow_bad _ _ _ _ _ _ _ _ _ _ _ _ _ _ _ _ _ _ _ _ _ _ _ _ c.loop-turns.invariant _ c.in-Up.is _ _ _ _ _ _ _ c.text_behind-r.ensures _ _ c.in-Bad.is
+returns-in-Bad c = follow_bad _ _ _ _ _ _ _ _ _ _ _ _ _ _ _ _ _ _ _ _ _ _ _ _ c.loop.invariant _ c.in-Up.is _ _ _ _ _ _ _ c.text_behind-r.ensures _ _ c.in-Bad.is
 
 pub shape_of-cells : goal.shape_of-cells
-shape_of-cells c = c.loop-turns.invariant.cells
+shape_of-cells c = c.loop.invariant.cells
 
 pub shape_of-low : goal.shape_of-low
-shape_of-low c = c.loop-turns.invariant.low
+shape_of-low c = c.loop.invariant.low
 
 pub shape_of-high : goal.shape_of-high
-shape_of-high c = c.loop-turns.invariant.high
+shape_of-high c = c.loop.invariant.high
 
 pub shape_of-work : goal.shape_of-work
-shape_of-work c = c.loop-turns.invariant.work
+shape_of-work c = c.loop.invariant.work
 
 pub shape_of-text : goal.shape_of-text
-shape_of-text c = c.loop-turns.invariant.long
+shape_of-text c = c.loop.invariant.long
 
 pub shape_of-list : goal.shape_of-list
-shape_of-list c = c.loop-turns.invariant.list
+shape_of-list c = c.loop.invariant.list
 
 pub returns : goal.returns
-returns c = follow_out _ _ _ _ _ _ _ _ _ _ _ _ _ _ _ _ _ _ _ _ _ _ _ _ c.loop-turns.invariant c.loop-turns-test.false _
+returns c = follow_out _ _ _ _ _ _ _ _ _ _ _ _ _ _ _ _ _ _ _ _ _ _ _ _ c.loop.invariant c.loop-test.false _

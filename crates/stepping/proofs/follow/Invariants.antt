@@ -2,8 +2,5 @@
 use Rattle.stepping.proofs.Walking.{Following}
 use Rattle.stepping.proofs.follow.Given as goal
 
-abbrev pub invariant-loop-turns : goal.invariant-loop-turns
-invariant-loop-turns l = Following l.deck l.s l.part l.rows l.names l.initial.cells l.initial.low l.initial.high l.initial.work l.initial.text l.initial.list l.fs l.initial.w l.here l.initial.g l.turns l.w l.g l.cells l.low l.high l.work l.text l.list
-
-abbrev pub decreases-loop-turns : goal.decreases-loop-turns
-decreases-loop-turns l = l.turns
+abbrev pub invariant-loop : goal.invariant-loop
+invariant-loop l = Following l.deck l.s l.part l.rows l.names l.initial.cells l.initial.low l.initial.high l.initial.work l.initial.text l.initial.list l.fs l.initial.w l.here l.initial.g l.counter l.w l.g l.cells l.low l.high l.work l.text l.list

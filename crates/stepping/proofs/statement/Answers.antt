@@ -1,5 +1,5 @@
 -- Each kind of statement has its law.
-use Rattle.stepping.proofs.Acting.{row_assign, row_test, row_start, row_group, row_null, row_procedure, row_return, row_include}
+use Rattle.stepping.proofs.Acting.{row_assign, row_test, row_start, row_group, row_idle}
 use Rattle.stepping.proofs.Waking.{row_declare, row_activate, row_deactivate}
 use Rattle.stepping.proofs.Jumping.{row_goto}
 use Rattle.stepping.proofs.statement.Goals as goal
@@ -29,13 +29,4 @@ pub returns-in-Deactivate : goal.returns-in-Deactivate
 returns-in-Deactivate c = row_deactivate _ _ _ _ _ _ _ _ _ _ _ _ _ _ _ _ _ c.row_at-r.ensures (search c.in-Deactivate) _ _ c.deactivate_all-b.ensures _ c.on_activated-in-Deactivate.ensures
 
 pub returns-in-Null : goal.returns-in-Null
-returns-in-Null c = row_null _ _ _ _ _ _ _ _ _ _ _ _ _ _ _ _ _ c.row_at-r.ensures (search c.in-Null) _ c.with_step.ensures
-
-pub returns-in-Procedure : goal.returns-in-Procedure
-returns-in-Procedure c = row_procedure _ _ _ _ _ _ _ _ _ _ _ _ _ _ _ _ _ c.row_at-r.ensures (search c.in-Procedure) _ c.with_step-in-Procedure.ensures
-
-pub returns-in-Include : goal.returns-in-Include
-returns-in-Include c = row_include _ _ _ _ _ _ _ _ _ _ _ _ _ _ _ _ _ c.row_at-r.ensures (search c.in-Include) _
-
-pub returns-in-Return : goal.returns-in-Return
-returns-in-Return c = row_return _ _ _ _ _ _ _ _ _ _ _ _ _ _ _ _ _ c.row_at-r.ensures (search c.in-Return) _ c.with_step-in-Return.ensures
+returns-in-Null c = row_idle _ _ _ _ _ _ _ _ _ _ _ _ _ _ _ _ _ c.row_at-r.ensures c.in-Null.is _ c.with_step.ensures

@@ -1,75 +1,72 @@
-use Rattle.std.proofs.Common.{arith, ◌∙◌}
+use Rattle.std.proofs.Common.{arith, ◌∙◌, ◌≡◌, ◌-◌, ◌+◌}
 use Rattle.texts.proofs.Looping.{texting_start, texting_end, texting_out, texting_bad, texting_more}
 use Rattle.texts.proofs.text_on.Goals as goal
 
-pub loop-turns-init : goal.loop-turns-init
-loop-turns-init c = texting_start _ _ _ _ _ _ _ _ _ _ _ _ _ _ _ c.less-size.ensures c.sum-turns.ensures
+pub loop-init : goal.loop-init
+loop-init c = let e : c.sum-turns.result - 0 ≡ c.sum-turns.result = omega arith in rw e (texting_start _ _ _ _ _ _ _ _ _ _ _ _ _ _ _ c.less-size.ensures c.sum-turns.ensures)
 
 pub shape_of-cells-then-size-p : goal.shape_of-cells-then-size-p
-shape_of-cells-then-size-p c = c.loop-turns.invariant.cells
+shape_of-cells-then-size-p c = c.loop.invariant.cells
 
 pub shape_of-low-then-size-p : goal.shape_of-low-then-size-p
-shape_of-low-then-size-p c = c.loop-turns.invariant.low
+shape_of-low-then-size-p c = c.loop.invariant.low
 
 pub shape_of-high-then-size-p : goal.shape_of-high-then-size-p
-shape_of-high-then-size-p c = c.loop-turns.invariant.high
+shape_of-high-then-size-p c = c.loop.invariant.high
 
 pub shape_of-work-then-size-p : goal.shape_of-work-then-size-p
-shape_of-work-then-size-p c = c.loop-turns.invariant.work
+shape_of-work-then-size-p c = c.loop.invariant.work
 
 pub shape_of-text-then-size-p : goal.shape_of-text-then-size-p
-shape_of-text-then-size-p c = c.loop-turns.invariant.long
+shape_of-text-then-size-p c = c.loop.invariant.long
 
 pub shape_of-list-then-size-p : goal.shape_of-list-then-size-p
-shape_of-list-then-size-p c = c.loop-turns.invariant.list
+shape_of-list-then-size-p c = c.loop.invariant.list
 
 pub returns-then-size-p : goal.returns-then-size-p
-returns-then-size-p c = texting_end _ _ _ _ _ _ _ _ _ _ _ _ _ _ _ _ _ _ _ _ _ _ c.loop-turns.invariant _ c.less-size.ensures c.if-size-p.true
+returns-then-size-p c = texting_end _ _ _ _ _ _ _ _ _ _ _ _ _ _ _ _ _ _ _ _ _ _ c.loop.invariant _ c.less-size.ensures c.if-size-p.true
 
-pub loop-turns-smaller : goal.loop-turns-smaller
-loop-turns-smaller c = omega (arith, c.loop-turns-test.true)
-
-pub loop-turns-preserved : goal.loop-turns-preserved
-loop-turns-preserved c = texting_more _ _ _ _ _ _ _ _ _ _ _ _ _ _ _ _ _ _ _ _ _ _ c.loop-turns.invariant _ c.less-size.ensures c.if-size-p.false c.loop-turns-test.true _ _ _ _ _ _ _ c.token_here-t.ensures _ _ c.in-Good.is c.token_here-t.auto.cells c.token_here-t.auto.low c.token_here-t.auto.high c.token_here-t.auto.work c.token_here-t.auto.text c.token_here-t.auto.list
+pub loop-preserved : goal.loop-preserved
+loop-preserved c = texting_more _ _ _ _ _ _ _ _ _ _ _ _ _ _ _ _ _ _ _ _ _ _ c.loop.invariant _ c.less-size.ensures c.if-size-p.false _ (omega (arith, c.loop-test.true)) _ _ _ _ _ _ _ c.token_here-t.ensures _ _ c.in-Good.is c.token_here-t.auto.cells c.token_here-t.auto.low c.token_here-t.auto.high c.token_here-t.auto.work c.token_here-t.auto.text c.token_here-t.auto.list
 
 pub shape_of-cells-in-Bad : goal.shape_of-cells-in-Bad
-shape_of-cells-in-Bad c = c.token_here-t.auto.cells ∙ c.loop-turns.invariant.cells
+shape_of-cells-in-Bad c = c.token_here-t.auto.cells ∙ c.loop.invariant.cells
 
 pub shape_of-low-in-Bad : goal.shape_of-low-in-Bad
-shape_of-low-in-Bad c = c.token_here-t.auto.low ∙ c.loop-turns.invariant.low
+shape_of-low-in-Bad c = c.token_here-t.auto.low ∙ c.loop.invariant.low
 
 pub shape_of-high-in-Bad : goal.shape_of-high-in-Bad
-shape_of-high-in-Bad c = c.token_here-t.auto.high ∙ c.loop-turns.invariant.high
+shape_of-high-in-Bad c = c.token_here-t.auto.high ∙ c.loop.invariant.high
 
 pub shape_of-work-in-Bad : goal.shape_of-work-in-Bad
-shape_of-work-in-Bad c = c.token_here-t.auto.work ∙ c.loop-turns.invariant.work
+shape_of-work-in-Bad c = c.token_here-t.auto.work ∙ c.loop.invariant.work
 
 pub shape_of-text-in-Bad : goal.shape_of-text-in-Bad
-shape_of-text-in-Bad c = c.token_here-t.auto.text ∙ c.loop-turns.invariant.long
+shape_of-text-in-Bad c = c.token_here-t.auto.text ∙ c.loop.invariant.long
 
 pub shape_of-list-in-Bad : goal.shape_of-list-in-Bad
-shape_of-list-in-Bad c = c.token_here-t.auto.list ∙ c.loop-turns.invariant.list
+shape_of-list-in-Bad c = c.token_here-t.auto.list ∙ c.loop.invariant.list
 
 pub returns-in-Bad : goal.returns-in-Bad
-returns-in-Bad c = texting_bad _ _ _ _ _ _ _ _ _ _ _ _ _ _ _ _ _ _ _ _ _ _ c.loop-turns.invariant _ c.less-size.ensures c.if-size-p.false c.loop-turns-test.true _ _ _ _ _ _ _ c.token_here-t.ensures _ _ c.in-Bad.is
+returns-in-Bad c = texting_bad _ _ _ _ _ _ _ _ _ _ _ _ _ _ _ _ _ _ _ _ _ _ c.loop.invariant _ c.less-size.ensures c.if-size-p.false (c.sum-turns.result - (c.loop.counter + 1)) (omega (arith, c.loop-test.true)) _ _ _ _ _ _ _ c.token_here-t.ensures _ _ c.in-Bad.is
 
 pub shape_of-cells : goal.shape_of-cells
-shape_of-cells c = c.loop-turns.invariant.cells
+shape_of-cells c = c.loop.invariant.cells
 
 pub shape_of-low : goal.shape_of-low
-shape_of-low c = c.loop-turns.invariant.low
+shape_of-low c = c.loop.invariant.low
 
 pub shape_of-high : goal.shape_of-high
-shape_of-high c = c.loop-turns.invariant.high
+shape_of-high c = c.loop.invariant.high
 
 pub shape_of-work : goal.shape_of-work
-shape_of-work c = c.loop-turns.invariant.work
+shape_of-work c = c.loop.invariant.work
 
 pub shape_of-text : goal.shape_of-text
-shape_of-text c = c.loop-turns.invariant.long
+shape_of-text c = c.loop.invariant.long
 
 pub shape_of-list : goal.shape_of-list
-shape_of-list c = c.loop-turns.invariant.list
+shape_of-list c = c.loop.invariant.list
 
 pub returns : goal.returns
-returns c = texting_out _ _ _ _ _ _ _ _ _ _ _ _ _ _ _ _ _ _ _ _ _ _ c.loop-turns.invariant c.loop-turns-test.false
+returns c = texting_out _ _ _ _ _ _ _ _ _ _ _ _ _ _ _ _ _ _ _ _ _ _ c.loop.invariant (omega (arith, c.loop-test.false))
