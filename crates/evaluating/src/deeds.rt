@@ -210,7 +210,7 @@ fn begun(
     ensures { StatementIs deck.now s.now part.now rows.now names.now cells.old low.old high.old work.old p n fs u c m cells.new low.new high.new work.new result }
 {
     let r = row_at(part, n);
-    let at = r.content as usize;
+    let at = usize::from(r.content);
     match r.statement {
         Statement::Assign => {
             let d = assign(deck, s, rows, names, cells, low, high, work, at, u, c, m);

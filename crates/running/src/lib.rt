@@ -272,10 +272,10 @@ fn include_all(
 {
     let s = body(deck, before.member);
     let r = row_at(part_here(rows, before), n);
-    let place = r.place as usize;
+    let place = usize::from(r.place);
     let inner = with_below(below, before.member, n);
     let mut here = before;
-    let mut at = r.content as usize;
+    let mut at = usize::from(r.content);
     let mut g = g0;
     // each name has a byte at least
     for _ in 0..s.len() {
@@ -339,7 +339,7 @@ fn begin(
     let paid = g0.meter.charged();
     let g = with_meter(g0, paid.meter);
     if !paid.paid {
-        let t = refused(fs, g, Why::NoStep, here.member, r.place as usize);
+        let t = refused(fs, g, Why::NoStep, here.member, usize::from(r.place));
         return turned_at(here, t);
     }
     if is_include(r) {

@@ -54,6 +54,7 @@ fn converted(work: &mut [u8], u: usize, t: ValueType, x: Scanned) -> Evaluated
     }
 }
 
+// stays: `Evaluated`, `Given` and `Meter` are public types of other crates, whose impls stand there, so no `From` can stand here.
 fn value_given(x: Evaluated) -> Given
     ensures { result ≡ given_for x }
 {

@@ -53,16 +53,16 @@ pub deeds::assign-returns-in-None : goal.deeds::assign-returns-in-None
 deeds::assign-returns-in-None t c = search (assign_none, c.token_at-t.ensures, c.target_at.ensures, c.in-None)
 
 pub deeds::begun-returns-in-Assign : goal.deeds::begun-returns-in-Assign
-deeds::begun-returns-in-Assign t c = row_assign _ _ _ _ _ _ _ _ _ _ _ _ _ _ _ _ c.row_at-r.ensures (search c.in-Assign) _ _ _ _ _ c.assign-d.ensures _ c.on_behind.ensures
+deeds::begun-returns-in-Assign t c = row_assign _ _ _ _ _ _ _ _ _ _ _ _ _ _ _ _ c.row_at-r.ensures (search c.in-Assign) _ _ _ _ _ (rw c.from-at.ensures at c.assign-d.ensures) _ c.on_behind.ensures
 
 pub deeds::begun-returns-in-Conditional : goal.deeds::begun-returns-in-Conditional
-deeds::begun-returns-in-Conditional t c = row_test _ _ _ _ _ _ _ _ _ _ _ _ _ _ _ _ c.row_at-r.ensures (search c.in-Conditional) _ _ _ _ _ c.test-t.ensures _ c.on_test.ensures
+deeds::begun-returns-in-Conditional t c = row_test _ _ _ _ _ _ _ _ _ _ _ _ _ _ _ _ c.row_at-r.ensures (search c.in-Conditional) _ _ _ _ _ (rw c.from-at.ensures at c.test-t.ensures) _ c.on_test.ensures
 
 pub deeds::begun-returns-in-Iterated : goal.deeds::begun-returns-in-Iterated
-deeds::begun-returns-in-Iterated t c = row_start _ _ _ _ _ _ _ _ _ _ _ _ _ _ _ _ c.row_at-r.ensures (search c.in-Iterated) _ _ _ _ _ c.start-t.ensures _ c.on_start.ensures
+deeds::begun-returns-in-Iterated t c = row_start _ _ _ _ _ _ _ _ _ _ _ _ _ _ _ _ c.row_at-r.ensures (search c.in-Iterated) _ _ _ _ _ (rw c.from-at.ensures at c.start-t.ensures) _ c.on_start.ensures
 
 pub deeds::begun-returns-in-Return : goal.deeds::begun-returns-in-Return
-deeds::begun-returns-in-Return t c = row_return _ _ _ _ _ _ _ _ _ _ _ _ _ _ _ _ c.row_at-r.ensures (search c.in-Return) _ c.token_at-open.ensures _ _ _ _ c.evaluate-v.auto.work _ c.evaluate-v.ensures _ c.row_at.ensures _ _ c.on_return.ensures
+deeds::begun-returns-in-Return t c = row_return _ _ _ _ _ _ _ _ _ _ _ _ _ _ _ _ c.row_at-r.ensures (search c.in-Return) _ (rw c.from-at.ensures at c.token_at-open.ensures) _ _ _ _ c.evaluate-v.auto.work _ c.evaluate-v.ensures _ c.row_at.ensures _ _ c.on_return.ensures
 
 pub deeds::begun-returns-in-Group : goal.deeds::begun-returns-in-Group
 deeds::begun-returns-in-Group t c = row_group _ _ _ _ _ _ _ _ _ _ _ _ _ _ _ _ c.row_at-r.ensures (search c.in-Group) _ c.into_group.ensures _ c.with_step.ensures

@@ -7,7 +7,7 @@ use Rattle.running.proofs.Naming.{include_unknown, include_deep, include_enters,
 use Rattle.running.proofs.+member_run.Goals as goal
 
 pub begin-returns-then-not-paid : goal.begin-returns-then-not-paid
-begin-returns-then-not-paid t c = begin_due _ _ _ _ _ _ _ _ _ _ _ _ _ _ _ _ _ c.part_here.ensures _ c.row_at-r.ensures _ c.charged-paid.ensures _ c.with_meter-g.ensures (not-true _ c.if-not-paid.true) _ c.refused-t.ensures _ c.turned_at.ensures
+begin-returns-then-not-paid t c = begin_due _ _ _ _ _ _ _ _ _ _ _ _ _ _ _ _ _ c.part_here.ensures _ c.row_at-r.ensures _ c.charged-paid.ensures _ c.with_meter-g.ensures (not-true _ c.if-not-paid.true) _ (rw c.from.ensures at c.refused-t.ensures) _ c.turned_at.ensures
 
 pub begin-returns-then-is_include : goal.begin-returns-then-is_include
 begin-returns-then-is_include t c = begin_include _ _ _ _ _ _ _ _ _ _ _ _ _ _ _ _ _ c.part_here.ensures _ c.row_at-r.ensures _ c.charged-paid.ensures _ c.with_meter-g.ensures (not-false _ c.if-not-paid.false) _ c.is_include.ensures c.if-is_include.true _ _ _ _ _ _ _ _ _ c.include_all-e.ensures _ c.on_ended.ensures
@@ -25,16 +25,16 @@ pub include_all-loop-init : goal.include_all-loop-init
 include_all-loop-init t c = going_start _ _ _ _ _ _ _ _ _ _ _ _ _ _ _ _ _ c.body-s.ensures _ (omega arith)
 
 pub include_all-returns-in_default : goal.include_all-returns-in_default
-include_all-returns-in_default t c = all_left _ _ _ _ _ _ _ _ _ _ _ _ _ _ _ c.with_below-inner.ensures _ c.part_here.ensures _ c.row_at-r.ensures _ c.body-s.ensures _ _ _ _ _ _ _ _ _ _ _ _ c.loop.invariant _ c.item_at-item.ensures _ _ _ _ _ _ _ _ _ c.include_one-x.ensures _ c.resumed-here.ensures c.in_default.not-Ran _ c.left_at.ensures
+include_all-returns-in_default t c = all_left _ _ _ _ _ _ _ _ _ _ _ _ _ _ _ c.with_below-inner.ensures _ c.part_here.ensures _ c.row_at-r.ensures _ c.body-s.ensures _ _ _ _ _ _ _ _ _ _ _ _ (rw (c.from-place.ensures, c.from-at.ensures) at c.loop.invariant) _ c.item_at-item.ensures _ _ _ _ _ _ _ _ _ (rw c.from-place.ensures at c.include_one-x.ensures) _ c.resumed-here.ensures c.in_default.not-Ran _ c.left_at.ensures
 
 pub include_all-loop-preserved : goal.include_all-loop-preserved
 include_all-loop-preserved t c = going_more _ _ _ _ _ _ _ _ _ _ _ _ _ _ _ _ _ c.body-s.ensures _ _ _ _ _ _ _ _ _ _ _ _ c.loop.invariant _ c.item_at-item.ensures _ _ _ _ _ _ _ _ _ c.include_one-x.ensures _ c.resumed-here.ensures _ c.in-Ran.is _ c.token_at-comma.ensures _ c.is_sign.ensures c.if-not-is_sign.false _ (omega arith)
 
 pub include_all-returns-then-not-is_sign : goal.include_all-returns-then-not-is_sign
-include_all-returns-then-not-is_sign t c = all_ran _ _ _ _ _ _ _ _ _ _ _ _ _ _ _ c.with_below-inner.ensures _ c.part_here.ensures _ c.row_at-r.ensures _ c.body-s.ensures _ _ _ _ _ _ _ _ _ _ _ _ c.loop.invariant _ c.item_at-item.ensures _ _ _ _ _ _ _ _ _ c.include_one-x.ensures _ c.resumed-here.ensures _ c.in-Ran.is _ c.token_at-comma.ensures _ c.is_sign.ensures c.if-not-is_sign.true _ c.left_at-then-not-is_sign.ensures
+include_all-returns-then-not-is_sign t c = all_ran _ _ _ _ _ _ _ _ _ _ _ _ _ _ _ c.with_below-inner.ensures _ c.part_here.ensures _ c.row_at-r.ensures _ c.body-s.ensures _ _ _ _ _ _ _ _ _ _ _ _ (rw (c.from-place.ensures, c.from-at.ensures) at c.loop.invariant) _ c.item_at-item.ensures _ _ _ _ _ _ _ _ _ (rw c.from-place.ensures at c.include_one-x.ensures) _ c.resumed-here.ensures _ c.in-Ran.is _ c.token_at-comma.ensures _ c.is_sign.ensures c.if-not-is_sign.true _ c.left_at-then-not-is_sign.ensures
 
 pub include_all-returns : goal.include_all-returns
-include_all-returns t c = all_turned _ _ _ _ _ _ _ _ _ _ _ _ _ _ _ c.with_below-inner.ensures _ c.part_here.ensures _ c.row_at-r.ensures _ _ _ _ _ _ _ _ _ _ _ _ c.loop.invariant (omega (arith, c.loop-test.false)) _
+include_all-returns t c = all_turned _ _ _ _ _ _ _ _ _ _ _ _ _ _ _ c.with_below-inner.ensures _ c.part_here.ensures _ c.row_at-r.ensures _ _ _ _ _ _ _ _ _ _ _ _ (rw (c.from-place.ensures, c.from-at.ensures) at c.loop.invariant) (omega (arith, c.loop-test.false)) _
 
 pub include_one-returns-then-left-lt1 : goal.include_one-returns-then-left-lt1
 include_one-returns-then-left-lt1 t c = include_deep _ _ _ _ _ _ _ _ _ _ _ _ _ _ _ _ c.member_named.ensures _ _ _ c.in-Line.is c.if-left-lt1.true c.stopped-then-left-lt1.ensures c.left_at-then-left-lt1.ensures
