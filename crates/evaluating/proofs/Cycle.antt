@@ -88,8 +88,12 @@ module _ (deck rows names s c l h w : List ℕ) (at n left u : ℕ) (x : Scene) 
           slots = G.slots;
         }
 
-    pub levels_failed : (f : Why) (k : Meter) → y ≡ Failed f k → Evaluates deck rows names c l h w u x m c₁ l₁ h₁ w₁ (Failed f k) (levels_in left s n at)
-    levels_failed f k i = record { is = λ B sh t e q. let j : IsRead (levels_in left s (n - 1) at) (λ r. chained r.tree r.to) (parsed t e) = levels_first (operand_in left s) s n at t e big q in failed_by f k i B sh t e j.first j.is j.rest }
+    pub levels_failed : ((v : Value) (q : ℕ) (k : Meter) → y ≡ Is v q k → ⊥) → Evaluates deck rows names c l h w u x m c₁ l₁ h₁ w₁ y (levels_in left s n at)
+    levels_failed over = by y refl
+      where
+        by : (a : Evaluated) → y ≡ a → Evaluates deck rows names c l h w u x m c₁ l₁ h₁ w₁ a (levels_in left s n at)
+        by (Is v q k) i = absurd (over v q k i)
+        by (Failed f k) i = record { is = λ B sh t e q. let j : IsRead (levels_in left s (n - 1) at) (λ r. chained r.tree r.to) (parsed t e) = levels_first (operand_in left s) s n at t e big q in failed_by f k i B sh t e j.first j.is j.rest }
 
     module _ (v : Value) (q : ℕ) (k : Meter) (i : y ≡ Is v q k) (z₁ : length w₁ ≡ length w) (c₂ l₂ h₂ w₂ : List ℕ) (r : Evaluated) (ch : Chains deck rows names s c₁ l₁ h₁ w₁ v q (n - 1) left u x k c₂ l₂ h₂ w₂ r) where
       chain_by : (B : World) → Shows deck rows names c l h w u x m B → (t : Tree) (e : ℕ) (z : Parsed) → levels_in left s (n - 1) at ≡ read z → chained z.tree z.to ≡ read (parsed t e) → Gave B u w c₂ l₂ h₂ w₂ r e (value_of x t u (world_in B c l h m.used))

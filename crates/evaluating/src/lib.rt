@@ -401,28 +401,26 @@ fn levels(
         c,
         m,
     );
-    match first {
-        Evaluated::Is(v, e, k) => {
-            chain(
-                deck,
-                s,
-                rows,
-                names,
-                cells,
-                low,
-                high,
-                work,
-                v,
-                e,
-                n - 1,
-                left,
-                u,
-                c,
-                k,
-            )
-        }
-        Evaluated::Failed(w, k) => Evaluated::Failed(w, k),
-    }
+    let Evaluated::Is(v, e, k) = first else {
+        return first;
+    };
+    chain(
+        deck,
+        s,
+        rows,
+        names,
+        cells,
+        low,
+        high,
+        work,
+        v,
+        e,
+        n - 1,
+        left,
+        u,
+        c,
+        k,
+    )
 }
 
 // THE VALUE of the expression at a place.

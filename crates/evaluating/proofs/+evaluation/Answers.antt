@@ -136,11 +136,11 @@ inside-returns t c = search (inside_some, c.if-left-lt1.false, c.levels.ensures)
 pub levels-returns-then-n-lt1 : goal.levels-returns-then-n-lt1
 levels-returns-then-n-lt1 t c = search (levels_operand, c.if-n-lt1.true, c.operand.ensures)
 
-pub levels-returns-in-Is : goal.levels-returns-in-Is
-levels-returns-in-Is t c = search (levels_chain, c.if-n-lt1.false, c.levels-first.ensures, c.in-Is, c.levels-first.auto.work, c.chain.ensures)
+pub levels-returns : goal.levels-returns
+levels-returns t c = search (levels_chain, c.if-n-lt1.false, c.levels-first.ensures, c.in-Is, c.levels-first.auto.work, c.chain.ensures)
 
-pub levels-returns-in-Failed : goal.levels-returns-in-Failed
-levels-returns-in-Failed t c = search (levels_failed, c.if-n-lt1.false, c.levels-first.ensures, c.in-Failed)
+pub levels-returns-in_default : goal.levels-returns-in_default
+levels-returns-in_default t c = search (levels_failed, c.if-n-lt1.false, c.levels-first.ensures, c.in_default.not-Is)
 
 pub listed-returns-in-Entry : goal.listed-returns-in-Entry
 listed-returns-in-Entry t c = listed_call _ _ _ _ _ _ _ _ _ _ _ _ _ _ _ c.count_arguments-n.ensures _ c.aim_of.ensures _ c.in-At.is _ _ _ _ c.arguments.auto.work _ c.arguments.ensures _ c.in-Ok.is _ c.in-Entry.is _ _ _ _ _ c.call-v.ensures _ c.up_to.ensures
