@@ -96,21 +96,20 @@ fn rescan(
 ) -> Scanned
     ensures { RescanIs deck.now s.now rows.now names.now cells.old low.old high.old work.old text.old g d u n c m cells.new low.new high.new work.new text.new result }
 {
-    match as_text(work, u, g, m) {
-        Scanned::Good(size, k) => {
-            let top = above(u, size);
-            let value = Src {
-                in_work: true,
-                from: u,
-                to: top,
-            };
-            let y = scan(
-                deck, s, rows, names, cells, low, high, work, text, value, d, top, n, c, k,
-            );
-            settled(work, d, u, size, y)
-        }
-        Scanned::Bad(w, k) => Scanned::Bad(w, k),
-    }
+    let x = as_text(work, u, g, m);
+    let Scanned::Good(size, k) = x else {
+        return x;
+    };
+    let top = above(u, size);
+    let value = Src {
+        in_work: true,
+        from: u,
+        to: top,
+    };
+    let y = scan(
+        deck, s, rows, names, cells, low, high, work, text, value, d, top, n, c, k,
+    );
+    settled(work, d, u, size, y)
 }
 
 // "each argument in turn is scanned, then converted": those that wait, or a refusal; and the steps.

@@ -47,11 +47,11 @@ replace_entry-returns-in-Err t c = entry_refused _ _ _ _ _ _ _ _ _ _ _ _ _ _ _ _
 pub replace_entry-returns-in-NoList : goal.replace_entry-returns-in-NoList
 replace_entry-returns-in-NoList t c = entry_none _ _ _ _ _ _ _ _ _ _ _ _ _ _ _ _ _ _ c.if-y-lt1.false _ c.list_of.ensures c.in-NoList.is
 
-pub rescan-returns-in-Good : goal.rescan-returns-in-Good
-rescan-returns-in-Good t c = rescan_scanned _ _ _ _ _ _ _ _ _ _ _ _ _ _ _ _ _ c.as_text.ensures c.as_text.auto.work _ _ c.in-Good.is _ _ _ _ _ _ _ _ c.settled.ensures _ c.above-top.ensures c.scan-y.ensures
+pub rescan-returns : goal.rescan-returns
+rescan-returns t c = rescan_scanned _ _ _ _ _ _ _ _ _ _ _ _ _ _ _ _ _ c.as_text-x.ensures c.as_text-x.auto.work _ _ c.in-Good.is _ _ _ _ _ _ _ _ c.settled.ensures _ c.above-top.ensures c.scan-y.ensures
 
-pub rescan-returns-in-Bad : goal.rescan-returns-in-Bad
-rescan-returns-in-Bad t c = rescan_bad _ _ _ _ _ _ _ _ _ _ _ _ _ _ _ _ _ c.as_text.ensures c.as_text.auto.work _ _ c.in-Bad.is
+pub rescan-returns-in_default : goal.rescan-returns-in_default
+rescan-returns-in_default t c = rescan_bad _ _ _ _ _ _ _ _ _ _ _ _ _ _ _ _ _ c.as_text-x.ensures c.as_text-x.auto.work c.in_default.not-Good
 
 pub scan-loop-init : goal.scan-loop-init
 scan-loop-init t c = scanning_start _ _ _ _ _ _ _ _ _ _ _ _ _ _ _ _ _ c.less-size.ensures (omega (arith, c.sum-end.ensures))
