@@ -49,6 +49,7 @@ fn left_at(here: Here, ended: Ended) -> Left
 }
 
 // A turn of a member, and where the rows of each member start since.
+// stays: one generic pair with `Left` would only lose the names `ended` and `turned`.
 #[derive(Clone, Copy)]
 struct Begun {
     turned: Turned,
