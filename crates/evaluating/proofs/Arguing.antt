@@ -3,12 +3,13 @@
 use mathlib.Core.Path.{◌≡◌, refl, sym, ap, subst, ◌∙◌}
 use mathlib.Core.Bool.{Bool, true, false, cond}
 use mathlib.Core.List.{List, [], ◌∷◌, ◌++◌}
-use Prim.Native.Nat.{ℕ, zero, suc, ◌+◌, ◌-◌, ◌<◌, ◌≤◌}
+use Prim.Native.Nat.{ℕ, zero, suc, ◌+◌, ◌<◌, ◌≤◌}
 use native.Mathlib.Nat.{zero-add}
 use native.Mathlib.Numerals.{add-one}
 use native.Mathlib.Omega.{arith}
 use borrow.Author.Tests.{lt-ltb, le-ltb}
 use lib.Dec.{ltb}
+use Rattle.std.specs.Prelude.{Ok, Err}
 use lib.ListN.{length}
 use Rattle.definition.specs.Bytes.{mixed}
 use Rattle.definition.specs.Choice.{when}
@@ -24,8 +25,6 @@ use Rattle.definition.specs.declared.Why.TheVariants.{Syntax}
 use Rattle.definition.specs.declared.ValueType.{ValueType}
 use Rattle.definition.specs.declared.ValueType.TheVariants.{FixedType, CharacterType}
 use Rattle.definition.proofs.Ranges.{Fine}
-use Rattle.sums.specs.Numbers.{greatest, sum_to}
-use Rattle.sums.proofs.Laws.{sum_fits}
 use Rattle.meter.specs.declared.Meter.{Meter}
 use Rattle.tokens.specs.declared.Lexeme.{Lexeme}
 use Rattle.tokens.specs.Answer.{Lexed}
@@ -44,7 +43,6 @@ use Rattle.operands.specs.declared.Evaluated.{Evaluated}
 use Rattle.operands.specs.declared.Evaluated.TheVariants.{Is, Failed}
 use Rattle.operands.specs.declared.Wished.{Wished}
 use Rattle.operands.specs.declared.Target.{Target}
-use Rattle.evaluating.specs.declared.Outcome.TheVariants as Oc
 use Rattle.operands.specs.Shown.{Shows}
 use Rattle.operands.specs.Answer.{Below, res_in, size_of, meter_of, with_end, Gave, run_in, value_of, Turns}
 use Rattle.evaluating.specs.Cycle.{Evaluates}
@@ -187,10 +185,10 @@ typed_short CharacterType (Bits n) h = absurd h
 
 -- ---- the loop
 module _ (deck rows names s c₀ l₀ h₀ w₀ : List ℕ) (from left u : ℕ) (t : Target) (x : Scene) (m₀ : Meter) where
-  pub record Took (B : World) (p e : ℕ) (ws₀ : List Ev.Wish) (n₀ : ℕ) (R : Res Why (List Val.Value)) (turns i listed top at : ℕ) (f : Value) (k : Held) (m : Meter) (c l h w : List ℕ) : Type 0 where
+  pub record Took (B : World) (p e : ℕ) (ws₀ : List Ev.Wish) (n₀ : ℕ) (R : Res Why (List Val.Value)) (i listed top at : ℕ) (f : Value) (k : Held) (m : Meter) (c l h w : List ℕ) : Type 0 where
     pub tree : Tree
     pub reads : Reads left s p e tree at
-    pub left_over : turns ≡ count tree
+    pub left_over : i + count tree ≡ wanted_by t
     pub done : i + count tree ≡ n₀
     pub values : List Val.Value
     pub ws : List Ev.Wish
@@ -203,27 +201,17 @@ module _ (deck rows names s c₀ l₀ h₀ w₀ : List ℕ) (from left u : ℕ) 
     pub shows : Shows deck rows names c l h w top x m B
     pub below : Below u w₀ w
 
-  pub record Taking (turns i listed top at : ℕ) (f : Value) (k : Held) (m : Meter) (c l h w : List ℕ) : Type 0 where
-    pub low : turns ≤ wanted_by t
-    pub cells_size : length c ≡ length c₀
-    pub low_size : length l ≡ length l₀
-    pub high_size : length h ≡ length h₀
-    pub work_size : length w ≡ length w₀
+  pub record Taking (i listed top at : ℕ) (f : Value) (k : Held) (m : Meter) (c l h w : List ℕ) : Type 0 where
     pub is : (B : World) → Shows deck rows names c₀ l₀ h₀ w₀ u x m₀ B → (p : ℕ) (y : Tree) (e : ℕ) → E.arguments mixed (inside_of left s p) s (length s) from ≡ read (parsed y e) → wanted_by t ≡ count y
         → (ws : List Ev.Wish) → Coming deck names x.names t 0 (first_listed t) ws → count y ≤ length ws → length ws ≤ 256
-        → Took B p e ws (count y) (taken x y ws u (world_in B c₀ l₀ h₀ m₀.used)) turns i listed top at f k m c l h w
+        → Took B p e ws (count y) (taken x y ws u (world_in B c₀ l₀ h₀ m₀.used)) i listed top at f k m c l h w
 
-  pub taking_start : (f : Value) (k : Held) → length k.numbers ≡ 256 → (listed n : ℕ) → listed ≡ first_listed t → n ≡ wanted_by t → Taking n 0 listed u from f k m₀ c₀ l₀ h₀ w₀
-  taking_start f k z listed n el en = record {
-    low = omega (arith, en);
-    cells_size = refl;
-    low_size = refl;
-    high_size = refl;
-    work_size = refl;
+  pub taking_start : (f : Value) (k : Held) → length k.numbers ≡ 256 → (listed : ℕ) → listed ≡ first_listed t → Taking 0 listed u from f k m₀ c₀ l₀ h₀ w₀
+  taking_start f k z listed el = record {
     is = λ B sh p y e q g ws co a b. record {
       tree = y;
       reads = record { fuel = length s; rests = going q };
-      left_over = en ∙ g;
+      left_over = omega (arith, g);
       done = rw zero-add;
       values = [];
       ws = ws;
@@ -238,8 +226,8 @@ module _ (deck rows names s c₀ l₀ h₀ w₀ : List ℕ) (from left u : ℕ) 
     };
   }
 
-  module _ (turns i listed top at : ℕ) (f : Value) (k : Held) (m : Meter) (c l h w : List ℕ) (ta : Taking turns i listed top at f k m c l h w) where
-    end_by : turns ≤ 0 → (B : World) (p e : ℕ) (ws₀ : List Ev.Wish) (n₀ : ℕ) (R : Res Why (List Val.Value)) → Took B p e ws₀ n₀ R turns i listed top at f k m c l h w → Args B u w₀ c l h w f k ws₀ n₀ e R (Oc.Upto at m)
+  module _ (i listed top at : ℕ) (f : Value) (k : Held) (m : Meter) (c l h w : List ℕ) (ta : Taking i listed top at f k m c l h w) where
+    end_by : wanted_by t ≤ i → (B : World) (p e : ℕ) (ws₀ : List Ev.Wish) (n₀ : ℕ) (R : Res Why (List Val.Value)) → Took B p e ws₀ n₀ R i listed top at f k m c l h w → Args B u w₀ c l h w ws₀ n₀ e R (Ok (record { held = k; first = f; to = at; meter = m }))
     end_by o B p e ws₀ n₀ R j =
         let z : count j.tree ≡ 0 = omega (arith, o, j.left_over) in
         let v : (j.tree ≡ none) × (at ≡ e) = over left s p e j.tree at j.reads.fuel j.reads.rests z in
@@ -262,13 +250,13 @@ module _ (deck rows names s c₀ l₀ h₀ w₀ : List ℕ) (from left u : ℕ) 
           slots = j.shows.slots;
         }
 
-    pub taking_end : turns ≤ 0 → TakenIs deck s rows names c₀ l₀ h₀ w₀ from left u t x m₀ c l h w f k (Oc.Upto at m)
+    pub taking_end : wanted_by t ≤ i → TakenIs deck s rows names c₀ l₀ h₀ w₀ from left u t x m₀ c l h w (Ok (record { held = k; first = f; to = at; meter = m }))
     taking_end o = record { is = λ B sh p y e q g ws co a b. end_by o B p e ws (count y) _ (ta.is B sh p y e q g ws co a b) }
 
-    module _ (o : 0 < turns) (r : Wished) (wi : WishIs deck names x.names t i listed r) (c₁ l₁ h₁ w₁ : List ℕ) (z₁ : length w₁ ≡ length w) (b : Evaluated)
+    module _ (o : i < wanted_by t) (r : Wished) (wi : WishIs deck names x.names t i listed r) (c₁ l₁ h₁ w₁ : List ℕ) (z₁ : length w₁ ≡ length w) (b : Evaluated)
         (g : Evaluates deck rows names c l h w top x m c₁ l₁ h₁ w₁ b (inside_of left s 0 at)) (w₂ : List ℕ) (y : Evaluated) (ww : WithWish w₁ top r.wish b w₂ y) where
       -- the argument that was taken now
-      pub record Now (B : World) (p e : ℕ) (ws₀ : List Ev.Wish) (n₀ : ℕ) (R : Res Why (List Val.Value)) (j : Took B p e ws₀ n₀ R turns i listed top at f k m c l h w) : Type 0 where
+      pub record Now (B : World) (p e : ℕ) (ws₀ : List Ev.Wish) (n₀ : ℕ) (R : Res Why (List Val.Value)) (j : Took B p e ws₀ n₀ R i listed top at f k m c l h w) : Type 0 where
         pub step : Step left s p e j.tree at
         pub wish : Ev.Wish
         pub wishes : List Ev.Wish
@@ -281,7 +269,7 @@ module _ (deck rows names s c₀ l₀ h₀ w₀ : List ℕ) (from left u : ℕ) 
         pub limit : (meter_of y).limit ≡ B.limit
         pub slots : Slots B.denotations c₁ l₁ h₁
 
-      now_with : (B : World) (p e : ℕ) (ws₀ : List Ev.Wish) (n₀ : ℕ) (R : Res Why (List Val.Value)) (j : Took B p e ws₀ n₀ R turns i listed top at f k m c l h w) (st : Step left s p e j.tree at) (ws : List Ev.Wish) → j.ws ≡ ws → 0 < length ws → Now B p e ws₀ n₀ R j
+      now_with : (B : World) (p e : ℕ) (ws₀ : List Ev.Wish) (n₀ : ℕ) (R : Res Why (List Val.Value)) (j : Took B p e ws₀ n₀ R i listed top at f k m c l h w) (st : Step left s p e j.tree at) (ws : List Ev.Wish) → j.ws ≡ ws → 0 < length ws → Now B p e ws₀ n₀ R j
       now_with B p e ws₀ n₀ R j st [] q n = absurd (omega (arith, n))
       now_with B p e ws₀ n₀ R j st (g₁ ∷ gs) q n =
           let cm : Coming deck names x.names t i listed (g₁ ∷ gs) = rw q at j.coming in
@@ -302,11 +290,11 @@ module _ (deck rows names s c₀ l₀ h₀ w₀ : List ℕ) (from left u : ℕ) 
             slots = G.slots;
           }
 
-      now : (B : World) (p e : ℕ) (ws₀ : List Ev.Wish) (n₀ : ℕ) (R : Res Why (List Val.Value)) (j : Took B p e ws₀ n₀ R turns i listed top at f k m c l h w) → Now B p e ws₀ n₀ R j
+      now : (B : World) (p e : ℕ) (ws₀ : List Ev.Wish) (n₀ : ℕ) (R : Res Why (List Val.Value)) (j : Took B p e ws₀ n₀ R i listed top at f k m c l h w) → Now B p e ws₀ n₀ R j
       now B p e ws₀ n₀ R j = now_with B p e ws₀ n₀ R j (step left s p e j.tree at j.reads.fuel j.reads.rests (omega (arith, o, j.left_over))) j.ws refl (omega (arith, o, j.left_over, j.enough))
 
       -- the whole, by what was taken now
-      whole : (B : World) (p e : ℕ) (ws₀ : List Ev.Wish) (n₀ : ℕ) (R : Res Why (List Val.Value)) (j : Took B p e ws₀ n₀ R turns i listed top at f k m c l h w) (q : Now B p e ws₀ n₀ R j)
+      whole : (B : World) (p e : ℕ) (ws₀ : List Ev.Wish) (n₀ : ℕ) (R : Res Why (List Val.Value)) (j : Took B p e ws₀ n₀ R i listed top at f k m c l h w) (q : Now B p e ws₀ n₀ R j)
           → bind (bind (res_in B c₁ l₁ h₁ w₂ top y) (λ a z. bind (taken x q.step.rest q.wishes (top + Val.size_of a) z) (λ ys r. good (a ∷ ys) r))) (λ ys r. good (j.values ++ ys) r) ≡ R
       whole B p e ws₀ n₀ R j q =
           ap (λ (a : Res Why Val.Value). bind (bind a (λ a z. bind (taken x q.step.rest q.wishes (top + Val.size_of a) z) (λ ys r. good (a ∷ ys) r))) (λ ys r. good (j.values ++ ys) r)) q.value
@@ -315,23 +303,23 @@ module _ (deck rows names s c₀ l₀ h₀ w₀ : List ℕ) (from left u : ℕ) 
           ∙ ap (λ (a : List Ev.Wish). bind (taken x j.tree a top (world_in B c l h m.used)) (λ ys r. good (j.values ++ ys) r)) (sym q.ws_is)
           ∙ j.same
 
-      failed_by : (a : Why) (n : Meter) → y ≡ Failed a n → (f₁ : Value) (k₁ : Held) (B : World) (p e : ℕ) (ws₀ : List Ev.Wish) (n₀ : ℕ) (R : Res Why (List Val.Value)) (j : Took B p e ws₀ n₀ R turns i listed top at f k m c l h w) → Now B p e ws₀ n₀ R j → Args B u w₀ c₁ l₁ h₁ w₂ f₁ k₁ ws₀ n₀ e R (Oc.Failed a n)
-      failed_by a n ey f₁ k₁ B p e ws₀ n₀ R j q = record {
+      failed_by : (a : Why) (n : Meter) → y ≡ Failed a n → (B : World) (p e : ℕ) (ws₀ : List Ev.Wish) (n₀ : ℕ) (R : Res Why (List Val.Value)) (j : Took B p e ws₀ n₀ R i listed top at f k m c l h w) → Now B p e ws₀ n₀ R j → Args B u w₀ c₁ l₁ h₁ w₂ ws₀ n₀ e R (Err (a, n))
+      failed_by a n ey B p e ws₀ n₀ R j q = record {
         is = sym (whole B p e ws₀ n₀ R j q) ∙ rw ey;
         below = below_then u top w₀ w w₂ j.below (path_place w f k 0 u ws₀ j.values i top j.ws j.path).1 q.below;
         limit = rw ey at q.limit;
         slots = q.slots;
       }
 
-      pub taking_failed : (a : Why) (n : Meter) → y ≡ Failed a n → TakenIs deck s rows names c₀ l₀ h₀ w₀ from left u t x m₀ c₁ l₁ h₁ w₂ f k (Oc.Failed a n)
-      taking_failed a n ey = record { is = λ B sh p d e q g ws co a₁ b₁. let j : Took B p e ws (count d) (taken x d ws u (world_in B c₀ l₀ h₀ m₀.used)) turns i listed top at f k m c l h w = ta.is B sh p d e q g ws co a₁ b₁ in failed_by a n ey f k B p e ws (count d) _ j (now B p e ws (count d) _ j) }
+      pub taking_failed : (a : Why) (n : Meter) → y ≡ Failed a n → TakenIs deck s rows names c₀ l₀ h₀ w₀ from left u t x m₀ c₁ l₁ h₁ w₂ (Err (a, n))
+      taking_failed a n ey = record { is = λ B sh p d e q g ws co a₁ b₁. let j : Took B p e ws (count d) (taken x d ws u (world_in B c₀ l₀ h₀ m₀.used)) i listed top at f k m c l h w = ta.is B sh p d e q g ws co a₁ b₁ in failed_by a n ey B p e ws (count d) _ j (now B p e ws (count d) _ j) }
 
       module _ (v : Value) (q₁ : ℕ) (n : Meter) (ey : y ≡ Is v q₁ n) (k' : Held) (hw : HeldWith k i v k') (f' : Value) (ef : f' ≡ cond (ltb i 1) v f) (z top' : ℕ) (ez : z ≡ size_for v) (et : top' ≡ top_of top z)
-          (lx : Lexeme) (lex : Lexed s q₁ lx) (i' : ℕ) (ei : i' ≡ sum_to greatest i 1) (z₂ : length w₂ ≡ length w₁) where
+          (lx : Lexeme) (lex : Lexed s q₁ lx) (i' : ℕ) (ei : i' ≡ i + 1) (z₂ : length w₂ ≡ length w₁) where
         first_kept : 0 < i → f' ≡ f
         first_kept h = ef ∙ rw (le-ltb i 1 (omega (arith, h)))
 
-        one_by : (B : World) (p e : ℕ) (ws₀ : List Ev.Wish) (n₀ : ℕ) (R : Res Why (List Val.Value)) (j : Took B p e ws₀ n₀ R turns i listed top at f k m c l h w) (tr : Tree) (gs : List Ev.Wish) → i < 256 → top + size_for v ≤ 65536 → (g₁ : Ev.Wish) → Coming deck names x.names t i listed (g₁ ∷ gs)
+        one_by : (B : World) (p e : ℕ) (ws₀ : List Ev.Wish) (n₀ : ℕ) (R : Res Why (List Val.Value)) (j : Took B p e ws₀ n₀ R i listed top at f k m c l h w) (tr : Tree) (gs : List Ev.Wish) → i < 256 → top + size_for v ≤ 65536 → (g₁ : Ev.Wish) → Coming deck names x.names t i listed (g₁ ∷ gs)
             → good (value_in w₂ top v) (world_in B c₁ l₁ h₁ n.used) ≡ wished_on top g₁ (value_of x tr top (world_in B c l h m.used)) → One w₂ f' k' i top g₁ (value_in w₂ top v) (size_for v)
         one_by B p e ws₀ n₀ R j tr gs sm ft (Ev.as_type q) cm ev =
             let ty : Typed q v = wished_typed top q (value_of x tr top (world_in B c l h m.used)) w₂ v (world_in B c₁ l₁ h₁ n.used) (sym ev) (λ a zz ee. value_fine B c l h x tr top m.used a zz j.shows.slots ee) in
@@ -342,12 +330,12 @@ module _ (deck rows names s c₀ l₀ h₀ w₀ : List ℕ) (from left u : ℕ) 
             let fv : f' ≡ v = ef ∙ rw (lt-ltb i 1 (omega (arith, i0))) in
             (ap (value_in w₂ top) (sym fv), ap size_for (sym fv), ft)
 
-        more_by : (B : World) (p e : ℕ) (ws₀ : List Ev.Wish) (n₀ : ℕ) (R : Res Why (List Val.Value)) (j : Took B p e ws₀ n₀ R turns i listed top at f k m c l h w) → Now B p e ws₀ n₀ R j → Took B p e ws₀ n₀ R (turns - 1) i' r.to top' lx.to f' k' n c₁ l₁ h₁ w₂
+        more_by : (B : World) (p e : ℕ) (ws₀ : List Ev.Wish) (n₀ : ℕ) (R : Res Why (List Val.Value)) (j : Took B p e ws₀ n₀ R i listed top at f k m c l h w) → Now B p e ws₀ n₀ R j → Took B p e ws₀ n₀ R i' r.to top' lx.to f' k' n c₁ l₁ h₁ w₂
         more_by B p e ws₀ n₀ R j q =
             let sm : i < 256 = (let d : length j.ws ≡ suc (length q.wishes) = ap length q.ws_is in omega (arith, d, j.few)) in
             let ft : top + size_for v ≤ 65536 = rw ey at q.fits in
             let tp : top' ≡ top + size_for v = et ∙ ap (top_of top) ez ∙ top_in_lem top (size_for v) ft in
-            let ii : i' ≡ suc i = ei ∙ sum_fits i 1 (omega (arith, sm)) ∙ add-one i in
+            let ii : i' ≡ suc i = ei ∙ add-one i in
             let ev : good (value_in w₂ top v) (world_in B c₁ l₁ h₁ n.used) ≡ wished_on top q.wish (value_of x q.step.first.tree top (world_in B c l h m.used)) = rw ey at q.value in
             let on : One w₂ f' k' i top q.wish (value_in w₂ top v) (size_for v) = one_by B p e ws₀ n₀ R j q.step.first.tree q.wishes sm ft q.wish (rw q.ws_is at j.coming) ev in
             let pk : Path w₂ f' k' 0 u ws₀ j.values i top j.ws = path_kept w w₂ f f' k k' i top j.ws q.below (held_other k i v k' hw sm j.sized) first_kept 0 u ws₀ j.values j.path in
@@ -360,7 +348,7 @@ module _ (deck rows names s c₀ l₀ h₀ w₀ : List ℕ) (from left u : ℕ) 
             record {
               tree = q.step.rest;
               reads = rw (lex.to, qe) q.step.reads;
-              left_over = omega (arith, j.left_over, cn);
+              left_over = omega (arith, ii, j.left_over, cn);
               done = omega (arith, ii, j.done, cn);
               values = j.values ++ value_in w₂ top v ∷ [];
               ws = q.wishes;
@@ -374,12 +362,7 @@ module _ (deck rows names s c₀ l₀ h₀ w₀ : List ℕ) (from left u : ℕ) 
               below = below_then u top w₀ w w₂ j.below (path_place w f k 0 u ws₀ j.values i top j.ws j.path).1 q.below;
             }
 
-        pub taking_more : length c₁ ≡ length c → length l₁ ≡ length l → length h₁ ≡ length h → Taking (turns - 1) i' r.to top' lx.to f' k' n c₁ l₁ h₁ w₂
-        taking_more zc zl zh = record {
-          low = omega (arith, ta.low);
-          cells_size = zc ∙ ta.cells_size;
-          low_size = zl ∙ ta.low_size;
-          high_size = zh ∙ ta.high_size;
-          work_size = z₂ ∙ z₁ ∙ ta.work_size;
-          is = λ B sh p d e q g ws co a₁ b₁. let j : Took B p e ws (count d) (taken x d ws u (world_in B c₀ l₀ h₀ m₀.used)) turns i listed top at f k m c l h w = ta.is B sh p d e q g ws co a₁ b₁ in more_by B p e ws (count d) _ j (now B p e ws (count d) _ j);
+        pub taking_more : Taking i' r.to top' lx.to f' k' n c₁ l₁ h₁ w₂
+        taking_more = record {
+          is = λ B sh p d e q g ws co a₁ b₁. let j : Took B p e ws (count d) (taken x d ws u (world_in B c₀ l₀ h₀ m₀.used)) i listed top at f k m c l h w = ta.is B sh p d e q g ws co a₁ b₁ in more_by B p e ws (count d) _ j (now B p e ws (count d) _ j);
         }

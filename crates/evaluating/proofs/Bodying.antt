@@ -1,9 +1,10 @@
 -- The statements of a body: each leads where the definition's does.
 -- Assumes nothing.
+use mathlib.Core.Logic.{◌⊎◌, inl, inr}
 use mathlib.Core.Path.{◌≡◌, refl, sym, ap, subst, ◌∙◌}
 use mathlib.Core.Bool.{Bool, true, false, cond}
 use mathlib.Core.List.{List, ◌∷◌}
-use Prim.Native.Nat.{ℕ, ◌+◌, ◌-◌, ◌<◌}
+use Prim.Native.Nat.{ℕ, ◌+◌, ◌<◌}
 use native.Mathlib.Omega.{arith}
 use lib.ListN.{length, get_or}
 use Rattle.definition.specs.Bytes.{mixed}
@@ -566,8 +567,17 @@ module _ (deck s t rows names c l h w : List ℕ) (p : Place) (n : ℕ) (fs : Fr
     kind_of_lem : (k : Statement) → q.statement ≡ k → (row_in t n).statement ≡ k
     kind_of_lem k e = ap (λ (i : Row). i.statement) (sym eq) ∙ e
 
-    pub row_passed : (k : Statement) → q.statement ≡ k → passed_kind k ≡ true → (r : Turned) → r ≡ turned_by fs (after_done (Dn.Good m) (behind_on t fs (n + 1) n)) → StatementIs deck s t rows names c l h w p n fs u x m c l h w r
+    row_passed : (k : Statement) → q.statement ≡ k → passed_kind k ≡ true → (r : Turned) → r ≡ turned_by fs (after_done (Dn.Good m) (behind_on t fs (n + 1) n)) → StatementIs deck s t rows names c l h w p n fs u x m c l h w r
     row_passed k e f = statement_passed (rw (kind_of_lem k e) f)
+
+    pub row_other : (q.statement ≡ S.Null) ⊎ ((q.statement ≡ S.Declare) ⊎ ((q.statement ≡ S.Procedure) ⊎ ((q.statement ≡ S.Include) ⊎ ((q.statement ≡ S.Activate) ⊎ (q.statement ≡ S.Deactivate))))) → (r : Turned)
+        → r ≡ turned_by fs (after_done (Dn.Good m) (behind_on t fs (n + 1) n)) → StatementIs deck s t rows names c l h w p n fs u x m c l h w r
+    row_other (inl e) = row_passed S.Null e refl
+    row_other (inr (inl e)) = row_passed S.Declare e refl
+    row_other (inr (inr (inl e))) = row_passed S.Procedure e refl
+    row_other (inr (inr (inr (inl e)))) = row_passed S.Include e refl
+    row_other (inr (inr (inr (inr (inl e))))) = row_passed S.Activate e refl
+    row_other (inr (inr (inr (inr (inr e))))) = row_passed S.Deactivate e refl
 
     pub row_assign : q.statement ≡ S.Assign → (c' l' h' w' : List ℕ) (d : Done) → AssignIs deck s rows names c l h w q.content u x m c' l' h' w' d → (r : Turned) → r ≡ turned_by fs (after_done d (behind_on t fs (n + 1) n))
         → StatementIs deck s t rows names c l h w p n fs u x m c' l' h' w' r

@@ -1,5 +1,6 @@
 -- One law for each way out of the functions that read an expression again and evaluate it.
 -- Assumes nothing.
+use mathlib.Core.Logic.{◌⊎◌, inl, inr}
 use mathlib.Core.Path.{◌≡◌, refl, sym, ap, subst, ◌∙◌}
 use mathlib.Core.Bool.{Bool, true, false, cond}
 use mathlib.Core.List.{List, [], ◌∷◌}
@@ -87,8 +88,12 @@ module _ (deck rows names s c l h w : List ℕ) (at n left u : ℕ) (x : Scene) 
           slots = G.slots;
         }
 
-    pub levels_failed : (f : Why) (k : Meter) → y ≡ Failed f k → Evaluates deck rows names c l h w u x m c₁ l₁ h₁ w₁ (Failed f k) (levels_in left s n at)
-    levels_failed f k i = record { is = λ B sh t e q. let j : IsRead (levels_in left s (n - 1) at) (λ r. chained r.tree r.to) (parsed t e) = levels_first (operand_in left s) s n at t e big q in failed_by f k i B sh t e j.first j.is j.rest }
+    pub levels_failed : ((v : Value) (q : ℕ) (k : Meter) → y ≡ Is v q k → ⊥) → Evaluates deck rows names c l h w u x m c₁ l₁ h₁ w₁ y (levels_in left s n at)
+    levels_failed over = by y refl
+      where
+        by : (a : Evaluated) → y ≡ a → Evaluates deck rows names c l h w u x m c₁ l₁ h₁ w₁ a (levels_in left s n at)
+        by (Is v q k) i = absurd (over v q k i)
+        by (Failed f k) i = record { is = λ B sh t e q. let j : IsRead (levels_in left s (n - 1) at) (λ r. chained r.tree r.to) (parsed t e) = levels_first (operand_in left s) s n at t e big q in failed_by f k i B sh t e j.first j.is j.rest }
 
     module _ (v : Value) (q : ℕ) (k : Meter) (i : y ≡ Is v q k) (z₁ : length w₁ ≡ length w) (c₂ l₂ h₂ w₂ : List ℕ) (r : Evaluated) (ch : Chains deck rows names s c₁ l₁ h₁ w₁ v q (n - 1) left u x k c₂ l₂ h₂ w₂ r) where
       chain_by : (B : World) → Shows deck rows names c l h w u x m B → (t : Tree) (e : ℕ) (z : Parsed) → levels_in left s (n - 1) at ≡ read z → chained z.tree z.to ≡ read (parsed t e) → Gave B u w c₂ l₂ h₂ w₂ r e (value_of x t u (world_in B c l h m.used))
@@ -132,21 +137,11 @@ module _ (deck rows names s c₀ l₀ h₀ w₀ : List ℕ) (v : Value) (from le
     pub below : Below u w₀ w
 
   pub record Chaining (turns : ℕ) (y : Value) (at : ℕ) (m : Meter) (c l h w : List ℕ) : Type 0 where
-    pub low : turns ≤ length s + 1
-    pub cells_size : length c ≡ length c₀
-    pub low_size : length l ≡ length l₀
-    pub high_size : length h ≡ length h₀
-    pub work_size : length w ≡ length w₀
     pub is : (B : World) → Shows deck rows names c₀ l₀ h₀ w₀ u x m₀ B → u + size_for v ≤ 65536 → (t₀ : Tree) (z₀ : World) → value_of x t₀ u z₀ ≡ good (value_in w₀ u v) (world_in B c₀ l₀ h₀ m₀.used)
         → (t : Tree) (e : ℕ) → chain mixed level next s (suc (length s)) t₀ from ≡ read (parsed t e) → Chained B z₀ (parsed t e) turns y at m c l h w
 
   pub chaining_start : (n : ℕ) → n ≡ length s + 1 → Chaining n v from m₀ c₀ l₀ h₀ w₀
   chaining_start n e = record {
-    low = omega (arith, e);
-    cells_size = refl;
-    low_size = refl;
-    high_size = refl;
-    work_size = refl;
     is = λ B sh f t₀ z₀ a t q b. let d : n ≡ suc (length s) = omega (arith, e) in record { tree = t₀; value = a; same = rw d b; shows = sh; fits = f; below = below_same u w₀ };
   }
 
@@ -241,13 +236,8 @@ module _ (deck rows names s c₀ l₀ h₀ w₀ : List ℕ) (v : Value) (from le
               below = below_then u u w₀ w w₂ j.below (omega arith) a.below;
             }
 
-        pub chaining_more : (y' : Value) (p : ℕ) (i : Meter) → r ≡ Is y' p i → length c₁ ≡ length c → length l₁ ≡ length l → length h₁ ≡ length h → length w₂ ≡ length w₁ → Chaining (turns - 1) y' p i c₁ l₁ h₁ w₂
-        chaining_more y' p i ri zc zl zh z₂ = record {
-          low = omega (arith, k.low);
-          cells_size = zc ∙ k.cells_size;
-          low_size = zl ∙ k.low_size;
-          high_size = zh ∙ k.high_size;
-          work_size = z₂ ∙ z₁ ∙ k.work_size;
+        pub chaining_more : (y' : Value) (p : ℕ) (i : Meter) → r ≡ Is y' p i → length w₂ ≡ length w₁ → (fewer : ℕ) → fewer ≡ turns - 1 → Chaining fewer y' p i c₁ l₁ h₁ w₂
+        chaining_more y' p i ri z₂ fewer ef = rw ef record {
           is = λ B sh ff t₀ z₀ a t e d. let j : Chained B z₀ (parsed t e) turns y at m c l h w = k.is B sh ff t₀ z₀ a t e d in on_with y' p i ri z₂ B z₀ (parsed t e) j (after B z₀ (parsed t e) j);
         }
 
@@ -319,13 +309,10 @@ module _ (deck rows names s c l h w : List ℕ) (at left u : ℕ) (x : Scene) (m
   unfolding primitive
   primitive_bits e w' r k = constant_by (E.bits_of (content s t.from)) (here_is K.Bits e) w' r k
 
-  pub primitive_nothing : t.kind ≡ K.Nothing → (c' l' h' w' : List ℕ) (r : Evaluated) → Evaluates deck rows names c l h w u x m c' l' h' w' r here
+  pub primitive_none : (t.kind ≡ K.Nothing) ⊎ (t.kind ≡ K.Wrong) → (c' l' h' w' : List ℕ) (r : Evaluated) → Evaluates deck rows names c l h w u x m c' l' h' w' r here
   unfolding primitive
-  primitive_nothing e c' l' h' w' r = record { is = λ B sh y q i. never Syntax t.from (parsed y q) (sym (here_is K.Nothing e) ∙ i) }
-
-  pub primitive_wrong : t.kind ≡ K.Wrong → (c' l' h' w' : List ℕ) (r : Evaluated) → Evaluates deck rows names c l h w u x m c' l' h' w' r here
-  unfolding primitive
-  primitive_wrong e c' l' h' w' r = record { is = λ B sh y q i. never Syntax t.from (parsed y q) (sym (here_is K.Wrong e) ∙ i) }
+  primitive_none (inl e) c' l' h' w' r = record { is = λ B sh y q i. never Syntax t.from (parsed y q) (sym (here_is K.Nothing e) ∙ i) }
+  primitive_none (inr e) c' l' h' w' r = record { is = λ B sh y q i. never Syntax t.from (parsed y q) (sym (here_is K.Wrong e) ∙ i) }
 
   -- a name
   abbrev named : Named
@@ -471,11 +458,8 @@ plain_named deck rows names c l h w u to x m y w' r e k = record {
   };
 }
 
-pub named_variable : (deck rows names c l h w : List ℕ) (u to : ℕ) (x : Scene) (m : Meter) (y : Meant) (w' : List ℕ) (r : Evaluated) (a : ℕ) (v : ValueType) → y ≡ M.AVariable a v → PlainIs c l h w u m y to w' r → NameIs deck rows names c l h w u x m y to c l h w' r
-named_variable deck rows names c l h w u to x m y w' r a v e k = plain_named deck rows names c l h w u to x m y w' r (rw e) k
-
-pub named_substr : (deck rows names c l h w : List ℕ) (u to : ℕ) (x : Scene) (m : Meter) (y : Meant) (w' : List ℕ) (r : Evaluated) → y ≡ M.TheSubstr → PlainIs c l h w u m y to w' r → NameIs deck rows names c l h w u x m y to c l h w' r
-named_substr deck rows names c l h w u to x m y w' r e k = plain_named deck rows names c l h w u to x m y w' r (rw e) k
-
-pub named_none : (deck rows names c l h w : List ℕ) (u to : ℕ) (x : Scene) (m : Meter) (y : Meant) (w' : List ℕ) (r : Evaluated) → y ≡ M.NoSuch → PlainIs c l h w u m y to w' r → NameIs deck rows names c l h w u x m y to c l h w' r
-named_none deck rows names c l h w u to x m y w' r e k = plain_named deck rows names c l h w u to x m y w' r (rw e) k
+pub named_other : (deck rows names c l h w : List ℕ) (u to : ℕ) (x : Scene) (m : Meter) (y : Meant) (w' : List ℕ) (r : Evaluated) → ((a : ℕ) × (v : ValueType) × (y ≡ M.AVariable a v)) ⊎ ((y ≡ M.TheSubstr) ⊎ (y ≡ M.NoSuch)) → PlainIs c l h w u m y to w' r
+    → NameIs deck rows names c l h w u x m y to c l h w' r
+named_other deck rows names c l h w u to x m y w' r (inl (a, v, e)) k = plain_named deck rows names c l h w u to x m y w' r (rw e) k
+named_other deck rows names c l h w u to x m y w' r (inr (inl e)) k = plain_named deck rows names c l h w u to x m y w' r (rw e) k
+named_other deck rows names c l h w u to x m y w' r (inr (inr e)) k = plain_named deck rows names c l h w u to x m y w' r (rw e) k

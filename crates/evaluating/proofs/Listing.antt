@@ -3,8 +3,9 @@
 use mathlib.Core.Path.{◌≡◌, refl, sym, ap, subst, ◌∙◌}
 use mathlib.Core.Bool.{Bool, true, false, cond}
 use mathlib.Core.List.{List, [], ◌∷◌}
-use Prim.Native.Nat.{ℕ, suc, ◌+◌, ◌-◌, ◌≤◌}
+use Prim.Native.Nat.{ℕ, suc, ◌+◌, ◌≤◌}
 use native.Mathlib.Omega.{arith}
+use Rattle.std.specs.Prelude.{Result, Ok, Err}
 use lib.ListN.{length}
 use Rattle.definition.specs.Bytes.{mixed}
 use Rattle.definition.specs.Choice.{when}
@@ -31,8 +32,7 @@ use Rattle.operands.specs.declared.Evaluated.{Evaluated}
 use Rattle.operands.specs.declared.Evaluated.TheVariants.{Is, Failed}
 use Rattle.operands.specs.declared.Target.{Target}
 use Rattle.operands.specs.declared.Target.TheVariants as T
-use Rattle.evaluating.specs.declared.Outcome.{Outcome}
-use Rattle.evaluating.specs.declared.Outcome.TheVariants as Oc
+use Rattle.evaluating.specs.declared.Taken.{Taken}
 use Rattle.operands.specs.Shown.{Shows}
 use Rattle.operands.specs.Answer.{with_end, Gave, run_in}
 use Rattle.operands.specs.Takes.{Coming, first_listed, wanted_by, Path, substr_values, SubstrDone}
@@ -172,7 +172,7 @@ module _ (deck s rows names c l h w : List ℕ) (at left u : ℕ) (x : Scene) (m
   pub listed_fails : (f : Why) → aim ≡ A.Fails f → ListedIs deck s rows names c l h w at left u x m y c l h w (Failed f m)
   listed_fails f e = record { is = λ B₁ sh me p t q r. no B₁ sh q f _ (fails_by f B₁ sh t (cn.is p t q r) y (rw e at ai.is) me) }
 
-  module _ (t : Target) (et : aim ≡ A.At t) (c₁ l₁ h₁ w₁ : List ℕ) (z₁ : length w₁ ≡ length w) (f : Value) (k : Held) (o : Outcome) (ti : TakenIs deck s rows names c l h w at left u t x m c₁ l₁ h₁ w₁ f k o) where
+  module _ (t : Target) (et : aim ≡ A.At t) (c₁ l₁ h₁ w₁ : List ℕ) (z₁ : length w₁ ≡ length w) (o : Result Taken (Why × Meter)) (ti : TakenIs deck s rows names c l h w at left u t x m c₁ l₁ h₁ w₁ o) where
     -- the whole is what is made of the arguments
     pub record Aimed (B₁ : World) (tr : Tree) (t₁ : Target) : Type 0 where
       pub ws : List Ev.Wish
@@ -246,18 +246,30 @@ module _ (deck s rows names c l h w : List ℕ) (at left u : ℕ) (x : Scene) (m
     aimed : (B₁ : World) → Shows deck rows names c l h w u x m B₁ → Means y B₁ → (tr : Tree) → n ≡ count tr → Aimed B₁ tr t
     aimed B₁ sh me tr en = aimed_by B₁ sh tr en y refl (rw et at ai.is) me
 
-    args : (B₁ : World) → Shows deck rows names c l h w u x m B₁ → (p : ℕ) (tr : Tree) (e : ℕ) → E.arguments mixed (inside_of left s p) s (length s) at ≡ read (parsed tr e) → (a : Aimed B₁ tr t) → Args B₁ u w c₁ l₁ h₁ w₁ f k a.ws (count tr) e (asked x tr a.ws u (world_in B₁ c l h m.used)) o
+    args : (B₁ : World) → Shows deck rows names c l h w u x m B₁ → (p : ℕ) (tr : Tree) (e : ℕ) → E.arguments mixed (inside_of left s p) s (length s) at ≡ read (parsed tr e) → (a : Aimed B₁ tr t) → Args B₁ u w c₁ l₁ h₁ w₁ a.ws (count tr) e (asked x tr a.ws u (world_in B₁ c l h m.used)) o
     args B₁ sh p tr e q a = ti.is B₁ sh p tr e q a.wanted a.ws a.coming a.enough a.few
 
-    refused_by : (g : Why) (m₁ : Meter) → o ≡ Oc.Failed g m₁ → (B₁ : World) → Shows deck rows names c l h w u x m B₁ → (tr : Tree) (e : ℕ) (a : Aimed B₁ tr t) → Args B₁ u w c₁ l₁ h₁ w₁ f k a.ws (count tr) e (asked x tr a.ws u (world_in B₁ c l h m.used)) o → Gave B₁ u w c₁ l₁ h₁ w₁ (Failed g m₁) e (named x tr (meant_for y) u (world_in B₁ c l h m.used))
+    refused_by : (g : Why) (m₁ : Meter) → o ≡ Err (g, m₁) → (B₁ : World) → Shows deck rows names c l h w u x m B₁ → (tr : Tree) (e : ℕ) (a : Aimed B₁ tr t) → Args B₁ u w c₁ l₁ h₁ w₁ a.ws (count tr) e (asked x tr a.ws u (world_in B₁ c l h m.used)) o → Gave B₁ u w c₁ l₁ h₁ w₁ (Failed g m₁) e (named x tr (meant_for y) u (world_in B₁ c l h m.used))
     refused_by g m₁ eo B₁ sh tr e a r =
         let q : asked x tr a.ws u (world_in B₁ c l h m.used) ≡ bad g m₁.used = rw eo at r.is in
         record { is = sym (a.value ∙ ap (λ (i : Res Why (List Val.Value)). bind i a.made) q); end = refl; below = r.below; fits = omega (arith, sh.taken); limit = rw eo at r.limit; slots = r.slots }
 
-    pub listed_refused : (g : Why) (m₁ : Meter) → o ≡ Oc.Failed g m₁ → ListedIs deck s rows names c l h w at left u x m y c₁ l₁ h₁ w₁ (Failed g m₁)
+    pub listed_refused : (g : Why) (m₁ : Meter) → o ≡ Err (g, m₁) → ListedIs deck s rows names c l h w at left u x m y c₁ l₁ h₁ w₁ (Failed g m₁)
     listed_refused g m₁ eo = record { is = λ B₁ sh me p tr e q. let a : Aimed B₁ tr t = aimed B₁ sh me tr (cn.is p tr e q) in refused_by g m₁ eo B₁ sh tr e a (args B₁ sh p tr e q a) }
 
-    module _ (to : ℕ) (m₁ : Meter) (eo : o ≡ Oc.Upto to m₁) where
+    module _ (got : Taken) (eo : o ≡ Ok got) where
+      abbrev f : Value
+      f = got.first
+
+      abbrev k : Held
+      k = got.held
+
+      abbrev to : ℕ
+      to = got.to
+
+      abbrev m₁ : Meter
+      m₁ = got.meter
+
       shows_now : (B₁ : World) → Shows deck rows names c l h w u x m B₁ → Slots B₁.denotations c₁ l₁ h₁ → m₁.limit ≡ B₁.limit → Shows deck rows names c₁ l₁ h₁ w₁ u x m₁ B₁
       shows_now B₁ sh sl lm = shows_as deck rows names c l h w u x m B₁ sh c₁ l₁ h₁ w₁ u m₁ sl z₁ sh.taken lm
 
@@ -266,7 +278,7 @@ module _ (deck s rows names c l h w : List ℕ) (at left u : ℕ) (x : Scene) (m
         up_gave B₁ (Is e q k) R g = record { is = g.is; end = refl; below = g.below; fits = g.fits; limit = g.limit; slots = g.slots }
         up_gave B₁ (Failed e k) R g = record { is = g.is; end = refl; below = g.below; fits = g.fits; limit = g.limit; slots = g.slots }
 
-        call_by : (B₁ : World) → Shows deck rows names c l h w u x m B₁ → (tr : Tree) (e : ℕ) (a : Aimed B₁ tr t) → Args B₁ u w c₁ l₁ h₁ w₁ f k a.ws (count tr) e (asked x tr a.ws u (world_in B₁ c l h m.used)) (Oc.Upto to m₁) → Gave B₁ u w c₂ l₂ h₂ w₂ r e (named x tr (meant_for y) u (world_in B₁ c l h m.used))
+        call_by : (B₁ : World) → Shows deck rows names c l h w u x m B₁ → (tr : Tree) (e : ℕ) (a : Aimed B₁ tr t) → Args B₁ u w c₁ l₁ h₁ w₁ a.ws (count tr) e (asked x tr a.ws u (world_in B₁ c l h m.used)) (Ok got) → Gave B₁ u w c₂ l₂ h₂ w₂ r e (named x tr (meant_for y) u (world_in B₁ c l h m.used))
         call_by B₁ sh tr e a g =
             let wt : Waits B₁ u c₁ l₁ h₁ w₁ f k a.ws (count tr) e (asked x tr a.ws u (world_in B₁ c l h m.used)) to m₁ = g.is in
             let ie : (q : Ev.Callee) × CalleeShown deck names x.names z q B₁ × (a.ws ≡ Ev.wishes q.parameters) × (length q.parameters ≡ count tr) × ((vs : List Val.Value) (W₁ : World) → a.made vs W₁ ≡ run_in x q vs u W₁) = a.is_entry_lem z ez in
@@ -277,10 +289,10 @@ module _ (deck s rows names c l h w : List ℕ) (at left u : ℕ) (x : Scene) (m
             rw (re, ← wt.end) (gave_over B₁ u w w₁ c₂ l₂ h₂ w₂ (with_end v to) to (named x tr (meant_for y) u (world_in B₁ c l h m.used)) g.below (gave_as B₁ u w₁ c₂ l₂ h₂ w₂ (with_end v to) to to (run_in x ie.0 (held_from w₁ k 0 u ie.0.parameters) u (world_in B₁ c₁ l₁ h₁ m₁.used)) (named x tr (meant_for y) u (world_in B₁ c l h m.used)) refl (sym Q) H))
 
         pub listed_call : ListedIs deck s rows names c l h w at left u x m y c₂ l₂ h₂ w₂ r
-        listed_call = record { is = λ B₁ sh me p tr e q. let a : Aimed B₁ tr t = aimed B₁ sh me tr (cn.is p tr e q) in call_by B₁ sh tr e a (subst (λ (i : Outcome). Args B₁ u w c₁ l₁ h₁ w₁ f k a.ws (count tr) e (asked x tr a.ws u (world_in B₁ c l h m.used)) i) eo (args B₁ sh p tr e q a)) }
+        listed_call = record { is = λ B₁ sh me p tr e q. let a : Aimed B₁ tr t = aimed B₁ sh me tr (cn.is p tr e q) in call_by B₁ sh tr e a (subst (λ (i : Result Taken (Why × Meter)). Args B₁ u w c₁ l₁ h₁ w₁ a.ws (count tr) e (asked x tr a.ws u (world_in B₁ c l h m.used)) i) eo (args B₁ sh p tr e q a)) }
 
       module _ (j : ℕ) (ej : t ≡ T.Substr j) (w₂ : List ℕ) (r : Evaluated) (sd : SubstrDone w₁ u n k f to m₁ w₂ r) where
-        substr_by : (B₁ : World) → Shows deck rows names c l h w u x m B₁ → (tr : Tree) (e : ℕ) (a : Aimed B₁ tr t) → Args B₁ u w c₁ l₁ h₁ w₁ f k a.ws (count tr) e (asked x tr a.ws u (world_in B₁ c l h m.used)) (Oc.Upto to m₁) → Gave B₁ u w c₁ l₁ h₁ w₂ r e (named x tr (meant_for y) u (world_in B₁ c l h m.used))
+        substr_by : (B₁ : World) → Shows deck rows names c l h w u x m B₁ → (tr : Tree) (e : ℕ) (a : Aimed B₁ tr t) → Args B₁ u w c₁ l₁ h₁ w₁ a.ws (count tr) e (asked x tr a.ws u (world_in B₁ c l h m.used)) (Ok got) → Gave B₁ u w c₁ l₁ h₁ w₂ r e (named x tr (meant_for y) u (world_in B₁ c l h m.used))
         substr_by B₁ sh tr e a g =
             let wt : Waits B₁ u c₁ l₁ h₁ w₁ f k a.ws (count tr) e (asked x tr a.ws u (world_in B₁ c l h m.used)) to m₁ = g.is in
             let ie : (a.ws ≡ Ev.substr_wishes) × ((eqb (count tr) 2 || eqb (count tr) 3) ≡ true) × (n ≡ count tr) × ((vs : List Val.Value) (W₁ : World) → a.made vs W₁ ≡ put u (Val.substr vs) W₁) = a.is_substr_lem j ej in
@@ -299,4 +311,4 @@ module _ (deck s rows names c l h w : List ℕ) (at left u : ℕ) (x : Scene) (m
             }
 
         pub listed_substr : ListedIs deck s rows names c l h w at left u x m y c₁ l₁ h₁ w₂ r
-        listed_substr = record { is = λ B₁ sh me p tr e q. let a : Aimed B₁ tr t = aimed B₁ sh me tr (cn.is p tr e q) in substr_by B₁ sh tr e a (subst (λ (i : Outcome). Args B₁ u w c₁ l₁ h₁ w₁ f k a.ws (count tr) e (asked x tr a.ws u (world_in B₁ c l h m.used)) i) eo (args B₁ sh p tr e q a)) }
+        listed_substr = record { is = λ B₁ sh me p tr e q. let a : Aimed B₁ tr t = aimed B₁ sh me tr (cn.is p tr e q) in substr_by B₁ sh tr e a (subst (λ (i : Result Taken (Why × Meter)). Args B₁ u w c₁ l₁ h₁ w₁ a.ws (count tr) e (asked x tr a.ws u (world_in B₁ c l h m.used)) i) eo (args B₁ sh p tr e q a)) }

@@ -317,9 +317,6 @@ module _ (deck s t rows names c₀ l₀ h₀ w₀ : List ℕ) (p : Place) (u : �
 
   pub record Runs (turns : ℕ) (y : Next) (fs : Frames) (m : Meter) (c l h w : List ℕ) : Type 0 where
     pub is : (B : World) → Shows deck rows names c₀ l₀ h₀ w₀ u x m₀ B → InBody deck s t rows x p B → Going B turns y fs m c l h w
-    pub cells_size : length c ≡ length c₀
-    pub low_size : length l ≡ length l₀
-    pub high_size : length h ≡ length h₀
     pub work_size : length w ≡ length w₀
 
   first_is : (a : D.Link) → next_from (C.first_of (link_of a)) ≡ Calls.first_of a
@@ -346,7 +343,7 @@ module _ (deck s t rows names c₀ l₀ h₀ w₀ : List ℕ) (p : Place) (u : �
         }
 
     pub runs_start : Runs k y fs m₀ c₀ l₀ h₀ w₀
-    runs_start = record { is = begun; cells_size = refl; low_size = refl; high_size = refl; work_size = refl }
+    runs_start = record { is = begun; work_size = refl }
 
   module _ (turns : ℕ) (y : Next) (fs : Frames) (m : Meter) (c l h w : List ℕ) (ru : Runs turns y fs m c l h w) (c' l' h' w' : List ℕ) (r : Turned) (ti : TurnIs deck s t rows names c l h w p y fs u x m c' l' h' w' r) where
     module _ (B : World) (sh : Shows deck rows names c₀ l₀ h₀ w₀ u x m₀ B) (ib : InBody deck s t rows x p B) where
@@ -411,12 +408,9 @@ module _ (deck s t rows names c₀ l₀ h₀ w₀ : List ℕ) (p : Place) (u : �
           let lv : Leaves B u w₀ c' l' h' w' k = leaves_now k (ap step_meter e) in
           record { is = sym R ∙ go.same; end = refl; below = lv.below; fits = omega (arith, sh.taken); limit = lv.limit; slots = lv.slots }
 
-    pub runs_more : (z : Next) (k : Meter) → r.step ≡ St.On z k → length c' ≡ length c → length l' ≡ length l → length h' ≡ length h → length w' ≡ length w → Runs (turns - 1) z r.frames k c' l' h' w'
-    runs_more z k e ec el eh ew = record {
+    pub runs_more : (z : Next) (k : Meter) → r.step ≡ St.On z k → length w' ≡ length w → (fewer : ℕ) → fewer ≡ turns - 1 → Runs fewer z r.frames k c' l' h' w'
+    runs_more z k e ew fewer ef = rw ef record {
       is = λ B sh ib. more_by B sh ib z k e (go B sh ib).fuel refl;
-      cells_size = ec ∙ ru.cells_size;
-      low_size = el ∙ ru.low_size;
-      high_size = eh ∙ ru.high_size;
       work_size = ew ∙ ru.work_size;
     }
 

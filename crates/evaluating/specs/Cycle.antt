@@ -1,5 +1,5 @@
 -- THE CONTRACTS of what evaluates and calls: for every world that the rooms show, the answer is the definition's.
-use Rattle.std.specs.Prelude.{ℕ, suc, ◌+◌, ◌≤◌, ◌≡◌, List, length}
+use Rattle.std.specs.Prelude.{ℕ, suc, ◌+◌, ◌≤◌, ◌≡◌, Result, Ok, Err, List, length}
 use Rattle.definition.specs.Bytes.{mixed}
 use Rattle.definition.specs.Expressions as E
 use Rattle.definition.specs.Expressions.{Reading, read, Parsed, parsed, Tree}
@@ -31,8 +31,7 @@ use Rattle.operands.specs.declared.Target.{Target}
 use Rattle.operands.specs.Shown.{IsRow, Shows}
 use Rattle.operands.specs.Answer.{Below, Gave, run_in, value_of, Means}
 use Rattle.operands.specs.Takes.{Coming, first_listed, wanted_by, Path}
-use Rattle.evaluating.specs.declared.Outcome.{Outcome}
-use Rattle.evaluating.specs.declared.Outcome.TheVariants as O
+use Rattle.evaluating.specs.declared.Taken.{Taken}
 
 -- THE CONTRACT of what reads again: where the definition reads a tree, the answer is its value, and the place is its end
 pub record Evaluates (deck rows names c l h w : List ℕ) (u : ℕ) (x : Scene) (m : Meter) (c' l' h' w' : List ℕ) (r : Evaluated) (R : Reading Parsed) : Type 0 where
@@ -65,25 +64,25 @@ pub record Waits (B : World) (u : ℕ) (c l h w : List ℕ) (f : Value) (k : Hel
   pub count : length values ≡ n
   pub end : q ≡ e
 
-abbrev pub ArgsAs : World → ℕ → List ℕ → List ℕ → List ℕ → List ℕ → Value → Held → List Ev.Wish → ℕ → ℕ → Res Why (List Val.Value) → Outcome → Type 0
-ArgsAs B u c l h w f k ws n e R (O.Upto q m) = Waits B u c l h w f k ws n e R q m
-ArgsAs B u c l h w f k ws n e R (O.Failed y m) = R ≡ bad y m.used
+abbrev pub ArgsAs : World → ℕ → List ℕ → List ℕ → List ℕ → List ℕ → List Ev.Wish → ℕ → ℕ → Res Why (List Val.Value) → Result Taken (Why × Meter) → Type 0
+ArgsAs B u c l h w ws n e R (Ok a) = Waits B u c l h w a.first a.held ws n e R a.to a.meter
+ArgsAs B u c l h w ws n e R (Err (y, m)) = R ≡ bad y m.used
 
-abbrev pub meter_in : Outcome → Meter
-meter_in (O.Upto q m) = m
-meter_in (O.Failed y m) = m
+abbrev pub meter_in : Result Taken (Why × Meter) → Meter
+meter_in (Ok a) = a.meter
+meter_in (Err (y, m)) = m
 
-pub record Args (B : World) (u : ℕ) (w c' l' h' w' : List ℕ) (f : Value) (k : Held) (ws : List Ev.Wish) (n e : ℕ) (R : Res Why (List Val.Value)) (r : Outcome) : Type 0 where
-  pub is : ArgsAs B u c' l' h' w' f k ws n e R r
+pub record Args (B : World) (u : ℕ) (w c' l' h' w' : List ℕ) (ws : List Ev.Wish) (n e : ℕ) (R : Res Why (List Val.Value)) (r : Result Taken (Why × Meter)) : Type 0 where
+  pub is : ArgsAs B u c' l' h' w' ws n e R r
   pub below : Below u w w'
   pub limit : (meter_in r).limit ≡ B.limit
   pub slots : Slots B.denotations c' l' h'
 
 -- THE CONTRACT of `arguments`: those of the list at `from` for the target t
-pub record TakenIs (deck s rows names c l h w : List ℕ) (from left u : ℕ) (t : Target) (x : Scene) (m : Meter) (c' l' h' w' : List ℕ) (f : Value) (k : Held) (r : Outcome) : Type 0 where
+pub record TakenIs (deck s rows names c l h w : List ℕ) (from left u : ℕ) (t : Target) (x : Scene) (m : Meter) (c' l' h' w' : List ℕ) (r : Result Taken (Why × Meter)) : Type 0 where
   pub is : (B : World) → Shows deck rows names c l h w u x m B → (p : ℕ) (y : Tree) (e : ℕ) → E.arguments mixed (inside_of left s p) s (length s) from ≡ read (parsed y e) → wanted_by t ≡ Ev.count y
       → (ws : List Ev.Wish) → Coming deck names x.names t 0 (first_listed t) ws → Ev.count y ≤ length ws → length ws ≤ 256
-      → Args B u w c' l' h' w' f k ws (Ev.count y) e (Ev.arguments (run_in x) (owner_of x.owner) y ws u (world_in B c l h m.used)) r
+      → Args B u w c' l' h' w' ws (Ev.count y) e (Ev.arguments (run_in x) (owner_of x.owner) y ws u (world_in B c l h m.used)) r
 
 -- ---- calls
 -- the row of a procedure

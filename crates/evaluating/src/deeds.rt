@@ -37,9 +37,7 @@ pub fn assign(
     ensures { AssignIs deck.now s.now rows.now names.now cells.old low.old high.old work.old at u c m cells.new low.new high.new work.new result }
 {
     let t = token_at(s, at);
-    let owner = c.owner;
-    let target = target_at(deck, s, names, c.names, owner, t);
-    match target {
+    match target_at(deck, s, names, c.names, c.owner, t) {
         Variable::At(a, k) => {
             let sign = token_at(s, t.to);
             let x = evaluate(
@@ -91,16 +89,13 @@ fn bounded(
     ensures { BoundedIs deck.now s.now rows.now names.now cells.old low.old high.old work.old u c x cells.new low.new high.new work.new result }
 {
     match x {
-        Widened::Is(f, at, m) => {
-            let w = bound_word(s, at);
-            match w {
-                Word::Of(side, q) => {
-                    let e = evaluate(deck, s, rows, names, cells, low, high, work, q, u, c, m);
-                    bounded_by(f, side, bound_of(work, u, e))
-                }
-                Word::Neither => Widened::Is(f, at, m),
+        Widened::Is(f, at, m) => match bound_word(s, at) {
+            Word::Of(side, q) => {
+                let e = evaluate(deck, s, rows, names, cells, low, high, work, q, u, c, m);
+                bounded_by(f, side, bound_of(work, u, e))
             }
-        }
+            Word::Neither => Widened::Is(f, at, m),
+        },
         Widened::Bad(w, m) => Widened::Bad(w, m),
     }
 }
@@ -165,9 +160,7 @@ pub fn start(
     ensures { StartIs deck.now s.now rows.now names.now cells.old low.old high.old work.old g at u c m cells.new low.new high.new work.new result }
 {
     let t = token_at(s, at);
-    let owner = c.owner;
-    let v = control_address(target_at(deck, s, names, c.names, owner, t));
-    match v {
+    match control_address(target_at(deck, s, names, c.names, c.owner, t)) {
         Link::To(a) => {
             let sign = token_at(s, t.to);
             let e = evaluate(
@@ -217,9 +210,8 @@ fn begun(
     ensures { StatementIs deck.now s.now part.now rows.now names.now cells.old low.old high.old work.old p n fs u c m cells.new low.new high.new work.new result }
 {
     let r = row_at(part, n);
-    let at = r.content as usize;
-    let x = r.statement;
-    match x {
+    let at = usize::from(r.content);
+    match r.statement {
         Statement::Assign => {
             let d = assign(deck, s, rows, names, cells, low, high, work, at, u, c, m);
             on_behind(part, fs, n, d)
@@ -237,18 +229,16 @@ fn begun(
             let v = evaluate(
                 deck, s, rows, names, cells, low, high, work, open.to, u, c, m,
             );
-            let q = row_at(part, p.row);
-            let t = q.value_type;
-            on_return(work, fs, u, t, v)
+            on_return(work, fs, u, row_at(part, p.row).value_type, v)
         }
         Statement::Group => with_step(fs, Step::On(into_group(part, fs, n), m)),
         Statement::Goto => jump_in(deck, s, part, names, fs, n, c, m),
-        Statement::Null => on_behind(part, fs, n, Done::Good(m)),
-        Statement::Declare => on_behind(part, fs, n, Done::Good(m)),
-        Statement::Procedure => on_behind(part, fs, n, Done::Good(m)),
-        Statement::Include => on_behind(part, fs, n, Done::Good(m)),
-        Statement::Activate => on_behind(part, fs, n, Done::Good(m)),
-        Statement::Deactivate => on_behind(part, fs, n, Done::Good(m)),
+        Statement::Null
+        | Statement::Declare
+        | Statement::Procedure
+        | Statement::Include
+        | Statement::Activate
+        | Statement::Deactivate => on_behind(part, fs, n, Done::Good(m)),
     }
 }
 
@@ -276,13 +266,12 @@ fn body_turn(
     match next {
         Next::Begin(n) => {
             let paid = m.charged();
-            let k = paid.meter;
             if paid.paid {
                 return begun(
-                    deck, s, part, rows, names, cells, low, high, work, p, n, fs, u, c, k,
+                    deck, s, part, rows, names, cells, low, high, work, p, n, fs, u, c, paid.meter,
                 );
             }
-            with_step(fs, Step::Bad(Why::NoStep, k))
+            with_step(fs, Step::Bad(Why::NoStep, paid.meter))
         }
         Next::Again(g) => {
             let t = stepped(cells, flow::frame_of(part, fs, g), m);
@@ -296,10 +285,7 @@ fn body_turn(
 pub fn turns_left(m: Meter) -> usize
     ensures { result ≡ suc (m.limit - m.used) }
 {
-    if m.limit < m.used {
-        return 1;
-    }
-    (m.limit - m.used) as usize + 1
+    m.limit.saturating_sub(m.used) as usize + 1
 }
 
 // The body of the procedure at p.
@@ -321,30 +307,21 @@ pub fn run_body(
 ) -> Evaluated
     ensures { BodyIs deck.now s.now part.now rows.now names.now cells.old low.old high.old work.old u c m0 p cells.new low.new high.new work.new result }
 {
-    let r = row_at(part, p.row);
-    let child = r.child;
-    let mut next = flow::first_of(child);
+    let mut next = flow::first_of(row_at(part, p.row).child);
     let mut fs = flow::no_frames();
     let mut m = m0;
-    let mut turns = turns_left(m0);
-    while 0 < turns {
-        turns -= 1;
+    for _ in 0..turns_left(m0) {
         let t = body_turn(
             deck, s, part, rows, names, cells, low, high, work, p, next, fs, u, c, m,
         );
-        let step = t.step;
         fs = t.frames;
-        match step {
+        match t.step {
             Step::On(x, k) => {
                 next = x;
                 m = k;
             }
-            Step::Gave(v, k) => {
-                return Evaluated::Is(v, 0, k);
-            }
-            Step::Bad(w, k) => {
-                return Evaluated::Failed(w, k);
-            }
+            Step::Gave(v, k) => return Evaluated::Is(v, 0, k),
+            Step::Bad(w, k) => return Evaluated::Failed(w, k),
         }
     }
     Evaluated::Failed(Why::NoStep, m)

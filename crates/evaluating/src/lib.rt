@@ -30,23 +30,17 @@ use operands::{
 };
 use operators::{Value, above, size_of};
 use rows::part_of;
-use sums::sum;
 use tokens::{Kind, Lexeme, is_sign, token_at};
 
 // ---- expressions and calls: `left` is the parentheses that may still be opened
 
-// The arguments that wait, the first of them, and the place past their list.
+// The arguments that wait, the first of them, the place past their list, and the steps.
 #[derive(Clone, Copy)]
 struct Taken {
     held: Held,
     first: Value,
-    outcome: Outcome,
-}
-
-#[derive(Clone, Copy)]
-enum Outcome {
-    Upto(usize, Meter),
-    Failed(Why, Meter),
+    to: usize,
+    meter: Meter,
 }
 
 // What stands behind a parenthesis.
@@ -106,8 +100,8 @@ fn arguments(
     u: usize,
     c: Scene,
     m0: Meter,
-) -> Taken
-    ensures { TakenIs deck.now s.now rows.now names.now cells.old low.old high.old work.old from left u t c m0 cells.new low.new high.new work.new result.first result.held result.outcome }
+) -> Result<Taken, (Why, Meter)>
+    ensures { TakenIs deck.now s.now rows.now names.now cells.old low.old high.old work.old from left u t c m0 cells.new low.new high.new work.new result }
 {
     let mut held = nothing_held();
     let mut first = Value::Characters(0);
@@ -115,41 +109,29 @@ fn arguments(
     let mut listed = first_parameter(t);
     let mut top = u;
     let mut m = m0;
-    let mut i: usize = 0;
-    let mut turns = wanted_count(t);
-    while 0 < turns {
-        turns -= 1;
+    for i in 0..wanted_count(t) {
         let w = wish_for(deck, names, c.names, t, i, listed);
         listed = w.to;
-        let wish = w.wish;
         let x = inside(
             deck, s, rows, names, cells, low, high, work, at, left, top, c, m,
         );
-        let y = with_wish(work, top, wish, x);
-        match y {
+        match with_wish(work, top, w.wish, x) {
             Evaluated::Is(v, e, n) => {
                 held = with_held(held, i, v);
                 first = first_kept(i, first, v);
                 top = above(top, size_of(v));
-                let next = token_at(s, e);
-                at = next.to;
+                at = token_at(s, e).to;
                 m = n;
             }
-            Evaluated::Failed(why, n) => {
-                return Taken {
-                    held,
-                    first,
-                    outcome: Outcome::Failed(why, n),
-                };
-            }
+            Evaluated::Failed(why, n) => return Err((why, n)),
         }
-        i = sum(i, 1);
     }
-    Taken {
+    Ok(Taken {
         held,
         first,
-        outcome: Outcome::Upto(at, m),
-    }
+        to: at,
+        meter: m,
+    })
 }
 
 // A name with a list, which begins at a place.
@@ -173,27 +155,21 @@ fn listed(
     ensures { ListedIs deck.now s.now rows.now names.now cells.old low.old high.old work.old at left u c m x cells.new low.new high.new work.new result }
 {
     let n = count_arguments(s, at, left);
-    let starts = c.starts;
-    let aim = aim_of(deck, rows, starts, names, c.names, x, n);
-    match aim {
-        Aim::At(t) => {
-            let taken = arguments(
-                deck, s, rows, names, cells, low, high, work, at, left, t, u, c, m,
-            );
-            let held = taken.held;
-            let first = taken.first;
-            let outcome = taken.outcome;
-            match outcome {
-                Outcome::Upto(to, k) => match t {
-                    Target::Entry(y) => {
-                        let v = call(deck, rows, names, cells, low, high, work, y, held, u, c, k);
-                        up_to(v, to)
-                    }
-                    Target::Substr(_) => substr_of(work, u, n, held, first, to, k),
-                },
-                Outcome::Failed(w, k) => Evaluated::Failed(w, k),
-            }
-        }
+    match aim_of(deck, rows, c.starts, names, c.names, x, n) {
+        Aim::At(t) => match arguments(
+            deck, s, rows, names, cells, low, high, work, at, left, t, u, c, m,
+        ) {
+            Ok(a) => match t {
+                Target::Entry(y) => {
+                    let v = call(
+                        deck, rows, names, cells, low, high, work, y, a.held, u, c, a.meter,
+                    );
+                    up_to(v, a.to)
+                }
+                Target::Substr(_) => substr_of(work, u, n, a.held, a.first, a.to, a.meter),
+            },
+            Err((w, k)) => Evaluated::Failed(w, k),
+        },
         Aim::Fails(w) => Evaluated::Failed(w, m),
     }
 }
@@ -217,36 +193,32 @@ fn plain(
     ensures { NameIs deck.now rows.now names.now cells.old low.old high.old work.old u c m x to cells.new low.new high.new work.new result }
 {
     match x {
-        Meant::AnEntry(b) => {
-            let starts = c.starts;
-            let y = callee_of(deck, rows, starts, names, c.names, b);
-            match y {
-                Called::Is(z) => {
-                    if z.count == 0 {
-                        let v = call(
-                            deck,
-                            rows,
-                            names,
-                            cells,
-                            low,
-                            high,
-                            work,
-                            z,
-                            nothing_held(),
-                            u,
-                            c,
-                            m,
-                        );
-                        return up_to(v, to);
-                    }
-                    Evaluated::Failed(Why::WrongArguments, m)
+        Meant::AnEntry(b) => match callee_of(deck, rows, c.starts, names, c.names, b) {
+            Called::Is(z) => {
+                if z.count == 0 {
+                    let v = call(
+                        deck,
+                        rows,
+                        names,
+                        cells,
+                        low,
+                        high,
+                        work,
+                        z,
+                        nothing_held(),
+                        u,
+                        c,
+                        m,
+                    );
+                    return up_to(v, to);
                 }
-                Called::Fails(w) => Evaluated::Failed(w, m),
+                Evaluated::Failed(Why::WrongArguments, m)
             }
+            Called::Fails(w) => Evaluated::Failed(w, m),
+        },
+        Meant::AVariable(..) | Meant::TheSubstr | Meant::NoSuch => {
+            plain_value(cells, low, high, work, x, u, to, m)
         }
-        Meant::AVariable(_, _) => plain_value(cells, low, high, work, x, u, to, m),
-        Meant::TheSubstr => plain_value(cells, low, high, work, x, u, to, m),
-        Meant::NoSuch => plain_value(cells, low, high, work, x, u, to, m),
     }
 }
 
@@ -269,8 +241,7 @@ fn reference(
 ) -> Evaluated
     ensures { Evaluates deck.now rows.now names.now cells.old low.old high.old work.old u c m cells.new low.new high.new work.new result (E.reference_at mixed (inside_of left s.now) s.now (record { spelling = spelling s.now t; place = t.from; to = t.to }) (token_at mixed s.now t.to)) }
 {
-    let owner = c.owner;
-    let x = meant_by(deck, s, names, c.names, owner, t.from, t.to);
+    let x = meant_by(deck, s, names, c.names, c.owner, t.from, t.to);
     let next = token_at(s, t.to);
     if is_sign(s, next, b"(") {
         return listed(
@@ -299,8 +270,7 @@ fn primitive(
     ensures { Evaluates deck.now rows.now names.now cells.old low.old high.old work.old u c m cells.new low.new high.new work.new result (primitive_at (inside_of left s.now) s.now at) }
 {
     let t = token_at(s, at);
-    let kind = t.kind;
-    match kind {
+    match t.kind {
         Kind::Word => reference(
             deck, s, rows, names, cells, low, high, work, t, left, u, c, m,
         ),
@@ -313,8 +283,7 @@ fn primitive(
             );
             closed(s, x)
         }
-        Kind::Nothing => Evaluated::Failed(Why::Syntax, m),
-        Kind::Wrong => Evaluated::Failed(Why::Syntax, m),
+        Kind::Nothing | Kind::Wrong => Evaluated::Failed(Why::Syntax, m),
     }
 }
 
@@ -368,31 +337,24 @@ fn chain(
     let mut x = v;
     let mut at = from;
     let mut m = m0;
-    let mut turns = s.len() + 1;
-    while 0 < turns {
-        turns -= 1;
-        let next = infix_at(s, at, level);
-        match next {
+    // each operator has a byte at least, and one more turn finds what follows
+    for _ in 0..s.len() + 1 {
+        match infix_at(s, at, level) {
             InfixAt::Is(o, q) => {
                 let top = above(u, size_of(x));
                 let y = levels(
                     deck, s, rows, names, cells, low, high, work, q, level, left, top, c, m,
                 );
-                let z = with_infix(work, u, o, x, y);
-                match z {
+                match with_infix(work, u, o, x, y) {
                     Evaluated::Is(w, e, n) => {
                         x = w;
                         at = e;
                         m = n;
                     }
-                    Evaluated::Failed(w, n) => {
-                        return Evaluated::Failed(w, n);
-                    }
+                    Evaluated::Failed(w, n) => return Evaluated::Failed(w, n),
                 }
             }
-            InfixAt::Other => {
-                return Evaluated::Is(x, at, m);
-            }
+            InfixAt::Other => return Evaluated::Is(x, at, m),
         }
     }
     Evaluated::Failed(Why::Syntax, m)
@@ -439,28 +401,26 @@ fn levels(
         c,
         m,
     );
-    match first {
-        Evaluated::Is(v, e, k) => {
-            chain(
-                deck,
-                s,
-                rows,
-                names,
-                cells,
-                low,
-                high,
-                work,
-                v,
-                e,
-                n - 1,
-                left,
-                u,
-                c,
-                k,
-            )
-        }
-        Evaluated::Failed(w, k) => Evaluated::Failed(w, k),
-    }
+    let Evaluated::Is(v, e, k) = first else {
+        return first;
+    };
+    chain(
+        deck,
+        s,
+        rows,
+        names,
+        cells,
+        low,
+        high,
+        work,
+        v,
+        e,
+        n - 1,
+        left,
+        u,
+        c,
+        k,
+    )
 }
 
 // THE VALUE of the expression at a place.
@@ -518,25 +478,22 @@ pub fn call(
     ensures { CallIs deck.now rows.now names.now cells.old low.old high.old work.old u c m y held cells.new low.new high.new work.new result }
 {
     let p = y.place;
-    let running = c.running;
-    if is_running(running, p) {
+    if is_running(c.running, p) {
         return Evaluated::Failed(Why::WronglyRun, m);
     }
-    if running.left < 1 {
+    if c.running.left < 1 {
         return Evaluated::Failed(Why::TooDeep, m);
     }
     store_all(deck, names, cells, low, high, work, c.names, y, held, u);
-    let starts = c.starts;
     let inner = Scene {
-        names: c.names,
-        starts,
         owner: Owner::Procedure(p),
-        running: started(running, p),
+        running: started(c.running, p),
+        ..c
     };
     run_body(
         deck,
         body(deck, p.member),
-        part_of(rows, starts, p.member),
+        part_of(rows, c.starts, p.member),
         rows,
         names,
         cells,

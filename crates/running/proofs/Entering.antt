@@ -1,5 +1,6 @@
 -- A MEMBER IS READ, ENTERED AND RUN: the rooms show the world with it, and the values that there were.
 -- Assumes nothing.
+use mathlib.Core.Logic.{◌⊎◌, inl, inr}
 use mathlib.Core.Path.{◌≡◌, refl, sym, ap, subst, ◌∙◌}
 use mathlib.Core.Bool.{true}
 use mathlib.Core.List.{List, [], ◌++◌}
@@ -35,7 +36,7 @@ use Rattle.names.specs.Table.{identifiers_from}
 use Rattle.meter.specs.declared.Meter.{Meter}
 use Rattle.output.specs.declared.Out.{Out}
 use Rattle.output.specs.Shows as Output
-use Rattle.rows.specs.Parts.{no_starts, start_in, StartsAt, PartPlace}
+use Rattle.rows.specs.Parts.{no_starts, StartsAt, PartPlace}
 use Rattle.rows.specs.declared.Starts.{Starts}
 use Rattle.entering.specs.declared.Fault.{Fault}
 use Rattle.entering.specs.declared.Fault.TheVariants.{Sound, Faulty}
@@ -73,7 +74,7 @@ use Rattle.stepping.specs.Steps.{EndNow}
 use Rattle.running.specs.declared.Left.{Left}
 use Rattle.running.specs.Included.{entered_run, enter_run}
 use Rattle.running.specs.Members.{here_at, Since, EndsAs, Deep, Running, SourceOf, SourceIs, EnterIs, RanTo, RunIs}
-use Rattle.running.specs.Readers.{ReadIs, RowsWith, WithSource, StartedAt, stopped_at}
+use Rattle.running.specs.Readers.{ReadIs, WithSource, StartedAt, stopped_at}
 use Rattle.running.specs.Ways.{left_at}
 use Rattle.running.proofs.Afterwards.{since_on, stand_later}
 use Rattle.running.proofs.Values.{Held, declare_held, forgotten, values_forgotten, slots_forgotten}
@@ -105,26 +106,11 @@ read_behind deck rows names k g from p t rows' names' r h n e q =
     }
 
 -- ---- small functions
-pub rows_past : (n more : ℕ) → 65535 - n < more → RowsWith n more 65535
-rows_past n more l = record { is = λ k. absurd (omega (arith, l, k)) }
-
-pub rows_all : (n more : ℕ) → RowsWith n more (n + more)
-rows_all n more = record { is = λ k. refl }
-
-pub with_source : (g : Progress) (x : Source) (n : ℕ) → RowsWith g.rows x.rows n → WithSource g x (record { meter = g.meter; layout = g.layout; out = g.out; rows = n; names = x.names })
-with_source g x n h = record { meter = refl; layout = refl; out = refl; names = refl; rows = h.is }
-
 progress_is : (g : Progress) (m : Meter) (y : Layout) (o : Out) (r n : ℕ) → g.meter ≡ m → g.layout ≡ y → g.out ≡ o → g.rows ≡ r → g.names ≡ n → record { meter = m; layout = y; out = o; rows = r; names = n } ≡ g
 progress_is g m y o r n e a f p q = rw (← e, ← a, ← f, ← p, ← q)
 
 pub here_is : (here : Here) (m : ℕ) → here.member ≡ m → here ≡ here_at m here.starts
 here_is here m e = ap (λ (k : ℕ). here_at k here.starts) e
-
--- back in the member, where it was
-pub resumed_at : (here : Here) (x : Starts) (y : Here) (n : ℕ) (r : Here) → y ≡ here_at here.member x → n ≡ start_in here.starts here.member → StartedAt y y.starts n r → StartedAt here x (start_in here.starts here.member) r
-resumed_at here x y n r e f h =
-    subst (λ (k : ℕ). StartedAt here x k r) f
-    (subst (λ (z : Here). StartedAt z z.starts n r → StartedAt here x n r) (sym e) (λ k. record { member = k.member; starts = k.starts }) h)
 
 -- ---- the table of names is read by two crates
 dens_same : (t : List ℕ) (a n : ℕ) → Book.denotations_from t a n ≡ Callees.denotations_from t a n
@@ -460,17 +446,12 @@ module _ (deck rows names c l h w t ls : List ℕ) (y : Layout) (steps : ℕ) (m
       let u : Written (size_in deck) g.layout t' ls' g.out W = grown_written (size_in deck) g.layout t' ls' g.out B W refl refl refl refl v in
       (W, subst (λ (z : Layout). Written (size_in deck) z t' ls' g.out W) (sym v.layout ∙ told_kept e W q) u, ap X.result q ∙ finished_any e W, refl)
 
-  pub run_ran : (g : Progress) → x.ended ≡ En.Ran g → RunIs y deck rows names c l h w t ls steps t' ls' (Rn.Good g)
-  run_ran g e = record { is = λ sound roomy low high work z a. by (main_ends sound roomy low high work z a) }
-    where
-      by : (k : Main) → RanTo deck y t' ls' (enter_run 8 deck 0 [] (X.world_for y (length t) (length ls) steps)) (Rn.Good g)
-      by k = let d : Ended' k (En.Ran g) = subst (Ended' k) e k.now in ran_to _ g k.world d.stage.onstage.written d.is
+  ran_on : (e : Ended) (g : Progress) → x.ended ≡ e → ((k : Main) → Ended' k e → RanTo deck y t' ls' (enter_run 8 deck 0 [] (X.world_for y (length t) (length ls) steps)) (Rn.Good g)) → RunIs y deck rows names c l h w t ls steps t' ls' (Rn.Good g)
+  ran_on e g q f = record { is = λ sound roomy low high work z a. let k : Main = main_ends sound roomy low high work z a in f k (subst (Ended' k) q k.now) }
 
-  pub run_went : (q : Label) (g : Progress) → x.ended ≡ En.Went q g → RunIs y deck rows names c l h w t ls steps t' ls' (Rn.Good g)
-  run_went q g e = record { is = λ sound roomy low high work z a. by (main_ends sound roomy low high work z a) }
-    where
-      by : (k : Main) → RanTo deck y t' ls' (enter_run 8 deck 0 [] (X.world_for y (length t) (length ls) steps)) (Rn.Good g)
-      by k = let d : Ended' k (En.Went q g) = subst (Ended' k) e k.now in ran_to _ g k.world d.stage.onstage.written d.is
+  pub run_ran : (g : Progress) → (x.ended ≡ En.Ran g) ⊎ ((q : Label) × (x.ended ≡ En.Went q g)) → RunIs y deck rows names c l h w t ls steps t' ls' (Rn.Good g)
+  run_ran g (inl e) = ran_on (En.Ran g) g e (λ k d. ran_to _ g k.world d.stage.onstage.written d.is)
+  run_ran g (inr (q, e)) = ran_on (En.Went q g) g e (λ k d. ran_to _ g k.world d.stage.onstage.written d.is)
 
   pub run_bad : (q : Stop) (g : Progress) → x.ended ≡ En.Bad q g → RunIs y deck rows names c l h w t ls steps t' ls' (Rn.Bad q g)
   run_bad q g e = record {

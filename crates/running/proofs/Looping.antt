@@ -262,8 +262,8 @@ module _ (deck s rows₀ names₀ c₀ l₀ h₀ w₀ t₀ ls₀ : List ℕ) (x�
             let is : Q ≡ whole B = sym (ends_as machine go.frames before Q go.fuel (next_from y) go.enough f) ∙ go.same in
             record { world = settled.world; since = since_first; now = subst (λ (i : Res Run.Stop F.End). EndNow (below_of below) deck rows₁ names₁ c₂ l₂ h₂ w₂ t₂ ls₂ (mine z.starts) i settled.world q) is k }
 
-      pub runs_more : (v : Next) (g₂ : Progress) → a ≡ Se.On v g₂ → Runs (turns - 1) v z.turned.frames here₁ g₂ rows₁ names₁ c₂ l₂ h₂ w₂ t₂ ls₂
-      runs_more v g₂ ea = rw here_next record {
+      pub runs_more : (v : Next) (g₂ : Progress) → a ≡ Se.On v g₂ → (fewer : ℕ) → fewer ≡ turns - 1 → Runs fewer v z.turned.frames here₁ g₂ rows₁ names₁ c₂ l₂ h₂ w₂ t₂ ls₂
+      runs_more v g₂ ea fewer ef = rw (ef, here_next) record {
         is = λ B st rn at. going B st rn at v g₂ (subst (λ (i : Settled). SettledNow machine (below_of below) deck rows₁ names₁ c₂ l₂ h₂ w₂ t₂ ls₂ (mine z.starts) z.turned.frames (turned B st rn at) (settled B st rn at).world i) ea (settled B st rn at).now) (go B st rn at).fuel refl;
         member = refl;
       }

@@ -197,8 +197,8 @@ module _ (deck rows names c l h w t ls : List ℕ) (n left place from : ℕ) (in
       EndsAs (below_of inner) deck rows B rows₂ names₂ c₂ l₂ h₂ w₂ t₂ ls₂ before.member (names_left ns (world_in B c l h g₀.meter.used)) y × (start_in y.starts before.member ≡ start_in before.starts before.member)
 
   module _ (s : List ℕ) (body : s ≡ body_in deck before.member) where
-    pub going_start : Going rows names c l h w t ls before from g₀ (length s)
-    going_start = record {
+    pub going_start : (turns : ℕ) → turns ≡ length s → Going rows names c l h w t ls before from g₀ turns
+    going_start turns e = record {
       member = refl;
       is = λ B ns a. record {
         world = B;
@@ -207,7 +207,7 @@ module _ (deck rows names c l h w t ls : List ℕ) (n left place from : ℕ) (in
         start = refl;
         rest = ns;
         named = a.named;
-        few = omega (arith, named_few (body_in deck before.member) from ns a.named, ap (λ (x : List ℕ). length x) body);
+        few = omega (arith, named_few (body_in deck before.member) from ns a.named, e, ap (λ (x : List ℕ). length x) body);
         same = refl;
       };
     }
@@ -306,8 +306,8 @@ module _ (deck rows names c l h w t ls : List ℕ) (n left place from : ℕ) (in
         left_over : (B : World) (ns : List Deck.Sought) (k : Past B ns) → names_left k.rest (world_in k.world c₂ l₂ h₂ g₂.meter.used) ≡ names_left ns (world_in B c l h g₀.meter.used)
         left_over B ns k = sym (ap (λ (v : Res Run.Stop F.End). bind v (λ a u. end_on a u (λ i. names_left k.rest i))) (ran_by B ns k).is) ∙ k.same
 
-        pub going_more : b ≡ true → Going rows₂ names₂ c₂ l₂ h₂ w₂ t₂ ls₂ here₂ cm.to g₂ (turns - 1)
-        going_more q = record {
+        pub going_more : b ≡ true → (fewer : ℕ) → fewer ≡ turns - 1 → Going rows₂ names₂ c₂ l₂ h₂ w₂ t₂ ls₂ here₂ cm.to g₂ fewer
+        going_more q fewer ef = record {
           member = back.member ∙ going.member;
           is = λ B ns a.
               let k : Past B ns = passed B ns a in
@@ -318,7 +318,7 @@ module _ (deck rows names c l h w t ls : List ℕ) (n left place from : ℕ) (in
                 start = k.start;
                 rest = k.rest;
                 named = subst (λ (i : ℕ). Named (body_in deck before.member) i k.rest) (sym behind) (named_more (body_in deck before.member) at k.first k.rest k.named (comma true q));
-                few = omega (arith, k.few);
+                few = omega (arith, k.few, ef);
                 same = left_over B ns k;
               };
         }
@@ -386,15 +386,17 @@ module _ (deck rows names c l h w t ls : List ℕ) (n left : ℕ) (inner : Below
   module _ (s : List ℕ) (body : s ≡ body_in deck before.member) (rows₁ names₁ c₁ l₁ h₁ w₁ t₁ ls₁ : List ℕ) (here : Here) (at : ℕ) (g : Progress) (turns : ℕ)
       (going : Going deck rows names c l h w t ls n left r.place r.content inner before g₀ rows₁ names₁ c₁ l₁ h₁ w₁ t₁ ls₁ here at g turns) (it : Item) (item : ItemIs s at it) (rows₂ names₂ c₂ l₂ h₂ w₂ t₂ ls₂ : List ℕ) (x : Left)
       (ran : IncludeOneIs deck rows₁ names₁ c₁ l₁ h₁ w₁ t₁ ls₁ it.sought r.place inner here left g rows₂ names₂ c₂ l₂ h₂ w₂ t₂ ls₂ x) (here₂ : Here) (back : StartedAt here x.starts (start_in here.starts here.member) here₂) where
-    pub all_went : (q : Label) (g₂ : Progress) (y : Left) → x.ended ≡ En.Went q g₂ → y ≡ left_at here₂ x.ended → IncludeAllIs deck rows names c l h w t ls n below before left g₀ rows₂ names₂ c₂ l₂ h₂ w₂ t₂ ls₂ y
-    all_went q g₂ y e f =
-        all_is rows₂ names₂ c₂ l₂ h₂ w₂ t₂ ls₂ y (left_at here₂ (En.Went q g₂)) (f ∙ ap (λ (z : Ended). left_at here₂ z) e)
-        (went deck rows names c l h w t ls n left r.place r.content inner before g₀ s body rows₁ names₁ c₁ l₁ h₁ w₁ t₁ ls₁ here at g turns going it item rows₂ names₂ c₂ l₂ h₂ w₂ t₂ ls₂ x ran here₂ back q g₂ e)
-
-    pub all_stopped : (q : Stop) (g₂ : Progress) (y : Left) → x.ended ≡ En.Bad q g₂ → y ≡ left_at here₂ x.ended → IncludeAllIs deck rows names c l h w t ls n below before left g₀ rows₂ names₂ c₂ l₂ h₂ w₂ t₂ ls₂ y
-    all_stopped q g₂ y e f =
-        all_is rows₂ names₂ c₂ l₂ h₂ w₂ t₂ ls₂ y (left_at here₂ (En.Bad q g₂)) (f ∙ ap (λ (z : Ended). left_at here₂ z) e)
-        (stops deck rows names c l h w t ls n left r.place r.content inner before g₀ s body rows₁ names₁ c₁ l₁ h₁ w₁ t₁ ls₁ here at g turns going it item rows₂ names₂ c₂ l₂ h₂ w₂ t₂ ls₂ x ran here₂ back q g₂ e)
+    pub all_left : ((g₂ : Progress) → x.ended ≡ En.Ran g₂ → ⊥) → (y : Left) → y ≡ left_at here₂ x.ended → IncludeAllIs deck rows names c l h w t ls n below before left g₀ rows₂ names₂ c₂ l₂ h₂ w₂ t₂ ls₂ y
+    all_left over y f = by x.ended refl
+      where
+        by : (z : Ended) → x.ended ≡ z → IncludeAllIs deck rows names c l h w t ls n below before left g₀ rows₂ names₂ c₂ l₂ h₂ w₂ t₂ ls₂ y
+        by (En.Ran g₂) e = absurd (over g₂ e)
+        by (En.Went q g₂) e =
+            all_is rows₂ names₂ c₂ l₂ h₂ w₂ t₂ ls₂ y (left_at here₂ (En.Went q g₂)) (f ∙ ap (λ (z : Ended). left_at here₂ z) e)
+            (went deck rows names c l h w t ls n left r.place r.content inner before g₀ s body rows₁ names₁ c₁ l₁ h₁ w₁ t₁ ls₁ here at g turns going it item rows₂ names₂ c₂ l₂ h₂ w₂ t₂ ls₂ x ran here₂ back q g₂ e)
+        by (En.Bad q g₂) e =
+            all_is rows₂ names₂ c₂ l₂ h₂ w₂ t₂ ls₂ y (left_at here₂ (En.Bad q g₂)) (f ∙ ap (λ (z : Ended). left_at here₂ z) e)
+            (stops deck rows names c l h w t ls n left r.place r.content inner before g₀ s body rows₁ names₁ c₁ l₁ h₁ w₁ t₁ ls₁ here at g turns going it item rows₂ names₂ c₂ l₂ h₂ w₂ t₂ ls₂ x ran here₂ back q g₂ e)
 
     pub all_ran : (g₂ : Progress) → x.ended ≡ En.Ran g₂ → (cm : Lexeme) → Lexed s it.to cm → (b : Bool) → b ≡ is_sign_in s cm (44 ∷ []) → b ≡ false → (y : Left) → y ≡ left_at here₂ (En.Ran g₂)
         → IncludeAllIs deck rows names c l h w t ls n below before left g₀ rows₂ names₂ c₂ l₂ h₂ w₂ t₂ ls₂ y

@@ -47,9 +47,6 @@ lexes s at t lex =
       order = omega (arith, on.order, lex.from, lex.to);
     }
 
-pub spelled_is : (t : Lexeme) (n : ℕ) → n ≡ t.to - t.from → ◌≡◌ {A = Spelled} (record { from = t.from; len = n }) (spelled_by t)
-spelled_is t n e = rw e
-
 module _ (s : List ℕ) (at : ℕ) (t : Lexeme) (lex : Lexed s at t) (x : Spelled) (e : x ≡ spelled_by t) (o : Lexeme) (lex₂ : Lexed s t.to o) (v : Bool) (sign : v ≡ is_sign_in s o (40 ∷ [])) where
   open_is : (b : Bool) → v ≡ b → is_sign "(" (token_at mixed s (token_at mixed s at).to).token ≡ b
   open_is b q = subst (λ (i : ℕ). is_sign "(" (token_at mixed s i).token ≡ b) lex.to (told s t.to o lex₂ "(" (40 ∷ []) v b refl sign q)
@@ -99,9 +96,6 @@ body_there d k l = by (leb ((line_at d k).offset + (line_at d k).size) (length d
     by : (b : Bool) → leb ((line_at d k).offset + (line_at d k).size) (length d) ≡ b → 0 < length (cond b (take (line_at d k).size (drop (line_at d k).offset d)) []) → (line_at d k).offset + (line_at d k).size ≤ length d
     by true e h = leb-true ((line_at d k).offset + (line_at d k).size) (length d) e
     by false e h = absurd (omega (arith, h))
-
-pub deck_is : (base : ℕ) (w : Spelled) (n : ℕ) → n ≡ sum_to greatest base w.from → ◌≡◌ {A = Spelled} (record { from = n; len = w.len }) (in_deck base w)
-deck_is base w n e = rw e
 
 name_there : (d : List ℕ) (m : ℕ) → is_sound mixed d ≡ true → m < count d → (from n : ℕ) → from + n ≤ length (body_in d m) → part n (sum_to greatest (line_at d m).offset from) d ≡ part n from (body_in d m)
 unfolding body_of

@@ -32,7 +32,6 @@ use Rattle.rows.specs.declared.Link.TheVariants.{To}
 use Rattle.flow.specs.declared.Frames.{Frames}
 use Rattle.flow.specs.declared.Next.{Next}
 use Rattle.flow.specs.declared.Next.TheVariants.{Begin, Again, Over}
-use Rattle.flow.specs.declared.Walk.TheVariants.{Up}
 use Rattle.flow.specs.Walks.{landing_walk}
 use Rattle.flow.specs.Shown.{Shown, Linked, AtRow, AtWalk}
 use Rattle.flow.proofs.Framing.{once_of, end_own}
@@ -51,7 +50,6 @@ use Rattle.leaving.specs.declared.Below.{Below}
 use Rattle.leaving.specs.Places.{below_of, row_for}
 use Rattle.texts.specs.declared.Progress.{Progress}
 use Rattle.texts.specs.declared.Here.{Here}
-use Rattle.texts.specs.declared.Stop.{Stop}
 use Rattle.texts.specs.Shown.{with_meter}
 use Rattle.texts.proofs.Common.{stage_meter}
 use Rattle.stepping.specs.declared.Step.TheVariants as St
@@ -60,7 +58,7 @@ use Rattle.stepping.specs.declared.Ended.{Ended}
 use Rattle.stepping.specs.declared.Ended.TheVariants as En
 use Rattle.stepping.specs.Stage.{Stage, InMember, part_here, machine_of, goes, target_for}
 use Rattle.stepping.specs.Steps.{StepNow, StepIs, EndNow, Gone, StatementIs, AgainIs}
-use Rattle.stepping.specs.Ways.{is_include, turned_by, refused_at, landed_at, went_to}
+use Rattle.stepping.specs.Ways.{is_include, turned_by, refused_at, landed_at}
 use Rattle.running.specs.declared.Left.{Left}
 use Rattle.running.specs.declared.Begun.{Begun}
 use Rattle.running.specs.Included.{level_of, include_on}
@@ -83,17 +81,6 @@ running_later deck s rows rows' here starts below left B B' n ru h l = record {
   stand = stand_later (below_of below) B B' h ru.stand;
   deep = ru.deep;
 }
-
--- ---- on_ended: back in the member, where each starts since
-module _ (rows : List ℕ) (fs : Frames) (n : ℕ) (here : Here) (x : Left) (back : Here) (eb : back ≡ here_at here.member x.starts) where
-  pub ended_ran : (g : Progress) → x.ended ≡ En.Ran g → (t : Turned) → t ≡ turned_by fs (St.On (Up n) g) → (r : Begun) → r ≡ begun_at back t → r ≡ ended_at rows fs n here x
-  ended_ran g e t f r q = rw (q, f, eb, e)
-
-  pub ended_went : (l : Label) (g : Progress) → x.ended ≡ En.Went l g → (t : Turned) → t ≡ went_to (part_here rows back) fs back.member l g → (r : Begun) → r ≡ begun_at back t → r ≡ ended_at rows fs n here x
-  ended_went l g e t f r q = rw (q, f, eb, e)
-
-  pub ended_bad : (y : Stop) (g : Progress) → x.ended ≡ En.Bad y g → (t : Turned) → t ≡ turned_by fs (St.Bad y g) → (r : Begun) → r ≡ begun_at back t → r ≡ ended_at rows fs n here x
-  ended_bad y g e t f r q = rw (q, f, eb, e)
 
 -- ---- the rows of the member that runs are its part of the table
 module _ (deck s rows names c l h w t ls : List ℕ) (here : Here) (g : Progress) (B : World) (st : Stage deck rows names c l h w t ls here.starts g B) (im : InMember deck s rows here B) (inner : Run.Level) (on : List Place) where

@@ -182,14 +182,14 @@ module _ (c : List ℕ) (from to : ℕ) where
       let z : from - from ≡ 0 = omega arith in
       record { low = omega arith; turns = omega arith; is = sym (ap (λ (n : ℕ). over c from (zeros n)) z ∙ over_nil c from) }
 
-  pub forget_more : (c₁ c₂ : List ℕ) (a : ℕ) → Forgetting c₁ a → a < to → c₂ ≡ over c₁ (0 + a) (0 ∷ []) → Forgetting c₂ (a + 1)
-  forget_more c₁ c₂ a h l e =
+  pub forget_more : (c₁ c₂ : List ℕ) (a k : ℕ) → Forgetting c₁ a → a < to → k ≡ a → c₂ ≡ over c₁ (0 + k) (0 ∷ []) → Forgetting c₂ (a + 1)
+  forget_more c₁ c₂ a k h l ek e =
       let at : 0 + a ≡ from + length (zeros (a - from)) = omega (arith, h.low, length-replicate {A = ℕ} (a - from) 0) in
       let n : a - from + 1 ≡ a + 1 - from = omega (arith, h.low) in
       record {
         low = omega (arith, h.low);
         turns = omega (arith, h.low, l);
-        is = e ∙ ap (λ (x : List ℕ). over x (0 + a) (0 ∷ [])) h.is ∙ over_next_at c from (0 + a) (zeros (a - from)) (0 ∷ []) at ∙ ap (λ (x : List ℕ). over c from x) (zeros_more (a - from) (a + 1 - from) n);
+        is = e ∙ ap (λ (i : ℕ). over c₁ (0 + i) (0 ∷ [])) ek ∙ ap (λ (x : List ℕ). over x (0 + a) (0 ∷ [])) h.is ∙ over_next_at c from (0 + a) (zeros (a - from)) (0 ∷ []) at ∙ ap (λ (x : List ℕ). over c from x) (zeros_more (a - from) (a + 1 - from) n);
       }
     where
       zeros_more : (i j : ℕ) → i + 1 ≡ j → zeros i ++ 0 ∷ [] ≡ zeros j
@@ -200,9 +200,6 @@ module _ (c : List ℕ) (from to : ℕ) where
 
   pub forget_done : (c₁ : List ℕ) (a : ℕ) → Forgetting c₁ a → to ≤ a → c₁ ≡ forgotten c from to
   forget_done c₁ a h l = let n : a - from ≡ to - from = omega (arith, h.turns, l) in h.is ∙ ap (λ (k : ℕ). over c from (zeros k)) n
-
-  pub forget_size : (c₁ : List ℕ) (a : ℕ) → Forgetting c₁ a → length c₁ ≡ length c
-  forget_size c₁ a h = ap (λ (x : List ℕ). length x) h.is ∙ length_over c from (zeros (a - from))
 
   -- what the cells are then
   pub forgotten_low : (i : ℕ) → i < from → get_or (forgotten c from to) i 0 ≡ get_or c i 0

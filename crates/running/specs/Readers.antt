@@ -19,10 +19,7 @@ pub record ReadIs (deck rows names : List ℕ) (k : ℕ) (g : Progress) (rows' n
   pub size : length rows' ≡ length rows
   pub book : length names' ≡ length names
 
--- as many rows as 01 allows are counted
-pub record RowsWith (n more r : ℕ) : Type 0 where
-  pub is : n + more ≤ 2048 → r ≡ n + more
-
+-- its rows and its names join those that there are; as many rows as 01 allows are counted
 pub record WithSource (g : Progress) (x : Source) (r : Progress) : Type 0 where
   pub meter : r.meter ≡ g.meter
   pub layout : r.layout ≡ g.layout

@@ -7,7 +7,7 @@ ghost use Rattle.definition.specs.Room.{over, zeros};
 ghost use Rattle.rows.specs.Parts.{start_in};
 ghost use Rattle.flow.specs.declared.Next.TheVariants.{Begin};
 ghost use Rattle.running.specs.Ways.{left_at, begun_at, ended_at};
-ghost use Rattle.running.specs.Readers.{ReadIs, RowsWith, WithSource, StartedAt, stopped_at};
+ghost use Rattle.running.specs.Readers.{ReadIs, WithSource, StartedAt, stopped_at};
 ghost use Rattle.running.specs.Members.{here_at, spelled_by, ItemIs, in_deck, FoundIs, IncludeOneIs, IncludeAllIs, TurnIs, RowsAre, SourceIs, EnterIs, RunIs};
 
 use deck::{Sought, Spelled, body};
@@ -42,11 +42,14 @@ struct Left {
 fn left_at(here: Here, ended: Ended) -> Left
     ensures { result ≡ left_at here ended }
 {
-    let starts = here.starts;
-    Left { ended, starts }
+    Left {
+        ended,
+        starts: here.starts,
+    }
 }
 
 // A turn of a member, and where the rows of each member start since.
+// stays: one generic pair with `Left` would only lose the names `ended` and `turned`.
 #[derive(Clone, Copy)]
 struct Begun {
     turned: Turned,
@@ -56,35 +59,32 @@ struct Begun {
 fn turned_at(here: Here, turned: Turned) -> Begun
     ensures { result ≡ begun_at here turned }
 {
-    let starts = here.starts;
-    Begun { turned, starts }
+    Begun {
+        turned,
+        starts: here.starts,
+    }
 }
 
 fn in_member(here: Here, k: u16) -> Here
     ensures { result ≡ here_at k here.starts }
 {
-    let starts = here.starts;
-    Here { member: k, starts }
+    Here { member: k, ..here }
 }
 
 // The same member, where the rows of each start since.
 fn since(here: Here, starts: Starts) -> Here
     ensures { result ≡ here_at here.member starts }
 {
-    Here {
-        member: here.member,
-        starts,
-    }
+    Here { starts, ..here }
 }
 
 // The member starts at row n of the table.
 fn entered(here: Here, n: u16) -> Here
     ensures { StartedAt here here.starts n result }
 {
-    let starts = here.starts;
     Here {
-        member: here.member,
-        starts: with_start(starts, here.member, n),
+        starts: with_start(here.starts, here.member, n),
+        ..here
     }
 }
 
@@ -99,10 +99,8 @@ fn resumed(here: Here, starts: Starts) -> Here
 fn on_ended(rows: &[u16], fs: Frames, n: u16, before: Here, x: Left) -> Begun
     ensures { result ≡ ended_at rows.now fs n before x }
 {
-    let starts = x.starts;
-    let here = since(before, starts);
-    let e = x.ended;
-    match e {
+    let here = since(before, x.starts);
+    match x.ended {
         Ended::Ran(g) => turned_at(here, with_step(fs, Step::On(Walk::Up(n), g))),
         Ended::Went(l, g) => turned_at(here, went_to(rows, fs, here, l, g)),
         Ended::Bad(stop, g) => turned_at(here, with_step(fs, Step::Bad(stop, g))),
@@ -111,28 +109,14 @@ fn on_ended(rows: &[u16], fs: Frames, n: u16, before: Here, x: Left) -> Begun
 
 // ---- members are read
 
-// All rows, with those of a member; 01 allows 2,048.
-fn rows_with(n: u16, more: u16) -> u16
-    ensures { RowsWith n more result }
-{
-    if 65_535 - n < more {
-        return 65_535;
-    }
-    n + more
-}
-
+// The rows of a member join those that there are; 01 allows 2,048.
 fn with_source(g: Progress, x: Source) -> Progress
     ensures { WithSource g x result }
 {
-    let meter = g.meter;
-    let layout = g.layout;
-    let out = g.out;
     Progress {
-        meter,
-        layout,
-        out,
-        rows: rows_with(g.rows, x.rows),
+        rows: g.rows.saturating_add(x.rows),
         names: x.names,
+        ..g
     }
 }
 
@@ -148,10 +132,8 @@ fn read_behind(deck: &[u8], rows: &mut [u16], names: &mut [u16], k: u16, g: Prog
 fn forget(cells: &mut [u32], from: u16, to: u16)
     ensures { cells.new ≡ over cells.old from (zeros (to - from)) }
 {
-    let mut a = from;
-    while a < to {
-        put_number32(cells, 0, a as usize, 0);
-        a += 1;
+    for a in from..to {
+        put_number32(cells, 0, usize::from(a), 0);
     }
 }
 
@@ -199,7 +181,7 @@ fn in_deck(base: usize, w: Spelled) -> Spelled
 {
     Spelled {
         from: sum(base, w.from),
-        len: w.len,
+        ..w
     }
 }
 
@@ -244,8 +226,7 @@ fn include_one(
 ) -> Left
     ensures { IncludeOneIs deck.now rows.old names.old cells.old low.old high.old work.old text.old list.old x place below here left g rows.new names.new cells.new low.new high.new work.new text.new list.new result }
 {
-    let found = member_named(deck, here.member, x);
-    match found {
+    match member_named(deck, here.member, x) {
         deck::Found::Nothing => left_at(here, stopped(g, Why::UnknownMember, here.member, place)),
         deck::Found::Line(k) => {
             if left < 1 {
@@ -292,40 +273,41 @@ fn include_all(
 {
     let s = body(deck, before.member);
     let r = row_at(part_here(rows, before), n);
-    let place = r.place as usize;
+    let place = usize::from(r.place);
     let inner = with_below(below, before.member, n);
     let mut here = before;
-    let mut at = r.content as usize;
+    let mut at = usize::from(r.content);
     let mut g = g0;
-    let mut turns = s.len();
-    while 0 < turns {
-        turns -= 1;
+    // each name has a byte at least
+    for _ in 0..s.len() {
         let item = item_at(s, at);
-        let sought = item.sought;
         let x = include_one(
-            deck, rows, names, cells, low, high, work, text, list, sought, place, inner, here,
-            left, g,
+            deck,
+            rows,
+            names,
+            cells,
+            low,
+            high,
+            work,
+            text,
+            list,
+            item.sought,
+            place,
+            inner,
+            here,
+            left,
+            g,
         );
-        let starts = x.starts;
-        here = resumed(here, starts);
-        let e = x.ended;
-        match e {
-            Ended::Ran(h) => {
-                g = h;
-            }
-            Ended::Went(_, _) => {
-                return left_at(here, e);
-            }
-            Ended::Bad(_, _) => {
-                return left_at(here, e);
-            }
-        }
+        here = resumed(here, x.starts);
+        let Ended::Ran(h) = x.ended else {
+            return left_at(here, x.ended);
+        };
         let comma = token_at(s, item.to);
-        if is_sign(s, comma, b",") {
-            at = comma.to;
-        } else {
-            return left_at(here, Ended::Ran(g));
+        if !is_sign(s, comma, b",") {
+            return left_at(here, Ended::Ran(h));
         }
+        at = comma.to;
+        g = h;
     }
     left_at(here, Ended::Ran(g))
 }
@@ -355,12 +337,10 @@ fn begin(
     ensures { TurnIs deck.now s.now rows.old names.old cells.old low.old high.old work.old text.old list.old fs (Begin n) below here left g0 rows.new names.new cells.new low.new high.new work.new text.new list.new result }
 {
     let r = row_at(part_here(rows, here), n);
-    let before = g0.meter;
-    let paid = before.charged();
-    let m = paid.meter;
-    let g = with_meter(g0, m);
+    let paid = g0.meter.charged();
+    let g = with_meter(g0, paid.meter);
     if !paid.paid {
-        let t = refused(fs, g, Why::NoStep, here.member, r.place as usize);
+        let t = refused(fs, g, Why::NoStep, here.member, usize::from(r.place));
         return turned_at(here, t);
     }
     if is_include(r) {
@@ -468,10 +448,7 @@ fn run_rows(
     let mut fs = flow::no_frames();
     let mut here = start;
     let mut g = g0;
-    let m0 = g0.meter;
-    let mut turns = turns_left(m0);
-    while 0 < turns {
-        turns -= 1;
+    for _ in 0..turns_left(g0.meter) {
         if is_over(next) {
             return left_at(here, Ended::Ran(g));
         }
@@ -479,22 +456,28 @@ fn run_rows(
             deck, s, rows, names, cells, low, high, work, text, list, fs, next, below, here, left,
             g,
         );
-        let starts = t.starts;
-        here = since(here, starts);
-        let x = t.turned;
-        let step = x.step;
-        fs = x.frames;
-        let a = settle(
-            deck, s, rows, names, cells, low, high, work, text, list, fs, step, here,
-        );
-        match a {
+        here = since(here, t.starts);
+        fs = t.turned.frames;
+        match settle(
+            deck,
+            s,
+            rows,
+            names,
+            cells,
+            low,
+            high,
+            work,
+            text,
+            list,
+            fs,
+            t.turned.step,
+            here,
+        ) {
             Settled::On(y, h) => {
                 next = y;
                 g = h;
             }
-            Settled::End(e) => {
-                return left_at(here, e);
-            }
+            Settled::End(e) => return left_at(here, e),
         }
     }
     left_at(here, Ended::Ran(g))
@@ -523,11 +506,9 @@ fn run_source(
     ensures { SourceIs deck.now rows.old names.old cells.old low.old high.old work.old text.old list.old x below here left g rows.new names.new cells.new low.new high.new work.new text.new list.new result }
 {
     let s = body(deck, here.member);
-    let first = x.first;
-    let l = lead_out(
+    match lead_out(
         deck, s, rows, names, cells, low, high, work, text, list, x.lead, here, g,
-    );
-    match l {
+    ) {
         Ran::Good(h) => {
             run_rows(
                 deck,
@@ -539,7 +520,7 @@ fn run_source(
                 work,
                 text,
                 list,
-                flow::first_of(first),
+                flow::first_of(x.first),
                 below,
                 here,
                 left,
@@ -570,8 +551,7 @@ fn enter_and_run(
     ensures { EnterIs deck.now rows.old names.old cells.old low.old high.old work.old text.old list.old below here left g rows.new names.new cells.new low.new high.new work.new text.new list.new result }
 {
     let x = read_behind(deck, rows, names, here.member, g);
-    let fault = x.fault;
-    match fault {
+    match x.fault {
         Fault::Sound => {
             forget(cells, g.names, x.names);
             run_source(
@@ -637,10 +617,8 @@ pub fn run(
         Levels::INCLUDES,
         g,
     );
-    let e = x.ended;
-    match e {
-        Ended::Ran(h) => Ran::Good(h),
-        Ended::Went(_, h) => Ran::Good(h),
+    match x.ended {
+        Ended::Ran(h) | Ended::Went(_, h) => Ran::Good(h),
         Ended::Bad(stop, h) => Ran::Bad(stop, h),
     }
 }

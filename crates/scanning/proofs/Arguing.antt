@@ -5,6 +5,7 @@ use mathlib.Core.Bool.{Bool, true, false, cond}
 use mathlib.Core.List.{List, [], ◌∷◌, ◌++◌}
 use Prim.Native.Nat.{ℕ, suc, ◌+◌, ◌-◌, ◌<◌, ◌≤◌}
 use native.Mathlib.Omega.{arith}
+use Rattle.std.specs.Prelude.{Ok, Err}
 use lib.ListN.{length, take, length-set}
 use lib.IntN.{ℤ}
 use Rattle.definition.specs.Bytes.{mixed}
@@ -55,7 +56,6 @@ use Rattle.operands.specs.declared.Evaluated.{Evaluated}
 use Rattle.operands.specs.declared.Evaluated.TheVariants as E
 use Rattle.sums.specs.Numbers.{greatest, sum_to}
 use Rattle.sums.proofs.Laws.{sum_fits}
-use Rattle.scanning.specs.declared.Outcome.TheVariants as O
 use Rattle.operands.specs.Answer.{res_in}
 use Rattle.evaluating.specs.Cycle.{CalleeShown}
 use Rattle.scanning.specs.Cycle.{Sourced, Aims, Stage, Left, Came, scanner_in, Scans, TextFits, type_for, next_for, meter_for, converted_by, converted_for, ConvertedIs, Taking, TakenIs}
@@ -97,15 +97,15 @@ module _ (deck s rows names c₀ l₀ h₀ w₀ t₀ : List ℕ) (x : Src) (firs
   abbrev asking : List (List ℕ) → Val.Answer (List Ev.Parameter)
   asking ns = Ev.parameters (owner_at pl) ns (names_world deck names sc.names)
 
-  pub record Rest (B : World) (ps : List Ev.Parameter) (xs : List Argument) (q : ℕ) (held : Held) (from at top : ℕ) (m : Meter) (i turns : ℕ) (c l h w t : List ℕ) : Type 0 where
+  pub record Rest (B : World) (ps : List Ev.Parameter) (xs : List Argument) (q : ℕ) (held : Held) (from at top : ℕ) (m : Meter) (i : ℕ) (c l h w t : List ℕ) : Type 0 where
     pub done : List Ev.Parameter
     pub rest : List Ev.Parameter
     pub args : List Argument
     pub ns : List (List ℕ)
     pub all : done ++ rest ≡ ps
     pub number : length done ≡ i
-    pub turn : length rest ≡ turns
-    pub few : i + turns ≤ 256
+    pub turn : i + length rest ≡ count
+    pub few : count ≤ 256
     pub size : length held.numbers ≡ 256
     pub placed : Names (body_in deck pl.member) ns at
     pub asked : asking ns ≡ Val.gives rest
@@ -118,23 +118,13 @@ module _ (deck s rows names c₀ l₀ h₀ w₀ t₀ : List ℕ) (x : Src) (firs
     pub left : Left B u w₀ t₀ c l h w t m
     pub text : t ≡ t₀
 
-  pub record Arguing (held : Held) (from at top : ℕ) (m : Meter) (i turns : ℕ) (c l h w t : List ℕ) : Type 0 where
-    pub cells : length c ≡ length c₀
-    pub low : length l ≡ length l₀
-    pub high : length h ≡ length h₀
-    pub work : length w ≡ length w₀
-    pub long : length t ≡ length t₀
+  pub record Arguing (held : Held) (from at top : ℕ) (m : Meter) (i : ℕ) (c l h w t : List ℕ) : Type 0 where
     pub so : (B : World) (o : Dest) → Stage deck rows names c₀ l₀ h₀ w₀ u sc m₀ t₀ o B → Sourced s w₀ x u → (ns : List (List ℕ)) (ps : List Ev.Parameter) (xs : List Argument) (q : ℕ) → Names (body_in deck pl.member) ns list
-        → asking ns ≡ Val.gives ps → count ≡ length ps → length ps ≤ 256 → length xs ≡ length ps → cut_from (text_of s w₀ x) first ≡ list_up_to xs q → Rest B ps xs q held from at top m i turns c l h w t
+        → asking ns ≡ Val.gives ps → count ≡ length ps → length ps ≤ 256 → length xs ≡ length ps → cut_from (text_of s w₀ x) first ≡ list_up_to xs q → Rest B ps xs q held from at top m i c l h w t
 
-  pub arguing_start : (held : Held) → length held.numbers ≡ 256 → Arguing held first list u m₀ 0 count c₀ l₀ h₀ w₀ t₀
+  pub arguing_start : (held : Held) → length held.numbers ≡ 256 → Arguing held first list u m₀ 0 c₀ l₀ h₀ w₀ t₀
   unfolding held_from held_end
   arguing_start held e = record {
-    cells = refl;
-    low = refl;
-    high = refl;
-    work = refl;
-    long = refl;
     so = λ B o g so ns ps xs q nm ak co fw sz ct. record {
       done = [];
       rest = ps;
@@ -142,7 +132,7 @@ module _ (deck s rows names c₀ l₀ h₀ w₀ t₀ : List ℕ) (x : Src) (firs
       ns = ns;
       all = refl;
       number = refl;
-      turn = sym co;
+      turn = omega (arith, co);
       few = omega (arith, co);
       size = e;
       placed = nm;
@@ -159,14 +149,14 @@ module _ (deck s rows names c₀ l₀ h₀ w₀ t₀ : List ℕ) (x : Src) (firs
   }
 
 -- ---- all are taken
-module _ (deck s rows names c₀ l₀ h₀ w₀ t₀ : List ℕ) (x : Src) (first u n : ℕ) (sc : Scene) (m₀ : Meter) (z : Callee) (held : Held) (from at top : ℕ) (m : Meter) (i turns : ℕ) (c l h w t : List ℕ)
-    (ar : Arguing deck s rows names c₀ l₀ h₀ w₀ t₀ x first u n sc m₀ z.place z.list z.count held from at top m i turns c l h w t) where
+module _ (deck s rows names c₀ l₀ h₀ w₀ t₀ : List ℕ) (x : Src) (first u n : ℕ) (sc : Scene) (m₀ : Meter) (z : Callee) (held : Held) (from at top : ℕ) (m : Meter) (i : ℕ) (c l h w t : List ℕ)
+    (ar : Arguing deck s rows names c₀ l₀ h₀ w₀ t₀ x first u n sc m₀ z.place z.list z.count held from at top m i c l h w t) where
   rest_of : (B : World) (o : Dest) → Stage deck rows names c₀ l₀ h₀ w₀ u sc m₀ t₀ o B → Sourced s w₀ x u → (b : Ev.Callee) → CalleeShown deck names sc.names z b B → (xs : List Argument) (q : ℕ) → length xs ≡ length b.parameters
-      → cut_from (text_of s w₀ x) first ≡ list_up_to xs q → Rest deck s rows names c₀ l₀ h₀ w₀ t₀ x first u n sc m₀ z.place z.list z.count B b.parameters xs q held from at top m i turns c l h w t
+      → cut_from (text_of s w₀ x) first ≡ list_up_to xs q → Rest deck s rows names c₀ l₀ h₀ w₀ t₀ x first u n sc m₀ z.place z.list z.count B b.parameters xs q held from at top m i c l h w t
   rest_of B o g so b cs xs q sz ct = ar.so B o g so cs.listed b.parameters xs q cs.placed cs.asked cs.count cs.few sz ct
 
-  done_by : (B : World) (ps : List Ev.Parameter) (xs : List Argument) (q : ℕ) → Rest deck s rows names c₀ l₀ h₀ w₀ t₀ x first u n sc m₀ z.place z.list z.count B ps xs q held from at top m i turns c l h w t → turns ≤ 0
-      → Taking B u w₀ t₀ c l h w t ps held (O.All m) (D.scan_arguments (scanner_in sc n) (text_of s w₀ x) ps xs u (world_in B c₀ l₀ h₀ m₀.used))
+  done_by : (B : World) (ps : List Ev.Parameter) (xs : List Argument) (q : ℕ) → Rest deck s rows names c₀ l₀ h₀ w₀ t₀ x first u n sc m₀ z.place z.list z.count B ps xs q held from at top m i c l h w t → z.count ≤ i
+      → Taking B u w₀ t₀ c l h w t ps (Ok (held, m)) (D.scan_arguments (scanner_in sc n) (text_of s w₀ x) ps xs u (world_in B c₀ l₀ h₀ m₀.used))
   unfolding D.scan_arguments
   done_by B ps xs q r k =
       let e : r.rest ≡ [] = nil_is r.rest (omega (arith, r.turn)) in
@@ -181,7 +171,7 @@ module _ (deck s rows names c₀ l₀ h₀ w₀ t₀ : List ℕ) (x : Src) (firs
         text = r.text;
       }
 
-  pub arguing_done : turns ≤ 0 → TakenIs deck s rows names c₀ l₀ h₀ w₀ t₀ x first z u n sc m₀ c l h w t held (O.All m)
+  pub arguing_done : z.count ≤ i → TakenIs deck s rows names c₀ l₀ h₀ w₀ t₀ x first z u n sc m₀ c l h w t (Ok (held, m))
   arguing_done k = record { is = λ B o g so b cs xs q sz ct. done_by B b.parameters xs q (rest_of B o g so b cs xs q sz ct) k }
 
 -- ---- one more
@@ -368,13 +358,13 @@ bind_more (good ys w) a xs = ap (λ (k : List Val.Value). good k w) (append_one 
 bind_more (bad y n) a xs = refl
 
 -- ---- a turn: what it has in hand
-module _ (deck s rows names c₀ l₀ h₀ w₀ t₀ : List ℕ) (x : Src) (first u n : ℕ) (sc : Scene) (m₀ : Meter) (z : Callee) (held : Held) (from at top : ℕ) (m : Meter) (i turns : ℕ) (c l h w t : List ℕ)
-    (ar : Arguing deck s rows names c₀ l₀ h₀ w₀ t₀ x first u n sc m₀ z.place z.list z.count held from at top m i turns c l h w t) (go : 0 < turns)
+module _ (deck s rows names c₀ l₀ h₀ w₀ t₀ : List ℕ) (x : Src) (first u n : ℕ) (sc : Scene) (m₀ : Meter) (z : Callee) (held : Held) (from at top : ℕ) (m : Meter) (i : ℕ) (c l h w t : List ℕ)
+    (ar : Arguing deck s rows names c₀ l₀ h₀ w₀ t₀ x first u n sc m₀ z.place z.list z.count held from at top m i c l h w t) (go : i < z.count)
     (bd : List ℕ) (eb : bd ≡ body_in deck z.place.member) (pa : ParameterAt) (pi : ParameterIs deck bd names sc.names z.place at pa) (to : ℕ) (en : EndIn (room_of s w x) x.from x.to from to)
     (px : Src) (ex : px ≡ part_of x from to) (dw : Dest) (ed : dw ≡ into_work) (c₁ l₁ h₁ w₁ t₁ : List ℕ) (sd : Scanned) (sn : Scans deck s rows names c l h w t px dw top n sc m c₁ l₁ h₁ w₁ t₁ sd)
     (ty : ValueType) (et : ty ≡ type_for pa) (w₂ : List ℕ) (v : Evaluated) (cv : ConvertedIs w₁ top ty sd w₂ v) (e₂ : length w₂ ≡ length w₁) where
   module _ (B : World) (o : Dest) (g : Stage deck rows names c₀ l₀ h₀ w₀ u sc m₀ t₀ o B) (so : Sourced s w₀ x u) (ps : List Ev.Parameter) (xs : List Argument) (q : ℕ)
-      (r : Rest deck s rows names c₀ l₀ h₀ w₀ t₀ x first u n sc m₀ z.place z.list z.count B ps xs q held from at top m i turns c l h w t) where
+      (r : Rest deck s rows names c₀ l₀ h₀ w₀ t₀ x first u n sc m₀ z.place z.list z.count B ps xs q held from at top m i c l h w t) where
     abbrev text : List ℕ
     text = text_of s w₀ x
 
@@ -385,7 +375,7 @@ module _ (deck s rows names c₀ l₀ h₀ w₀ t₀ : List ℕ) (x : Src) (firs
     source_now = source_same s w₀ w x u so r.left.below
 
     sourced_now : Sourced s w x u
-    sourced_now = source_still s w₀ w x u u so ar.work (omega arith)
+    sourced_now = source_still s w₀ w x u u so r.left.work (omega arith)
 
     ends_here : (ys : List Argument) → cut_from (text_of s w x) from ≡ list_up_to ys q → Ends (text_of s w x) from to ys q
     unfolding text_of
@@ -404,7 +394,7 @@ module _ (deck s rows names c₀ l₀ h₀ w₀ t₀ : List ℕ) (x : Src) (firs
     unfolding into_of
     came =
         let no : Aims t into_work = record { room = λ f. never _ (let k : true ≡ false = f in cc); short = λ f. never _ (let k : true ≡ false = f in cc) } in
-        let st : Stage deck rows names c l h w top sc m t into_work B = stage_on deck rows names c₀ l₀ h₀ w₀ u sc m₀ t₀ o B c l h w top m t into_work g r.left.slots ar.work r.fits r.left.limit no in
+        let st : Stage deck rows names c l h w top sc m t into_work B = stage_on deck rows names c₀ l₀ h₀ w₀ u sc m₀ t₀ o B c l h w top m t into_work g r.left.slots r.left.work r.fits r.left.limit no in
         let lt : to < length (text_of s w x) = omega (arith, ap length source_now, head.within) in
         let sp : Sourced s w (part_of x from to) top = part_sourced s w x from to u top sourced_now low head.order lt in
         let tx : text_of s w (part_of x from to) ≡ part (to - from) from text = part_text s w x from to sourced_now.within head.order lt ∙ ap (part (to - from) from) source_now in
@@ -412,7 +402,7 @@ module _ (deck s rows names c₀ l₀ h₀ w₀ t₀ : List ℕ) (x : Src) (firs
         rw tx at (s₁.is B st sp)
 
     long : 65536 ≤ length w₁
-    long = omega (arith, g.shows.work, ar.work, came.left.work)
+    long = omega (arith, g.shows.work, r.left.work, came.left.work)
 
     fits : TextFits sd top
     fits = came_fits B top w t c₁ l₁ h₁ w₁ t₁ sd _ came
@@ -434,7 +424,7 @@ module _ (deck s rows names c₀ l₀ h₀ w₀ t₀ : List ℕ) (x : Src) (firs
       slots = came.left.slots;
     }
 
-    failed_by : (y : Why) (k : Meter) → v ≡ E.Failed y k → Taking B u w₀ t₀ c₁ l₁ h₁ w₂ t₁ ps held (O.Bad y k) all
+    failed_by : (y : Why) (k : Meter) → v ≡ E.Failed y k → Taking B u w₀ t₀ c₁ l₁ h₁ w₂ t₁ ps (Err (y, k)) all
     failed_by y k e = record { is = sym (ap (λ (a : Evaluated). bind (bind (res_in B c₁ l₁ h₁ w₂ top a) (following sc n text head.others head.arguments top)) (λ ys y. good (held_from w held 0 u r.done ++ ys) y)) e) ∙ step; waits = tt; left = left_on k (ap meter_for (sym e) ∙ cv.meter); text = tt }
 
     module _ (val : Value) (d : ℕ) (k : Meter) (e : v ≡ E.Is val d k) (held₂ : Held) (hw : HeldWith held i val held₂) where
@@ -473,12 +463,11 @@ module _ (deck s rows names c₀ l₀ h₀ w₀ t₀ : List ℕ) (x : Src) (firs
       top_fits : top + size_for val ≤ 65536
       top_fits = one_fits top ty w₂ val t t₁ one
 
-      more_by : (top₂ from₂ at₂ i₂ : ℕ) → top₂ ≡ top_of top (size_for val) → from₂ ≡ sum_to greatest to 1 → at₂ ≡ next_for pa at → i₂ ≡ sum_to greatest i 1
-          → Rest deck s rows names c₀ l₀ h₀ w₀ t₀ x first u n sc m₀ z.place z.list z.count B ps xs q held₂ from₂ at₂ top₂ k i₂ (turns - 1) c₁ l₁ h₁ w₂ t₁
-      more_by top₂ from₂ at₂ i₂ it fi ia ii =
+      more_by : (top₂ from₂ at₂ : ℕ) → top₂ ≡ top_of top (size_for val) → from₂ ≡ sum_to greatest to 1 → at₂ ≡ next_for pa at
+          → Rest deck s rows names c₀ l₀ h₀ w₀ t₀ x first u n sc m₀ z.place z.list z.count B ps xs q held₂ from₂ at₂ top₂ k (i + 1) c₁ l₁ h₁ w₂ t₁
+      more_by top₂ from₂ at₂ it fi ia =
           let jt : top₂ ≡ top + size_for val = it ∙ top_in_lem top (size_for val) top_fits in
           let jf : from₂ ≡ to + 1 = fi ∙ sum_fits to 1 (omega (arith, head.within, text_length s w₀ x, so.within.short)) in
-          let ji : i₂ ≡ i + 1 = ii ∙ sum_fits i 1 (omega (arith, i_low)) in
           let rl : length r.rest ≡ suc (length head.others) = ap (λ (y : List Ev.Parameter). length y) head.rest_is in
           let al : length r.args ≡ suc (length head.arguments) = ap (λ (y : List Argument). length y) head.args_is in
           let ts : top₂ ≡ top + Val.size_of (value_in w₂ top val) = omega (arith, size_is w₂ top val) in
@@ -489,8 +478,8 @@ module _ (deck s rows names c₀ l₀ h₀ w₀ t₀ : List ℕ) (x : Src) (firs
             ns = head.ns;
             all = append_one r.done head.others head.parameter ∙ ap (λ (y : List Ev.Parameter). r.done ++ y) (sym head.rest_is) ∙ r.all;
             number = omega (arith, length_one r.done head.parameter, r.number);
-            turn = omega (arith, r.turn);
-            few = omega (arith, r.few);
+            turn = omega (arith, r.turn, rl);
+            few = r.few;
             size = ap (λ (y : List ℕ). length y) (hw.is i_low) ∙ length-set held.numbers i (held_number val) ∙ r.size;
             placed = rw ia head.placed;
             asked = head.asked;
@@ -508,17 +497,11 @@ module _ (deck s rows names c₀ l₀ h₀ w₀ t₀ : List ℕ) (x : Src) (firs
             text = one.text ∙ r.text;
           }
 
-  pub arguing_failed : (y : Why) (k : Meter) → v ≡ E.Failed y k → TakenIs deck s rows names c₀ l₀ h₀ w₀ t₀ x first z u n sc m₀ c₁ l₁ h₁ w₂ t₁ held (O.Bad y k)
-  arguing_failed y k e = record { is = λ B o g so b cs xs q sz ct. failed_by B o g so b.parameters xs q (rest_of deck s rows names c₀ l₀ h₀ w₀ t₀ x first u n sc m₀ z held from at top m i turns c l h w t ar B o g so b cs xs q sz ct) y k e }
+  pub arguing_failed : (y : Why) (k : Meter) → v ≡ E.Failed y k → TakenIs deck s rows names c₀ l₀ h₀ w₀ t₀ x first z u n sc m₀ c₁ l₁ h₁ w₂ t₁ (Err (y, k))
+  arguing_failed y k e = record { is = λ B o g so b cs xs q sz ct. failed_by B o g so b.parameters xs q (rest_of deck s rows names c₀ l₀ h₀ w₀ t₀ x first u n sc m₀ z held from at top m i c l h w t ar B o g so b cs xs q sz ct) y k e }
 
-  pub arguing_more : (val : Value) (d : ℕ) (k : Meter) (held₂ : Held) (sz top₂ from₂ at₂ i₂ : ℕ) → v ≡ E.Is val d k → HeldWith held i val held₂ → sz ≡ size_for val → top₂ ≡ top_of top sz → from₂ ≡ sum_to greatest to 1 → at₂ ≡ next_for pa at → i₂ ≡ sum_to greatest i 1
-      → length c₁ ≡ length c → length l₁ ≡ length l → length h₁ ≡ length h → length w₁ ≡ length w → length t₁ ≡ length t
-      → Arguing deck s rows names c₀ l₀ h₀ w₀ t₀ x first u n sc m₀ z.place z.list z.count held₂ from₂ at₂ top₂ k i₂ (turns - 1) c₁ l₁ h₁ w₂ t₁
-  arguing_more val d k held₂ sz top₂ from₂ at₂ i₂ e hw is it fi ia ii d₁ d₂ d₃ d₄ d₅ = record {
-    cells = d₁ ∙ ar.cells;
-    low = d₂ ∙ ar.low;
-    high = d₃ ∙ ar.high;
-    work = e₂ ∙ d₄ ∙ ar.work;
-    long = d₅ ∙ ar.long;
-    so = λ B o g so ns ps xs q nm ak co fw sz₁ ct. more_by B o g so ps xs q (ar.so B o g so ns ps xs q nm ak co fw sz₁ ct) val d k e held₂ hw top₂ from₂ at₂ i₂ (it ∙ ap (top_of top) is) fi ia ii;
+  pub arguing_more : (val : Value) (d : ℕ) (k : Meter) (held₂ : Held) (sz top₂ from₂ at₂ : ℕ) → v ≡ E.Is val d k → HeldWith held i val held₂ → sz ≡ size_for val → top₂ ≡ top_of top sz → from₂ ≡ sum_to greatest to 1 → at₂ ≡ next_for pa at
+      → Arguing deck s rows names c₀ l₀ h₀ w₀ t₀ x first u n sc m₀ z.place z.list z.count held₂ from₂ at₂ top₂ k (i + 1) c₁ l₁ h₁ w₂ t₁
+  arguing_more val d k held₂ sz top₂ from₂ at₂ e hw is it fi ia = record {
+    so = λ B o g so ns ps xs q nm ak co fw sz₁ ct. more_by B o g so ps xs q (ar.so B o g so ns ps xs q nm ak co fw sz₁ ct) val d k e held₂ hw top₂ from₂ at₂ (it ∙ ap (top_of top) is) fi ia;
   }

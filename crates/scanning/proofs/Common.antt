@@ -21,7 +21,6 @@ use Rattle.outcomes.specs.declared.Src.{Src}
 use Rattle.outcomes.specs.declared.Dest.{Dest}
 use Rattle.outcomes.specs.declared.Scanned.{Scanned}
 use Rattle.outcomes.specs.declared.Scanned.TheVariants as S
-use Rattle.outcomes.specs.declared.Replaced.{Replaced}
 use Rattle.outcomes.specs.declared.Replaced.TheVariants as R
 use Rattle.outcomes.specs.Texts.{room_of, stretch_of, text_of}
 use Rattle.outcomes.specs.Places.{into_of, after_of, waiting_of, up_to_of, out_in}

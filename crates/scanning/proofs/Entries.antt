@@ -3,9 +3,10 @@
 use mathlib.Core.Path.{◌≡◌, refl, sym, ap, subst, ◌∙◌}
 use mathlib.Core.Bool.{true, false}
 use mathlib.Core.List.{List, [], ◌∷◌}
-use Prim.Native.Nat.{ℕ, ◌+◌, ◌-◌, ◌<◌, ◌≤◌}
+use Prim.Native.Nat.{ℕ, ◌+◌, ◌<◌, ◌≤◌}
 use native.Mathlib.Omega.{arith}
 use borrow.Author.Tests.{eq-eqb, ne_eqb}
+use Rattle.std.specs.Prelude.{Ok, Err}
 use lib.Dec.{eqb}
 use lib.ListN.{length}
 use Rattle.definition.specs.Bytes.{mixed}
@@ -35,11 +36,9 @@ use Rattle.outcomes.specs.Places.{into_of, up_to_of}
 use Rattle.outcomes.specs.Arguments.{cut_from, past_blanks, listing_for, ListIn}
 use Rattle.outcomes.proofs.Cutting.{list_cut}
 use Rattle.operands.specs.declared.Scene.{Scene}
-use Rattle.scanning.specs.declared.Outcome.{Outcome}
-use Rattle.scanning.specs.declared.Outcome.TheVariants as O
 use Rattle.operands.specs.Answer.{run_in}
 use Rattle.evaluating.specs.Cycle.{CalleeShown}
-use Rattle.scanning.specs.Cycle.{Sourced, Stage, Came, Gone, scanner_in, is_on, EntryIs, CallWith, Taking, TakenIs}
+use Rattle.scanning.specs.Cycle.{Sourced, Stage, Came, Gone, scanner_in, is_on, EntryIs, CallWith, Taken, Taking, TakenIs}
 use Rattle.scanning.proofs.Common.{never, stage_on, aims_same, gone_bad, left_same, up_gone}
 use Rattle.scanning.proofs.Values.{came_over}
 
@@ -111,7 +110,7 @@ module _ (deck s rows names c l h w t : List ℕ) (x : Src) (p : ℕ) (z : Calle
             wrong B b g (with_is B b cs (list_up_to d.arguments q) d.is ∙ rw i);
       }
 
-      module _ (same : cnt ≡ z.count) (c₁ l₁ h₁ w₁ t₁ : List ℕ) (k : Held) (oc : Outcome) (tk : TakenIs deck s rows names c l h w t x first z u n sc m c₁ l₁ h₁ w₁ t₁ k oc) where
+      module _ (same : cnt ≡ z.count) (c₁ l₁ h₁ w₁ t₁ : List ℕ) (oc : Taken) (tk : TakenIs deck s rows names c l h w t x first z u n sc m c₁ l₁ h₁ w₁ t₁ oc) where
         module _ (B : World) (g : Stage deck rows names c l h w u sc m t o B) (so : Sourced s w x u) (b : Ev.Callee) (cs : CalleeShown deck names sc.names z b B) where
           abbrev d : ListedAs (list_at mixed (text_of s w x) p) (past_blanks (text_of s w x) p + 1) cnt first q
           d = listed so
@@ -122,7 +121,7 @@ module _ (deck s rows names c l h w t : List ℕ) (x : Src) (p : ℕ) (z : Calle
           abbrev took : Res Why (List Val.Value)
           took = D.scan_arguments (scanner_in sc n) (text_of s w x) b.parameters d.arguments u (world_in B c l h m.used)
 
-          taken : Taking B u w t c₁ l₁ h₁ w₁ t₁ b.parameters k oc took
+          taken : Taking B u w t c₁ l₁ h₁ w₁ t₁ b.parameters oc took
           taken =
               let f : cut_from (text_of s w x) first ≡ list_up_to d.arguments q = ap (cut_from (text_of s w x)) d.begins ∙ list_cut (text_of s w x) p d.arguments q d.is in
               tk.is B o g so b cs d.arguments q sized f
@@ -130,14 +129,14 @@ module _ (deck s rows names c l h w t : List ℕ) (x : Src) (p : ℕ) (z : Calle
           all_is : entered B b ≡ bind took (λ vs v. D.up_to q (D.call_with (run_in sc) (scanner_in sc n) (activity_of y) (into_of o) u b vs v))
           all_is = with_is B b cs (list_up_to d.arguments q) d.is ∙ rw (eq-eqb (length d.arguments) (length b.parameters) sized)
 
-          refused_by : (f : Why) (m' : Meter) → oc ≡ O.Bad f m' → Gone B o u w t c₁ l₁ h₁ w₁ t₁ (R.Bad f m') (entered B b)
+          refused_by : (f : Why) (m' : Meter) → oc ≡ Err (f, m') → Gone B o u w t c₁ l₁ h₁ w₁ t₁ (R.Bad f m') (entered B b)
           refused_by f m' i =
-              let T : Taking B u w t c₁ l₁ h₁ w₁ t₁ b.parameters k (O.Bad f m') took = rw i at taken in
+              let T : Taking B u w t c₁ l₁ h₁ w₁ t₁ b.parameters (Err (f, m')) took = rw i at taken in
               gone_bad B o u w t c₁ l₁ h₁ w₁ t₁ f m' _ (sym (all_is ∙ rw (← T.is))) T.left
 
-          called_by : (m' : Meter) (c' l' h' w' t' : List ℕ) (v : Scanned) → oc ≡ O.All m' → is_on y ≡ true → CallWith deck s rows names c₁ l₁ h₁ w₁ t₁ z k y o u n sc m' c' l' h' w' t' v → Gone B o u w t c' l' h' w' t' (up_to_of v q) (entered B b)
-          called_by m' c' l' h' w' t' v i on cw =
-              let T : Taking B u w t c₁ l₁ h₁ w₁ t₁ b.parameters k (O.All m') took = rw i at taken in
+          called_by : (k : Held) (m' : Meter) (c' l' h' w' t' : List ℕ) (v : Scanned) → oc ≡ Ok (k, m') → is_on y ≡ true → CallWith deck s rows names c₁ l₁ h₁ w₁ t₁ z k y o u n sc m' c' l' h' w' t' v → Gone B o u w t c' l' h' w' t' (up_to_of v q) (entered B b)
+          called_by k m' c' l' h' w' t' v i on cw =
+              let T : Taking B u w t c₁ l₁ h₁ w₁ t₁ b.parameters (Ok (k, m')) took = rw i at taken in
               let st : Stage deck rows names c₁ l₁ h₁ w₁ u sc m' t₁ o B = stage_on deck rows names c l h w u sc m t o B c₁ l₁ h₁ w₁ u m' t₁ o g T.left.slots T.left.work g.shows.taken T.left.limit (aims_same t t₁ o g.aims T.left.long) in
               let C₁ : Came B o u w₁ t₁ c' l' h' w' t' v (D.call_with (run_in sc) (scanner_in sc n) (activity_of y) (into_of o) u b (held_from w₁ k 0 u b.parameters) (world_in B c₁ l₁ h₁ m'.used)) = cw.is B st on b cs T.waits in
               let C : Came B o u w t c' l' h' w' t' v (D.call_with (run_in sc) (scanner_in sc n) (activity_of y) (into_of o) u b (held_from w₁ k 0 u b.parameters) (world_in B c₁ l₁ h₁ m'.used)) =
@@ -145,8 +144,8 @@ module _ (deck s rows names c l h w t : List ℕ) (x : Src) (p : ℕ) (z : Calle
               let Q : entered B b ≡ D.up_to q (D.call_with (run_in sc) (scanner_in sc n) (activity_of y) (into_of o) u b (held_from w₁ k 0 u b.parameters) (world_in B c₁ l₁ h₁ m'.used)) = all_is ∙ rw (← T.is) in
               rw Q (up_gone B o u w t c' l' h' w' t' v q _ C)
 
-        pub entry_refused : (f : Why) (m' : Meter) → oc ≡ O.Bad f m' → EntryIs deck s rows names c l h w t x p z y o u n sc m c₁ l₁ h₁ w₁ t₁ (R.Bad f m')
+        pub entry_refused : (f : Why) (m' : Meter) → oc ≡ Err (f, m') → EntryIs deck s rows names c l h w t x p z y o u n sc m c₁ l₁ h₁ w₁ t₁ (R.Bad f m')
         entry_refused f m' i = record { is = λ B g so on b cs. refused_by B g so b cs f m' i }
 
-        pub entry_called : (m' : Meter) (c' l' h' w' t' : List ℕ) (v : Scanned) (r : Replaced) → oc ≡ O.All m' → CallWith deck s rows names c₁ l₁ h₁ w₁ t₁ z k y o u n sc m' c' l' h' w' t' v → r ≡ up_to_of v q → EntryIs deck s rows names c l h w t x p z y o u n sc m c' l' h' w' t' r
-        entry_called m' c' l' h' w' t' v r i cw j = rw j (record { is = λ B g so on b cs. called_by B g so b cs m' c' l' h' w' t' v i on cw })
+        pub entry_called : (k : Held) (m' : Meter) (c' l' h' w' t' : List ℕ) (v : Scanned) (r : Replaced) → oc ≡ Ok (k, m') → CallWith deck s rows names c₁ l₁ h₁ w₁ t₁ z k y o u n sc m' c' l' h' w' t' v → r ≡ up_to_of v q → EntryIs deck s rows names c l h w t x p z y o u n sc m c' l' h' w' t' r
+        entry_called k m' c' l' h' w' t' v r i cw j = rw j (record { is = λ B g so on b cs. called_by B g so b cs k m' c' l' h' w' t' v i on cw })

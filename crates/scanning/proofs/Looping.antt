@@ -73,22 +73,12 @@ pub record Going (s c₀ l₀ h₀ w₀ t₀ : List ℕ) (x : Src) (o : Dest) (u
   pub left : Left B u w₀ t₀ c l h w t m
 
 pub record Scanning (deck s rows names c₀ l₀ h₀ w₀ t₀ : List ℕ) (x : Src) (o : Dest) (u n : ℕ) (sc : Scene) (m₀ : Meter) (turns k p : ℕ) (m : Meter) (c l h w t : List ℕ) : Type 0 where
-  pub cells : length c ≡ length c₀
-  pub low : length l ≡ length l₀
-  pub high : length h ≡ length h₀
-  pub work : length w ≡ length w₀
-  pub long : length t ≡ length t₀
   pub so : (B : World) → Stage deck rows names c₀ l₀ h₀ w₀ u sc m₀ t₀ o B → Sourced s w₀ x u → Going s c₀ l₀ h₀ w₀ t₀ x o u n sc m₀ B turns k p m c l h w t
 
 pub scanning_start : (deck s rows names c l h w t : List ℕ) (x : Src) (o : Dest) (u n : ℕ) (sc : Scene) (m : Meter) (size turns : ℕ) → size ≡ x.to - x.from → turns ≡ sum_to greatest size 1
     → Scanning deck s rows names c l h w t x o u n sc m turns 0 0 m c l h w t
 unfolding scanner_in replacer_in
 scanning_start deck s rows names c l h w t x o u n sc m size turns e f = record {
-  cells = refl;
-  low = refl;
-  high = refl;
-  work = refl;
-  long = refl;
   so = λ B g k. record {
     same =
         let j : turns ≡ suc (length (text_of s w x)) = f ∙ sum_fits size 1 (omega (arith, k.within.short)) ∙ add-one size ∙ ap suc (e ∙ sym (text_length s w x)) in
@@ -127,7 +117,7 @@ module _ (deck s rows names c₀ l₀ h₀ w₀ t₀ : List ℕ) (x : Src) (o : 
       turn f j = rw (j, lt-leb (length text) p (omega (arith, text_length s w₀ x))) at now_is.same
 
       stage_now : Stage deck rows names c l h w u sc r.meter t o B
-      stage_now = stage_on deck rows names c₀ l₀ h₀ w₀ u sc m₀ t₀ o B c l h w u r.meter t o g now_is.left.slots i.work g.shows.taken (ch.limit ∙ now_is.left.limit) (aims_same t₀ t o g.aims i.long)
+      stage_now = stage_on deck rows names c₀ l₀ h₀ w₀ u sc m₀ t₀ o B c l h w u r.meter t o g now_is.left.slots now_is.left.work g.shows.taken (ch.limit ∙ now_is.left.limit) (aims_same t₀ t o g.aims now_is.left.long)
 
       none_is : r.paid ≡ false → (f : ℕ) → turns ≡ suc f → bad NoStep r.meter.used ≡ all
       none_is j f v = rw (charge_none B c l h m r ch now_is.left.limit j) at (turn f v)
@@ -146,7 +136,7 @@ module _ (deck s rows names c₀ l₀ h₀ w₀ t₀ : List ℕ) (x : Src) (o : 
 
       gone_is : (c' l' h' w' t' : List ℕ) (y : Replaced) → TokenIs deck s rows names c l h w t x p k o u n sc r.meter c' l' h' w' t' y
           → Gone B (after_of o k) (waiting_of o u k) w t c' l' h' w' t' y (token_at (replacer_in sc n) (into_of o) text k u p (world_in B c l h r.meter.used))
-      gone_is c' l' h' w' t' y tk = rw source_now at (tk.is B stage_now (source_still s w₀ w x u u q i.work (omega arith)) (omega arith) now_is.put.room now_is.put.fits)
+      gone_is c' l' h' w' t' y tk = rw source_now at (tk.is B stage_now (source_still s w₀ w x u u q now_is.left.work (omega arith)) (omega arith) now_is.put.room now_is.put.fits)
 
       -- what is left below u
       left_on : (c' l' h' w' t' : List ℕ) (m' : Meter) → Left B (waiting_of o u k) w t c' l' h' w' t' m' → Left B u w₀ t₀ c' l' h' w' t' m'
@@ -173,7 +163,7 @@ module _ (deck s rows names c₀ l₀ h₀ w₀ t₀ : List ℕ) (x : Src) (o : 
       good_on c' l' h' w' t' j k' p' m' tk a b =
           let z = gone_is c' l' h' w' t' (R.Good j p' m') tk in
           let v : k' ≡ k + j = sum_is c' l' h' w' t' j k' z.put b in
-          let aim : Aims t o = aims_same t₀ t o g.aims i.long in
+          let aim : Aims t o = aims_same t₀ t o g.aims now_is.left.long in
           let y : out_in o t' w' u (k + j) ≡ out_in o t w u k ++ out_in (after_of o k) t' w' (waiting_of o u k) j = out_next B o u t₀ w t w' t' k j aim now_is.put z.put z.left.below in
           record {
             same = rw (v, y) (rw (← z.is) at (paid_is a (turns - 1) (omega arith)));
@@ -192,13 +182,8 @@ module _ (deck s rows names c₀ l₀ h₀ w₀ t₀ : List ℕ) (x : Src) (o : 
       pub scanning_bad : (b : Why) (m' : Meter) → y ≡ R.Bad b m' → Scans deck s rows names c₀ l₀ h₀ w₀ t₀ x o u n sc m₀ c' l' h' w' t' (S.Bad b m')
       scanning_bad b m' j = record { is = λ B g q. bad_on B g q c' l' h' w' t' b m' (rw j at tk) paid }
 
-      pub scanning_more : (j k' p' : ℕ) (m' : Meter) → y ≡ R.Good j p' m' → k' ≡ sum_to greatest k j → length c' ≡ length c → length l' ≡ length l → length h' ≡ length h → length w' ≡ length w → length t' ≡ length t
-          → Scanning deck s rows names c₀ l₀ h₀ w₀ t₀ x o u n sc m₀ (turns - 1) k' p' m' c' l' h' w' t'
-      scanning_more j k' p' m' v b d₁ d₂ d₃ d₄ d₅ = record {
-        cells = d₁ ∙ i.cells;
-        low = d₂ ∙ i.low;
-        high = d₃ ∙ i.high;
-        work = d₄ ∙ i.work;
-        long = d₅ ∙ i.long;
+      pub scanning_more : (j k' p' : ℕ) (m' : Meter) → y ≡ R.Good j p' m' → k' ≡ sum_to greatest k j → (fewer : ℕ) → fewer ≡ turns - 1
+          → Scanning deck s rows names c₀ l₀ h₀ w₀ t₀ x o u n sc m₀ fewer k' p' m' c' l' h' w' t'
+      scanning_more j k' p' m' v b fewer ef = rw ef record {
         so = λ B g q. good_on B g q c' l' h' w' t' j k' p' m' (rw v at tk) paid b;
       }

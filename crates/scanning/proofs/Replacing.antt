@@ -1,5 +1,6 @@
 -- The replacement of a name: a variable's value, or an entry.
 -- Assumes nothing.
+use mathlib.Core.Logic.{◌⊎◌, inl, inr}
 use mathlib.Core.Path.{◌≡◌, refl, sym, ap, subst, ◌∙◌}
 use mathlib.Core.Bool.{Bool, true, false}
 use mathlib.Core.List.{List, [], ◌∷◌}
@@ -135,11 +136,9 @@ module _ (deck s rows names c l h w t : List ℕ) (x : Src) (p a : ℕ) (y : Act
       pub replace_copied : (z : Scanned) (w' t' : List ℕ) (r : Replaced) → bb ≡ false → CopiedFrom (held_by (cell_in c l h ty a)) w t o u m w' t' z → r ≡ up_to_of z p → ReplaceIs deck s rows names c l h w t x p a y o u left sc m c l h w' t' r
       replace_copied z w' t' r ie cf i = rw i (record { is = λ B g so lt on. copied_by z w' t' ie cf B g lt on })
 
-    pub replace_label : (d : Label) → nm.denotation ≡ N.LabelName d → ReplaceIs deck s rows names c l h w t x p a y o u left sc m c l h w t (R.Bad WrongName m)
-    replace_label d f = record { is = λ B g so lt on. wrong B g lt (text_of s w x) WrongName (as_is B g lt (text_of s w x) _ (ap denotation_of f)) }
-
-    pub replace_builtin : nm.denotation ≡ N.Builtin → ReplaceIs deck s rows names c l h w t x p a y o u left sc m c l h w t (R.Bad WrongName m)
-    replace_builtin f = record { is = λ B g so lt on. wrong B g lt (text_of s w x) WrongName (as_is B g lt (text_of s w x) _ (ap denotation_of f)) }
+    pub replace_wrong : ((d : Label) × (nm.denotation ≡ N.LabelName d)) ⊎ (nm.denotation ≡ N.Builtin) → ReplaceIs deck s rows names c l h w t x p a y o u left sc m c l h w t (R.Bad WrongName m)
+    replace_wrong (inl (d, f)) = record { is = λ B g so lt on. wrong B g lt (text_of s w x) WrongName (as_is B g lt (text_of s w x) _ (ap denotation_of f)) }
+    replace_wrong (inr f) = record { is = λ B g so lt on. wrong B g lt (text_of s w x) WrongName (as_is B g lt (text_of s w x) _ (ap denotation_of f)) }
 
     module _ (en : Entry) (f : nm.denotation ≡ N.EntryName en) (yc : Called) (co : CalleeOf deck rows sc.starts names sc.names en.body yc) where
       entry_is : (B : World) (g : Stage deck rows names c l h w u sc m t o B) (lt : a < sc.names) (T : List ℕ) (b : Body) → en.body ≡ b → (q : Val.Answer Ev.Callee) → callee (body_of b) (world_in B c l h m.used) ≡ q

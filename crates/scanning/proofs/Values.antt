@@ -23,9 +23,7 @@ use Rattle.meter.specs.declared.Meter.{Meter}
 use Rattle.names.specs.declared.Activity.{Activity}
 use Rattle.names.specs.declared.Activity.TheVariants as A
 use Rattle.names.specs.Table.{activity_of}
-use Rattle.operators.specs.declared.Value.{Value}
 use Rattle.operators.specs.declared.Given.{Given}
-use Rattle.operators.specs.declared.Given.TheVariants.{Gives, Fails}
 use Rattle.operators.specs.Stands.{top_of, given_in}
 use Rattle.operators.proofs.Room.{top_in_lem, part_written, below_over}
 use Rattle.operators.proofs.Callers.{below_less}
@@ -48,18 +46,6 @@ use Rattle.evaluating.specs.Cycle.{CallIs}
 use Rattle.scanning.specs.Cycle.{Sourced, Stage, text_with, Came, scanner_in, is_on, Scans, outcome_of, RescanIs, CallWith, given_for, meter_for}
 use Rattle.scanning.proofs.Common.{never, bool_has, stage_on, out_work, out_text, with_work, with_text, came_bad, left_same}
 use Rattle.scanning.proofs.Tokens.{fits_room, fits_work}
-
-pub given_is : (x : Evaluated) (v : Value) (e : ℕ) (m : Meter) → x ≡ E.Is v e m → Gives v ≡ given_for x
-given_is x v e m f = rw f
-
-pub given_failed : (x : Evaluated) (y : Why) (m : Meter) → x ≡ E.Failed y m → Fails y ≡ given_for x
-given_failed x y m f = rw f
-
-pub meter_is : (x : Evaluated) (v : Value) (e : ℕ) (m : Meter) → x ≡ E.Is v e m → m ≡ meter_for x
-meter_is x v e m f = rw f
-
-pub meter_failed : (x : Evaluated) (y : Why) (m : Meter) → x ≡ E.Failed y m → m ≡ meter_for x
-meter_failed x y m f = rw f
 
 -- an outcome that came after a change of the work room above u
 pub came_over : (B : World) (o : Dest) (u : ℕ) (w w₂ t c l h w' t' : List ℕ) (r : Scanned) (Q : Res Why (List ℕ)) → take u w₂ ≡ take u w → length w₂ ≡ length w → Came B o u w₂ t c l h w' t' r Q → Came B o u w t c l h w' t' r Q
@@ -145,8 +131,12 @@ module _ (deck s rows names c l h w t : List ℕ) (g : Given) (o : Dest) (u n : 
       let i : k ≡ m = rw f at tx.meter in
       rw i (came_bad B o u w t c l h w₁ t e m _ (sym (outcome_fails sc n o u (world_in B c l h m.used) (given_in w u g) e d)) (record { below = tx.below; work = e₁; long = refl; limit = st.shows.limit; slots = st.shows.slots }))
 
-  pub rescan_bad : (e : Why) (k : Meter) → x ≡ S.Bad e k → RescanIs deck s rows names c l h w t g o u n sc m c l h w₁ t (S.Bad e k)
-  rescan_bad e k f = record { is = λ B st. bad_by e k f B st }
+  pub rescan_bad : ((k : ℕ) (mk : Meter) → x ≡ S.Good k mk → ⊥) → RescanIs deck s rows names c l h w t g o u n sc m c l h w₁ t x
+  rescan_bad over = by x refl
+    where
+      by : (y : Scanned) → x ≡ y → RescanIs deck s rows names c l h w t g o u n sc m c l h w₁ t y
+      by (S.Good k mk) f = absurd (over k mk f)
+      by (S.Bad e k) f = record { is = λ B st. bad_by e k f B st }
 
   module _ (k : ℕ) (mk : Meter) (f : x ≡ S.Good k mk) (c' l' h' w₂ t' w' : List ℕ) (z r : Scanned) (sd : Settled w₂ o u k z w' r) where
     scanned_by : (B : World) → Stage deck rows names c l h w u sc m t o B → (top : ℕ) → top ≡ top_of u k → Scans deck s rows names c l h w₁ t (record { in_work = true; from = u; to = top }) o top n sc mk c' l' h' w₂ t' z

@@ -1,5 +1,5 @@
 -- THE CONTRACTS OF SCANNING. An outcome so far of k bytes lies in the text room from `at` on, or in the work room above u.
-use Rattle.std.specs.Prelude.{ℕ, ◌+◌, ◌-◌, ◌<◌, ◌≤◌, Bool, true, false, cond, ◌≡◌, List, length, take}
+use Rattle.std.specs.Prelude.{ℕ, ◌+◌, ◌-◌, ◌<◌, ◌≤◌, Bool, true, false, cond, ◌≡◌, Result, Ok, Err, List, length, take}
 use Rattle.definition.specs.Bytes.{mixed}
 use Rattle.definition.specs.Choice.{when}
 use Rattle.definition.specs.Limits.{text_bytes, unfinished_bytes}
@@ -43,8 +43,6 @@ use Rattle.outcomes.specs.declared.Replaced.TheVariants as R
 use Rattle.outcomes.specs.Texts.{room_of, text_of, Within, Awake}
 use Rattle.outcomes.specs.Places.{into_of, after_of, waiting_of, out_in, meter_of}
 use Rattle.outcomes.specs.Arguments.{cut_from}
-use Rattle.scanning.specs.declared.Outcome.{Outcome}
-use Rattle.scanning.specs.declared.Outcome.TheVariants as O
 
 -- ---- premises
 -- what is scanned lies in its room, and in the work room below what waits
@@ -197,29 +195,33 @@ pub record ConvertedIs (w : List ℕ) (u : ℕ) (t : ValueType) (x : Scanned) (w
   pub below : unfinished_bytes ≤ length w → TextFits x u → take u w' ≡ take u w
   pub meter : meter_for r ≡ meter_of x
 
-abbrev pub taken_in : World → List ℕ → List ℕ → List ℕ → List ℕ → ℕ → List Ev.Parameter → Held → Outcome → Res Why (List Val.Value)
-taken_in B c l h w u ps k (O.All m) = good (held_from w k 0 u ps) (world_in B c l h m.used)
-taken_in B c l h w u ps k (O.Bad e m) = bad e m.used
+-- the arguments that wait, or a refusal
+abbrev pub Taken : Type 0
+Taken = Result (Held × Meter) (Why × Meter)
 
-abbrev pub meter_taken : Outcome → Meter
-meter_taken (O.All m) = m
-meter_taken (O.Bad e m) = m
+abbrev pub taken_in : World → List ℕ → List ℕ → List ℕ → List ℕ → ℕ → List Ev.Parameter → Taken → Res Why (List Val.Value)
+taken_in B c l h w u ps (Ok (k, m)) = good (held_from w k 0 u ps) (world_in B c l h m.used)
+taken_in B c l h w u ps (Err (e, m)) = bad e m.used
 
-abbrev pub WaitingTaken : Outcome → Held → ℕ → List Ev.Parameter → Type 0
-WaitingTaken (O.All m) k u ps = Waiting k 0 u ps
-WaitingTaken (O.Bad e m) k u ps = Unit {0}
+abbrev pub meter_taken : Taken → Meter
+meter_taken (Ok (k, m)) = m
+meter_taken (Err (e, m)) = m
 
-abbrev pub TextTaken : Outcome → List ℕ → List ℕ → Type 0
-TextTaken (O.All m) t t' = t' ≡ t
-TextTaken (O.Bad e m) t t' = Unit {0}
+abbrev pub WaitingTaken : Taken → ℕ → List Ev.Parameter → Type 0
+WaitingTaken (Ok (k, m)) u ps = Waiting k 0 u ps
+WaitingTaken (Err (e, m)) u ps = Unit {0}
 
-pub record Taking (B : World) (u : ℕ) (w t c' l' h' w' t' : List ℕ) (ps : List Ev.Parameter) (k : Held) (r : Outcome) (R : Res Why (List Val.Value)) : Type 0 where
-  pub is : taken_in B c' l' h' w' u ps k r ≡ R
-  pub waits : WaitingTaken r k u ps
+abbrev pub TextTaken : Taken → List ℕ → List ℕ → Type 0
+TextTaken (Ok (k, m)) t t' = t' ≡ t
+TextTaken (Err (e, m)) t t' = Unit {0}
+
+pub record Taking (B : World) (u : ℕ) (w t c' l' h' w' t' : List ℕ) (ps : List Ev.Parameter) (r : Taken) (R : Res Why (List Val.Value)) : Type 0 where
+  pub is : taken_in B c' l' h' w' u ps r ≡ R
+  pub waits : WaitingTaken r u ps
   pub left : Left B u w t c' l' h' w' t' (meter_taken r)
   pub text : TextTaken r t t'
 
-pub record TakenIs (deck s rows names c l h w t : List ℕ) (x : Src) (first : ℕ) (z : Callee) (u n : ℕ) (sc : Scene) (m : Meter) (c' l' h' w' t' : List ℕ) (k : Held) (r : Outcome) : Type 0 where
+pub record TakenIs (deck s rows names c l h w t : List ℕ) (x : Src) (first : ℕ) (z : Callee) (u n : ℕ) (sc : Scene) (m : Meter) (c' l' h' w' t' : List ℕ) (r : Taken) : Type 0 where
   pub is : (B : World) (o : Dest) → Stage deck rows names c l h w u sc m t o B → Sourced s w x u → (b : Ev.Callee) → CalleeShown deck names sc.names z b B
       → (xs : List Argument) (q : ℕ) → length xs ≡ length b.parameters → cut_from (text_of s w x) first ≡ list_up_to xs q
-      → Taking B u w t c' l' h' w' t' b.parameters k r (D.scan_arguments (scanner_in sc n) (text_of s w x) b.parameters xs u (world_in B c l h m.used))
+      → Taking B u w t c' l' h' w' t' b.parameters r (D.scan_arguments (scanner_in sc n) (text_of s w x) b.parameters xs u (world_in B c l h m.used))

@@ -23,27 +23,11 @@ use outcomes::{
 };
 use sums::{less, sum};
 
-// The arguments that wait, or a refusal; and the steps.
-#[derive(Clone, Copy)]
-struct Taken {
-    held: Held,
-    outcome: Outcome,
-}
-
-#[derive(Clone, Copy)]
-enum Outcome {
-    All(Meter),
-    Bad(Why, Meter),
-}
-
 fn type_of(x: ParameterAt) -> ValueType
     ensures { result ≡ type_for x }
 {
     match x {
-        ParameterAt::Is(p) => {
-            let t = p.value_type;
-            t
-        }
+        ParameterAt::Is(p) => p.value_type,
         ParameterAt::Wrong => ValueType::CharacterType,
     }
 }
@@ -62,17 +46,15 @@ fn converted(work: &mut [u8], u: usize, t: ValueType, x: Scanned) -> Evaluated
     ensures { ConvertedIs work.old u t x work.new result }
 {
     match x {
-        Scanned::Good(n, m) => {
-            let g = convert(work, u, t, Value::Characters(n));
-            match g {
-                Given::Gives(v) => Evaluated::Is(v, 0, m),
-                Given::Fails(w) => Evaluated::Failed(w, m),
-            }
-        }
+        Scanned::Good(n, m) => match convert(work, u, t, Value::Characters(n)) {
+            Given::Gives(v) => Evaluated::Is(v, 0, m),
+            Given::Fails(w) => Evaluated::Failed(w, m),
+        },
         Scanned::Bad(w, m) => Evaluated::Failed(w, m),
     }
 }
 
+// stays: `Evaluated`, `Given` and `Meter` are public types of other crates, whose impls stand there, so no `From` can stand here.
 fn value_given(x: Evaluated) -> Given
     ensures { result ≡ given_for x }
 {
@@ -115,24 +97,22 @@ fn rescan(
     ensures { RescanIs deck.now s.now rows.now names.now cells.old low.old high.old work.old text.old g d u n c m cells.new low.new high.new work.new text.new result }
 {
     let x = as_text(work, u, g, m);
-    match x {
-        Scanned::Good(size, k) => {
-            let top = above(u, size);
-            let value = Src {
-                in_work: true,
-                from: u,
-                to: top,
-            };
-            let y = scan(
-                deck, s, rows, names, cells, low, high, work, text, value, d, top, n, c, k,
-            );
-            settled(work, d, u, size, y)
-        }
-        Scanned::Bad(w, k) => Scanned::Bad(w, k),
-    }
+    let Scanned::Good(size, k) = x else {
+        return x;
+    };
+    let top = above(u, size);
+    let value = Src {
+        in_work: true,
+        from: u,
+        to: top,
+    };
+    let y = scan(
+        deck, s, rows, names, cells, low, high, work, text, value, d, top, n, c, k,
+    );
+    settled(work, d, u, size, y)
 }
 
-// "each argument in turn is scanned, then converted"
+// "each argument in turn is scanned, then converted": those that wait, or a refusal; and the steps.
 #[cycle(replacement)]
 fn scan_arguments(
     deck: &[u8],
@@ -151,19 +131,16 @@ fn scan_arguments(
     n: usize,
     c: Scene,
     m0: Meter,
-) -> Taken
-    ensures { TakenIs deck.now s.now rows.now names.now cells.old low.old high.old work.old text.old x first y u n c m0 cells.new low.new high.new work.new text.new result.held result.outcome }
+) -> Result<(Held, Meter), (Why, Meter)>
+    ensures { TakenIs deck.now s.now rows.now names.now cells.old low.old high.old work.old text.old x first y u n c m0 cells.new low.new high.new work.new text.new result }
 {
-    let p = y.place;
     let mut held = nothing_held();
     let mut from = first;
     let mut listed = y.list;
     let mut top = u;
     let mut m = m0;
-    let mut i: usize = 0;
-    let mut turns = y.count;
-    while 0 < turns {
-        turns -= 1;
+    for i in 0..y.count {
+        let p = y.place;
         let parameter = parameter_at(deck, body(deck, p.member), names, c.names, p, listed);
         listed = next_of(parameter, listed);
         let to = end_of(s, work, x, from);
@@ -184,27 +161,17 @@ fn scan_arguments(
             c,
             m,
         );
-        let v = converted(work, top, type_of(parameter), z);
-        match v {
+        match converted(work, top, type_of(parameter), z) {
             Evaluated::Is(w, _, k) => {
                 held = with_held(held, i, w);
                 top = above(top, size_of(w));
                 from = place_after(to);
                 m = k;
             }
-            Evaluated::Failed(w, k) => {
-                return Taken {
-                    held,
-                    outcome: Outcome::Bad(w, k),
-                };
-            }
+            Evaluated::Failed(w, k) => return Err((w, k)),
         }
-        i = sum(i, 1);
     }
-    Taken {
-        held,
-        outcome: Outcome::All(m),
-    }
+    Ok((held, m))
 }
 
 // The call of an entry whose arguments wait above u, and its outcome.
@@ -287,26 +254,22 @@ fn replace_entry(
         );
         return up_to(z, p);
     }
-    let l = list_of(s, work, x, p);
-    match l {
+    match list_of(s, work, x, p) {
         Listing::Upto(count, first, to) => {
             if count != y.count {
                 return Replaced::Bad(Why::WrongArguments, m);
             }
-            let taken = scan_arguments(
+            match scan_arguments(
                 deck, s, rows, names, cells, low, high, work, text, x, first, y, u, n, c, m,
-            );
-            let held = taken.held;
-            let o = taken.outcome;
-            match o {
-                Outcome::All(k) => {
+            ) {
+                Ok((held, k)) => {
                     let z = call_with(
                         deck, s, rows, names, cells, low, high, work, text, y, held, act, d, u, n,
                         c, k,
                     );
                     up_to(z, to)
                 }
-                Outcome::Bad(w, k) => Replaced::Bad(w, k),
+                Err((w, k)) => Replaced::Bad(w, k),
             }
         }
         Listing::NoList => Replaced::Bad(Why::WrongArguments, m),
@@ -341,9 +304,7 @@ pub fn replace(
         return Replaced::Bad(Why::TooDeep, m);
     }
     let n = left - 1;
-    let name = name_at(names, a);
-    let k = name.denotation;
-    match k {
+    match name_at(names, a).denotation {
         Denotation::Variable(t) => {
             if is_rescanned(act) {
                 let g = variable_value(cells, low, high, work, a.0, t, u);
@@ -356,10 +317,7 @@ pub fn replace(
             up_to(z, p)
         }
         Denotation::EntryName(e) => {
-            let b = e.body;
-            let starts = c.starts;
-            let y = callee_of(deck, rows, starts, names, c.names, b);
-            match y {
+            match callee_of(deck, rows, c.starts, names, c.names, e.body) {
                 Called::Is(z) => {
                     replace_entry(
                         deck, s, rows, names, cells, low, high, work, text, x, p, z, act, d, u, n,
@@ -369,8 +327,7 @@ pub fn replace(
                 Called::Fails(w) => Replaced::Bad(w, m),
             }
         }
-        Denotation::LabelName(_) => Replaced::Bad(Why::WrongName, m),
-        Denotation::Builtin => Replaced::Bad(Why::WrongName, m),
+        Denotation::LabelName(_) | Denotation::Builtin => Replaced::Bad(Why::WrongName, m),
     }
 }
 
@@ -398,8 +355,7 @@ fn token(
     ensures { TokenIs deck.now s.now rows.now names.now cells.old low.old high.old work.old text.old x p k d u n c m cells.new low.new high.new work.new text.new result }
 {
     let y = piece_of(s, work, x, p);
-    let active = active_in(deck, s, work, names, c.names, x, p, y);
-    match active {
+    match active_in(deck, s, work, names, c.names, x, p, y) {
         Active::NotActive => copy_token(s, work, text, x, p, y.to, d, u, k, m),
         Active::IsActive(a, act) => {
             replace(
@@ -452,29 +408,23 @@ fn scan(
     let mut p: usize = 0;
     let mut m = m0;
     // each token has a byte at least, and one more turn finds the end
-    let mut turns = sum(size, 1);
-    while 0 < turns {
-        turns -= 1;
+    for _ in 0..sum(size, 1) {
         if size <= p {
             return Scanned::Good(k, m);
         }
         let paid = m.charged();
-        let left = paid.meter;
         if !paid.paid {
-            return Scanned::Bad(Why::NoStep, left);
+            return Scanned::Bad(Why::NoStep, paid.meter);
         }
-        let y = token(
-            deck, s, rows, names, cells, low, high, work, text, x, p, k, d, u, n, c, left,
-        );
-        match y {
+        match token(
+            deck, s, rows, names, cells, low, high, work, text, x, p, k, d, u, n, c, paid.meter,
+        ) {
             Replaced::Good(more, q, now) => {
                 k = sum(k, more);
                 p = q;
                 m = now;
             }
-            Replaced::Bad(w, now) => {
-                return Scanned::Bad(w, now);
-            }
+            Replaced::Bad(w, now) => return Scanned::Bad(w, now),
         }
     }
     Scanned::Good(k, m)

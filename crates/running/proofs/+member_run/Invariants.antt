@@ -1,6 +1,5 @@
 -- The include levels that are left fall from an INCLUDE to its member.
-use Rattle.std.proofs.Common.{◌≡◌}
-use Prim.Native.Nat.{◌+◌, ◌*◌}
+use Prim.Native.Nat.{◌+◌, ◌-◌, ◌*◌}
 use lib.ListN.{length}
 use Rattle.running.proofs.Looping.{Runs}
 use Rattle.running.proofs.Naming.{Going}
@@ -27,14 +26,8 @@ decreases-run_source l = 8 * l.left + 6
 abbrev pub decreases-turn : goal.decreases-turn
 decreases-turn l = 8 * l.left + 4
 
-abbrev pub invariant-include_all-loop-turns : goal.invariant-include_all-loop-turns
-invariant-include_all-loop-turns l = Going l.deck l.initial.rows l.initial.names l.initial.cells l.initial.low l.initial.high l.initial.work l.initial.text l.initial.list l.n l.left l.place l.initial.at l.inner l.initial.here l.initial.g l.rows l.names l.cells l.low l.high l.work l.text l.list l.here l.at l.g l.turns × (length l.rows ≡ length l.initial.rows) × (length l.names ≡ length l.initial.names) × (length l.cells ≡ length l.initial.cells) × (length l.low ≡ length l.initial.low) × (length l.high ≡ length l.initial.high) × (length l.work ≡ length l.initial.work) × (length l.text ≡ length l.initial.text) × (length l.list ≡ length l.initial.list)
+abbrev pub invariant-include_all-loop : goal.invariant-include_all-loop
+invariant-include_all-loop l = Going l.deck l.initial.rows l.initial.names l.initial.cells l.initial.low l.initial.high l.initial.work l.initial.text l.initial.list l.n l.left l.place l.initial.at l.inner l.initial.here l.initial.g l.rows l.names l.cells l.low l.high l.work l.text l.list l.here l.at l.g (length l.s - l.counter)
 
-abbrev pub decreases-include_all-loop-turns : goal.decreases-include_all-loop-turns
-decreases-include_all-loop-turns l = l.turns
-
-abbrev pub invariant-run_rows-loop-turns : goal.invariant-run_rows-loop-turns
-invariant-run_rows-loop-turns l = Runs l.deck l.s l.initial.rows l.initial.names l.initial.cells l.initial.low l.initial.high l.initial.work l.initial.text l.initial.list l.initial.next l.below l.initial.here l.left l.initial.g l.turns l.next l.fs l.here l.g l.rows l.names l.cells l.low l.high l.work l.text l.list × (length l.rows ≡ length l.initial.rows) × (length l.names ≡ length l.initial.names) × (length l.cells ≡ length l.initial.cells) × (length l.low ≡ length l.initial.low) × (length l.high ≡ length l.initial.high) × (length l.work ≡ length l.initial.work) × (length l.text ≡ length l.initial.text) × (length l.list ≡ length l.initial.list)
-
-abbrev pub decreases-run_rows-loop-turns : goal.decreases-run_rows-loop-turns
-decreases-run_rows-loop-turns l = l.turns
+abbrev pub invariant-run_rows-loop : goal.invariant-run_rows-loop
+invariant-run_rows-loop l = Runs l.deck l.s l.initial.rows l.initial.names l.initial.cells l.initial.low l.initial.high l.initial.work l.initial.text l.initial.list l.initial.next l.below l.initial.here l.left l.initial.g (l.end - l.counter) l.next l.fs l.here l.g l.rows l.names l.cells l.low l.high l.work l.text l.list

@@ -1,10 +1,6 @@
 -- The first cells from the place on are zero.
-use Prim.Native.Nat.{◌-◌}
 use Rattle.running.proofs.Values.{Forgetting}
 use Rattle.running.proofs.forget.Given as goal
 
 abbrev pub invariant-loop-a : goal.invariant-loop-a
 invariant-loop-a l = Forgetting l.initial.cells l.from l.to l.cells l.a
-
-abbrev pub decreases-loop-a : goal.decreases-loop-a
-decreases-loop-a l = l.to - l.a

@@ -1,5 +1,5 @@
 -- The levels of replacement that are left fall from a name to what is scanned for it.
-use Prim.Native.Nat.{◌+◌, ◌*◌}
+use Prim.Native.Nat.{◌+◌, ◌-◌, ◌*◌}
 use Rattle.scanning.proofs.Looping.{Scanning}
 use Rattle.scanning.proofs.Arguing.{Arguing}
 use Rattle.scanning.proofs.+replacement.Given as goal
@@ -25,14 +25,8 @@ decreases-scan_arguments l = 8 * l.n + 5
 abbrev pub decreases-token : goal.decreases-token
 decreases-token l = 8 * l.n + 1
 
-abbrev pub invariant-scan-loop-turns : goal.invariant-scan-loop-turns
-invariant-scan-loop-turns l = Scanning l.deck l.s l.rows l.names l.initial.cells l.initial.low l.initial.high l.initial.work l.initial.text l.x l.d l.u l.n l.c l.initial.m l.turns l.k l.p l.m l.cells l.low l.high l.work l.text
+abbrev pub invariant-scan-loop : goal.invariant-scan-loop
+invariant-scan-loop l = Scanning l.deck l.s l.rows l.names l.initial.cells l.initial.low l.initial.high l.initial.work l.initial.text l.x l.d l.u l.n l.c l.initial.m (l.end - l.counter) l.k l.p l.m l.cells l.low l.high l.work l.text
 
-abbrev pub decreases-scan-loop-turns : goal.decreases-scan-loop-turns
-decreases-scan-loop-turns l = l.turns
-
-abbrev pub invariant-scan_arguments-loop-turns : goal.invariant-scan_arguments-loop-turns
-invariant-scan_arguments-loop-turns l = Arguing l.deck l.s l.rows l.names l.initial.cells l.initial.low l.initial.high l.initial.work l.initial.text l.x l.first l.u l.n l.c l.initial.m l.p l.initial.listed l.initial.turns l.held l.from l.listed l.top l.m l.i l.turns l.cells l.low l.high l.work l.text
-
-abbrev pub decreases-scan_arguments-loop-turns : goal.decreases-scan_arguments-loop-turns
-decreases-scan_arguments-loop-turns l = l.turns
+abbrev pub invariant-scan_arguments-loop-i : goal.invariant-scan_arguments-loop-i
+invariant-scan_arguments-loop-i l = Arguing l.deck l.s l.rows l.names l.initial.cells l.initial.low l.initial.high l.initial.work l.initial.text l.x l.first l.u l.n l.c l.initial.m l.y.place l.initial.listed l.y.count l.held l.from l.listed l.top l.m l.i l.cells l.low l.high l.work l.text
