@@ -65,18 +65,13 @@ fn refuse(log: &impl Print, what: &[u8], why: &[u8]) -> Refused {
 // The same where the system says why, without the number of its error, which stands in brackets behind the words.
 fn refuse_for_system(log: &impl Print, what: &[u8], error: io::Error) -> Refused {
     let mut room = [0u8; WORDS];
-    put_words(&mut room, error);
+    let mut rest = room.as_mut_slice();
+    let _ = write!(rest, "{error}");
     let words = room
         .split(|b| *b == b'(' || *b == 0)
         .next()
         .unwrap_or(&room);
     refuse(log, what, words.strip_suffix(b" ").unwrap_or(words))
-}
-
-// Puts what an error says at the start of the room.
-fn put_words(room: &mut [u8], error: io::Error) {
-    let mut rest = room;
-    let _ = write!(rest, "{error}");
 }
 
 // ---- arguments
