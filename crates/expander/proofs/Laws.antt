@@ -20,7 +20,7 @@ use Rattle.definition.specs.Refusal.{number_of}
 use Rattle.definition.specs.Limits.{include_levels}
 use Rattle.definition.specs.Room.{over, zeros}
 use Rattle.definition.specs.Deck as D
-use Rattle.definition.specs.Cards.{layout_for, uneven_in, as_given, lines_as}
+use Rattle.definition.specs.Cards.{uneven_in, as_given, lines_as}
 use Rattle.definition.specs.Reading.{read_member}
 use Rattle.definition.specs.Events.{Line, text_of, lines_of}
 use Rattle.definition.specs.World.{World, Res}
@@ -49,7 +49,7 @@ use Rattle.running.specs.Included.{entered_run, enter_run}
 use Rattle.running.specs.Members.{RanTo, RunIs}
 use Rattle.expander.specs.declared.Expansion.{Expansion}
 use Rattle.expander.specs.Answer.{numbers_of, bare, refusal_at, refused_for, finished_for, answer_for, malformed_for, uneven_for, short_for, early_for}
-use Rattle.expander.specs.Promise.{Working, is_roomy, Zero, Cleared, answer_of, Expanded, six_of, Told, Answered, RanFor, Decided, Emptied}
+use Rattle.expander.specs.Promise.{Working, is_roomy, Zero, Cleared, answer_of, Expanded, six_of, Answered, RanFor, Decided, Emptied}
 use Rattle.stops.proofs.Stops.{ran_near}
 
 -- ---- a refusal has a number
@@ -236,9 +236,6 @@ pub of_plain : (y : Layout) (d t l : List ℕ) (w : Working) (steps : ℕ) (x : 
     → RunIs Plain d w.rows w.names w.cells w.low w.high w.work t l steps t' l' r → x ≡ answer_for Plain d r → RanFor y d t l w steps x t' l'
 of_plain y d t l w steps x t' l' r e run h = rw e (of_run Plain d t l w steps x t' l' d r (λ _ _. refl) run h)
 
-pub of_cards : (y : Layout) (d t l : List ℕ) (w : Working) (steps : ℕ) (x : Expansion) (t' l' : List ℕ) → y ≡ Cards → RanFor Cards d t l w steps x t' l' → RanFor y d t l w steps x t' l'
-of_cards y d t l w steps x t' l' e run = rw e run
-
 -- the joined deck stands over the start of a room that holds it
 pub of_joined : (d t l : List ℕ) (w : Working) (steps : ℕ) (x : Expansion) (t' l' j e : List ℕ) (n : ℕ) (r : Ran)
     → Joins d w.joined j n → e ≡ take n j
@@ -309,13 +306,6 @@ expanded y d t t₁ t₂ t₃ l l₁ l₂ l₃ b m e steps x zt zl dec kt kl a c
       list = list_after_lem z none (length l) l₂ l₃ (eqb z.number 0) refl (kl ∙ nl) an.list (λ k. (em.finished (num ∙ k)).1) (λ k. (em.refused (λ i. k (sym num ∙ i))).1);
       working = alike_cleared b m e a c;
     }
-
--- ---- for a caller with a room for the numbers
-told_in : (y : Layout) (d t l : List ℕ) (w : Working) (steps : ℕ) (x : Expansion) (n t' l' : List ℕ) (w' : Working) (n' : List ℕ) → Expanded y d t l w steps x t' l' w' → n' ≡ over n 0 (six_of x) → Told y d t l w steps n t' l' w' n'
-told_in y d t l w steps x n t' l' w' n' e h = record { numbers = h ∙ ap (λ (r : Expansion). over n 0 (six_of r)) e.numbers; text = e.text; list = e.list; working = e.working }
-
-pub told : (k : ℕ) (y : Layout) (d t l : List ℕ) (w : Working) (steps : ℕ) (x : Expansion) (n t' l' : List ℕ) (w' : Working) (n' : List ℕ) → y ≡ layout_for k → Expanded y d t l w steps x t' l' w' → n' ≡ over n 0 (six_of x) → Told (layout_for k) d t l w steps n t' l' w' n'
-told k y d t l w steps x n t' l' w' n' f e h = subst (λ (v : Layout). Told v d t l w steps n t' l' w' n') f (told_in y d t l w steps x n t' l' w' n' e h)
 
 -- ---- the numbers over the start of a room, one after the other
 next : (r : List ℕ) (x : Expansion) (k : ℕ) (r₁ r₂ : List ℕ) → r₁ ≡ over r 0 (take k (six_of x))
