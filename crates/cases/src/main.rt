@@ -3,45 +3,30 @@
 // A room of more than 1,048,576 bytes is one of so many.
 #![tactic(auto)]
 
-ghost use Rattle.std.specs.Prelude.{◌≤◌, length};
-
 use definition::Layout;
 use expander::expand;
 use rooms::get_u32;
 use std::io::Read;
 use writing::{large_room, read_full, write_answer};
 
-fn least(n: usize, most: usize) -> usize
-    ensures { result ≤ most }
-{
-    if most < n {
-        return most;
-    }
-    n
-}
-
 fn number(head: &[u8], at: usize) -> usize {
     get_u32(head, at) as usize
 }
 
-// Reads n bytes of a deck: whether all were there.
-fn read_deck(input: &mut impl Read, deck: &mut [u8], n: usize) -> bool
-    requires { n ≤ length deck.old }
-{
-    read_full(input, &mut deck[0..n]) == n
-}
-
-fn layout_of(flags: u32) -> Layout {
-    if flags == 0 {
-        return Layout::Plain;
+// The layout that a record's flags say; there are none but these.
+fn layout_of(flags: u32) -> Option<Layout> {
+    match flags {
+        0 => Some(Layout::Plain),
+        1 => Some(Layout::Cards),
+        _ => None,
     }
-    Layout::Cards
 }
 
-// The answer for a deck with the layout, the rooms and the steps of a record's head: whether it was written. Only the part of a
+// The answer for a deck in a layout, with the rooms and the steps of a record's head: whether it was written. Only the part of a
 // room that is asked for is lent, so that a small record does not clear a large room.
 fn answer_deck(
     out: &impl Print,
+    layout: Layout,
     head: &[u8],
     deck: &[u8],
     text: &mut [u8],
@@ -54,15 +39,14 @@ fn answer_deck(
     work: &mut [u8],
     joined: &mut [u8],
 ) -> bool {
-    let layout = layout_of(get_u32(head, 0));
-    let t = least(number(head, 4), text.len());
-    let l = least(number(head, 8), list.len());
+    let t = number(head, 4).min(text.len());
+    let l = number(head, 8).min(list.len());
     let steps = get_u32(head, 12);
     let x = expand(
         layout,
         deck,
-        &mut text[0..t],
-        &mut list[0..l],
+        &mut text[..t],
+        &mut list[..l],
         rows,
         names,
         cells,
@@ -92,34 +76,22 @@ fn answer_one(
     joined: &mut [u8],
 ) -> bool {
     let mut head = [0u8; 20];
-    if read_full(input, &mut head) < 20 {
+    if read_full(input, &mut head) < head.len() {
         return false;
     }
-    if 1 < get_u32(&head, 0) {
+    let Some(layout) = layout_of(get_u32(&head, 0)) else {
         return false;
-    }
-    let n = least(number(&head, 16), deck.len());
-    if read_deck(input, deck, n) {
-        return answer_deck(
-            out,
-            &head,
-            &deck[0..n],
-            text,
-            list,
-            rows,
-            names,
-            cells,
-            low,
-            high,
-            work,
-            joined,
-        );
-    }
-    false
+    };
+    let n = number(&head, 16).min(deck.len());
+    let deck = &mut deck[..n];
+    read_full(input, deck) == n
+        && answer_deck(
+            out, layout, &head, deck, text, list, rows, names, cells, low, high, work, joined,
+        )
 }
 
-// All records. A proved loop has to end, and nothing says that the input does: the turns are counted down, from a number that no
-// run uses up.
+// All records. A proved loop has to end, and nothing says that the input does: the turns are counted, to a number that no run uses
+// up.
 fn answer_all(
     input: &mut impl Read,
     out: &impl Print,
@@ -134,14 +106,12 @@ fn answer_all(
     work: &mut [u8],
     joined: &mut [u8],
 ) {
-    let mut turns = u64::MAX;
-    while 0 < turns {
+    for _ in 0..u64::MAX {
         if !answer_one(
             input, out, deck, text, list, rows, names, cells, low, high, work, joined,
         ) {
             return;
         }
-        turns -= 1;
     }
 }
 

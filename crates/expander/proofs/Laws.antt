@@ -6,9 +6,11 @@ use mathlib.Core.List.{List, [], ◌∷◌, ◌++◌}
 use Prim.Native.Nat.{ℕ, ◌+◌, ◌%◌, ◌<◌, ◌≤◌}
 use native.Mathlib.Nat.{mod-eq_of_lt}
 use native.Mathlib.Omega.{arith}
-use borrow.Author.Tests.{leb-true, eqb-true, eqb-false, eq-eqb, ne_eqb}
+use borrow.Author.Tests.{leb-true, eqb-true, eqb-false, ne_eqb}
 use lib.Dec.{leb, eqb}
 use lib.ListN.{length, get_or, take, length-replicate}
+use Rattle.std.specs.Prelude.{Result, Ok, Err}
+use Rattle.std.specs.Result.{result_and}
 use Rattle.definition.specs.declared.Why.{Why}
 use Rattle.definition.specs.declared.Why.TheVariants as W
 use Rattle.definition.specs.declared.Layout.{Layout}
@@ -18,7 +20,7 @@ use Rattle.definition.specs.Refusal.{number_of}
 use Rattle.definition.specs.Limits.{include_levels}
 use Rattle.definition.specs.Room.{over, zeros}
 use Rattle.definition.specs.Deck as D
-use Rattle.definition.specs.Cards.{layout_for, uneven, uneven_in, joined, as_given, lines_as}
+use Rattle.definition.specs.Cards.{uneven_in, as_given, lines_as}
 use Rattle.definition.specs.Reading.{read_member}
 use Rattle.definition.specs.Events.{Line, text_of, lines_of}
 use Rattle.definition.specs.World.{World, Res}
@@ -31,11 +33,8 @@ use Rattle.definition.specs.Expansion.{world_for, size_in, expansion_of, text_ro
 use Rattle.definition.proofs.Expanding.{ran_deck, ran_in, told_as, ran_sound, malformed_is, uneven_is, short_is, ran_is}
 use Rattle.definition.proofs.Refused.{Empty, refused_empty, refused_text, refused_list}
 use Rattle.definition.proofs.Rooms.{over_next_at}
-use Rattle.deck.specs.declared.Contents.{Contents}
 use Rattle.deck.specs.declared.Contents.TheVariants.{Malformed, Sound}
 use Rattle.deck.specs.declared.Deck.{Deck}
-use Rattle.deck.specs.declared.Found.{Found}
-use Rattle.deck.specs.declared.Found.TheVariants.{Line as LineOf, Nothing}
 use Rattle.deck.specs.Answer as C
 use Rattle.cards.specs.Joins.{Joins}
 use Rattle.cards.proofs.Joined.{joins_stands}
@@ -49,17 +48,11 @@ use Rattle.stepping.specs.Stage.{Roomy}
 use Rattle.running.specs.Included.{entered_run, enter_run}
 use Rattle.running.specs.Members.{RanTo, RunIs}
 use Rattle.expander.specs.declared.Expansion.{Expansion}
-use Rattle.expander.specs.declared.Early.{Early}
-use Rattle.expander.specs.declared.Early.TheVariants.{Refused, Runs}
-use Rattle.expander.specs.Answer.{numbers_of, bare, refusal_at, refused_for, finished_for, answer_for, malformed_for, uneven_for, short_for, first_of, early_for}
-use Rattle.expander.specs.Promise.{Working, is_roomy, Zero, Cleared, answer_of, Expanded, six_of, Told, Answered, RanFor, Decided, Emptied}
+use Rattle.expander.specs.Answer.{numbers_of, bare, refusal_at, refused_for, finished_for, answer_for, malformed_for, uneven_for, short_for, early_for}
+use Rattle.expander.specs.Promise.{Working, is_roomy, Zero, Cleared, answer_of, Expanded, six_of, Answered, RanFor, Decided, Emptied}
 use Rattle.stops.proofs.Stops.{ran_near}
 
--- ---- the numbers of refusals
-pub of_case : (n : ℕ) (w v : Why) → w ≡ v → n ≡ number_of v → n ≡ number_of w
-of_case n w v e f = f ∙ sym (ap number_of e)
-
--- a refusal has a number
+-- ---- a refusal has a number
 some_number : (w : Why) → number_of w ≡ 0 → ⊥
 some_number W.MalformedDeck e = omega arith
 some_number W.ShortRoom e = omega arith
@@ -82,65 +75,24 @@ some_number W.NoStep e = omega arith
 some_number W.SubstrOutside e = omega arith
 some_number W.UnevenBody e = omega arith
 
--- ---- the six numbers
-pub finished_is : (g : Progress) (t l : ℕ) → t ≡ g.out.text % 4294967296 → l ≡ g.out.lines % 4294967296
-    → record { number = 0; member = 0; offset = 0; steps = g.meter.used; text = t; lines = l } ≡ finished_for g
-finished_is g t l e f = rw (e, f)
-
-pub refused_is : (y : Layout) (d : List ℕ) (x : Stop) (g : Progress) (n q p : ℕ) (r : Expansion)
-    → n ≡ number_of x.why → q ≡ (D.line_at d x.member).size → p ≡ place_as y q (x.place % 65536) → r ≡ refusal_at n x.member p g.meter.used → r ≡ refused_for y d x g
-refused_is y d x g n q p r e k f h = h ∙ rw (e, f, k)
-
-pub answer_of_lem : (y : Layout) (d : List ℕ) (x : Expansion) (r v : Ran) → r ≡ v → x ≡ answer_for y d v → x ≡ answer_for y d r
-answer_of_lem y d x r v e f = f ∙ sym (ap (answer_for y d) e)
-
 -- ---- the deck
 told_malformed : (b : Bool) (ls : List D.Line) → Malformed ≡ C.answer_for (cond b (D.holds ls) D.malformed) → false ≡ b
-told_malformed true ls e = let z : ◌≡◌ {A = ℕ} 0 1 = cc in absurd (omega arith)
+told_malformed true ls e = cc
 told_malformed false ls e = refl
 
 told_sound : (b : Bool) (ls : List D.Line) (k : Deck) → Sound k ≡ C.answer_for (cond b (D.holds ls) D.malformed) → true ≡ b
 told_sound true ls k e = refl
-told_sound false ls k e = let z : ◌≡◌ {A = ℕ} 0 1 = cc in absurd (omega arith)
+told_sound false ls k e = cc
 
-pub sound_not : (d : List ℕ) (c : Contents) → c ≡ C.answer_for (D.contents mixed d) → c ≡ Malformed → false ≡ D.is_sound mixed d
+pub sound_not : (d : List ℕ) → Malformed ≡ C.answer_for (D.contents mixed d) → false ≡ D.is_sound mixed d
 unfolding D.contents
-sound_not d c e f = told_malformed (D.is_sound mixed d) (D.lines d) (sym f ∙ e)
+sound_not d e = told_malformed (D.is_sound mixed d) (D.lines d) e
 
-pub sound_is : (d : List ℕ) (c : Contents) (k : Deck) → c ≡ C.answer_for (D.contents mixed d) → c ≡ Sound k → true ≡ D.is_sound mixed d
+pub sound_is : (d : List ℕ) (k : Deck) → Sound k ≡ C.answer_for (D.contents mixed d) → true ≡ D.is_sound mixed d
 unfolding D.contents
-sound_is d c k e f = told_sound (D.is_sound mixed d) (D.lines d) k (sym f ∙ e)
-
-pub uneven_plain : (y : Layout) (d : List ℕ) → y ≡ Plain → Nothing ≡ C.found_for (uneven_in y d)
-uneven_plain y d e = rw e
-
-pub uneven_cards : (y : Layout) (d : List ℕ) (f : Found) → y ≡ Cards → f ≡ C.found_for (uneven 0 (D.lines d)) → f ≡ C.found_for (uneven_in y d)
-uneven_cards y d f e h = rw e h
+sound_is d k e = told_sound (D.is_sound mixed d) (D.lines d) k e
 
 -- ---- what is refused before a run
-pub odd_line : (f : Found) (k : ℕ) (x : Expansion) → f ≡ LineOf k → x ≡ refusal_at 20 k 0 0 → Refused x ≡ uneven_for f
-odd_line f k x e h = rw (e, h)
-
-pub odd_none : (f : Found) → f ≡ Nothing → Runs ≡ uneven_for f
-odd_none f e = rw e
-
-pub is_refused : (b : Bool) (x r : Expansion) → b ≡ false → r ≡ x → Refused r ≡ cond b Runs (Refused x)
-is_refused b x r e h = rw (e, h)
-
-pub is_run : (b : Bool) (x : Early) → b ≡ true → Runs ≡ cond b Runs x
-is_run b x e = rw e
-
-pub first_refused : (a b : Early) (x : Expansion) → a ≡ Refused x → Refused x ≡ first_of a b
-first_refused a b x e = rw e
-
-pub first_runs : (a b : Early) → a ≡ Runs → b ≡ first_of a b
-first_runs a b e = rw e
-
-pub early_is : (y : Layout) (d : List ℕ) (roomy sound : Bool) (f : Found) (one twenty two later r : Early)
-    → sound ≡ D.is_sound mixed d → one ≡ malformed_for sound → f ≡ C.found_for (uneven_in y d) → twenty ≡ uneven_for f → two ≡ short_for roomy → later ≡ first_of twenty two → r ≡ first_of one later → r ≡ early_for y d roomy
-unfolding early_for
-early_is y d roomy sound f one twenty two later r s a e b c h k = k ∙ rw (h, a, b, c, s, e)
-
 -- a run begins just where the deck is sound, no body is uneven, and the rooms are long
 record Free (y : Layout) (d : List ℕ) (long : Bool) : Type 0 where
   sound : D.is_sound mixed d ≡ true
@@ -153,21 +105,20 @@ record Early-told (x : Expansion) (z : X.Expansion) : Type 0 where
   number : z.number ≡ 0 → ⊥
 
 module _ (y : Layout) (d : List ℕ) (roomy : Bool) where
-  abbrev by_cases : Bool → D.Found → Bool → Early
-  by_cases s f r = first_of (malformed_for s) (first_of (uneven_for (C.found_for f)) (short_for r))
+  abbrev by_cases : Bool → D.Found → Bool → Result (Unit {0}) Expansion
+  by_cases s f r = result_and (malformed_for s) (result_and (uneven_for (C.found_for f)) (short_for r))
 
-  free_by : (s : Bool) (f : D.Found) (r : Bool) → D.is_sound mixed d ≡ s → uneven_in y d ≡ f → roomy ≡ r → by_cases s f r ≡ Runs → Free y d roomy
-  free_by false f r a b c e = let z : ◌≡◌ {A = ℕ} 0 1 = cc in absurd (omega arith)
-  free_by true (D.line k) r a b c e = let z : ◌≡◌ {A = ℕ} 0 1 = cc in absurd (omega arith)
-  free_by true D.none false a b c e = let z : ◌≡◌ {A = ℕ} 0 1 = cc in absurd (omega arith)
+  free_by : (s : Bool) (f : D.Found) (r : Bool) → D.is_sound mixed d ≡ s → uneven_in y d ≡ f → roomy ≡ r → by_cases s f r ≡ Ok tt → Free y d roomy
+  free_by false f r a b c e = absurd cc
+  free_by true (D.line k) r a b c e = absurd cc
+  free_by true D.none false a b c e = absurd cc
   free_by true D.none true a b c e = record { sound = a; even = b; roomy = c }
 
-  free : early_for y d roomy ≡ Runs → Free y d roomy
-  unfolding early_for
+  free : early_for y d roomy ≡ Ok tt → Free y d roomy
   free e = free_by (D.is_sound mixed d) (uneven_in y d) roomy refl refl refl e
 
   module _ (t l steps : ℕ) where
-    refused_by : (x : Expansion) (s : Bool) (f : D.Found) (r : Bool) → D.is_sound mixed d ≡ s → uneven_in y d ≡ f → roomy ≡ r → by_cases s f r ≡ Refused x → Early-told x (expansion_of mixed y roomy d t l steps)
+    refused_by : (x : Expansion) (s : Bool) (f : D.Found) (r : Bool) → D.is_sound mixed d ≡ s → uneven_in y d ≡ f → roomy ≡ r → by_cases s f r ≡ Err x → Early-told x (expansion_of mixed y roomy d t l steps)
     refused_by x false f r a b c e =
         let k : bare 1 ≡ x = cc in
         rw (malformed_is roomy d t l steps y a) (record { numbers = sym k; number = some_number W.MalformedDeck })
@@ -177,10 +128,9 @@ module _ (y : Layout) (d : List ℕ) (roomy : Bool) where
     refused_by x true D.none false a b c e =
         let k : bare 2 ≡ x = cc in
         rw (short_is roomy d t l steps y a b c) (record { numbers = sym k; number = some_number W.ShortRoom })
-    refused_by x true D.none true a b c e = let z : ◌≡◌ {A = ℕ} 0 1 = cc in absurd (omega arith)
+    refused_by x true D.none true a b c e = absurd cc
 
-    early_refused : (x : Expansion) → early_for y d roomy ≡ Refused x → Early-told x (expansion_of mixed y roomy d t l steps)
-    unfolding early_for
+    early_refused : (x : Expansion) → early_for y d roomy ≡ Err x → Early-told x (expansion_of mixed y roomy d t l steps)
     early_refused x e = refused_by x (D.is_sound mixed d) (uneven_in y d) roomy refl refl refl e
 
 -- ---- THE RUN: what the definition calls the run of the main program is its member 0, entered and run
@@ -259,13 +209,13 @@ long_rooms w h =
 
 -- ---- the ways to an answer
 module _ (y : Layout) (d t l : List ℕ) (w : Working) (steps : ℕ) (x : Expansion) (t' l' : List ℕ) where
-  pub of_early : (roomy : Bool) (e : Early) → roomy ≡ is_roomy w → e ≡ early_for y d roomy → e ≡ Refused x → Decided y d t l w steps x t' l'
-  of_early roomy e r f h =
-      let told : Early-told x (answer_of y d t l w steps) = early_refused y d (is_roomy w) (length t) (length l) steps x (sym (ap (early_for y d) r) ∙ sym f ∙ h) in
+  pub of_early : (roomy : Bool) → roomy ≡ is_roomy w → Err x ≡ early_for y d roomy → Decided y d t l w steps x t' l'
+  of_early roomy r h =
+      let told : Early-told x (answer_of y d t l w steps) = early_refused y d (is_roomy w) (length t) (length l) steps x (sym (ap (early_for y d) r) ∙ sym h) in
       record { is = λ _ _. record { numbers = told.numbers; text = λ n. absurd (told.number n); list = λ n. absurd (told.number n) } }
 
-  pub of_free : (roomy : Bool) (e : Early) → roomy ≡ is_roomy w → e ≡ early_for y d roomy → e ≡ Runs → RanFor y d t l w steps x t' l' → Decided y d t l w steps x t' l'
-  of_free roomy e r f h run = record { is = λ zt zl. run.is (sym (ap (early_for y d) r) ∙ sym f ∙ h) zt zl }
+  pub of_free : (roomy : Bool) → roomy ≡ is_roomy w → Ok tt ≡ early_for y d roomy → RanFor y d t l w steps x t' l' → Decided y d t l w steps x t' l'
+  of_free roomy r h run = record { is = λ zt zl. run.is (sym (ap (early_for y d) r) ∙ sym h) zt zl }
 
   -- the run of the deck e that is run for d
   of_run : (e : List ℕ) (r : Ran) → (D.is_sound mixed d ≡ true → 65536 ≤ length w.joined → e ≡ ran_deck y d) → RunIs y e w.rows w.names w.cells w.low w.high w.work t l steps t' l' r → x ≡ answer_for y e r → RanFor y d t l w steps x t' l'
@@ -286,9 +236,6 @@ pub of_plain : (y : Layout) (d t l : List ℕ) (w : Working) (steps : ℕ) (x : 
     → RunIs Plain d w.rows w.names w.cells w.low w.high w.work t l steps t' l' r → x ≡ answer_for Plain d r → RanFor y d t l w steps x t' l'
 of_plain y d t l w steps x t' l' r e run h = rw e (of_run Plain d t l w steps x t' l' d r (λ _ _. refl) run h)
 
-pub of_cards : (y : Layout) (d t l : List ℕ) (w : Working) (steps : ℕ) (x : Expansion) (t' l' : List ℕ) → y ≡ Cards → RanFor Cards d t l w steps x t' l' → RanFor y d t l w steps x t' l'
-of_cards y d t l w steps x t' l' e run = rw e run
-
 -- the joined deck stands over the start of a room that holds it
 pub of_joined : (d t l : List ℕ) (w : Working) (steps : ℕ) (x : Expansion) (t' l' j e : List ℕ) (n : ℕ) (r : Ran)
     → Joins d w.joined j n → e ≡ take n j
@@ -297,13 +244,6 @@ of_joined d t l w steps x t' l' j e n r joins f run h =
     of_run Cards d t l w steps x t' l' e r
     (λ s long. f ∙ joins_stands d w.joined j n joins s long)
     run h
-
--- ---- after a refusal
-pub not_emptied : (n : ℕ) (t l : List ℕ) → n ≡ 0 → Emptied n t l t l
-not_emptied n t l e = record { finished = λ _. (refl, refl); refused = λ h. absurd (h e) }
-
-pub emptied : (n : ℕ) (t l t' l' : List ℕ) → (n ≡ 0 → ⊥) → Zero t t' → Zero l l' → Emptied n t l t' l'
-emptied n t l t' l' h a b = record { finished = λ e. absurd (h e); refused = λ _. (a, b) }
 
 -- ---- the rooms at exit
 pub record Alike (b e : Working) : Type 0 where
@@ -366,19 +306,6 @@ expanded y d t t₁ t₂ t₃ l l₁ l₂ l₃ b m e steps x zt zl dec kt kl a c
       list = list_after_lem z none (length l) l₂ l₃ (eqb z.number 0) refl (kl ∙ nl) an.list (λ k. (em.finished (num ∙ k)).1) (λ k. (em.refused (λ i. k (sym num ∙ i))).1);
       working = alike_cleared b m e a c;
     }
-
--- ---- for a caller with a room for the numbers
-pub layout_plain : (n : ℕ) → n ≡ 0 → Plain ≡ layout_for n
-layout_plain n e = rw (eq-eqb n 0 e)
-
-pub layout_cards : (n : ℕ) → (n ≡ 0 → ⊥) → Cards ≡ layout_for n
-layout_cards n h = rw (ne_eqb n 0 h)
-
-told_in : (y : Layout) (d t l : List ℕ) (w : Working) (steps : ℕ) (x : Expansion) (n t' l' : List ℕ) (w' : Working) (n' : List ℕ) → Expanded y d t l w steps x t' l' w' → n' ≡ over n 0 (six_of x) → Told y d t l w steps n t' l' w' n'
-told_in y d t l w steps x n t' l' w' n' e h = record { numbers = h ∙ ap (λ (r : Expansion). over n 0 (six_of r)) e.numbers; text = e.text; list = e.list; working = e.working }
-
-pub told : (k : ℕ) (y : Layout) (d t l : List ℕ) (w : Working) (steps : ℕ) (x : Expansion) (n t' l' : List ℕ) (w' : Working) (n' : List ℕ) → y ≡ layout_for k → Expanded y d t l w steps x t' l' w' → n' ≡ over n 0 (six_of x) → Told (layout_for k) d t l w steps n t' l' w' n'
-told k y d t l w steps x n t' l' w' n' f e h = subst (λ (v : Layout). Told v d t l w steps n t' l' w' n') f (told_in y d t l w steps x n t' l' w' n' e h)
 
 -- ---- the numbers over the start of a room, one after the other
 next : (r : List ℕ) (x : Expansion) (k : ℕ) (r₁ r₂ : List ℕ) → r₁ ≡ over r 0 (take k (six_of x))

@@ -1,5 +1,6 @@
 -- The six numbers of an answer: of an expansion of the definition, of what is refused before a run, and of what a run answers.
-use Rattle.std.specs.Prelude.{ℕ, ◌%◌, Bool, cond, List, length}
+use Rattle.std.specs.Prelude.{ℕ, ◌%◌, Bool, cond, List, length, Result, Ok, Err}
+use Rattle.std.specs.Result.{result_and}
 use Rattle.definition.specs.declared.Layout.{Layout}
 use Rattle.definition.specs.Bytes.{mixed}
 use Rattle.definition.specs.Refusal.{number_of}
@@ -16,8 +17,6 @@ use Rattle.texts.specs.declared.Stop.{Stop}
 use Rattle.texts.specs.declared.Ran.{Ran}
 use Rattle.texts.specs.declared.Ran.TheVariants.{Good, Bad}
 use Rattle.expander.specs.declared.Expansion.{Expansion}
-use Rattle.expander.specs.declared.Early.{Early}
-use Rattle.expander.specs.declared.Early.TheVariants.{Refused, Runs}
 
 -- THE SIX NUMBERS of an expansion x. The count of lines is given modulo 2^32, the size of its number; so many lines need a list room
 -- of 48 GiB.
@@ -41,22 +40,19 @@ abbrev pub bare : ℕ → Expansion
 bare n = refusal_at n 0 0 0
 
 -- ---- what is refused before a run: 1, and C-11's "20, .. after 1 and before 2, place the first such member at offset 0"
-abbrev pub malformed_for : Bool → Early
-malformed_for sound = cond sound Runs (Refused (bare 1))
+abbrev pub malformed_for : Bool → Result (Unit {0}) Expansion
+malformed_for sound = cond sound (Ok tt) (Err (bare 1))
 
-abbrev pub uneven_for : Found → Early
-uneven_for (Line k) = Refused (refusal_at 20 k 0 0)
-uneven_for Nothing = Runs
+abbrev pub uneven_for : Found → Result (Unit {0}) Expansion
+uneven_for (Line k) = Err (refusal_at 20 k 0 0)
+uneven_for Nothing = Ok tt
 
-abbrev pub short_for : Bool → Early
-short_for roomy = cond roomy Runs (Refused (bare 2))
+abbrev pub short_for : Bool → Result (Unit {0}) Expansion
+short_for roomy = cond roomy (Ok tt) (Err (bare 2))
 
-abbrev pub first_of : Early → Early → Early
-first_of (Refused x) b = Refused x
-first_of Runs b = b
-
-unfoldable pub early_for : Layout → List ℕ → Bool → Early
-early_for y d roomy = first_of (malformed_for (is_sound mixed d)) (first_of (uneven_for (found_for (uneven_in y d))) (short_for roomy))
+abbrev pub early_for : Layout → List ℕ → Bool → Result (Unit {0}) Expansion
+early_for y d roomy =
+    result_and (malformed_for (is_sound mixed d)) (result_and (uneven_for (found_for (uneven_in y d))) (short_for roomy))
 
 -- ---- the numbers for what a run of the deck d answers, as the code makes them of its own
 abbrev pub refused_for : Layout → List ℕ → Stop → Progress → Expansion

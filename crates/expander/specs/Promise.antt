@@ -1,12 +1,11 @@
 -- THE PROMISE of an expansion: the definition's answer, in the six numbers and in the rooms at exit.
-use Rattle.std.specs.Prelude.{ℕ, ◌≡◌, Bool, ◌&&◌, List, [], ◌∷◌, leb, length}
+use Rattle.std.specs.Prelude.{ℕ, ◌≡◌, Bool, ◌&&◌, List, [], ◌∷◌, leb, length, Ok}
 use Rattle.definition.specs.declared.Layout.{Layout}
 use Rattle.definition.specs.Bytes.{mixed}
 use Rattle.definition.specs.Room.{over, zeros}
 use Rattle.definition.specs.Expansion as X
 use Rattle.definition.specs.Expansion.{expansion_of, text_room_after, list_room_after}
 use Rattle.expander.specs.declared.Expansion.{Expansion}
-use Rattle.expander.specs.declared.Early.TheVariants.{Runs}
 use Rattle.expander.specs.Answer.{numbers_of, early_for}
 
 -- ---- the working rooms
@@ -91,7 +90,7 @@ pub record Answered (x : X.Expansion) (r : Expansion) (t' l' : List ℕ) : Type 
 
 -- by a run, if nothing is refused before it
 pub record RanFor (y : Layout) (d t l : List ℕ) (w : Working) (steps : ℕ) (r : Expansion) (t' l' : List ℕ) : Type 0 where
-  pub is : early_for y d (is_roomy w) ≡ Runs → Zero t t → Zero l l → Answered (answer_of y d t l w steps) r t' l'
+  pub is : early_for y d (is_roomy w) ≡ Ok tt → Zero t t → Zero l l → Answered (answer_of y d t l w steps) r t' l'
 
 pub record Decided (y : Layout) (d t l : List ℕ) (w : Working) (steps : ℕ) (r : Expansion) (t' l' : List ℕ) : Type 0 where
   pub is : Zero t t → Zero l l → Answered (answer_of y d t l w steps) r t' l'

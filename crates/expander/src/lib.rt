@@ -10,7 +10,7 @@ ghost use Rattle.definition.specs.Room.{over};
 ghost use Rattle.definition.specs.declared.Layout.TheVariants.{Cards};
 ghost use Rattle.definition.specs.Cards.{uneven_in, layout_for};
 ghost use Rattle.deck.specs.Answer.{found_for};
-ghost use Rattle.expander.specs.Answer.{refusal_at, refused_for, finished_for, answer_for, malformed_for, uneven_for, short_for, first_of, early_for};
+ghost use Rattle.expander.specs.Answer.{refusal_at, refused_for, finished_for, answer_for, malformed_for, uneven_for, short_for, early_for};
 ghost use Rattle.expander.specs.Promise.{are_roomy, working, Cleared, RanFor, Decided, Emptied, Expanded, six_of, Told};
 
 use cards::{join, uneven};
@@ -31,13 +31,6 @@ pub struct Expansion {
     pub steps: u32,
     pub text: u32,
     pub lines: u32,
-}
-
-// What is refused before a run.
-#[derive(Clone, Copy)]
-enum Early {
-    Refused(Expansion),
-    Runs,
 }
 
 // The sizes of the working rooms, in numbers of their type.
@@ -101,9 +94,8 @@ fn refusal(number: u32, member: u32, offset: u32, steps: u32) -> Expansion
 fn refused(layout: Layout, d: &[u8], x: Stop, g: Progress) -> Expansion
     ensures { result ≡ refused_for layout d.now x g }
 {
-    let why = x.why;
     let place = told_place(layout, size(d, x.member) as usize, x.place);
-    refusal(number_of(why), x.member as u32, place, g.meter.used)
+    refusal(number_of(x.why), u32::from(x.member), place, g.meter.used)
 }
 
 fn finished(g: Progress) -> Expansion
@@ -131,11 +123,7 @@ fn answer(layout: Layout, d: &[u8], r: Ran) -> Expansion
 fn is_sound(deck: &[u8]) -> bool
     ensures { result ≡ is_sound mixed deck.now }
 {
-    let c = Deck::of(deck);
-    match c {
-        Contents::Malformed => false,
-        Contents::Sound(_) => true,
-    }
+    matches!(Deck::of(deck), Contents::Sound(_))
 }
 
 // The first body that is no whole number of records; of a plain deck none is asked for.
@@ -160,72 +148,51 @@ fn are_roomy(
 ) -> bool
     ensures { result ≡ are_roomy rows names cells low high work joined }
 {
-    if rows < ROWS {
-        return false;
-    }
-    if names < NAMES {
-        return false;
-    }
-    if cells < CELLS {
-        return false;
-    }
-    if low < LOW {
-        return false;
-    }
-    if high < HIGH {
-        return false;
-    }
-    if work < WORK {
-        return false;
-    }
-    JOINED <= joined
+    ROWS <= rows
+        && NAMES <= names
+        && CELLS <= cells
+        && LOW <= low
+        && HIGH <= high
+        && WORK <= work
+        && JOINED <= joined
 }
 
-fn malformed(sound: bool) -> Early
+fn malformed(sound: bool) -> Result<(), Expansion>
     ensures { result ≡ malformed_for sound }
 {
     if sound {
-        return Early::Runs;
+        Ok(())
+    } else {
+        Err(refusal(1, 0, 0, 0))
     }
-    Early::Refused(refusal(1, 0, 0, 0))
 }
 
-fn odd(f: Found) -> Early
+fn odd(f: Found) -> Result<(), Expansion>
     ensures { result ≡ uneven_for f }
 {
     match f {
-        Found::Line(k) => Early::Refused(refusal(20, k as u32, 0, 0)),
-        Found::Nothing => Early::Runs,
+        Found::Line(k) => Err(refusal(20, u32::from(k), 0, 0)),
+        Found::Nothing => Ok(()),
     }
 }
 
-fn short(roomy: bool) -> Early
+fn short(roomy: bool) -> Result<(), Expansion>
     ensures { result ≡ short_for roomy }
 {
     if roomy {
-        return Early::Runs;
-    }
-    Early::Refused(refusal(2, 0, 0, 0))
-}
-
-// The first of two refusals.
-fn first_of(a: Early, b: Early) -> Early
-    ensures { result ≡ first_of a b }
-{
-    match a {
-        Early::Refused(x) => Early::Refused(x),
-        Early::Runs => b,
+        Ok(())
+    } else {
+        Err(refusal(2, 0, 0, 0))
     }
 }
 
 // What is refused before a run: 1, then 20, then 2.
-fn before_run(layout: Layout, deck: &[u8], roomy: bool) -> Early
+fn before_run(layout: Layout, deck: &[u8], roomy: bool) -> Result<(), Expansion>
     ensures { result ≡ early_for layout deck.now roomy }
 {
-    let one = malformed(is_sound(deck));
-    let twenty = odd(uneven_in(layout, deck));
-    let two = short(roomy);
-    first_of(one, first_of(twenty, two))
+    malformed(is_sound(deck))?;
+    odd(uneven_in(layout, deck))?;
+    short(roomy)
 }
 
 // The working rooms end zero.
@@ -353,10 +320,9 @@ fn decide(
         work.len(),
         joined.len(),
     );
-    let e = before_run(layout, deck, roomy);
-    match e {
-        Early::Refused(x) => x,
-        Early::Runs => run_in(
+    match before_run(layout, deck, roomy) {
+        Err(x) => x,
+        Ok(()) => run_in(
             layout, deck, text, list, rows, names, cells, low, high, work, joined, steps,
         ),
     }
@@ -366,11 +332,10 @@ fn decide(
 fn empty_refused(text: &mut [u8], list: &mut [u8], number: u32)
     ensures { Emptied number text.old list.old text.new list.new }
 {
-    if number == 0 {
-        return;
+    if number != 0 {
+        zero_u8(text);
+        zero_u8(list);
     }
-    zero_u8(text);
-    zero_u8(list);
 }
 
 // THE EXPANSION of a deck: the answer of the definition, for any bytes and any rooms.
@@ -417,9 +382,10 @@ fn layout_for(cards: u32) -> Layout
     ensures { result ≡ layout_for cards }
 {
     if cards == 0 {
-        return Layout::Plain;
+        Layout::Plain
+    } else {
+        Layout::Cards
     }
-    Layout::Cards
 }
 
 // The expansion for C and Rust, with a room for the six numbers: docs/CALLING.md. The crate expander_c exports it.

@@ -3,7 +3,7 @@
 // that no page has to be as long as an answer can be.
 #![tactic(auto)]
 
-ghost use Rattle.std.specs.Prelude.{◌<◌, ◌≡◌, ◌≤◌, length, take};
+ghost use Rattle.std.specs.Prelude.{◌≡◌, ◌≤◌, length, take};
 ghost use Rattle.std.specs.Io.KnownBytes.{Consumes};
 
 use printing::{put_lines, put_numbers, used};
@@ -27,10 +27,7 @@ pub fn argument_count(env: &impl Env) -> usize {
 pub fn argument(env: &impl Env, i: usize, room: &mut [u8]) -> usize
     ensures { result ≤ length room.new }
 {
-    match env.arg(i, room) {
-        Ok(n) => n,
-        Err(_) => 0,
-    }
+    env.arg(i, room).unwrap_or(0)
 }
 
 // Reads until the room is full, the input ends or a read fails, and answers how many bytes it put at the start of the room: the next
@@ -65,17 +62,6 @@ const LINES: u32 = 256;
 
 const PAGE: usize = 8_960;
 
-// The line that the next piece begins with.
-fn next_piece(i: u32, lines: u32) -> u32
-    requires { i < lines }
-    ensures { i < result }
-{
-    if lines - i < LINES {
-        return lines;
-    }
-    i + LINES
-}
-
 // Writes to standard error; where that fails there is nowhere to say so.
 pub fn say(log: &impl Print, words: &[u8]) {
     let _ = log.write_all(words);
@@ -87,14 +73,12 @@ fn is_written(out: &impl Print, bytes: &[u8]) -> bool {
 }
 
 fn write_lines(out: &impl Print, page: &mut [u8], list: &[u8], lines: u32) -> bool {
-    let mut i = 0;
-    while i < lines {
-        let end = next_piece(i, lines);
-        let n = put_lines(page, list, i, end);
+    for first in (0..lines).step_by(LINES as usize) {
+        let end = first.saturating_add(LINES).min(lines);
+        let n = put_lines(page, list, first, end);
         if !is_written(out, used(page, n)) {
             return false;
         }
-        i = end;
     }
     true
 }
@@ -107,14 +91,8 @@ fn write_numbers(out: &impl Print, page: &mut [u8], numbers: &[u32]) -> bool {
 // Writes the answer of six numbers with the rooms that hold its text and list: whether all of it was written.
 pub fn write_answer(out: &impl Print, numbers: &[u32], text: &[u8], list: &[u8]) -> bool {
     let mut page = [0u8; PAGE];
-    if !write_numbers(out, &mut page, numbers) {
-        return false;
-    }
-    if !write_lines(out, &mut page, list, number32(numbers, 0, 5)) {
-        return false;
-    }
-    if !is_written(out, used(text, number32(numbers, 0, 4) as usize)) {
-        return false;
-    }
-    is_written(out, b"\n")
+    write_numbers(out, &mut page, numbers)
+        && write_lines(out, &mut page, list, number32(numbers, 0, 5))
+        && is_written(out, used(text, number32(numbers, 0, 4) as usize))
+        && is_written(out, b"\n")
 }

@@ -1,9 +1,9 @@
--- The contents are malformed just where the deck is not sound.
+-- The contents are sound just where the deck is.
 use Rattle.expander.proofs.Laws.{sound_not, sound_is}
 use Rattle.expander.proofs.is_sound.Goals as goal
 
-pub returns-in-Malformed : goal.returns-in-Malformed
-returns-in-Malformed c = search sound_not
-
 pub returns-in-Sound : goal.returns-in-Sound
-returns-in-Sound c = search sound_is
+returns-in-Sound c = sound_is c.args.deck.now c.in-Sound.field-0 c.in-Sound.ensures
+
+pub returns-in_default : goal.returns-in_default
+returns-in_default c = sound_not c.args.deck.now c.in_default.ensures

@@ -1,9 +1,0 @@
--- The arguments left fall.
-use Rattle.std.proofs.Common.{◌-◌}
-use Rattle.pack.proofs.is_library_named.Given as goal
-
-abbrev pub invariant-loop-k : goal.invariant-loop-k
-invariant-loop-k g l = Unit {0}
-
-abbrev pub decreases-loop-k : goal.decreases-loop-k
-decreases-loop-k g l = l.n - l.k
