@@ -1,5 +1,6 @@
 -- The table of names, one of which gets another activity.
 -- Assumes nothing.
+use Rattle.std.proofs.Common.{Option, Some, None}
 use mathlib.Core.Path.{◌≡◌, refl, sym, ap, ◌∙◌}
 use mathlib.Core.Bool.{Bool, true, false}
 use mathlib.Core.List.{List, ◌∷◌}
@@ -20,8 +21,6 @@ use Rattle.names.specs.declared.Activity.{Activity}
 use Rattle.names.specs.declared.Address.{Address}
 use Rattle.names.specs.declared.Name.{Name}
 use Rattle.names.specs.declared.Owner.TheVariants.{Everyone}
-use Rattle.names.specs.declared.Found.{Found}
-use Rattle.names.specs.declared.Found.TheVariants.{Known, Unknown}
 use Rattle.names.specs.Table.{owner_of, denotation_of, activity_of, identifier_of, name_in, numbers_of, identifiers_from, found_for}
 use Rattle.names.proofs.Laws.{name_back, name_other}
 use Rattle.tokens.specs.declared.Lexeme.{Lexeme}
@@ -87,7 +86,7 @@ sleeps (entry_of p b) x a w e = absurd (let z : ◌≡◌ {A = ℕ} 0 1 = cc in 
 sleeps (label_at m r q) x a w e = refl
 sleeps builtin_name x a w e = refl
 
-module _ (d s t : List ℕ) (n : ℕ) (l : Lexeme) (x : Activity) (len : ℕ) (hl : len ≡ l.to - l.from) (f : Found)
+module _ (d s t : List ℕ) (n : ℕ) (l : Lexeme) (x : Activity) (len : ℕ) (hl : len ≡ l.to - l.from) (f : Option Address)
     (e : f ≡ found_for (address_in (folded mixed (part len l.from s)) (owner_of Everyone) 0 (identifiers_from d t 0 n))) where
   abbrev name : List ℕ
   name = folded mixed (part (l.to - l.from) l.from s)
@@ -101,10 +100,10 @@ module _ (d s t : List ℕ) (n : ℕ) (l : Lexeme) (x : Activity) (len : ℕ) (h
   address_there : (B : World) → Named d t n B → address_of name everyone B ≡ found
   address_there B nd = rw nd.identifiers
 
-  pub name_unknown : f ≡ Unknown → SetsName d s t t n l x false
+  pub name_unknown : f ≡ None → SetsName d s t t n l x false
   name_unknown u = record { kept = same_kept d t n; does = record { is = λ B nd aw room. rw (address_there B nd, unknown_is d t n found f is_found u) } }
 
-  module _ (a : Address) (g : f ≡ Known a) (y : Name) (h : y ≡ name_in t a.0) (b : Bool) (k : b ≡ can_wake (denotation_of y.denotation)) where
+  module _ (a : Address) (g : f ≡ Some a) (y : Name) (h : y ≡ name_in t a.0) (b : Bool) (k : b ≡ can_wake (denotation_of y.denotation)) where
     at_known : found ≡ W.address a.0
     at_known = known_is d t n found f a is_found g
 

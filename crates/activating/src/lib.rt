@@ -6,7 +6,7 @@ ghost use Rattle.names.specs.Table.{denotation_of};
 ghost use Rattle.activating.specs.Lists.{PastSign, behind_comma, declared_next, next_in, activity_behind};
 ghost use Rattle.activating.specs.Sets.{can_wake, SetsName, SetsAll, DeclaresAll, ActivatesAll, DeactivatesAll};
 
-use names::{Activity, Denotation, Found, Name, Owner, find, name_at, put_name};
+use names::{Activity, Denotation, Name, Owner, find, name_at, put_name};
 use statements::past_rescan;
 use tokens::{Lexeme, is_sign, is_word, token_at, width};
 
@@ -26,7 +26,7 @@ fn activate(deck: &[u8], s: &[u8], names: &mut [u16], count: u16, t: Lexeme, act
     ensures { SetsName deck.now s.now names.old names.new count t act result }
 {
     let found = find(deck, names, count, s, t.from, width(t), Owner::Everyone);
-    let Found::Known(a) = found else {
+    let Some(a) = found else {
         return false;
     };
     let x = name_at(names, a);

@@ -1,5 +1,8 @@
 -- What statements do with the value of their expression: assignment, IF, a number of DO, RETURN.
 -- Assumes nothing.
+use Rattle.operands.specs.Types.{Evaluated}
+use Rattle.std.proofs.Common.{Option, Result, Ok, Err, Some, None}
+use Rattle.names.specs.declared.Place.{Place}
 use mathlib.Core.Path.{◌≡◌, refl, sym, ap, ◌∙◌}
 use mathlib.Core.Bool.{Bool, true}
 use mathlib.Core.List.{List, [], ◌∷◌}
@@ -29,34 +32,21 @@ use Rattle.meter.specs.declared.Meter.{Meter}
 use Rattle.tokens.specs.declared.Lexeme.{Lexeme}
 use Rattle.names.specs.Table.{owner_of}
 use Rattle.names.specs.declared.Owner.{Owner as Owned}
-use Rattle.names.specs.declared.Body.{Body}
 use Rattle.callees.specs.declared.Meant.{Meant}
 use Rattle.callees.specs.declared.Meant.TheVariants as M
 use Rattle.callees.specs.Answer.{meant_for, ValueStored}
 use Rattle.callees.specs.Shown.{names_world, values_from, with_values, world_in, Slots, Typed}
 use Rattle.operators.specs.declared.Value.{Value}
-use Rattle.operators.specs.declared.Given.{Given}
-use Rattle.operators.specs.declared.Given.TheVariants.{Gives, Fails}
-use Rattle.operators.specs.declared.Truth.{Truth}
-use Rattle.operators.specs.declared.Truth.TheVariants as Tr
-use Rattle.operators.specs.declared.NumberGiven.{NumberGiven}
-use Rattle.operators.specs.declared.NumberGiven.TheVariants as Ng
 use Rattle.operators.specs.Stands.{size_for, value_in, given_in, number_for, truth_for, stacked, Stood, Told}
 use Rattle.operators.specs.Stands as O
 use Rattle.operators.proofs.Callers as R
 use Rattle.flow.specs.declared.Frames.{Frames}
 use Rattle.operands.specs.declared.Scene.{Scene}
-use Rattle.operands.specs.declared.Evaluated.{Evaluated}
-use Rattle.operands.specs.declared.Evaluated.TheVariants.{Is, Failed}
 use Rattle.operands.specs.declared.Wish.TheVariants as Wi
 use Rattle.operands.specs.Answer.{Gave, value_of}
 use Rattle.operands.proofs.Leaves.{end_is, given_some, given_none}
 use Rattle.operands.proofs.Ranging.{value_fine, convert_typed}
 use Rattle.operands.proofs.Taking.{wish_type, wish_none}
-use Rattle.bodies.specs.declared.Done.TheVariants as Dn
-use Rattle.bodies.specs.declared.Variable.TheVariants as Va
-use Rattle.bodies.specs.declared.Tested.TheVariants as Te
-use Rattle.bodies.specs.declared.Bound.TheVariants as Bo
 use Rattle.bodies.specs.declared.Step.TheVariants as St
 use Rattle.bodies.specs.declared.Turned.{Turned}
 use Rattle.bodies.specs.Deeds.{Serves, scene_machine, TargetIs, stored_on, FineIn, StoredIs, truth_on, TruthIs, number_on, BoundIs}
@@ -64,42 +54,42 @@ use Rattle.bodies.specs.Ways.{ReturnIs}
 
 -- ---- an answer of an evaluation is in its range
 pub gave_fine : (B : World) (c l h : List ℕ) (x : Scene) (t : Tree) (u n : ℕ) (w c' l' h' w' : List ℕ) (r : Evaluated) (e : ℕ) → Slots B.denotations c l h → Gave B u w c' l' h' w' r e (value_of x t u (world_in B c l h n)) → FineIn w' u r
-gave_fine B c l h x t u n w c' l' h' w' (Is v q m) e s g = value_fine B c l h x t u n (value_in w' u v) (world_in B c' l' h' m.used) s (sym g.is)
-gave_fine B c l h x t u n w c' l' h' w' (Failed q m) e s g = tt
+gave_fine B c l h x t u n w c' l' h' w' (Ok (v, q, m)) e s g = value_fine B c l h x t u n (value_in w' u v) (world_in B c' l' h' m.used) s (sym g.is)
+gave_fine B c l h x t u n w c' l' h' w' (Err (q, m)) e s g = tt
 
 -- ---- what is stored
 pub stored_world : (B : World) (c l h c' l' h' : List ℕ) (a n : ℕ) (v : Val.Value) → values_from B.denotations 0 c' l' h' ≡ set (values_from B.denotations 0 c l h) a (W.holds v) → world_in B c' l' h' n ≡ W.store a v (world_in B c l h n)
 stored_world B c l h c' l' h' a n v e = ap (λ (i : List W.Cell). with_values i n B) e
 
 module _ (c l h w : List ℕ) (a : ℕ) (k : ValueType) (u : ℕ) (x : Evaluated) where
-  pub stored_none : (f : Why) (m : Meter) → x ≡ Failed f m → StoredIs c l h w a k u x c l h w (Dn.Bad f m)
+  pub stored_none : (f : Why) (m : Meter) → x ≡ Err (f, m) → StoredIs c l h w a k u x c l h w (Err (f, m))
   unfolding stored_on
   stored_none f m e = rw e record { is = λ B s g i j y lm. (refl, record { below = refl; limit = lm; slots = s }) }
 
-  module _ (v : Value) (q : ℕ) (m : Meter) (e : x ≡ Is v q m) (w' : List ℕ) (g : Given) (ga : O.Gave w u (size_for v) (stacked u (Val.convert k (value_in w u v))) w' g) where
+  module _ (v : Value) (q : ℕ) (m : Meter) (e : x ≡ Ok (v, q, m)) (w' : List ℕ) (g : Result Value Why) (ga : O.Gave w u (size_for v) (stacked u (Val.convert k (value_in w u v))) w' g) where
     stood : 65536 ≤ length w → u + size_for v ≤ 65536 → Stood w u (stacked u (Val.convert k (value_in w u v))) w' g
     stood i j = ga.so (record { room = i; top = j })
 
-    bad_by : (f : Why) → g ≡ Fails f → 65536 ≤ length w → u + size_for v ≤ 65536 → (W₁ : World) → stored_on k a u (good (value_in w u v) W₁) ≡ bad f W₁.used
+    bad_by : (f : Why) → g ≡ Err f → 65536 ≤ length w → u + size_for v ≤ 65536 → (W₁ : World) → stored_on k a u (good (value_in w u v) W₁) ≡ bad f W₁.used
     unfolding stored_on given_in
     bad_by f eg i j W₁ =
         let d : Val.fails f ≡ stacked u (Val.convert k (value_in w u v)) = rw eg at (stood i j).is in
         ap (λ (r : Res Why Val.Value). bind r (λ c z. good tt (W.store a c z))) (R.put_is u (Val.convert k (value_in w u v)) W₁ ∙ ap (λ (r : Val.Answer Val.Value). ask r W₁) (sym d))
 
-    pub stored_fails : (f : Why) → g ≡ Fails f → StoredIs c l h w a k u x c l h w' (Dn.Bad f m)
+    pub stored_fails : (f : Why) → g ≡ Err f → StoredIs c l h w a k u x c l h w' (Err (f, m))
     stored_fails f eg = rw e record { is = λ B s d i j y lm. (sym (bad_by f eg i j (world_in B c l h m.used)), record { below = (stood i j).below; limit = lm; slots = s }) }
 
-    good_by : (y : Value) → g ≡ Gives y → 65536 ≤ length w → u + size_for v ≤ 65536 → (W₁ : World) → stored_on k a u (good (value_in w u v) W₁) ≡ good tt (W.store a (value_in w' u y) W₁)
+    good_by : (y : Value) → g ≡ Ok y → 65536 ≤ length w → u + size_for v ≤ 65536 → (W₁ : World) → stored_on k a u (good (value_in w u v) W₁) ≡ good tt (W.store a (value_in w' u y) W₁)
     unfolding stored_on given_in
     good_by y eg i j W₁ =
         let d : Val.gives (value_in w' u y) ≡ stacked u (Val.convert k (value_in w u v)) = rw eg at (stood i j).is in
         ap (λ (r : Res Why Val.Value). bind r (λ c z. good tt (W.store a c z))) (R.put_is u (Val.convert k (value_in w u v)) W₁ ∙ ap (λ (r : Val.Answer Val.Value). ask r W₁) (sym d))
 
-    typed : (y : Value) → g ≡ Gives y → 65536 ≤ length w → u + size_for v ≤ 65536 → Fine (value_in w u v) → Typed k y
+    typed : (y : Value) → g ≡ Ok y → 65536 ≤ length w → u + size_for v ≤ 65536 → Fine (value_in w u v) → Typed k y
     unfolding given_in
     typed y eg i j f = convert_typed k (value_in w u v) w' u y f (rw eg at (stood i j).is)
 
-    pub stored_some : (y : Value) → g ≡ Gives y → (c' l' h' : List ℕ) → ValueStored c l h w' a u y c' l' h' → StoredIs c l h w a k u x c' l' h' w' (Dn.Good m)
+    pub stored_some : (y : Value) → g ≡ Ok y → (c' l' h' : List ℕ) → ValueStored c l h w' a u y c' l' h' → StoredIs c l h w a k u x c' l' h' w' (Ok m)
     stored_some y eg c' l' h' vs = rw e record {
       is = λ B s d i j f lm.
           let ty : Typed k y = typed y eg i j f in (
@@ -110,35 +100,35 @@ module _ (c l h w : List ℕ) (a : ℕ) (k : ValueType) (u : ℕ) (x : Evaluated
 
 -- ---- a truth
 module _ (w : List ℕ) (u : ℕ) (x : Evaluated) where
-  pub truth_none : (f : Why) (m : Meter) → x ≡ Failed f m → TruthIs w u x w (Te.Bad f m)
+  pub truth_none : (f : Why) (m : Meter) → x ≡ Err (f, m) → TruthIs w u x w (Err (f, m))
   unfolding truth_on
   truth_none f m e = rw e record { is = λ i j B c l h. refl; below = λ i j. refl; limit = refl }
 
-  module _ (v : Value) (q : ℕ) (m : Meter) (e : x ≡ Is v q m) (w' : List ℕ) (t : Truth) (ga : Told w u (size_for v) (Val.holds u (value_in w u v)) w' t) where
+  module _ (v : Value) (q : ℕ) (m : Meter) (e : x ≡ Ok (v, q, m)) (w' : List ℕ) (t : Result Bool Why) (ga : Told w u (size_for v) (Val.holds u (value_in w u v)) w' t) where
     told : 65536 ≤ length w → u + size_for v ≤ 65536 → (W₁ : World) → truth_on u (good (value_in w u v) W₁) ≡ ask (truth_for t) W₁
     unfolding truth_on
     told i j W₁ = ap (λ (r : Val.Answer Bool). ask r W₁) (sym (ga.is (record { room = i; top = j })))
 
-    pub truth_some : (b : Bool) → t ≡ Tr.Is b → TruthIs w u x w' (Te.Is b m)
+    pub truth_some : (b : Bool) → t ≡ Ok b → TruthIs w u x w' (Ok (b, m))
     unfolding truth_for
     truth_some b et = rw e record { is = λ i j B c l h. sym (told i j (world_in B c l h m.used) ∙ rw et); below = λ i j. ga.below (record { room = i; top = j }); limit = refl }
 
-    pub truth_fails : (f : Why) → t ≡ Tr.Fails f → TruthIs w u x w' (Te.Bad f m)
+    pub truth_fails : (f : Why) → t ≡ Err f → TruthIs w u x w' (Err (f, m))
     unfolding truth_for
     truth_fails f et = rw e record { is = λ i j B c l h. sym (told i j (world_in B c l h m.used) ∙ rw et); below = λ i j. ga.below (record { room = i; top = j }); limit = refl }
 
 -- ---- a number
 module _ (w : List ℕ) (u : ℕ) (x : Evaluated) where
-  pub bound_none : (f : Why) (m : Meter) → x ≡ Failed f m → BoundIs w u x (Bo.Bad f m)
+  pub bound_none : (f : Why) (m : Meter) → x ≡ Err (f, m) → BoundIs w u x (Err (f, m))
   unfolding number_on
   bound_none f m e = rw e record { is = λ B c l h. refl; end = λ q j. refl; limit = refl }
 
-  module _ (v : Value) (q : ℕ) (m : Meter) (e : x ≡ Is v q m) (n : NumberGiven) (ga : number_for n ≡ Val.to_fixed (value_in w u v)) where
-    pub bound_some : (y : Fixed) → n ≡ Ng.Is y → BoundIs w u x (Bo.Is y q m)
+  module _ (v : Value) (q : ℕ) (m : Meter) (e : x ≡ Ok (v, q, m)) (n : Result Fixed Why) (ga : number_for n ≡ Val.to_fixed (value_in w u v)) where
+    pub bound_some : (y : Fixed) → n ≡ Ok y → BoundIs w u x (Ok (y, q, m))
     unfolding number_on number_for
     bound_some y en = rw e record { is = λ B c l h. ap (λ (r : Val.Answer ℤ). ask r (world_in B c l h m.used)) (rw en at ga); end = λ p j. let d : q ≡ p = end_is v q p m j in rw (← d); limit = refl }
 
-    pub bound_fails : (f : Why) → n ≡ Ng.Fails f → BoundIs w u x (Bo.Bad f m)
+    pub bound_fails : (f : Why) → n ≡ Err f → BoundIs w u x (Err (f, m))
     unfolding number_on number_for
     bound_fails f en = rw e record { is = λ B c l h. ap (λ (r : Val.Answer ℤ). ask r (world_in B c l h m.used)) (rw en at ga); end = λ p j. refl; limit = refl }
 
@@ -150,10 +140,10 @@ bound_by : (a : Val.Answer ℤ) → Gv.Gives Small a → (z : ℤ) (W₁ W₂ : 
 bound_by (Val.gives y) k z W₁ W₂ e = let f : z ≡ y = cc in rw f (given_it k)
 bound_by (Val.fails q) k z W₁ W₂ e = absurd (let f : ◌≡◌ {A = ℕ} 0 1 = cc in omega arith)
 
-pub bound_range : (B : World) (c l h w : List ℕ) (u : ℕ) (x : Evaluated) (y : Fixed) (q : ℕ) (m : Meter) → BoundIs w u x (Bo.Is y q m) → FineIn w u x → Fx.in_range y.value ≡ true
+pub bound_range : (B : World) (c l h w : List ℕ) (u : ℕ) (x : Evaluated) (y : Fixed) (q : ℕ) (m : Meter) → BoundIs w u x (Ok (y, q, m)) → FineIn w u x → Fx.in_range y.value ≡ true
 unfolding number_on
-bound_range B c l h w u (Is v e k) y q m b f = bound_by (Val.to_fixed (value_in w u v)) (to_fixed_small (value_in w u v) f) y.value (world_in B c l h m.used) (world_in B c l h k.used) (b.is B c l h)
-bound_range B c l h w u (Failed e k) y q m b f = absurd (let g : good y.value (world_in B c l h m.used) ≡ bad e k.used = b.is B c l h in let z : ◌≡◌ {A = ℕ} 0 1 = cc in omega arith)
+bound_range B c l h w u (Ok (v, e, k)) y q m b f = bound_by (Val.to_fixed (value_in w u v)) (to_fixed_small (value_in w u v) f) y.value (world_in B c l h m.used) (world_in B c l h k.used) (b.is B c l h)
+bound_range B c l h w u (Err (e, k)) y q m b f = absurd (let g : good y.value (world_in B c l h m.used) ≡ bad e k.used = b.is B c l h in let z : ◌≡◌ {A = ℕ} 0 1 = cc in omega arith)
 
 -- ---- any machine that serves the scene
 pub truth_same : {E : Type 0} (M₁ : Machine E) (x : Scene) (u : ℕ) → Serves M₁ x u → (t : Tree) (W₁ : World) → F.truth M₁ t W₁ ≡ F.truth (scene_machine x u) t W₁
@@ -213,22 +203,22 @@ module _ {E : Type 0} (M₁ : Machine E) (x : Scene) (u : ℕ) (sv : Serves M₁
 
 -- ---- the target of a name
 module _ (deck s names : List ℕ) (n : ℕ) (o : Owned) (t : Lexeme) (y : Meant) (e : meant_for y ≡ meant (owner_of o) (folded mixed (part (t.to - t.from) t.from s)) (names_world deck names n)) where
-  pub target_variable : (a : ℕ) (k : ValueType) → y ≡ M.AVariable a k → TargetIs deck s names n o t (Va.At a k)
+  pub target_variable : (a : ℕ) (k : ValueType) → y ≡ M.AVariable a k → TargetIs deck s names n o t (Some (a, k))
   target_variable a k f = record { name = y; is = e; variable = rw f }
 
-  pub target_none : ((b : Body) × (y ≡ M.AnEntry b)) ⊎ ((y ≡ M.TheSubstr) ⊎ (y ≡ M.NoSuch)) → TargetIs deck s names n o t Va.None
+  pub target_none : ((b : Option Place) × (y ≡ M.AnEntry b)) ⊎ ((y ≡ M.TheSubstr) ⊎ (y ≡ M.NoSuch)) → TargetIs deck s names n o t None
   target_none (inl (b, f)) = record { name = y; is = e; variable = rw f }
   target_none (inr (inl f)) = record { name = y; is = e; variable = rw f }
   target_none (inr (inr f)) = record { name = y; is = e; variable = rw f }
 
 -- ---- RETURN
 module _ (w : List ℕ) (u : ℕ) (fs : Frames) (t : ValueType) (x : Evaluated) where
-  pub return_none : (f : Why) (m : Meter) → x ≡ Failed f m → (r : Turned) → r ≡ record { frames = fs; step = St.Bad f m } → ReturnIs w u fs t x w r
-  return_none f m e r er = rw er record { answer = Failed f m; frames = refl; step = refl; is = wish_none w u (Wi.As t) x f m e }
+  pub return_none : (f : Why) (m : Meter) → x ≡ Err (f, m) → (r : Turned) → r ≡ record { frames = fs; step = Err (f, m) } → ReturnIs w u fs t x w r
+  return_none f m e r er = rw er record { answer = Err (f, m); frames = refl; step = refl; is = wish_none w u (Wi.As t) x f m e }
 
-  module _ (v : Value) (q : ℕ) (m : Meter) (e : x ≡ Is v q m) (w' : List ℕ) (g : Given) (ga : O.Gave w u (size_for v) (stacked u (Val.convert t (value_in w u v))) w' g) where
-    pub return_some : (y : Value) → g ≡ Gives y → (r : Turned) → r ≡ record { frames = fs; step = St.Gave y m } → ReturnIs w u fs t x w' r
-    return_some y eg r er = rw er record { answer = Is y q m; frames = refl; step = refl; is = wish_type w u (Wi.As t) x v q m e w' g (Is y q m) (given_some g y q m eg) t refl ga }
+  module _ (v : Value) (q : ℕ) (m : Meter) (e : x ≡ Ok (v, q, m)) (w' : List ℕ) (g : Result Value Why) (ga : O.Gave w u (size_for v) (stacked u (Val.convert t (value_in w u v))) w' g) where
+    pub return_some : (y : Value) → g ≡ Ok y → (r : Turned) → r ≡ record { frames = fs; step = Ok (St.Gave y m) } → ReturnIs w u fs t x w' r
+    return_some y eg r er = rw er record { answer = Ok (y, q, m); frames = refl; step = refl; is = wish_type w u (Wi.As t) x v q m e w' g (Ok (y, q, m)) (given_some g y q m eg) t refl ga }
 
-    pub return_fails : (f : Why) → g ≡ Fails f → (r : Turned) → r ≡ record { frames = fs; step = St.Bad f m } → ReturnIs w u fs t x w' r
-    return_fails f eg r er = rw er record { answer = Failed f m; frames = refl; step = refl; is = wish_type w u (Wi.As t) x v q m e w' g (Failed f m) (given_none g f q m eg) t refl ga }
+    pub return_fails : (f : Why) → g ≡ Err f → (r : Turned) → r ≡ record { frames = fs; step = Err (f, m) } → ReturnIs w u fs t x w' r
+    return_fails f eg r er = rw er record { answer = Err (f, m); frames = refl; step = refl; is = wish_type w u (Wi.As t) x v q m e w' g (Err (f, m)) (given_none g f q m eg) t refl ga }

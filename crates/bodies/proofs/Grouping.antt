@@ -1,5 +1,7 @@
 -- The bounds of an iterated group, its frame and its start.
 -- Assumes nothing.
+use Rattle.bodies.specs.Types.{Widened, Started}
+use Rattle.std.proofs.Common.{Some, None, Ok, Err}
 use mathlib.Core.Path.{◌≡◌, refl, ap, ◌∙◌}
 use mathlib.Core.Bool.{Bool, true, false}
 use mathlib.Core.List.{List, [], ◌∷◌}
@@ -35,11 +37,6 @@ use Rattle.callees.specs.Shown.{world_in, Slots}
 use Rattle.callees.specs.Answer.{ValueStored}
 use Rattle.callees.proofs.Storing.{stored_number}
 use Rattle.bodies.specs.declared.Side.TheVariants as Si
-use Rattle.bodies.specs.declared.Word.TheVariants as Wo
-use Rattle.bodies.specs.declared.Widened.{Widened}
-use Rattle.bodies.specs.declared.Widened.TheVariants as Wd
-use Rattle.bodies.specs.declared.Started.{Started}
-use Rattle.bodies.specs.declared.Started.TheVariants as Sd
 use Rattle.bodies.specs.Groups.{word_at, frame_by, frame_to, first_frame, SetOff}
 use Rattle.bodies.proofs.Doing.{stored_world}
 
@@ -48,7 +45,7 @@ module _ (s : List ℕ) (at : ℕ) (t : Lexeme) (lex : Lexed s at t) (a : Bool) 
   by_is : a ≡ is_word "BY" (token_at mixed s at).token
   by_is = ha ∙ is_word_lem s at t lex "BY" (66 ∷ 89 ∷ []) refl
 
-  pub word_by : a ≡ true → Wo.Of Si.By t.to ≡ word_at s at
+  pub word_by : a ≡ true → Some (Si.By, t.to) ≡ word_at s at
   unfolding word_at
   word_by e = rw (lex.to, ← by_is, e)
 
@@ -56,21 +53,21 @@ module _ (s : List ℕ) (at : ℕ) (t : Lexeme) (lex : Lexed s at t) (a : Bool) 
     to_is : b ≡ is_word "TO" (token_at mixed s at).token
     to_is = hb ∙ is_word_lem s at t lex "TO" (84 ∷ 79 ∷ []) refl
 
-    pub word_upto : b ≡ true → Wo.Of Si.Upto t.to ≡ word_at s at
+    pub word_upto : b ≡ true → Some (Si.Upto, t.to) ≡ word_at s at
     unfolding word_at
     word_upto e = rw (lex.to, ← by_is, na, ← to_is, e)
 
-    pub word_neither : b ≡ false → Wo.Neither ≡ word_at s at
+    pub word_neither : b ≡ false → None ≡ word_at s at
     unfolding word_at
     word_neither e = rw (← by_is, na, ← to_is, e)
 
 -- ---- the start
 module _ (c : List ℕ) (x : Fixed) (w : Widened) where
-  pub set_some : (f : Frame) (q : ℕ) (m : Meter) → w ≡ Wd.Is f q m → (c' : List ℕ) → c' ≡ over c (f.address + 0) (stored_of x.value ∷ [])
-      → (b : Bool) → b ≡ passes_by (from_stored f.limit) (from_stored f.step) x.value → SetOff c x w c' (Sd.Is f b m)
+  pub set_some : (f : Frame) (q : ℕ) (m : Meter) → w ≡ Ok (f, q, m) → (c' : List ℕ) → c' ≡ over c (f.address + 0) (stored_of x.value ∷ [])
+      → (b : Bool) → b ≡ passes_by (from_stored f.limit) (from_stored f.step) x.value → SetOff c x w c' (Ok (f, b, m))
   set_some f q m e c' ec b eb = rw e record { cells = ec; is = rw eb }
 
-  pub set_none : (y : Why) (m : Meter) → w ≡ Wd.Bad y m → SetOff c x w c (Sd.Bad y m)
+  pub set_none : (y : Why) (m : Meter) → w ≡ Err (y, m) → SetOff c x w c (Err (y, m))
   set_none y m e = rw e record { cells = refl; is = refl }
 
 -- ---- a number that is stored for a FIXED variable
@@ -95,7 +92,7 @@ pub passes_shown : (f : Frame) (d : F.Frame) (z : ℤ) → FrameShown f d → pa
 passes_shown f d z k = passes_is nothing_runs f d z k
 
 -- ---- a group that has set off
-module _ (B : World) (c l h : List ℕ) (x : Fixed) (w : Widened) (c' : List ℕ) (r : Started) (so : SetOff c x w c' r) (f : Frame) (q : ℕ) (m : Meter) (e : w ≡ Wd.Is f q m) where
+module _ (B : World) (c l h : List ℕ) (x : Fixed) (w : Widened) (c' : List ℕ) (r : Started) (so : SetOff c x w c' r) (f : Frame) (q : ℕ) (m : Meter) (e : w ≡ Ok (f, q, m)) where
   cells_off_lem : c' ≡ over c (f.address + 0) (stored_of x.value ∷ [])
   cells_off_lem = rw e at so.cells
 
@@ -107,11 +104,11 @@ module _ (B : World) (c l h : List ℕ) (x : Fixed) (w : Widened) (c' : List ℕ
       → Slots B.denotations c' l h
   off_slots s v i = number_slots B c l h f.address x c' cells_off_lem s v i
 
-  off_is : r ≡ Sd.Is f (passes_by (from_stored f.limit) (from_stored f.step) x.value) m
+  off_is : r ≡ Ok (f, (passes_by (from_stored f.limit) (from_stored f.step) x.value), m)
   off_is = rw e at so.is
 
-  pub off_passes : (d : F.Frame) → FrameShown f d → r ≡ Sd.Is f (F.passes d x.value) m
-  off_passes d k = off_is ∙ ap (λ (b : Bool). Sd.Is f b m) (passes_shown f d x.value k)
+  pub off_passes : (d : F.Frame) → FrameShown f d → r ≡ Ok (f, (F.passes d x.value), m)
+  off_passes d k = off_is ∙ ap (λ (b : Bool). Ok (f, b, m)) (passes_shown f d x.value k)
 
 -- ---- what the frames stand for
 no_limit : to_of (from_stored 0) ≡ F.no_to

@@ -1,5 +1,6 @@
 -- GOTO in a body.
 -- Assumes nothing.
+use Rattle.std.proofs.Common.{Option, Some, None, Result, Ok, Err}
 use mathlib.Core.Path.{◌≡◌, refl, sym, ap, ◌∙◌}
 use mathlib.Core.Bool.{Bool, true, false, cond}
 use mathlib.Core.List.{List}
@@ -24,8 +25,6 @@ use Rattle.names.specs.declared.Owner.{Owner}
 use Rattle.names.specs.declared.Owner.TheVariants.{Everyone}
 use Rattle.names.specs.declared.Denotation.TheVariants.{Variable, EntryName, LabelName, Builtin}
 use Rattle.names.specs.declared.Name.{Name}
-use Rattle.names.specs.declared.Found.{Found}
-use Rattle.names.specs.declared.Found.TheVariants.{Known, Unknown}
 use Rattle.names.specs.Table.{owner_of, denotation_of, name_in, identifiers_from, found_for}
 use Rattle.rows.specs.declared.Row.{Row}
 use Rattle.rows.specs.Table.{row_in}
@@ -39,8 +38,6 @@ use Rattle.callees.specs.Shown.{names_world, denotations_from}
 use Rattle.callees.specs.Answer.{spelled_at}
 use Rattle.callees.proofs.Naming.{address_is, denotation_is, low_own, known_is, unknown_is}
 use Rattle.operands.specs.declared.Scene.{Scene}
-use Rattle.bodies.specs.declared.Jump.{Jump}
-use Rattle.bodies.specs.declared.Jump.TheVariants as Ju
 use Rattle.bodies.specs.declared.Step.TheVariants as St
 use Rattle.bodies.specs.declared.Turned.{Turned}
 use Rattle.bodies.specs.Ways.{turned_by}
@@ -51,23 +48,23 @@ module _ (t : List ℕ) (a : Address) (b : Bool) (x : Name) (h : x ≡ name_in t
   abbrev either : W.Denotation → Val.Answer Target
   either d = cond b (local_target d) (global_target d)
 
-  pub label_local : (l : Label) → x.denotation ≡ LabelName l → b ≡ true → jump_for (Ju.To l) ≡ either (denotation_of (name_in t a.0).denotation)
+  pub label_local : (l : Label) → x.denotation ≡ LabelName l → b ≡ true → jump_for (Ok l) ≡ either (denotation_of (name_in t a.0).denotation)
   label_local l e i = rw (← h, e, i)
 
-  pub label_global : (l : Label) → x.denotation ≡ LabelName l → b ≡ false → jump_for (Ju.Bad WrongGoto) ≡ either (denotation_of (name_in t a.0).denotation)
+  pub label_global : (l : Label) → x.denotation ≡ LabelName l → b ≡ false → jump_for (Err WrongGoto) ≡ either (denotation_of (name_in t a.0).denotation)
   label_global l e i = rw (← h, e, i)
 
   wrong_either : (v : Bool) → ◌≡◌ {A = Val.Answer Target} (Val.fails WrongName) (cond v (Val.fails WrongName) (Val.fails WrongName))
   wrong_either true = refl
   wrong_either false = refl
 
-  pub label_other : ((v : ValueType) × (x.denotation ≡ Variable v)) ⊎ (((y : Entry) × (x.denotation ≡ EntryName y)) ⊎ (x.denotation ≡ Builtin)) → jump_for (Ju.Bad WrongName) ≡ either (denotation_of (name_in t a.0).denotation)
+  pub label_other : ((v : ValueType) × (x.denotation ≡ Variable v)) ⊎ (((y : Entry) × (x.denotation ≡ EntryName y)) ⊎ (x.denotation ≡ Builtin)) → jump_for (Err WrongName) ≡ either (denotation_of (name_in t a.0).denotation)
   label_other (inl (v, e)) = rw (← h, e) (wrong_either b)
   label_other (inr (inl (y, e))) = rw (← h, e) (wrong_either b)
   label_other (inr (inr e)) = rw (← h, e) (wrong_either b)
 
 -- ---- "local names first, every global label is 13"
-module _ (d s t : List ℕ) (n : ℕ) (o : Owner) (x : Lexeme) (m : ℕ) (z : m ≡ x.to - x.from) (f : Found)
+module _ (d s t : List ℕ) (n : ℕ) (o : Owner) (x : Lexeme) (m : ℕ) (z : m ≡ x.to - x.from) (f : Option Address)
     (e : f ≡ found_for (address_in (folded mixed (part m x.from s)) (owner_of o) 0 (identifiers_from d t 0 n))) where
   abbrev name : List ℕ
   name = folded mixed (part (x.to - x.from) x.from s)
@@ -75,12 +72,12 @@ module _ (d s t : List ℕ) (n : ℕ) (o : Owner) (x : Lexeme) (m : ℕ) (z : m 
   own_is : f ≡ found_for (address_in (folded mixed (part (x.to - x.from) x.from s)) (owner_of o) 0 (identifiers_from d t 0 n))
   own_is = rw z at e
 
-  pub local_known : (a : Address) → f ≡ Known a → (r : Jump) → jump_for r ≡ local_target (denotation_of (name_in t a.0).denotation) → LabelIs d s t n o x r
+  pub local_known : (a : Address) → f ≡ Some a → (r : Result Label Why) → jump_for r ≡ local_target (denotation_of (name_in t a.0).denotation) → LabelIs d s t n o x r
   local_known a g r h =
       let k : address_in name (owner_of o) 0 (identifiers_from d t 0 n) ≡ W.address a.0 = known_is d t n (address_in name (owner_of o) 0 (identifiers_from d t 0 n)) f a own_is g in
       record { is = h ∙ sym (ap (λ (i : W.Address). target_for i name (names_world d t n)) (address_is d t n name (owner_of o) ∙ k) ∙ ap local_target (denotation_is d t n a.0 (low_own d t n name (owner_of o) a.0 k))) }
 
-  module _ (u : f ≡ Unknown) (m₂ : ℕ) (z₂ : m₂ ≡ x.to - x.from) (f₂ : Found) (e₂ : f₂ ≡ found_for (address_in (folded mixed (part m₂ x.from s)) (owner_of Everyone) 0 (identifiers_from d t 0 n))) where
+  module _ (u : f ≡ None) (m₂ : ℕ) (z₂ : m₂ ≡ x.to - x.from) (f₂ : Option Address) (e₂ : f₂ ≡ found_for (address_in (folded mixed (part m₂ x.from s)) (owner_of Everyone) 0 (identifiers_from d t 0 n))) where
     global_is : f₂ ≡ found_for (address_in (folded mixed (part (x.to - x.from) x.from s)) W.everyone 0 (identifiers_from d t 0 n))
     global_is = rw z₂ at e₂
 
@@ -89,28 +86,28 @@ module _ (d s t : List ℕ) (n : ℕ) (o : Owner) (x : Lexeme) (m : ℕ) (z : m 
         ap (λ (i : W.Address). target_for i name (names_world d t n)) (address_is d t n name (owner_of o) ∙ unknown_is d t n (address_in name (owner_of o) 0 (identifiers_from d t 0 n)) f own_is u)
         ∙ ap (λ (i : W.Address). out_target i (names_world d t n)) (address_is d t n name W.everyone)
 
-    pub global_known : (a : Address) → f₂ ≡ Known a → (r : Jump) → jump_for r ≡ global_target (denotation_of (name_in t a.0).denotation) → LabelIs d s t n o x r
+    pub global_known : (a : Address) → f₂ ≡ Some a → (r : Result Label Why) → jump_for r ≡ global_target (denotation_of (name_in t a.0).denotation) → LabelIs d s t n o x r
     global_known a g r h =
         let k : address_in name W.everyone 0 (identifiers_from d t 0 n) ≡ W.address a.0 = known_is d t n (address_in name W.everyone 0 (identifiers_from d t 0 n)) f₂ a global_is g in
         record { is = h ∙ sym (not_local ∙ ap (λ (i : W.Address). out_target i (names_world d t n)) k ∙ ap global_target (denotation_is d t n a.0 (low_own d t n name W.everyone a.0 k))) }
 
-    pub neither_known : f₂ ≡ Unknown → LabelIs d s t n o x (Ju.Bad WrongName)
+    pub neither_known : f₂ ≡ None → LabelIs d s t n o x (Err WrongName)
     neither_known g = record { is = sym (not_local ∙ ap (λ (i : W.Address). out_target i (names_world d t n)) (unknown_is d t n (address_in name W.everyone 0 (identifiers_from d t 0 n)) f₂ global_is g)) }
 
 -- ---- the GOTO of a row
 module _ (d s t names : List ℕ) (fs : Frames) (n : ℕ) (c : Scene) (m : Meter) (q : Row) (hq : q ≡ row_in t n) (x : Lexeme) (lex : Lexed s q.content x)
-    (j : Jump) (li : LabelIs d s names c.names c.owner x j) where
+    (j : Result Label Why) (li : LabelIs d s names c.names c.owner x j) where
   goes : jump_for j ≡ target_in d names c.names (owner_of c.owner) (spelled_at s (row_in t n).content)
   goes = li.is ∙ ap (target_in d names c.names (owner_of c.owner)) (rw (lex.from, lex.to, hq))
 
-  pub jump_bad : (w : Why) → j ≡ Ju.Bad w → (r : Turned) → r ≡ turned_by fs (St.Bad w m) → JumpsIn d s t names fs n c m r
+  pub jump_bad : (w : Why) → j ≡ Err w → (r : Turned) → r ≡ turned_by fs (Err (w, m)) → JumpsIn d s t names fs n c m r
   jump_bad w e r f = record { jump = j; is = goes; turned = f ∙ rw e }
 
-  module _ (l : Label) (e : j ≡ Ju.To l) (b : Bool) (hb : b ≡ may_go_on t n 2048 (label_from t l.place.row l.is_end)) where
-    pub jump_wrong : b ≡ false → (r : Turned) → r ≡ turned_by fs (St.Bad WrongGoto m) → JumpsIn d s t names fs n c m r
+  module _ (l : Label) (e : j ≡ Ok l) (b : Bool) (hb : b ≡ may_go_on t n 2048 (label_from t l.place.row l.is_end)) where
+    pub jump_wrong : b ≡ false → (r : Turned) → r ≡ turned_by fs (Err (WrongGoto, m)) → JumpsIn d s t names fs n c m r
     jump_wrong g r f = record { jump = j; is = goes; turned = f ∙ rw (e, ← hb, g) }
 
-    pub jump_done : b ≡ true → (w : Walk) → w ≡ landing_walk t fs l.place.row l.is_end → (y : Next) → y ≡ arrived_at t fs w → (r : Turned) → r ≡ turned_by fs (St.On y m) → JumpsIn d s t names fs n c m r
+    pub jump_done : b ≡ true → (w : Walk) → w ≡ landing_walk t fs l.place.row l.is_end → (y : Next) → y ≡ arrived_at t fs w → (r : Turned) → r ≡ turned_by fs (Ok (St.On y m)) → JumpsIn d s t names fs n c m r
     jump_done g w hw y hy r f = record { jump = j; is = goes; turned = f ∙ rw (e, ← hb, g, hy, hw) }
 
 -- ---- the definition's own

@@ -1,5 +1,9 @@
 -- An iterated group that is tested again: the variable is stepped, the step is charged, then it is tested.
 -- Assumes nothing.
+use Rattle.fixed.specs.declared.FixedError.TheVariants.{ZeroDivisor}
+use Rattle.fixed.specs.declared.FixedError.{FixedError}
+use Rattle.bodies.specs.Types.{Tested}
+use Rattle.std.proofs.Common.{Some, None, Option, Ok, Err, Result}
 use mathlib.Core.Path.{◌≡◌, refl, sym, ap, ◌∙◌}
 use mathlib.Core.Bool.{Bool, true, false, cond}
 use mathlib.Core.List.{List, [], ◌∷◌}
@@ -19,23 +23,15 @@ use Rattle.definition.specs.declared.Why.{Why}
 use Rattle.definition.specs.declared.Why.TheVariants.{NoValue, NoStep, OutOfRange}
 use Rattle.definition.specs.declared.ValueType.TheVariants.{FixedType}
 use Rattle.fixed.specs.declared.Fixed.{Fixed}
-use Rattle.fixed.specs.declared.Answer.{Answer}
-use Rattle.fixed.specs.declared.Answer.TheVariants as A
 use Rattle.fixed.specs.Answer.{result_of}
 use Rattle.fixed.specs.Signed.{stored_of, from_stored}
 use Rattle.meter.specs.declared.Meter.{Meter}
-use Rattle.meter.specs.declared.Charged.{Charged}
-use Rattle.meter.specs.Charges.{Charges}
-use Rattle.rows.specs.declared.Link.TheVariants as L
+use Rattle.meter.specs.Charges.{Charges, Charged, charged_for, ChargedAs}
 use Rattle.flow.specs.declared.Frame.{Frame}
 use Rattle.flow.specs.Walks.{passes_by}
 use Rattle.flow.specs.Shown.{number_of, stepped_on}
-use Rattle.store.specs.declared.Number.{Number}
-use Rattle.store.specs.declared.Number.TheVariants as N
 use Rattle.store.specs.Cells.{cell_in, number_cell}
 use Rattle.callees.specs.Shown.{values_from, world_in, Slots}
-use Rattle.bodies.specs.declared.Tested.{Tested}
-use Rattle.bodies.specs.declared.Tested.TheVariants as Te
 use Rattle.bodies.specs.Deeds.{tested_in, tested_meter}
 use Rattle.bodies.specs.Groups.{added_on, SummedIs, Framing, SteppedBy, SteppedIs}
 use Rattle.operands.proofs.Leaves.{values_at}
@@ -43,10 +39,10 @@ use Rattle.bodies.proofs.Grouping.{number_world, number_slots, passes_shown}
 use Rattle.operands.proofs.Trees.{clash}
 
 -- ---- the sum
-pub summed_some : (x : Fixed) (by : Answer) (n : Fixed) → by ≡ A.Is n → (r : Answer) → result_of r ≡ Fx.sum x.value n.value → SummedIs x by r
+pub summed_some : (x : Fixed) (by : Result Fixed FixedError) (n : Fixed) → by ≡ Ok n → (r : Result Fixed FixedError) → result_of r ≡ Fx.sum x.value n.value → SummedIs x by r
 summed_some x by n e r f = record { is = λ z g. let k : Fx.is n.value ≡ Fx.is z = ap result_of (sym e) ∙ g in let j : n.value ≡ z = cc in f ∙ ap (Fx.sum x.value) j }
 
-pub summed_none : (x : Fixed) (by : Answer) → (by ≡ A.OutOfRange) ⊎ (by ≡ A.ZeroDivisor) → (r : Answer) → SummedIs x by r
+pub summed_none : (x : Fixed) (by : Result Fixed FixedError) → (by ≡ (Err OutOfRange)) ⊎ (by ≡ (Err ZeroDivisor)) → (r : Result Fixed FixedError) → SummedIs x by r
 summed_none x by (inl e) r = record { is = λ z g. clash (let k : Fx.out_of_range ≡ Fx.is z = ap result_of (sym e) ∙ g in cc) }
 summed_none x by (inr e) r = record { is = λ z g. clash (let k : Fx.zero_divisor ≡ Fx.is z = ap result_of (sym e) ∙ g in cc) }
 
@@ -85,7 +81,7 @@ pub charge_none : (w : World) → is_left w.limit w.used ≡ false → W.charge 
 unfolding W.charge
 charge_none w e = rw e
 
-module _ (c : List ℕ) (f : Frame) (x : Fixed) (by : Answer) (m : Meter) (y : Answer) (su : SummedIs x by y) where
+module _ (c : List ℕ) (f : Frame) (x : Fixed) (by : Result Fixed FixedError) (m : Meter) (y : Result Fixed FixedError) (su : SummedIs x by y) where
   sum_is : (B : World) (l h : List ℕ) (d : F.Frame) → Framing B c l h f m d → result_of by ≡ from_stored f.step → result_of y ≡ Fx.sum x.value d.step
   sum_is B l h d fr e = su.is d.step (e ∙ fr.frame.step)
 
@@ -93,7 +89,7 @@ module _ (c : List ℕ) (f : Frame) (x : Fixed) (by : Answer) (m : Meter) (y : A
   unfolding added_on
   added_no d w g e = rw e
 
-  pub added_none : (y ≡ A.OutOfRange) ⊎ (y ≡ A.ZeroDivisor) → SteppedBy c f x by m c (Te.Bad OutOfRange m)
+  pub added_none : (y ≡ (Err OutOfRange)) ⊎ (y ≡ (Err ZeroDivisor)) → SteppedBy c f x by m c (Err (OutOfRange, m))
   added_none (inl e) = record {
     is = λ B l h d fr g.
         let k : Fx.out_of_range ≡ Fx.sum x.value d.step = ap result_of (sym e) ∙ sum_is B l h d fr g in
@@ -101,7 +97,7 @@ module _ (c : List ℕ) (f : Frame) (x : Fixed) (by : Answer) (m : Meter) (y : A
   }
   added_none (inr e) = record { is = λ B l h d fr g. no_zero x.value d.step (ap result_of (sym e) ∙ sum_is B l h d fr g) }
 
-  module _ (n : Fixed) (e : y ≡ A.Is n) (c' : List ℕ) (ec : c' ≡ over c (f.address + 0) (stored_of n.value ∷ [])) (p : Charged) (ch : Charges m p) where
+  module _ (n : Fixed) (e : y ≡ Ok n) (c' : List ℕ) (ec : c' ≡ over c (f.address + 0) (stored_of n.value ∷ [])) (p : Charged) (ch : Charges m p) where
     number : (B : World) (l h : List ℕ) (d : F.Frame) → Framing B c l h f m d → result_of by ≡ from_stored f.step → Fx.is n.value ≡ Fx.sum x.value d.step
     number B l h d fr g = ap result_of (sym e) ∙ sum_is B l h d fr g
 
@@ -112,7 +108,7 @@ module _ (c : List ℕ) (f : Frame) (x : Fixed) (by : Answer) (m : Meter) (y : A
     unfolding added_on
     added_is d w g = rw (← g)
 
-    pub added_paid : p.paid ≡ true → (b : Bool) → b ≡ passes_by (from_stored f.limit) (from_stored f.step) n.value → SteppedBy c f x by m c' (Te.Is b p.meter)
+    pub added_paid : p.paid ≡ true → (b : Bool) → b ≡ passes_by (from_stored f.limit) (from_stored f.step) n.value → SteppedBy c f x by m c' (Ok (b, p.meter))
     added_paid pd b eb = record {
       is = λ B l h d fr g.
           let nu : Fx.is n.value ≡ Fx.sum x.value d.step = number B l h d fr g in
@@ -127,7 +123,7 @@ module _ (c : List ℕ) (f : Frame) (x : Fixed) (by : Answer) (m : Meter) (y : A
           );
     }
 
-    pub added_due : p.paid ≡ false → SteppedBy c f x by m c' (Te.Bad NoStep p.meter)
+    pub added_due : p.paid ≡ false → SteppedBy c f x by m c' (Err (NoStep, p.meter))
     added_due pd = record {
       is = λ B l h d fr g.
           let nu : Fx.is n.value ≡ Fx.sum x.value d.step = number B l h d fr g in
@@ -148,18 +144,18 @@ unfolding stepped_on added_on
 stepped_cell d w v e = rw e
 
 module _ (c : List ℕ) (f : Frame) (m : Meter) where
-  pub stepped_nowhere : f.group ≡ L.Nowhere → (r : Tested) → SteppedIs c f m c r
-  stepped_nowhere e r = record { is = λ B l h d fr. clash (let k : L.Nowhere ≡ L.To d.group = sym e ∙ fr.frame.group in cc) }
+  pub stepped_nowhere : f.group ≡ None → (r : Tested) → SteppedIs c f m c r
+  stepped_nowhere e r = record { is = λ B l h d fr. clash (let k : None ≡ Some d.group = sym e ∙ fr.frame.group in cc) }
 
-  module _ (x : Number) (e : number_cell x ≡ cell_in c [] [] FixedType f.address) where
+  module _ (x : Option Fixed) (e : number_cell x ≡ cell_in c [] [] FixedType f.address) where
     cell : (B : World) (l h : List ℕ) (d : F.Frame) → Framing B c l h f m d → W.value_at d.at (world_in B c l h m.used) ≡ number_cell x
     unfolding cell_in
     cell B l h d fr = ap (λ (i : ℕ). get_or (values_from B.denotations 0 c l h) i W.no_value) (sym fr.frame.address) ∙ rw zero-add at (values_at B.denotations 0 f.address FixedType c l h fr.variable) ∙ sym e
 
-    pub stepped_none : x ≡ N.NoNumber → SteppedIs c f m c (Te.Bad NoValue m)
+    pub stepped_none : x ≡ None → SteppedIs c f m c (Err (NoValue, m))
     stepped_none g = record { is = λ B l h d fr. (sym (stepped_cell d (world_in B c l h m.used) W.no_value (cell B l h d fr ∙ rw g)), fr.limit, fr.slots) }
 
-    pub stepped_some : (n : Fixed) → x ≡ N.Holds n → (by : Answer) → result_of by ≡ from_stored f.step → (c' : List ℕ) (r : Tested) → SteppedBy c f n by m c' r → SteppedIs c f m c' r
+    pub stepped_some : (n : Fixed) → x ≡ Some n → (by : Result Fixed FixedError) → result_of by ≡ from_stored f.step → (c' : List ℕ) (r : Tested) → SteppedBy c f n by m c' r → SteppedIs c f m c' r
     stepped_some n g by eb c' r sb = record {
       is = λ B l h d fr.
           let k : (tested_in B c' l h r ≡ added_on d n.value (world_in B c l h m.used)) × ((tested_meter r).limit ≡ B.limit) × Slots B.denotations c' l h = sb.is B l h d fr eb in

@@ -1,5 +1,7 @@
 -- What a statement does with the value of its expression: assignment, IF, a number of DO.
-use Rattle.std.specs.Prelude.{ℕ, ◌+◌, ◌-◌, ◌≤◌, Bool, ◌≡◌, List, [], ℤ, length, get_or}
+use Rattle.bodies.specs.Types.{Done, Tested, Bound}
+use Rattle.operands.specs.Types.{Evaluated}
+use Rattle.std.specs.Prelude.{ℕ, ◌+◌, ◌-◌, ◌≤◌, Bool, ◌≡◌, List, [], ℤ, length, get_or, Option, Some, None, Ok, Err}
 use Rattle.definition.specs.Bytes.{mixed, folded}
 use Rattle.definition.specs.Expressions.{Tree}
 use Rattle.definition.specs.Lists.{part}
@@ -24,16 +26,6 @@ use Rattle.tokens.specs.declared.Lexeme.{Lexeme}
 use Rattle.operators.specs.Stands.{value_in}
 use Rattle.callees.specs.Shown.{names_world, world_in, Slots}
 use Rattle.operands.specs.declared.Scene.{Scene}
-use Rattle.operands.specs.declared.Evaluated.{Evaluated}
-use Rattle.operands.specs.declared.Evaluated.TheVariants.{Is, Failed}
-use Rattle.bodies.specs.declared.Done.{Done}
-use Rattle.bodies.specs.declared.Done.TheVariants as Dn
-use Rattle.bodies.specs.declared.Variable.{Variable}
-use Rattle.bodies.specs.declared.Variable.TheVariants as Va
-use Rattle.bodies.specs.declared.Tested.{Tested}
-use Rattle.bodies.specs.declared.Tested.TheVariants as Te
-use Rattle.bodies.specs.declared.Bound.{Bound}
-use Rattle.bodies.specs.declared.Bound.TheVariants as Bo
 use Rattle.operands.specs.Answer.{Below, res_in, size_of, meter_of, with_end, value_of}
 
 -- a machine of the definition that evaluates as the scene does, with u bytes waiting
@@ -62,25 +54,25 @@ pub record Leaves (B : World) (u : ℕ) (w c' l' h' w' : List ℕ) (m : Meter) :
   pub slots : Slots B.denotations c' l' h'
 
 -- ---- the variable that a name stands for
-abbrev pub variable_for : Meant → Variable
-variable_for (M.AVariable a t) = Va.At a t
-variable_for (M.AnEntry b) = Va.None
-variable_for M.TheSubstr = Va.None
-variable_for M.NoSuch = Va.None
+abbrev pub variable_for : Meant → Option (ℕ × ValueType)
+variable_for (M.AVariable a t) = Some (a, t)
+variable_for (M.AnEntry b) = None
+variable_for M.TheSubstr = None
+variable_for M.NoSuch = None
 
-pub record TargetIs (deck s names : List ℕ) (n : ℕ) (o : Owned) (t : Lexeme) (r : Variable) : Type 0 where
+pub record TargetIs (deck s names : List ℕ) (n : ℕ) (o : Owned) (t : Lexeme) (r : Option (ℕ × ValueType)) : Type 0 where
   pub name : Meant
   pub is : meant_for name ≡ Ev.meant (owner_of o) (folded mixed (part (t.to - t.from) t.from s)) (names_world deck names n)
   pub variable : r ≡ variable_for name
 
 -- ---- assignment
 abbrev pub done_in : World → List ℕ → List ℕ → List ℕ → Done → Res Why (Unit {0})
-done_in B c l h (Dn.Good m) = good tt (world_in B c l h m.used)
-done_in B c l h (Dn.Bad e m) = bad e m.used
+done_in B c l h (Ok m) = good tt (world_in B c l h m.used)
+done_in B c l h (Err (e, m)) = bad e m.used
 
 abbrev pub done_meter : Done → Meter
-done_meter (Dn.Good m) = m
-done_meter (Dn.Bad e m) = m
+done_meter (Ok m) = m
+done_meter (Err (e, m)) = m
 
 -- a value made of a type, and stored
 unfoldable pub stored_on : ValueType → ℕ → ℕ → Res Why Val.Value → Res Why (Unit {0})
@@ -88,8 +80,8 @@ stored_on t a u R = bind R (λ v y. bind (put u (Val.convert t v) y) (λ c z. go
 
 -- an answer that is no refusal is in its range
 abbrev pub FineIn : List ℕ → ℕ → Evaluated → Type 0
-FineIn w u (Is v e m) = Fine (value_in w u v)
-FineIn w u (Failed e m) = Unit {0}
+FineIn w u (Ok (v, e, m)) = Fine (value_in w u v)
+FineIn w u (Err (e, m)) = Unit {0}
 
 pub record StoredIs (c l h w : List ℕ) (a : ℕ) (k : ValueType) (u : ℕ) (x : Evaluated) (c' l' h' w' : List ℕ) (r : Done) : Type 0 where
   pub is : (B : World) → Slots B.denotations c l h → get_or B.denotations a builtin_name ≡ variable_of k → 65536 ≤ length w → u + size_of x ≤ 65536 → FineIn w u x → (meter_of x).limit ≡ B.limit
@@ -97,12 +89,12 @@ pub record StoredIs (c l h w : List ℕ) (a : ℕ) (k : ValueType) (u : ℕ) (x 
 
 -- ---- IF
 abbrev pub tested_in : World → List ℕ → List ℕ → List ℕ → Tested → Res Why Bool
-tested_in B c l h (Te.Is b m) = good b (world_in B c l h m.used)
-tested_in B c l h (Te.Bad e m) = bad e m.used
+tested_in B c l h (Ok (b, m)) = good b (world_in B c l h m.used)
+tested_in B c l h (Err (e, m)) = bad e m.used
 
 abbrev pub tested_meter : Tested → Meter
-tested_meter (Te.Is b m) = m
-tested_meter (Te.Bad e m) = m
+tested_meter (Ok (b, m)) = m
+tested_meter (Err (e, m)) = m
 
 unfoldable pub truth_on : ℕ → Res Why Val.Value → Res Why Bool
 truth_on u R = bind R (λ v y. ask (Val.holds u v) y)
@@ -114,16 +106,16 @@ pub record TruthIs (w : List ℕ) (u : ℕ) (x : Evaluated) (w' : List ℕ) (r :
 
 -- ---- a number
 abbrev pub bound_in : World → List ℕ → List ℕ → List ℕ → Bound → Res Why ℤ
-bound_in B c l h (Bo.Is x e m) = good x.value (world_in B c l h m.used)
-bound_in B c l h (Bo.Bad e m) = bad e m.used
+bound_in B c l h (Ok (x, e, m)) = good x.value (world_in B c l h m.used)
+bound_in B c l h (Err (e, m)) = bad e m.used
 
 abbrev pub bound_meter : Bound → Meter
-bound_meter (Bo.Is x e m) = m
-bound_meter (Bo.Bad e m) = m
+bound_meter (Ok (x, e, m)) = m
+bound_meter (Err (e, m)) = m
 
 abbrev pub bound_end : Bound → ℕ → Bound
-bound_end (Bo.Is x e m) q = Bo.Is x q m
-bound_end (Bo.Bad e m) q = Bo.Bad e m
+bound_end (Ok (x, e, m)) q = Ok (x, q, m)
+bound_end (Err (e, m)) q = Err (e, m)
 
 unfoldable pub number_on : Res Why Val.Value → Res Why ℤ
 number_on R = bind R (λ v y. ask (Val.to_fixed v) y)

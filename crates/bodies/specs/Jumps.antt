@@ -1,5 +1,6 @@
 -- GOTO in a body: "local names first, every global label is 13".
-use Rattle.std.specs.Prelude.{ℕ, ◌-◌, cond, ◌≡◌, List}
+use Rattle.names.specs.declared.Label.{Label}
+use Rattle.std.specs.Prelude.{ℕ, ◌-◌, cond, ◌≡◌, List, Result, Ok, Err}
 use Rattle.definition.specs.Bytes.{mixed, folded}
 use Rattle.definition.specs.Lists.{part}
 use Rattle.definition.specs.Program as P
@@ -21,17 +22,15 @@ use Rattle.flow.specs.Walks.{arrived_at, may_go_on, label_from, landing_walk}
 use Rattle.callees.specs.Shown.{names_world}
 use Rattle.callees.specs.Answer.{spelled_at}
 use Rattle.operands.specs.declared.Scene.{Scene}
-use Rattle.bodies.specs.declared.Jump.{Jump}
-use Rattle.bodies.specs.declared.Jump.TheVariants as Ju
 use Rattle.bodies.specs.declared.Step.{Step}
 use Rattle.bodies.specs.declared.Step.TheVariants as St
 use Rattle.bodies.specs.declared.Turned.{Turned}
 use Rattle.bodies.specs.Ways.{turned_by}
 
 -- ---- the label that a name stands for, or why there is none
-abbrev pub jump_for : Jump → Val.Answer Target
-jump_for (Ju.To l) = Val.gives (record { member = l.place.member; row = l.place.row; is_end = l.is_end })
-jump_for (Ju.Bad e) = Val.fails e
+abbrev pub jump_for : Result Label Why → Val.Answer Target
+jump_for (Ok l) = Val.gives (record { member = l.place.member; row = l.place.row; is_end = l.is_end })
+jump_for (Err e) = Val.fails e
 
 abbrev pub local_target : W.Denotation → Val.Answer Target
 local_target (variable_of t) = Val.fails WrongName
@@ -62,17 +61,17 @@ jump_by (Val.fails e) rs n w = bad e w.used
 abbrev pub target_in : List ℕ → List ℕ → ℕ → W.Owner → List ℕ → Val.Answer Target
 target_in d t n o l = target_for (address_of l o (names_world d t n)) l (names_world d t n)
 
-pub record LabelIs (deck s names : List ℕ) (n : ℕ) (o : Owner) (t : Lexeme) (r : Jump) : Type 0 where
+pub record LabelIs (deck s names : List ℕ) (n : ℕ) (o : Owner) (t : Lexeme) (r : Result Label Why) : Type 0 where
   pub is : jump_for r ≡ target_in deck names n (owner_of o) (folded mixed (part (t.to - t.from) t.from s))
 
 -- ---- the GOTO of row n, whose label's name stands behind the row's place
-abbrev pub after_jump : List ℕ → Frames → ℕ → Jump → Meter → Step
-after_jump t fs n (Ju.To l) m =
+abbrev pub after_jump : List ℕ → Frames → ℕ → Result Label Why → Meter → Result Step (Why × Meter)
+after_jump t fs n (Ok l) m =
     cond (may_go_on t n 2048 (label_from t l.place.row l.is_end))
-    (St.On (arrived_at t fs (landing_walk t fs l.place.row l.is_end)) m) (St.Bad WrongGoto m)
-after_jump t fs n (Ju.Bad e) m = St.Bad e m
+    (Ok (St.On (arrived_at t fs (landing_walk t fs l.place.row l.is_end)) m)) (Err (WrongGoto, m))
+after_jump t fs n (Err e) m = Err (e, m)
 
 pub record JumpsIn (deck s t names : List ℕ) (fs : Frames) (n : ℕ) (x : Scene) (m : Meter) (r : Turned) : Type 0 where
-  pub jump : Jump
+  pub jump : Result Label Why
   pub is : jump_for jump ≡ target_in deck names x.names (owner_of x.owner) (spelled_at s (row_in t n).content)
   pub turned : r ≡ turned_by fs (after_jump t fs n jump m)

@@ -3,3 +3,4 @@ pub mod Deeds
 pub mod Groups
 pub mod Ways
 pub mod Jumps
+pub mod Types

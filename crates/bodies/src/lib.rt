@@ -14,31 +14,20 @@ ghost use Rattle.bodies.specs.Jumps.{jump_for, local_target, global_target, Labe
 
 use callees::{Meant, meant_by, store_value};
 use definition::{ValueType, Why};
-use fixed::{Answer, Fixed};
+use fixed::{Fixed, FixedError};
 use flow::{Frame, Frames, Next};
-use meter::Meter;
-use names::{Denotation, Found, Label, Owner, find, name_at};
+use meter::{Meter, Refused};
+use names::{Denotation, Label, Owner, find, name_at};
 use operands::{Evaluated, Scene};
-use operators::{Given, NumberGiven, Truth, Value, convert, holds, to_fixed};
-use rows::{Link, row_at};
-use store::{Number, number_at, store_number};
+use operators::{Value, convert, holds, to_fixed};
+use rows::row_at;
+use store::{number_at, store_number};
 use tokens::{Lexeme, is_word, token_at, width};
 
 // ---- a statement that evaluates; its expression was evaluated last
 
 // A statement that was done, and the steps.
-#[derive(Clone, Copy)]
-pub enum Done {
-    Good(Meter),
-    Bad(Why, Meter),
-}
-
-// A variable that a statement sets, or that there is none.
-#[derive(Clone, Copy)]
-pub enum Variable {
-    At(u16, ValueType),
-    None,
-}
+pub type Done = Result<Meter, Refused>;
 
 // The variable whose name stands at a place; "a target is tested before its expression".
 pub fn target_at(
@@ -48,12 +37,12 @@ pub fn target_at(
     count: u16,
     owner: Owner,
     t: Lexeme,
-) -> Variable
+) -> Option<(u16, ValueType)>
     ensures { TargetIs deck.now s.now names.now count owner t result }
 {
     match meant_by(deck, s, names, count, owner, t.from, t.to) {
-        Meant::AVariable(a, k) => Variable::At(a, k),
-        Meant::AnEntry(_) | Meant::TheSubstr | Meant::NoSuch => Variable::None,
+        Meant::AVariable(a, k) => Some((a, k)),
+        Meant::AnEntry(_) | Meant::TheSubstr | Meant::NoSuch => None,
     }
 }
 
@@ -71,62 +60,47 @@ pub fn stored(
     ensures { StoredIs cells.old low.old high.old work.old a k u x cells.new low.new high.new work.new result }
 {
     match x {
-        Evaluated::Is(v, _, m) => match convert(work, u, k, v) {
-            Given::Gives(y) => {
+        Ok((v, _, m)) => match convert(work, u, k, v) {
+            Ok(y) => {
                 store_value(cells, low, high, work, a, u, y);
-                Done::Good(m)
+                Ok(m)
             }
-            Given::Fails(w) => Done::Bad(w, m),
+            Err(w) => Err((w, m)),
         },
-        Evaluated::Failed(w, m) => Done::Bad(w, m),
+        Err((w, m)) => Err((w, m)),
     }
 }
 
 // Whether an IF holds, and the steps.
-#[derive(Clone, Copy)]
-pub enum Tested {
-    Is(bool, Meter),
-    Bad(Why, Meter),
-}
+pub type Tested = Result<(bool, Meter), Refused>;
 
 pub fn truth_of(work: &mut [u8], u: usize, x: Evaluated) -> Tested
     ensures { TruthIs work.old u x work.new result }
 {
     match x {
-        Evaluated::Is(v, _, m) => match holds(work, u, v) {
-            Truth::Is(b) => Tested::Is(b, m),
-            Truth::Fails(w) => Tested::Bad(w, m),
+        Ok((v, _, m)) => match holds(work, u, v) {
+            Ok(b) => Ok((b, m)),
+            Err(w) => Err((w, m)),
         },
-        Evaluated::Failed(w, m) => Tested::Bad(w, m),
+        Err((w, m)) => Err((w, m)),
     }
 }
 
 // ---- DO: its numbers
 
 // A number as stored and the place past its expression.
-#[derive(Clone, Copy)]
-pub enum Bound {
-    Is(Fixed, usize, Meter),
-    Bad(Why, Meter),
-}
+pub type Bound = Result<(Fixed, usize, Meter), Refused>;
 
 pub fn bound_of(work: &[u8], u: usize, x: Evaluated) -> Bound
     ensures { BoundIs work.now u x result }
 {
     match x {
-        Evaluated::Is(v, e, m) => match to_fixed(work, u, v) {
-            NumberGiven::Is(y) => Bound::Is(y, e, m),
-            NumberGiven::Fails(w) => Bound::Bad(w, m),
+        Ok((v, e, m)) => match to_fixed(work, u, v) {
+            Ok(y) => Ok((y, e, m)),
+            Err(w) => Err((w, m)),
         },
-        Evaluated::Failed(w, m) => Bound::Bad(w, m),
+        Err((w, m)) => Err((w, m)),
     }
-}
-
-// BY or TO that stands at a place.
-#[derive(Clone, Copy)]
-pub enum Word {
-    Of(Side, usize),
-    Neither,
 }
 
 // What a bound is: the step, or what the variable goes up to.
@@ -136,25 +110,21 @@ pub enum Side {
     Upto,
 }
 
-pub fn bound_word(s: &[u8], at: usize) -> Word
+pub fn bound_word(s: &[u8], at: usize) -> Option<(Side, usize)>
     ensures { result ≡ word_at s.now at }
 {
     let t = token_at(s, at);
     if is_word(s, t, b"BY") {
-        return Word::Of(Side::By, t.to);
+        return Some((Side::By, t.to));
     }
     if is_word(s, t, b"TO") {
-        return Word::Of(Side::Upto, t.to);
+        return Some((Side::Upto, t.to));
     }
-    Word::Neither
+    None
 }
 
 // The frame of a group that is about to start and the place past the bounds that it has so far, or why there is none.
-#[derive(Clone, Copy)]
-pub enum Widened {
-    Is(Frame, usize, Meter),
-    Bad(Why, Meter),
-}
+pub type Widened = Result<(Frame, usize, Meter), Refused>;
 
 // "BY absent is 1."
 pub fn new_frame(g: u16, a: u16) -> Frame
@@ -162,7 +132,7 @@ pub fn new_frame(g: u16, a: u16) -> Frame
 {
     let one = Fixed { value: 1 };
     Frame {
-        group: Link::To(g),
+        group: Some(g),
         address: a,
         step: one.stored(),
         limit: 0,
@@ -192,38 +162,34 @@ pub fn bounded_by(f: Frame, a: Side, x: Bound) -> Widened
     ensures { result ≡ widened_by f a x }
 {
     match x {
-        Bound::Is(y, q, m) => Widened::Is(with_bound(f, a, y), q, m),
-        Bound::Bad(why, m) => Widened::Bad(why, m),
+        Ok((y, q, m)) => Ok((with_bound(f, a, y), q, m)),
+        Err((why, m)) => Err((why, m)),
     }
 }
 
 // "The control variable is FIXED, else 6."
-pub fn control_address(v: Variable) -> Link
+pub fn control_address(v: Option<(u16, ValueType)>) -> Option<u16>
     ensures { result ≡ control_of v }
 {
     match v {
-        Variable::At(a, ValueType::FixedType) => Link::To(a),
-        Variable::At(_, ValueType::CharacterType) | Variable::None => Link::Nowhere,
+        Some((a, ValueType::FixedType)) => Some(a),
+        Some((_, ValueType::CharacterType)) | None => None,
     }
 }
 
 // An iterated group that starts: its frame, whether its first pass begins.
-#[derive(Clone, Copy)]
-pub enum Started {
-    Is(Frame, bool, Meter),
-    Bad(Why, Meter),
-}
+pub type Started = Result<(Frame, bool, Meter), Refused>;
 
 // The variable is set, and the first pass tested.
 pub fn set_off(cells: &mut [u32], x: Fixed, w: Widened) -> Started
     ensures { SetOff cells.old x w cells.new result }
 {
     match w {
-        Widened::Is(f, _, m) => {
+        Ok((f, _, m)) => {
             store_number(cells, f.address, x);
-            Started::Is(f, flow::passes(f, x), m)
+            Ok((f, flow::passes(f, x), m))
         }
-        Widened::Bad(why, m) => Started::Bad(why, m),
+        Err((why, m)) => Err((why, m)),
     }
 }
 
@@ -234,37 +200,39 @@ pub fn stepped(cells: &mut [u32], f: Frame, m: Meter) -> Tested
     ensures { SteppedIs cells.old f m cells.new result }
 {
     match f.group {
-        Link::Nowhere => Tested::Is(false, m),
-        Link::To(_) => match number_at(cells, f.address) {
-            Number::Holds(n) => stepped_by(cells, f, n, Fixed::from_stored(f.step), m),
-            Number::NoNumber => Tested::Bad(Why::NoValue, m),
+        None => Ok((false, m)),
+        Some(_) => match number_at(cells, f.address) {
+            Some(n) => stepped_by(cells, f, n, Fixed::from_stored(f.step), m),
+            None => Err((Why::NoValue, m)),
         },
     }
 }
 
-fn stepped_by(cells: &mut [u32], f: Frame, x: Fixed, by: Answer, m: Meter) -> Tested
+fn stepped_by(
+    cells: &mut [u32],
+    f: Frame,
+    x: Fixed,
+    by: Result<Fixed, FixedError>,
+    m: Meter,
+) -> Tested
     ensures { SteppedBy cells.old f x by m cells.new result }
 {
     match summed(x, by) {
-        Answer::Is(n) => {
+        Ok(n) => {
             store_number(cells, f.address, n);
-            let paid = m.charged();
-            let k = paid.meter;
-            if paid.paid {
-                return Tested::Is(flow::passes(f, n), k);
-            }
-            Tested::Bad(Why::NoStep, k)
+            let k = m.charged()?;
+            Ok((flow::passes(f, n), k))
         }
-        Answer::OutOfRange | Answer::ZeroDivisor => Tested::Bad(Why::OutOfRange, m),
+        Err(FixedError::OutOfRange) | Err(FixedError::ZeroDivisor) => Err((Why::OutOfRange, m)),
     }
 }
 
-fn summed(x: Fixed, by: Answer) -> Answer
+fn summed(x: Fixed, by: Result<Fixed, FixedError>) -> Result<Fixed, FixedError>
     ensures { SummedIs x by result }
 {
     match by {
-        Answer::Is(n) => x.add(n),
-        Answer::OutOfRange | Answer::ZeroDivisor => Answer::OutOfRange,
+        Ok(n) => x.add(n),
+        Err(FixedError::OutOfRange) | Err(FixedError::ZeroDivisor) => Err(FixedError::OutOfRange),
     }
 }
 
@@ -275,16 +243,15 @@ fn summed(x: Fixed, by: Answer) -> Answer
 pub enum Step {
     On(Next, Meter),
     Gave(Value, Meter),
-    Bad(Why, Meter),
 }
 
 #[derive(Clone, Copy)]
 pub struct Turned {
     pub frames: Frames,
-    pub step: Step,
+    pub step: Result<Step, Refused>,
 }
 
-pub fn with_step(frames: Frames, step: Step) -> Turned
+pub fn with_step(frames: Frames, step: Result<Step, Refused>) -> Turned
     ensures { result ≡ turned_by frames step }
 {
     Turned { frames, step }
@@ -294,8 +261,8 @@ pub fn on_behind(part: &[u16], fs: Frames, n: u16, d: Done) -> Turned
     ensures { result ≡ turned_by fs (after_done d (behind_on part.now fs (n + 1) n)) }
 {
     match d {
-        Done::Good(m) => with_step(fs, Step::On(flow::behind(part, fs, n), m)),
-        Done::Bad(w, m) => with_step(fs, Step::Bad(w, m)),
+        Ok(m) => with_step(fs, Ok(Step::On(flow::behind(part, fs, n), m))),
+        Err((w, m)) => with_step(fs, Err((w, m))),
     }
 }
 
@@ -303,11 +270,11 @@ pub fn on_test(part: &[u16], fs: Frames, n: u16, t: Tested) -> Turned
     ensures { result ≡ turned_by fs (after_test t (λ b. arrived_at part.now fs (chosen_walk part.now n b))) }
 {
     match t {
-        Tested::Is(b, m) => {
+        Ok((b, m)) => {
             let next = flow::arrived(part, fs, flow::chosen(part, n, b));
-            with_step(fs, Step::On(next, m))
+            with_step(fs, Ok(Step::On(next, m)))
         }
-        Tested::Bad(w, m) => with_step(fs, Step::Bad(w, m)),
+        Err((w, m)) => with_step(fs, Err((w, m))),
     }
 }
 
@@ -321,14 +288,14 @@ pub fn on_start(part: &[u16], fs: Frames, g: u16, x: Started) -> Turned
     ensures { result ≡ after_start part.now fs g x }
 {
     match x {
-        Started::Is(f, begins, m) => {
+        Ok((f, begins, m)) => {
             if begins {
                 let inner = flow::with_frame(part, fs, g, f);
-                return with_step(inner, Step::On(into_group(part, inner, g), m));
+                return with_step(inner, Ok(Step::On(into_group(part, inner, g), m)));
             }
-            with_step(fs, Step::On(flow::behind(part, fs, g), m))
+            with_step(fs, Ok(Step::On(flow::behind(part, fs, g), m)))
         }
-        Started::Bad(w, m) => with_step(fs, Step::Bad(w, m)),
+        Err((w, m)) => with_step(fs, Err((w, m))),
     }
 }
 
@@ -336,13 +303,13 @@ pub fn on_again(part: &[u16], fs: Frames, g: u16, t: Tested) -> Turned
     ensures { result ≡ turned_by fs (after_test t (λ b. again_in part.now fs g b)) }
 {
     match t {
-        Tested::Is(b, m) => {
+        Ok((b, m)) => {
             if b {
-                return with_step(fs, Step::On(into_group(part, fs, g), m));
+                return with_step(fs, Ok(Step::On(into_group(part, fs, g), m)));
             }
-            with_step(fs, Step::On(flow::behind(part, fs, g), m))
+            with_step(fs, Ok(Step::On(flow::behind(part, fs, g), m)))
         }
-        Tested::Bad(w, m) => with_step(fs, Step::Bad(w, m)),
+        Err((w, m)) => with_step(fs, Err((w, m))),
     }
 }
 
@@ -350,50 +317,50 @@ pub fn on_return(work: &mut [u8], fs: Frames, u: usize, t: ValueType, x: Evaluat
     ensures { ReturnIs work.old u fs t x work.new result }
 {
     match x {
-        Evaluated::Is(v, _, m) => match convert(work, u, t, v) {
-            Given::Gives(y) => with_step(fs, Step::Gave(y, m)),
-            Given::Fails(w) => with_step(fs, Step::Bad(w, m)),
+        Ok((v, _, m)) => match convert(work, u, t, v) {
+            Ok(y) => with_step(fs, Ok(Step::Gave(y, m))),
+            Err(w) => with_step(fs, Err((w, m))),
         },
-        Evaluated::Failed(w, m) => with_step(fs, Step::Bad(w, m)),
+        Err((w, m)) => with_step(fs, Err((w, m))),
     }
 }
 
 // ---- GOTO in a body
 
-// A label that GOTO names, or why it may not.
-#[derive(Clone, Copy)]
-pub enum Jump {
-    To(Label),
-    Bad(Why),
-}
-
 // A local label is one to go to; a global one is not.
-fn label_of(names: &[u16], a: names::Address, is_local: bool) -> Jump
+fn label_of(names: &[u16], a: names::Address, is_local: bool) -> Result<Label, Why>
     ensures { jump_for result ≡ cond is_local (local_target (denotation_of (name_in names.now a.0).denotation)) (global_target (denotation_of (name_in names.now a.0).denotation)) }
 {
     match name_at(names, a).denotation {
         Denotation::LabelName(l) => {
             if is_local {
-                return Jump::To(l);
+                return Ok(l);
             }
-            Jump::Bad(Why::WrongGoto)
+            Err(Why::WrongGoto)
         }
         Denotation::Variable(_) | Denotation::EntryName(_) | Denotation::Builtin => {
-            Jump::Bad(Why::WrongName)
+            Err(Why::WrongName)
         }
     }
 }
 
 // "local names first, every global label is 13"
-fn jump_label(deck: &[u8], s: &[u8], names: &[u16], count: u16, owner: Owner, t: Lexeme) -> Jump
+fn jump_label(
+    deck: &[u8],
+    s: &[u8],
+    names: &[u16],
+    count: u16,
+    owner: Owner,
+    t: Lexeme,
+) -> Result<Label, Why>
     ensures { LabelIs deck.now s.now names.now count owner t result }
 {
     match find(deck, names, count, s, t.from, width(t), owner) {
-        Found::Known(a) => label_of(names, a, true),
-        Found::Unknown => {
+        Some(a) => label_of(names, a, true),
+        None => {
             match find(deck, names, count, s, t.from, width(t), Owner::Everyone) {
-                Found::Known(a) => label_of(names, a, false),
-                Found::Unknown => Jump::Bad(Why::WrongName),
+                Some(a) => label_of(names, a, false),
+                None => Err(Why::WrongName),
             }
         }
     }
@@ -422,13 +389,13 @@ pub fn jump_in(
         token_at(s, r.content as usize),
     );
     match j {
-        Jump::To(l) => {
+        Ok(l) => {
             if flow::may_go(part, n, l.place.row, l.is_end) {
                 let next = flow::arrived(part, fs, flow::landing(part, fs, l));
-                return with_step(fs, Step::On(next, m));
+                return with_step(fs, Ok(Step::On(next, m)));
             }
-            with_step(fs, Step::Bad(Why::WrongGoto, m))
+            with_step(fs, Err((Why::WrongGoto, m)))
         }
-        Jump::Bad(w) => with_step(fs, Step::Bad(w, m)),
+        Err(w) => with_step(fs, Err((w, m))),
     }
 }

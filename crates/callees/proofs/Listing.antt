@@ -1,5 +1,7 @@
 -- The parameters that a procedure lists, and how many they are.
 -- Assumes nothing.
+use Rattle.callees.specs.declared.Callee.{Callee}
+use Rattle.std.proofs.Common.{Option, Some, None, Result, Ok, Err}
 use mathlib.Core.Path.{◌≡◌, refl, sym, ap, ◌∙◌}
 use mathlib.Core.Bool.{Bool, true, false, not, cond}
 use mathlib.Core.List.{List, [], ◌∷◌}
@@ -24,19 +26,12 @@ use Rattle.tokens.specs.declared.Lexeme.{Lexeme}
 use Rattle.tokens.specs.Answer.{written, Lexed, is_sign_in, kind_of, lexeme_for, content, token_for}
 use Rattle.tokens.proofs.Lexemes as L
 use Rattle.names.specs.declared.Place.{Place}
-use Rattle.names.specs.declared.Body.{Body}
-use Rattle.names.specs.declared.Body.TheVariants.{At}
-use Rattle.names.specs.declared.Body.TheVariants as B
 use Rattle.rows.specs.Table.{row_in}
 use Rattle.rows.specs.Parts.{part_in}
 use Rattle.rows.specs.declared.Starts.{Starts}
 use Rattle.rows.specs.declared.Row.{Row}
 use Rattle.deck.specs.Answer.{body_in}
-use Rattle.callees.specs.declared.ParameterAt.{ParameterAt}
-use Rattle.callees.specs.declared.ParameterAt.TheVariants as P
 use Rattle.callees.specs.declared.Parameter.{Parameter}
-use Rattle.callees.specs.declared.Called.{Called}
-use Rattle.callees.specs.declared.Called.TheVariants as K
 use Rattle.callees.specs.Shown.{names_world}
 use Rattle.callees.specs.Answer.{owner_at, spelled_at, parameter_for, parameter_of, ParameterIs, Listed, Names, called_for, CountedIs, HeadedBy, CalleeIs, CalleeOf}
 
@@ -52,9 +47,9 @@ module _ (s : List ℕ) (at : ℕ) (l : Lexeme) (lex : Lexed s at l) (c : Lexeme
   last_is = rw (comma r refl)
 
 -- ---- what is no parameter
-pub wrong_if : (x : ParameterAt) → ((y : Parameter) → x ≡ P.Is y → ⊥) → x ≡ P.Wrong
-wrong_if (P.Is y) h = absurd (h y refl)
-wrong_if P.Wrong h = refl
+pub wrong_if : (x : Option Parameter) → ((y : Parameter) → x ≡ Some y → ⊥) → x ≡ None
+wrong_if (Some y) h = absurd (h y refl)
+wrong_if None h = refl
 
 -- ---- a name is the bytes of its token
 word_spelled : (k : T.Token) (x y w : List ℕ) → k ≡ token_for (kind_of k) x y → k ≡ T.word w → w ≡ folded mixed x
@@ -111,9 +106,9 @@ listed_short s (l ∷ m ∷ ns) at (n, e, f, g, k) h =
     omega (arith, p.above, q.low, q.order, listed_short s (m ∷ ns) (token_at mixed s n.to).to k q.high)
 
 -- ---- counting
-abbrev pub called_past : Place → ℕ → ℕ → Val.Answer (List E.Parameter) → Called
-called_past p list n (Val.gives ps) = K.Is (record { place = p; list = list; count = n + length ps })
-called_past p list n (Val.fails e) = K.Fails e
+abbrev pub called_past : Place → ℕ → ℕ → Val.Answer (List E.Parameter) → Result Callee Why
+called_past p list n (Val.gives ps) = Ok (record { place = p; list = list; count = n + length ps })
+called_past p list n (Val.fails e) = Err e
 
 module _ (d s t : List ℕ) (c : ℕ) (p : Place) (list : ℕ) where
   abbrev asked : List (List ℕ) → Val.Answer (List E.Parameter)
@@ -154,20 +149,20 @@ module _ (d s t : List ℕ) (c : ℕ) (p : Place) (list : ℕ) where
   past_more n y (Val.gives ps) = let e : n + suc (length ps) ≡ n + 1 + length ps = omega arith in rw e
   past_more n y (Val.fails e) = refl
 
-  module _ (n at : ℕ) (x : ParameterAt) (q : ParameterIs d s t c p at x) where
+  module _ (n at : ℕ) (x : Option Parameter) (q : ParameterIs d s t c p at x) where
     -- of the first name, what the code found and what is asked
     first_is : (l : List ℕ) (m : Named) → name_at mixed s at ≡ read m → m.spelling ≡ l → parameter_of d t c p l ≡ parameter_for x
     first_is l m e f = rw (← f, (name_is s at m e).spelling) (sym q.is)
 
-    wrong_by : (f : x ≡ P.Wrong) (ms : List (List ℕ)) → Listed s ms at → called_past p list n (asked ms) ≡ K.Fails WrongName
+    wrong_by : (f : x ≡ None) (ms : List (List ℕ)) → Listed s ms at → called_past p list n (asked ms) ≡ Err WrongName
     wrong_by f [] k = absurd k
     wrong_by f (l ∷ []) (m, e, g, h) = ap (called_past p list n) (asked_wrong l [] (first_is l m e g ∙ rw f))
     wrong_by f (l ∷ o ∷ os) (m, e, g, h, k) = ap (called_past p list n) (asked_wrong l (o ∷ os) (first_is l m e g ∙ rw f))
 
-    pub counting_wrong : Counting n at → x ≡ P.Wrong → CountedIs d s t c p list (K.Fails WrongName)
+    pub counting_wrong : Counting n at → x ≡ None → CountedIs d s t c p list (Err WrongName)
     counting_wrong k f = record { is = λ ns l h. let r : Rest ns n at = k.is ns l h in sym (wrong_by f r.rest r.listed) ∙ r.same }
 
-    module _ (y : Parameter) (f : x ≡ P.Is y) (b : Bool) (g : b ≡ not (is_sign "," (token_at mixed s (token_at mixed s at).to).token)) where
+    module _ (y : Parameter) (f : x ≡ Some y) (b : Bool) (g : b ≡ not (is_sign "," (token_at mixed s (token_at mixed s at).to).token)) where
       abbrev found : E.Parameter
       found = record { at = y.address; type = y.value_type }
 
@@ -175,17 +170,17 @@ module _ (d s t : List ℕ) (c : ℕ) (p : Place) (list : ℕ) where
       behind = (token_at mixed s (token_at mixed s at).to).to
 
       y_to : y.to ≡ behind
-      y_to = let h : P.Is y ≡ P.Is (record { address = y.address; value_type = y.value_type; to = behind }) = rw f at q.to in let i : y ≡ record { address = y.address; value_type = y.value_type; to = behind } = cc in ap (λ (z : Parameter). z.to) i
+      y_to = let h : Some y ≡ Some (record { address = y.address; value_type = y.value_type; to = behind }) = rw f at q.to in let i : y ≡ record { address = y.address; value_type = y.value_type; to = behind } = cc in ap (λ (z : Parameter). z.to) i
 
       sign_is : (m : Named) (v : Bool) → name_at mixed s at ≡ read m → is_sign "," (token_at mixed s m.to).token ≡ v → b ≡ not v
       sign_is m v e h = g ∙ ap not (rw (name_is s at m e).to at h)
 
-      last_by_lem : b ≡ true → (ms : List (List ℕ)) → Listed s ms at → called_past p list n (asked ms) ≡ K.Is (record { place = p; list = list; count = n + 1 })
+      last_by_lem : b ≡ true → (ms : List (List ℕ)) → Listed s ms at → called_past p list n (asked ms) ≡ Ok (record { place = p; list = list; count = n + 1 })
       last_by_lem h [] k = absurd k
       last_by_lem h (l ∷ []) (m, e, i, j) = ap (called_past p list n) (asked_one l found (first_is l m e i ∙ rw f))
       last_by_lem h (l ∷ o ∷ os) (m, e, i, j, k) = true_false (sym h ∙ sign_is m true e j)
 
-      pub counting_last : Counting n at → b ≡ true → CountedIs d s t c p list (K.Is (record { place = p; list = list; count = n + 1 }))
+      pub counting_last : Counting n at → b ≡ true → CountedIs d s t c p list (Ok (record { place = p; list = list; count = n + 1 }))
       counting_last k h = record { is = λ ns l i. let r : Rest ns n at = k.is ns l i in sym (last_by_lem h r.rest r.listed) ∙ r.same }
 
       more_by : b ≡ false → (ns ms : List (List ℕ)) → Listed s ms at → at ≤ length s → n + length ms ≡ length ns → called_past p list n (asked ms) ≡ called_for p list (asked ns) → Rest ns (n + 1) y.to
@@ -210,40 +205,40 @@ module _ (d s t : List ℕ) (c : ℕ) (p : Place) (list : ℕ) where
   some_listed [] q k = absurd k
   some_listed (l ∷ ms) q k = omega arith
 
-  pub counting_end : (n at : ℕ) → Counting n at → length s ≤ n → CountedIs d s t c p list (K.Fails WrongName)
+  pub counting_end : (n at : ℕ) → Counting n at → length s ≤ n → CountedIs d s t c p list (Err WrongName)
   counting_end n at k h = record { is = λ ns l i. let r : Rest ns n at = k.is ns l i in absurd (omega (arith, h, r.total, some_listed r.rest at r.listed, listed_short s ns list l i)) }
 
 -- ---- the callee of a body
-module _ (d rows : List ℕ) (starts : Starts) (t : List ℕ) (n : ℕ) (b : Body) where
-  pub callee_none : ((p : Place) → b ≡ B.At p → ⊥) → CalleeOf d rows starts t n b (K.Fails WrongName)
+module _ (d rows : List ℕ) (starts : Starts) (t : List ℕ) (n : ℕ) (b : Option Place) where
+  pub callee_none : ((p : Place) → b ≡ Some p → ⊥) → CalleeOf d rows starts t n b (Err WrongName)
   callee_none h = record { none = λ f. refl; some = λ p f. absurd (h p f) }
 
-  module _ (p : Place) (e : b ≡ At p) (s : List ℕ) (f : s ≡ body_in d p.member) (own : List ℕ) (u : own ≡ part_in rows starts p.member) (x : Row) (g : x ≡ row_in own p.row) (l : Lexeme) (lex : Lexed s x.content l) (v : Bool) (h : v ≡ is_sign_in s l (40 ∷ [])) where
+  module _ (p : Place) (e : b ≡ Some p) (s : List ℕ) (f : s ≡ body_in d p.member) (own : List ℕ) (u : own ≡ part_in rows starts p.member) (x : Row) (g : x ≡ row_in own p.row) (l : Lexeme) (lex : Lexed s x.content l) (v : Bool) (h : v ≡ is_sign_in s l (40 ∷ [])) where
     open_is : (o : Bool) → v ≡ o → is_sign "(" (token_at mixed s x.content).token ≡ o
     open_is o i = told s x.content l lex "(" (40 ∷ []) v o refl h i
 
-    bodied_by : (r : Called) → CalleeIs d s t n p x.content r → CalleeOf d rows starts t n b r
+    bodied_by : (r : Result Callee Why) → CalleeIs d s t n p x.content r → CalleeOf d rows starts t n b r
     bodied_by r c = record {
       none = λ i. absurd (let z : ◌≡◌ {A = ℕ} 0 1 = cc in omega arith);
       some = λ q i. let j : p ≡ q = cc in rw (← j, ← u, ← g, ← f) c;
     }
 
-    some_by : (r : Called) → CountedIs d s t n p l.to r → (o : Bool) → is_sign "(" (token_at mixed s x.content).token ≡ o → o ≡ true → (list : ℕ) (ns : List (List ℕ)) → list ≡ cond o (token_at mixed s x.content).to (token_at mixed s x.content).from → HeadedBy o s ns list → x.content ≤ length s → r ≡ called_for p list (E.parameters (owner_at p) ns (names_world d t n))
+    some_by : (r : Result Callee Why) → CountedIs d s t n p l.to r → (o : Bool) → is_sign "(" (token_at mixed s x.content).token ≡ o → o ≡ true → (list : ℕ) (ns : List (List ℕ)) → list ≡ cond o (token_at mixed s x.content).to (token_at mixed s x.content).from → HeadedBy o s ns list → x.content ≤ length s → r ≡ called_for p list (E.parameters (owner_at p) ns (names_world d t n))
     some_by r c false i j list ns y k w = true_false (sym j)
     some_by r c true i j list ns y k w =
         let z : list ≡ l.to = y ∙ sym lex.to in
         rw z (c.is ns (rw z at k) (rw lex.to (token_at_lies s x.content w).high))
 
-    pub callee_some : v ≡ true → (r : Called) → CountedIs d s t n p l.to r → CalleeOf d rows starts t n b r
+    pub callee_some : v ≡ true → (r : Result Callee Why) → CountedIs d s t n p l.to r → CalleeOf d rows starts t n b r
     callee_some i r c = bodied_by r record { is = λ list ns k w. some_by r c (is_sign "(" (token_at mixed s x.content).token) refl (open_is true i) list ns k.place k.names w }
 
-    plain_by : (o : Bool) → o ≡ false → (list : ℕ) (ns : List (List ℕ)) → list ≡ cond o (token_at mixed s x.content).to (token_at mixed s x.content).from → HeadedBy o s ns list → K.Is (record { place = p; list = l.from; count = 0 }) ≡ called_for p list (E.parameters (owner_at p) ns (names_world d t n))
+    plain_by : (o : Bool) → o ≡ false → (list : ℕ) (ns : List (List ℕ)) → list ≡ cond o (token_at mixed s x.content).to (token_at mixed s x.content).from → HeadedBy o s ns list → Ok (record { place = p; list = l.from; count = 0 }) ≡ called_for p list (E.parameters (owner_at p) ns (names_world d t n))
     unfolding called_for E.parameters
     plain_by true j list ns y k = true_false j
     plain_by false j list ns y k = rw (k, y, lex.from)
 
-    pub callee_plain : v ≡ false → CalleeOf d rows starts t n b (K.Is (record { place = p; list = l.from; count = 0 }))
-    callee_plain i = bodied_by (K.Is (record { place = p; list = l.from; count = 0 })) record { is = λ list ns k w. plain_by (is_sign "(" (token_at mixed s x.content).token) (open_is false i) list ns k.place k.names }
+    pub callee_plain : v ≡ false → CalleeOf d rows starts t n b (Ok (record { place = p; list = l.from; count = 0 }))
+    callee_plain i = bodied_by (Ok (record { place = p; list = l.from; count = 0 })) record { is = λ list ns k w. plain_by (is_sign "(" (token_at mixed s x.content).token) (open_is false i) list ns k.place k.names }
 
 -- ---- the first of a list, and the others
 pub record First (s : List ℕ) (l : List ℕ) (ns : List (List ℕ)) (at : ℕ) : Type 0 where

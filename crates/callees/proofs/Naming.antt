@@ -1,5 +1,6 @@
 -- What a name means in the world of the names' table, and parameters.
 -- Assumes nothing.
+use Rattle.std.proofs.Common.{Option, Some, None}
 use mathlib.Core.Path.{◌≡◌, refl, sym, ap, ◌∙◌}
 use mathlib.Core.Bool.{Bool, true, false, cond}
 use mathlib.Core.List.{List, [], ◌∷◌}
@@ -30,19 +31,16 @@ use Rattle.names.specs.declared.Owner.{Owner}
 use Rattle.names.specs.declared.Owner.TheVariants.{Procedure}
 use Rattle.names.specs.declared.Denotation.TheVariants.{Variable, EntryName, LabelName, Builtin}
 use Rattle.names.specs.declared.Name.{Name}
-use Rattle.names.specs.declared.Found.{Found}
-use Rattle.names.specs.declared.Found.TheVariants.{Known, Unknown}
 use Rattle.names.specs.Table.{owner_of, denotation_of, name_in, identifiers_from, found_for, or_else, seen_in}
 use Rattle.callees.specs.declared.Meant.{Meant}
 use Rattle.callees.specs.declared.Meant.TheVariants.{AVariable, AnEntry, TheSubstr, NoSuch}
-use Rattle.callees.specs.declared.ParameterAt.TheVariants as P
 use Rattle.callees.specs.Shown.{denotations_from, names_world}
 use Rattle.callees.specs.Answer.{meant_for, owner_at, spelled_at, parameter_of, ParameterIs}
 
 -- ---- no name
-pub unknown_if : (f : Found) → ((a : Address) → f ≡ Known a → ⊥) → f ≡ Unknown
-unknown_if (Known a) h = absurd (h a refl)
-unknown_if Unknown h = refl
+pub unknown_if : (f : Option Address) → ((a : Address) → f ≡ Some a → ⊥) → f ≡ None
+unknown_if (Some a) h = absurd (h a refl)
+unknown_if None h = refl
 
 -- ---- SUBSTR
 pub substr_six : (s : List ℕ) (from n : ℕ) (r : Bool) → n ≡ 6 → r ≡ same (folded mixed (part 6 from s)) (83 ∷ 85 ∷ 66 ∷ 83 ∷ 84 ∷ 82 ∷ []) → r ≡ E.is_substr (folded mixed (part n from s))
@@ -111,11 +109,11 @@ module _ (d t : List ℕ) (n : ℕ) where
       by (W.address b) f = low_own l k a (f ∙ (rw f at e))
       by W.unknown f = low_own l W.everyone a (rw f at e)
 
-  pub known_is : (x : W.Address) (f : Found) (a : Address) → f ≡ found_for x → f ≡ Known a → x ≡ W.address a.0
-  known_is (W.address b) f a e g = let h : Known (record { 0 = b }) ≡ Known a = sym e ∙ g in let k : record { 0 = b } ≡ a = cc in ap (λ (y : Address). W.address y.0) k
+  pub known_is : (x : W.Address) (f : Option Address) (a : Address) → f ≡ found_for x → f ≡ Some a → x ≡ W.address a.0
+  known_is (W.address b) f a e g = let h : Some (record { 0 = b }) ≡ Some a = sym e ∙ g in let k : record { 0 = b } ≡ a = cc in ap (λ (y : Address). W.address y.0) k
   known_is W.unknown f a e g = absurd (let z : ◌≡◌ {A = ℕ} 0 1 = cc in omega arith)
 
-  pub unknown_is : (x : W.Address) (f : Found) → f ≡ found_for x → f ≡ Unknown → x ≡ W.unknown
+  pub unknown_is : (x : W.Address) (f : Option Address) → f ≡ found_for x → f ≡ None → x ≡ W.unknown
   unknown_is (W.address b) f e g = absurd (let z : ◌≡◌ {A = ℕ} 0 1 = cc in omega arith)
   unknown_is W.unknown f e g = refl
 
@@ -124,12 +122,12 @@ module _ (d t : List ℕ) (n : ℕ) where
   meant_cond false = refl
 
   -- ---- what a name means
-  module _ (l : List ℕ) (k : W.Owner) (f : Found) (e : f ≡ found_for (seen_in d t n l k)) where
-    pub meant_unknown : (b : Bool) (r : Meant) → f ≡ Unknown → b ≡ E.is_substr l → r ≡ cond b TheSubstr NoSuch → meant_for r ≡ E.meant k l here
+  module _ (l : List ℕ) (k : W.Owner) (f : Option Address) (e : f ≡ found_for (seen_in d t n l k)) where
+    pub meant_unknown : (b : Bool) (r : Meant) → f ≡ None → b ≡ E.is_substr l → r ≡ cond b TheSubstr NoSuch → meant_for r ≡ E.meant k l here
     unfolding E.meant
     meant_unknown b r g h i = rw (i, seen_is l k, unknown_is (seen_in d t n l k) f e g, ← h) (meant_cond b)
 
-    module _ (a : Address) (g : f ≡ Known a) (x : Name) (h : x ≡ name_in t a.0) where
+    module _ (a : Address) (g : f ≡ Some a) (x : Name) (h : x ≡ name_in t a.0) where
       there : seen_in d t n l k ≡ W.address a.0
       there = known_is (seen_in d t n l k) f a e g
 
@@ -153,11 +151,11 @@ module _ (d t : List ℕ) (n : ℕ) where
           z ∙ sym (meant_known ∙ y)
 
   -- the same with the name's bytes as the code has them
-  module _ (s : List ℕ) (from to m : ℕ) (z : m ≡ to - from) (o : Owner) (f : Found) (e : f ≡ found_for (seen_in d t n (folded mixed (part m from s)) (owner_of o))) where
-    pub by_unknown : (b : Bool) (r : Meant) → f ≡ Unknown → b ≡ E.is_substr (folded mixed (part m from s)) → r ≡ cond b TheSubstr NoSuch → meant_for r ≡ E.meant (owner_of o) (folded mixed (part (to - from) from s)) here
+  module _ (s : List ℕ) (from to m : ℕ) (z : m ≡ to - from) (o : Owner) (f : Option Address) (e : f ≡ found_for (seen_in d t n (folded mixed (part m from s)) (owner_of o))) where
+    pub by_unknown : (b : Bool) (r : Meant) → f ≡ None → b ≡ E.is_substr (folded mixed (part m from s)) → r ≡ cond b TheSubstr NoSuch → meant_for r ≡ E.meant (owner_of o) (folded mixed (part (to - from) from s)) here
     by_unknown b r g h i = rw (← z) (meant_unknown (folded mixed (part m from s)) (owner_of o) f e b r g h i)
 
-    module _ (a : Address) (g : f ≡ Known a) (x : Name) (h : x ≡ name_in t a.0) where
+    module _ (a : Address) (g : f ≡ Some a) (x : Name) (h : x ≡ name_in t a.0) where
       pub by_variable : (v : ValueType) → x.denotation ≡ Variable v → meant_for (AVariable a.0 v) ≡ E.meant (owner_of o) (folded mixed (part (to - from) from s)) here
       by_variable v i = rw (← z) (meant_variable (folded mixed (part m from s)) (owner_of o) f e a g x h v i)
 
@@ -171,7 +169,7 @@ module _ (d t : List ℕ) (n : ℕ) where
       by_builtin b r i j q = rw (← z) (meant_builtin (folded mixed (part m from s)) (owner_of o) f e a g x h b r i j q)
 
   -- ---- parameters
-  module _ (s : List ℕ) (at : ℕ) (p : Place) (l : Lexeme) (lex : Lexed s at l) (m : ℕ) (z : m ≡ l.to - l.from) (f : Found)
+  module _ (s : List ℕ) (at : ℕ) (p : Place) (l : Lexeme) (lex : Lexed s at l) (m : ℕ) (z : m ≡ l.to - l.from) (f : Option Address)
       (e : f ≡ found_for (address_in (folded mixed (part m l.from s)) (owner_of (Procedure p)) 0 (identifiers_from d t 0 n))) where
     spelled_is : folded mixed (part m l.from s) ≡ spelled_at s at
     spelled_is = rw (z, lex.from, lex.to)
@@ -183,25 +181,25 @@ module _ (d t : List ℕ) (n : ℕ) where
     unfolding own
     e_own = rw spelled_is at e
 
-    pub parameter_unknown : f ≡ Unknown → ParameterIs d s t n p at P.Wrong
+    pub parameter_unknown : f ≡ None → ParameterIs d s t n p at None
     unfolding own
     parameter_unknown g = record { is = rw (address_is (spelled_at s at) (owner_at p), unknown_is own f e_own g); to = refl }
 
-    module _ (a : Address) (g : f ≡ Known a) (x : Name) (h : x ≡ name_in t a.0) where
+    module _ (a : Address) (g : f ≡ Some a) (x : Name) (h : x ≡ name_in t a.0) where
       parameter_known : parameter_of d t n p (spelled_at s at) ≡ E.parameter_as (denotation_of x.denotation) a.0
       unfolding own
       parameter_known = rw (address_is (spelled_at s at) (owner_at p), known_is own f a e_own g, denotation_is a.0 (low_own (spelled_at s at) (owner_at p) a.0 (known_is own f a e_own g)), ← h)
 
-      pub parameter_variable : (v : ValueType) → x.denotation ≡ Variable v → (c : Lexeme) → Lexed s l.to c → ParameterIs d s t n p at (P.Is (record { address = a.0; value_type = v; to = c.to }))
+      pub parameter_variable : (v : ValueType) → x.denotation ≡ Variable v → (c : Lexeme) → Lexed s l.to c → ParameterIs d s t n p at (Some (record { address = a.0; value_type = v; to = c.to }))
       parameter_variable v i c y = record { is = sym (parameter_known ∙ rw i); to = rw (y.to, lex.to) }
 
-      pub parameter_entry : (y : Entry) → x.denotation ≡ EntryName y → ParameterIs d s t n p at P.Wrong
+      pub parameter_entry : (y : Entry) → x.denotation ≡ EntryName y → ParameterIs d s t n p at None
       parameter_entry y i = record { is = sym (parameter_known ∙ rw i); to = refl }
 
-      pub parameter_label : (y : Label) → x.denotation ≡ LabelName y → ParameterIs d s t n p at P.Wrong
+      pub parameter_label : (y : Label) → x.denotation ≡ LabelName y → ParameterIs d s t n p at None
       parameter_label y i = record { is = sym (parameter_known ∙ rw i); to = refl }
 
-      pub parameter_builtin : x.denotation ≡ Builtin → ParameterIs d s t n p at P.Wrong
+      pub parameter_builtin : x.denotation ≡ Builtin → ParameterIs d s t n p at None
       parameter_builtin i = record { is = sym (parameter_known ∙ rw i); to = refl }
 
 -- ---- what a name means, and the parameters, in any world with the table's names

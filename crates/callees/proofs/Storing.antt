@@ -1,5 +1,9 @@
 -- Arguments that wait, values of variables, and how they are stored.
 -- Assumes nothing.
+use Rattle.fixed.specs.declared.FixedError.TheVariants.{OutOfRange, ZeroDivisor}
+use Rattle.fixed.specs.declared.FixedError.{FixedError}
+use Rattle.definition.specs.declared.Why.{Why}
+use Rattle.std.proofs.Common.{Option, Some, None, Result, Ok, Err}
 use mathlib.Core.Path.{◌≡◌, refl, sym, ap, subst, ◌∙◌}
 use mathlib.Core.Bool.{Bool, true, false, cond}
 use mathlib.Core.List.{List, [], ◌∷◌}
@@ -29,26 +33,16 @@ use Rattle.definition.specs.declared.ValueType.{ValueType}
 use Rattle.definition.specs.declared.ValueType.TheVariants.{FixedType, CharacterType}
 use Rattle.definition.specs.declared.Why.TheVariants.{NoValue, TooLong, WrongName}
 use Rattle.fixed.specs.declared.Fixed.{Fixed}
-use Rattle.fixed.specs.declared.Answer.{Answer}
-use Rattle.fixed.specs.declared.Answer.TheVariants.{Is, OutOfRange, ZeroDivisor}
 use Rattle.fixed.specs.Answer.{result_of}
 use Rattle.fixed.specs.Signed.{stored_of, from_stored}
 use Rattle.fixed.proofs.Magnitude.{stored_back}
-use Rattle.store.specs.declared.Number.{Number}
-use Rattle.store.specs.declared.Number.TheVariants as N
-use Rattle.store.specs.declared.Length.{Length}
-use Rattle.store.specs.declared.Length.TheVariants as L
 use Rattle.store.specs.Cells.{slot, half, character_cell, cell_in, number_cell, LengthAt, Stored}
 use Rattle.names.specs.declared.Place.{Place}
 use Rattle.operators.specs.declared.Value.{Value}
 use Rattle.operators.specs.declared.Value.TheVariants as O
-use Rattle.operators.specs.declared.Given.{Given}
-use Rattle.operators.specs.declared.Given.TheVariants.{Gives, Fails}
 use Rattle.operators.specs.Stands.{size_for, value_in, given_in, among_for, top_of}
 use Rattle.operators.proofs.Room.{below_over, top_in_lem}
 use Rattle.deck.specs.Answer.{body_in}
-use Rattle.callees.specs.declared.ParameterAt.{ParameterAt}
-use Rattle.callees.specs.declared.ParameterAt.TheVariants as P
 use Rattle.callees.specs.declared.Parameter.{Parameter}
 use Rattle.callees.specs.declared.Callee.{Callee}
 use Rattle.callees.specs.declared.Held.{Held}
@@ -65,16 +59,16 @@ ranged_is z y e = by (F.in_range z) refl e
     by true f g = let h : z ≡ y = cc in rw (← h) f
     by false f g = absurd (let z : ◌≡◌ {A = ℕ} 0 1 = cc in omega arith)
 
-module _ (h : Held) (i n : ℕ) (x : Answer) (e : n ≡ held_at h i) (f : result_of x ≡ from_stored n) where
+module _ (h : Held) (i n : ℕ) (x : Result Fixed FixedError) (e : n ≡ held_at h i) (f : result_of x ≡ from_stored n) where
   fixed_is : fixed_in h i ≡ number_of (result_of x)
   unfolding fixed_in
   fixed_is = rw (← e, ← f)
 
-  pub fixed_number : (m : Fixed) → x ≡ Is m → FixedHeld h i m
+  pub fixed_number : (m : Fixed) → x ≡ Ok m → FixedHeld h i m
   unfolding from_stored
   fixed_number m g = record { is = sym (fixed_is ∙ rw g); small = ranged_is _ m.value (sym f ∙ rw g) }
 
-  pub fixed_none : (x ≡ OutOfRange) ⊎ (x ≡ ZeroDivisor) → FixedHeld h i (record { value = pos 0 })
+  pub fixed_none : (x ≡ (Err OutOfRange)) ⊎ (x ≡ (Err ZeroDivisor)) → FixedHeld h i (record { value = pos 0 })
   unfolding F.in_range
   fixed_none (inl g) = record { is = sym (fixed_is ∙ rw g); small = refl }
   fixed_none (inr g) = record { is = sym (fixed_is ∙ rw g); small = refl }
@@ -118,12 +112,12 @@ among_part : (w w' : List ℕ) (u n : ℕ) (xs : List ℕ) → w' ≡ over w u x
 unfolding among_for size_for given_in value_in Val.unfinished
 among_part w w' u n xs e f h = rw f (by (leb (u + n) 65536) refl)
   where
-    by : (b : Bool) → leb (u + n) 65536 ≡ b → given_in w' u (cond b (Gives (O.Characters n)) (Fails TooLong)) ≡ cond b (Val.gives (Val.characters xs)) (Val.fails TooLong)
+    by : (b : Bool) → leb (u + n) 65536 ≡ b → given_in w' u (cond b (Ok (O.Characters n)) (Err TooLong)) ≡ cond b (Val.gives (Val.characters xs)) (Val.fails TooLong)
     by true g = let k : part n u w' ≡ xs = rw e (part_back w xs u n (sym f) (omega (arith, leb-true (u + n) 65536 g, h))) in rw k
     by false g = refl
 
 module _ (c l h w : List ℕ) (a u : ℕ) (t : ValueType) where
-  number_cell_lem : (x : Number) → number_cell x ≡ cell_in c [] [] FixedType a → number_cell x ≡ cell_in c l h FixedType a
+  number_cell_lem : (x : Option Fixed) → number_cell x ≡ cell_in c [] [] FixedType a → number_cell x ≡ cell_in c l h FixedType a
   unfolding cell_in
   number_cell_lem x e = e
 
@@ -131,21 +125,21 @@ module _ (c l h w : List ℕ) (a u : ℕ) (t : ValueType) where
   unfolding Val.unfinished
   among_number x k = let b : leb (u + 0) 65536 ≡ true = borrow.Author.Tests.le-leb (u + 0) 65536 (omega arith) in rw b
 
-  module _ (e : t ≡ FixedType) (x : Number) (f : number_cell x ≡ cell_in c [] [] FixedType a) where
-    pub variable_number : (n : Fixed) → x ≡ N.Holds n → VariableIs c l h w a t u w (Gives (O.Number n))
+  module _ (e : t ≡ FixedType) (x : Option Fixed) (f : number_cell x ≡ cell_in c [] [] FixedType a) where
+    pub variable_number : (n : Fixed) → x ≡ Some n → VariableIs c l h w a t u w (Ok (O.Number n))
     unfolding given_in value_in
     variable_number n g = record { is = λ _ k. rw (e, ← number_cell_lem x f, g) (among_number n k); below = refl }
 
-    pub variable_none : x ≡ N.NoNumber → VariableIs c l h w a t u w (Fails NoValue)
+    pub variable_none : x ≡ None → VariableIs c l h w a t u w (Err NoValue)
     unfolding given_in value_in
     variable_none g = record { is = λ _ k. rw (e, ← number_cell_lem x f, g); below = refl }
 
-  module _ (e : t ≡ CharacterType) (x : Length) (f : LengthAt c a x) where
-    pub variable_empty : x ≡ L.NoCharacters → VariableIs c l h w a t u w (Fails NoValue)
+  module _ (e : t ≡ CharacterType) (x : Option ℕ) (f : LengthAt c a x) where
+    pub variable_empty : x ≡ None → VariableIs c l h w a t u w (Err NoValue)
     unfolding given_in value_in
     variable_empty g = record { is = λ _ k. rw (e, ← f.is l h, g); below = refl }
 
-    pub variable_text : (n : ℕ) → x ≡ L.Bytes n → (w' : List ℕ) → w' ≡ over w u (part n (slot a) (half a l h)) → (r : Given) → r ≡ among_for u (O.Characters n) → VariableIs c l h w a t u w' r
+    pub variable_text : (n : ℕ) → x ≡ Some n → (w' : List ℕ) → w' ≡ over w u (part n (slot a) (half a l h)) → (r : Result Value Why) → r ≡ among_for u (O.Characters n) → VariableIs c l h w a t u w' r
     variable_text n g w' i r j = record {
       is = λ z k. rw (e, ← f.is l h, g, j) (among_part w w' u n (part n (slot a) (half a l h)) i (length_part n (slot a) (half a l h)) z);
       below = below_over u u w w' (part n (slot a) (half a l h)) (omega arith) i;
@@ -394,11 +388,11 @@ module _ (d t : List ℕ) (n : ℕ) (y : Callee) (s : List ℕ) (k : Held) (w c�
     pub storing_done : s ≡ body_in d y.place.member → y.count ≤ i → AllStored d t c₀ l₀ h₀ w n y k u c l h
     storing_done e f = record { is = λ ns ps sl nm ak co wa. let r : Left ps i at top c l h = st.is ns ps sl (rw e nm) ak co wa in (done_by ps r.rest i at top c l h r.total f r.same, r.slots) }
 
-    module _ (o : i < y.count) (x : ParameterAt) (pi : ParameterIs d s t n y.place at x) where
+    module _ (o : i < y.count) (x : Option Parameter) (pi : ParameterIs d s t n y.place at x) where
       first_asked : (l : List ℕ) → l ≡ spelled_at s at → parameter_of d t n y.place l ≡ parameter_for x
       first_asked l e = rw e (sym pi.is)
 
-      wrong_by : x ≡ P.Wrong → (ns : List (List ℕ)) (qs : List E.Parameter) → Names s ns at → asking ns ≡ Val.gives qs → i + length qs ≡ y.count → ⊥
+      wrong_by : x ≡ None → (ns : List (List ℕ)) (qs : List E.Parameter) → Names s ns at → asking ns ≡ Val.gives qs → i + length qs ≡ y.count → ⊥
       unfolding E.parameters
       wrong_by f ns [] nm ak e = omega (arith, e, o)
       wrong_by f [] (q ∷ qs) nm ak e = let z : ◌≡◌ {A = ℕ} 0 1 = cc in omega arith
@@ -407,16 +401,16 @@ module _ (d t : List ℕ) (n : ℕ) (y : Callee) (s : List ℕ) (k : Held) (w c�
           let j : ◌≡◌ {A = Val.Answer (List E.Parameter)} (Val.fails WrongName) (Val.gives (q ∷ qs)) = rw g at ak in
           let z : ◌≡◌ {A = ℕ} 0 1 = cc in omega arith
 
-      pub storing_wrong : s ≡ body_in d y.place.member → x ≡ P.Wrong → AllStored d t c₀ l₀ h₀ w n y k u c l h
+      pub storing_wrong : s ≡ body_in d y.place.member → x ≡ None → AllStored d t c₀ l₀ h₀ w n y k u c l h
       storing_wrong e f = record { is = λ ns ps sl nm ak co wa. let r : Left ps i at top c l h = st.is ns ps sl (rw e nm) ak co wa in absurd (wrong_by f r.names r.rest r.listed r.asked r.total) }
 
-      module _ (z : Parameter) (f : x ≡ P.Is z) (v : Value) (hv : HeldIs k i z.value_type v) (c' l' h' : List ℕ) (vs : ValueStored c l h w z.address top v c' l' h') (m top' : ℕ) (em : m ≡ size_for v) (et : top' ≡ top_of top m) where
+      module _ (z : Parameter) (f : x ≡ Some z) (v : Value) (hv : HeldIs k i z.value_type v) (c' l' h' : List ℕ) (vs : ValueStored c l h w z.address top v c' l' h') (m top' : ℕ) (em : m ≡ size_for v) (et : top' ≡ top_of top m) where
         abbrev q₀ : E.Parameter
         q₀ = record { at = z.address; type = z.value_type }
 
         z_to : z.to ≡ (token_at mixed s (token_at mixed s at).to).to
         z_to =
-            let g : P.Is z ≡ P.Is (record { address = z.address; value_type = z.value_type; to = (token_at mixed s (token_at mixed s at).to).to }) = rw f at pi.to in
+            let g : Some z ≡ Some (record { address = z.address; value_type = z.value_type; to = (token_at mixed s (token_at mixed s at).to).to }) = rw f at pi.to in
             let j : z ≡ record { address = z.address; value_type = z.value_type; to = (token_at mixed s (token_at mixed s at).to).to } = cc in
             ap (λ (a : Parameter). a.to) j
 

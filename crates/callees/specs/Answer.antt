@@ -1,5 +1,6 @@
 -- What the answers of `callees` stand for in the definition.
-use Rattle.std.specs.Prelude.{ℕ, zero, suc, ◌+◌, ◌-◌, ◌%◌, ◌<◌, ◌≤◌, ltb, Bool, true, false, cond, ◌≡◌, List, [], ◌∷◌, length, get_or, set, take, ℤ, pos}
+use Rattle.callees.specs.declared.Parameter.{Parameter}
+use Rattle.std.specs.Prelude.{ℕ, zero, suc, ◌+◌, ◌-◌, ◌%◌, ◌<◌, ◌≤◌, ltb, Bool, true, false, cond, ◌≡◌, List, [], ◌∷◌, length, get_or, set, take, ℤ, pos, Option, Some, None, Result, Ok, Err}
 use Rattle.definition.specs.Bytes.{mixed, folded}
 use Rattle.definition.specs.Lists.{part}
 use Rattle.definition.specs.Fixed as F
@@ -17,8 +18,6 @@ use Rattle.definition.specs.declared.Why.TheVariants.{NoValue}
 use Rattle.deck.specs.Answer.{body_in}
 use Rattle.fixed.specs.Signed.{stored_of, from_stored}
 use Rattle.names.specs.declared.Place.{Place}
-use Rattle.names.specs.declared.Body.{Body}
-use Rattle.names.specs.declared.Body.TheVariants as B
 use Rattle.names.specs.Table.{body_of}
 use Rattle.rows.specs.Table.{row_in}
 use Rattle.rows.specs.Parts.{part_in}
@@ -27,17 +26,12 @@ use Rattle.fixed.specs.declared.Fixed.{Fixed}
 use Rattle.store.specs.Cells.{cell_in}
 use Rattle.operators.specs.declared.Value.{Value}
 use Rattle.operators.specs.declared.Value.TheVariants.{Number, Characters, Bits}
-use Rattle.operators.specs.declared.Given.{Given}
 use Rattle.operators.specs.Stands.{size_for, value_in, given_in}
 use Rattle.callees.specs.Shown.{denotations_from, names_world, values_from, Slots, Typed}
 use Rattle.callees.specs.declared.Meant.{Meant}
 use Rattle.callees.specs.declared.Meant.TheVariants as M
 use Rattle.callees.specs.declared.Running.{Running}
-use Rattle.callees.specs.declared.ParameterAt.{ParameterAt}
-use Rattle.callees.specs.declared.ParameterAt.TheVariants as P
 use Rattle.callees.specs.declared.Callee.{Callee}
-use Rattle.callees.specs.declared.Called.{Called}
-use Rattle.callees.specs.declared.Called.TheVariants as K
 use Rattle.callees.specs.declared.Held.{Held}
 
 -- ---- what a name means
@@ -67,13 +61,13 @@ pub record StartedIs (g : Running) (p : Place) (r : Running) : Type 0 where
 abbrev pub owner_at : Place → Owner
 owner_at p = procedure_at p.member p.row
 
-abbrev pub parameter_for : ParameterAt → Val.Answer E.Parameter
-parameter_for (P.Is x) = Val.gives (record { at = x.address; type = x.value_type })
-parameter_for P.Wrong = Val.fails Rattle.definition.specs.declared.Why.TheVariants.WrongName
+abbrev pub parameter_for : Option Parameter → Val.Answer E.Parameter
+parameter_for (Some x) = Val.gives (record { at = x.address; type = x.value_type })
+parameter_for None = Val.fails Rattle.definition.specs.declared.Why.TheVariants.WrongName
 
-abbrev pub with_to : ParameterAt → ℕ → ParameterAt
-with_to (P.Is x) to = P.Is (record { address = x.address; value_type = x.value_type; to = to })
-with_to P.Wrong to = P.Wrong
+abbrev pub with_to : Option Parameter → ℕ → Option Parameter
+with_to (Some x) to = Some (record { address = x.address; value_type = x.value_type; to = to })
+with_to None to = None
 
 -- the name behind a place, as it is compared
 abbrev pub spelled_at : List ℕ → ℕ → List ℕ
@@ -83,7 +77,7 @@ abbrev pub parameter_of : List ℕ → List ℕ → ℕ → Place → List ℕ �
 parameter_of d t n p w = E.parameter_at (address_of w (owner_at p) (names_world d t n)) (names_world d t n)
 
 -- the parameter whose name stands behind a place of s, and the place behind the token that follows it
-pub record ParameterIs (d s t : List ℕ) (n : ℕ) (p : Place) (at : ℕ) (r : ParameterAt) : Type 0 where
+pub record ParameterIs (d s t : List ℕ) (n : ℕ) (p : Place) (at : ℕ) (r : Option Parameter) : Type 0 where
   pub is : parameter_for r ≡ parameter_of d t n p (spelled_at s at)
   pub to : r ≡ with_to r (token_at mixed s (token_at mixed s at).to).to
 
@@ -94,11 +88,11 @@ Listed s (l ∷ []) at = (n : Named) × (name_at mixed s at ≡ read n) × (n.sp
 Listed s (l ∷ m ∷ ns) at = (n : Named) × (name_at mixed s at ≡ read n) × (n.spelling ≡ l) × (is_sign "," (token_at mixed s n.to).token ≡ true) × Listed s (m ∷ ns) (token_at mixed s n.to).to
 
 -- the callee for parameters that are all fine
-unfoldable pub called_for : Place → ℕ → Val.Answer (List E.Parameter) → Called
-called_for p list (Val.gives ps) = K.Is (record { place = p; list = list; count = length ps })
-called_for p list (Val.fails e) = K.Fails e
+unfoldable pub called_for : Place → ℕ → Val.Answer (List E.Parameter) → Result Callee Why
+called_for p list (Val.gives ps) = Ok (record { place = p; list = list; count = length ps })
+called_for p list (Val.fails e) = Err e
 
-pub record CountedIs (d s t : List ℕ) (n : ℕ) (p : Place) (list : ℕ) (r : Called) : Type 0 where
+pub record CountedIs (d s t : List ℕ) (n : ℕ) (p : Place) (list : ℕ) (r : Result Callee Why) : Type 0 where
   pub is : (ns : List (List ℕ)) → Listed s ns list → list ≤ length s → r ≡ called_for p list (E.parameters (owner_at p) ns (names_world d t n))
 
 -- the parameters that stand behind PROCEDURE, and where they are listed
@@ -110,13 +104,13 @@ pub record Headed (s : List ℕ) (at list : ℕ) (ns : List (List ℕ)) : Type 0
   pub place : list ≡ cond (is_sign "(" (token_at mixed s at).token) (token_at mixed s at).to (token_at mixed s at).from
   pub names : HeadedBy (is_sign "(" (token_at mixed s at).token) s ns list
 
-pub record CalleeIs (d s t : List ℕ) (n : ℕ) (p : Place) (at : ℕ) (r : Called) : Type 0 where
+pub record CalleeIs (d s t : List ℕ) (n : ℕ) (p : Place) (at : ℕ) (r : Result Callee Why) : Type 0 where
   pub is : (list : ℕ) (ns : List (List ℕ)) → Headed s at list ns → at ≤ length s → r ≡ called_for p list (E.parameters (owner_at p) ns (names_world d t n))
 
 -- the same for the body of an entry, in the deck and the rows of its member
-pub record CalleeOf (d rows : List ℕ) (starts : Starts) (t : List ℕ) (n : ℕ) (b : Body) (r : Called) : Type 0 where
-  pub none : b ≡ B.Nothing → r ≡ K.Fails Rattle.definition.specs.declared.Why.TheVariants.WrongName
-  pub some : (p : Place) → b ≡ B.At p → CalleeIs d (body_in d p.member) t n p (row_in (part_in rows starts p.member) p.row).content r
+pub record CalleeOf (d rows : List ℕ) (starts : Starts) (t : List ℕ) (n : ℕ) (b : Option Place) (r : Result Callee Why) : Type 0 where
+  pub none : b ≡ None → r ≡ Err Rattle.definition.specs.declared.Why.TheVariants.WrongName
+  pub some : (p : Place) → b ≡ Some p → CalleeIs d (body_in d p.member) t n p (row_in (part_in rows starts p.member) p.row).content r
 
 -- ---- arguments that wait
 abbrev pub held_number : Value → ℕ
@@ -172,7 +166,7 @@ read_in W.no_value u = Val.fails NoValue
 read_in (W.holds v) u = Val.unfinished u v
 
 -- the value of the variable at a, put above u bytes
-pub record VariableIs (c l h w : List ℕ) (a : ℕ) (t : ValueType) (u : ℕ) (w' : List ℕ) (r : Given) : Type 0 where
+pub record VariableIs (c l h w : List ℕ) (a : ℕ) (t : ValueType) (u : ℕ) (w' : List ℕ) (r : Result Value Why) : Type 0 where
   pub is : 65536 ≤ length w → u ≤ 65536 → given_in w' u r ≡ read_in (cell_in c l h t a) u
   pub below : take u w' ≡ take u w
 

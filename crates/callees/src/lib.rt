@@ -17,14 +17,12 @@ ghost use Rattle.callees.specs.declared.Meant.TheVariants.{TheSubstr, NoSuch};
 use chars::spells;
 use deck::body;
 use definition::{ValueType, Why};
-use fixed::{Answer, Fixed};
+use fixed::{Fixed, FixedError};
 use limits::Levels;
-use names::{Body, Denotation, Found, Owner, Place, find, name_at, seen_from};
-use operators::{Given, Value, above, size_of};
+use names::{Denotation, Owner, Place, find, name_at, seen_from};
+use operators::{Value, above, size_of};
 use rows::{Starts, part_of, row_at};
-use store::{
-    Length, Number, characters_at, copy_characters, number_at, store_characters, store_number,
-};
+use store::{characters_at, copy_characters, number_at, store_characters, store_number};
 use sums::less;
 use tokens::{is_sign, token_at, width};
 
@@ -33,7 +31,7 @@ use tokens::{is_sign, token_at, width};
 #[derive(Clone, Copy)]
 pub enum Meant {
     AVariable(u16, ValueType),
-    AnEntry(Body),
+    AnEntry(Option<Place>),
     TheSubstr,
     NoSuch,
 }
@@ -66,7 +64,7 @@ pub fn meant_by(
     ensures { meant_for result ≡ E.meant (owner_of owner) (folded mixed (part (to - from) from s.now)) (names_world deck.now names.now count) }
 {
     let n = less(to, from);
-    let Found::Known(a) = seen_from(deck, names, count, s, from, n, owner) else {
+    let Some(a) = seen_from(deck, names, count, s, from, n, owner) else {
         return substr_or(is_substr(s, from, n));
     };
     match name_at(names, a).denotation {
@@ -144,12 +142,6 @@ pub struct Parameter {
     pub to: usize,
 }
 
-#[derive(Clone, Copy)]
-pub enum ParameterAt {
-    Is(Parameter),
-    Wrong,
-}
-
 // "A parameter its procedure doesn't declare FIXED or CHARACTER is 6 at the call."
 pub fn parameter_at(
     deck: &[u8],
@@ -158,23 +150,21 @@ pub fn parameter_at(
     count: u16,
     p: Place,
     at: usize,
-) -> ParameterAt
+) -> Option<Parameter>
     ensures { ParameterIs deck.now s.now names.now count p at result }
 {
     let t = token_at(s, at);
     let found = find(deck, names, count, s, t.from, width(t), Owner::Procedure(p));
-    let Found::Known(a) = found else {
-        return ParameterAt::Wrong;
+    let Some(a) = found else {
+        return None;
     };
     match name_at(names, a).denotation {
-        Denotation::Variable(value_type) => ParameterAt::Is(Parameter {
+        Denotation::Variable(value_type) => Some(Parameter {
             address: a.0,
             value_type,
             to: token_at(s, t.to).to,
         }),
-        Denotation::EntryName(_) | Denotation::LabelName(_) | Denotation::Builtin => {
-            ParameterAt::Wrong
-        }
+        Denotation::EntryName(_) | Denotation::LabelName(_) | Denotation::Builtin => { None }
     }
 }
 
@@ -186,23 +176,24 @@ pub struct Callee {
     pub count: usize,
 }
 
-#[derive(Clone, Copy)]
-pub enum Called {
-    Is(Callee),
-    Fails(Why),
-}
-
 // Counts the parameters of the list at a place of the body s.
-fn counted(deck: &[u8], s: &[u8], names: &[u16], count: u16, p: Place, list: usize) -> Called
+fn counted(
+    deck: &[u8],
+    s: &[u8],
+    names: &[u16],
+    count: u16,
+    p: Place,
+    list: usize,
+) -> Result<Callee, Why>
     ensures { CountedIs deck.now s.now names.now count p list result }
 {
     let mut at = list;
     for n in 0..s.len() {
-        let ParameterAt::Is(y) = parameter_at(deck, s, names, count, p, at) else {
-            return Called::Fails(Why::WrongName);
+        let Some(y) = parameter_at(deck, s, names, count, p, at) else {
+            return Err(Why::WrongName);
         };
         if is_last(s, at) {
-            return Called::Is(Callee {
+            return Ok(Callee {
                 place: p,
                 list,
                 count: n + 1,
@@ -210,7 +201,7 @@ fn counted(deck: &[u8], s: &[u8], names: &[u16], count: u16, p: Place, list: usi
         }
         at = y.to;
     }
-    Called::Fails(Why::WrongName)
+    Err(Why::WrongName)
 }
 
 // Whether no comma follows the name at a place.
@@ -228,12 +219,12 @@ pub fn callee_of(
     starts: Starts,
     names: &[u16],
     count: u16,
-    b: Body,
-) -> Called
+    b: Option<Place>,
+) -> Result<Callee, Why>
     ensures { CalleeOf deck.now rows.now starts names.now count b result }
 {
-    let Body::At(p) = b else {
-        return Called::Fails(Why::WrongName);
+    let Some(p) = b else {
+        return Err(Why::WrongName);
     };
     let s = body(deck, p.member);
     let part = part_of(rows, starts, p.member);
@@ -242,7 +233,7 @@ pub fn callee_of(
     if is_sign(s, t, b"(") {
         return counted(deck, s, names, count, p, t.to);
     }
-    Called::Is(Callee {
+    Ok(Callee {
         place: p,
         list: t.from,
         count: 0,
@@ -295,8 +286,8 @@ pub fn fixed_held(h: Held, i: usize) -> Fixed
     ensures { FixedHeld h i result }
 {
     match Fixed::from_stored(held_at(h, i)) {
-        Answer::Is(n) => n,
-        Answer::OutOfRange | Answer::ZeroDivisor => Fixed { value: 0 },
+        Ok(n) => n,
+        Err(FixedError::OutOfRange) | Err(FixedError::ZeroDivisor) => Fixed { value: 0 },
     }
 }
 
@@ -311,21 +302,21 @@ pub fn variable_value(
     a: u16,
     t: ValueType,
     u: usize,
-) -> Given
+) -> Result<Value, Why>
     ensures { VariableIs cells.now low.now high.now work.old a t u work.new result }
 {
     match t {
         ValueType::FixedType => match number_at(cells, a) {
-            Number::Holds(n) => Given::Gives(Value::Number(n)),
-            Number::NoNumber => Given::Fails(Why::NoValue),
+            Some(n) => Ok(Value::Number(n)),
+            None => Err(Why::NoValue),
         },
         ValueType::CharacterType => match characters_at(cells, a) {
-            Length::Bytes(n) => {
+            Some(n) => {
                 let size = n as usize;
                 copy_characters(low, high, a, size, work, u);
                 operators::among(u, Value::Characters(size))
             }
-            Length::NoCharacters => Given::Fails(Why::NoValue),
+            None => Err(Why::NoValue),
         },
     }
 }
@@ -380,7 +371,7 @@ pub fn store_all(
     let mut at = c.list;
     let mut top = u;
     for i in 0..c.count {
-        let ParameterAt::Is(y) = parameter_at(deck, s, names, count, p, at) else {
+        let Some(y) = parameter_at(deck, s, names, count, p, at) else {
             return;
         };
         let v = held_value(h, i, y.value_type);

@@ -1,6 +1,7 @@
 -- One law for each way out of a function on card images; the loops' invariants are records, and say that what is left to
 -- write makes the room what it is to be.
 -- Assumes nothing.
+use Rattle.std.proofs.Common.{Some, None}
 use mathlib.Core.Path.{◌≡◌, refl, sym, ap, ◌∙◌}
 use mathlib.Core.Bool.{true, false}
 use mathlib.Core.List.{List, ◌∷◌, ◌++◌}
@@ -18,7 +19,6 @@ use Rattle.definition.specs.Cards.{uneven, columns, records, joined_size, joined
 use Rattle.definition.proofs.Rooms.{length_over, over_nil, over_next_at}
 use Rattle.definition.proofs.Parts.{length_part}
 use Rattle.deck.specs.Answer as A
-use Rattle.deck.specs.declared.Found as F
 use Rattle.deck.proofs.Laws.{lines_next, lines_none, part_add, place_most}
 use Rattle.cards.specs.Joins.{joined_line, PutsBodies, Joins}
 use Rattle.definition.proofs.Joined.{place_first, place_next, length_columns, length_joined_lines}
@@ -39,13 +39,13 @@ module _ (d : List ℕ) (n k : ℕ) (s : Looking d n k) where
       let g : eqb ((line_at d k).size % 80) 0 ≡ true = eq-eqb _ _ (rw e at f) in
       record { all = s.all; is = rw (add-one k) (rw (add-one k) at (rw (lines_next d n k h, g) at s.is)) }
 
-  pub looking_here : (z : ℕ) → k < n → z ≡ (line_at d k).size → (z % 80 ≡ 0 → ⊥) → F.TheVariants.Line k ≡ A.found_for (uneven 0 (lines d))
+  pub looking_here : (z : ℕ) → k < n → z ≡ (line_at d k).size → (z % 80 ≡ 0 → ⊥) → Some k ≡ A.found_for (uneven 0 (lines d))
   unfolding uneven
   looking_here z h e f =
       let g : eqb ((line_at d k).size % 80) 0 ≡ false = ne_eqb _ _ (λ q. f (rw e q)) in
       ap A.found_for (rw (lines_next d n k h, g) at s.is)
 
-  pub looking_none : n ≤ k → F.TheVariants.Nothing ≡ A.found_for (uneven 0 (lines d))
+  pub looking_none : n ≤ k → None ≡ A.found_for (uneven 0 (lines d))
   unfolding uneven
   looking_none h = ap A.found_for (rw (lines_none d n k h) at s.is)
 

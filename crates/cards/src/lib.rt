@@ -10,7 +10,7 @@ ghost use Rattle.definition.specs.Cards as C;
 ghost use Rattle.deck.specs.Answer.{found_for};
 ghost use Rattle.cards.specs.Joins.{joined_line, PutsBodies, Joins};
 
-use deck::{Deck, Found, count, library_length, line_place, name_place, offset, size};
+use deck::{Deck, count, library_length, line_place, name_place, offset, size};
 use limits::Record;
 use rooms::{copy, put_u32};
 
@@ -18,16 +18,16 @@ use rooms::{copy, put_u32};
 const LONG: usize = 281_474_976_710_656;
 
 // The first line whose body is no whole number of records.
-pub fn uneven(d: &[u8]) -> Found
+pub fn uneven(d: &[u8]) -> Option<u16>
     ensures { result ≡ found_for (C.uneven 0 (D.lines d.now)) }
 {
     let n = count(d);
     for k in 0..n {
         if (size(d, k) as usize) % Record::COLUMNS != 0 {
-            return Found::Line(k);
+            return Some(k);
         }
     }
-    Found::Nothing
+    None
 }
 
 // How many records the body of line k has.

@@ -1,5 +1,7 @@
 -- One law for each way out of a function on the deck; the loops' invariants are records, and say that what is left decides.
 -- Assumes nothing.
+use Rattle.deck.specs.declared.Deck.{Deck}
+use Rattle.std.proofs.Common.{Some, None}
 use mathlib.Core.Path.{◌≡◌, refl, sym, ap, ◌∙◌}
 use mathlib.Core.Bool.{Bool, true, false, cond, ◌&&◌}
 use mathlib.Core.List.{List, [], ◌∷◌, ◌++◌}
@@ -22,8 +24,6 @@ use Rattle.definition.proofs.Parts.{part_first, length_part, same_length}
 use Rattle.member.specs.Body.{body_bytes}
 use Rattle.deck.specs.Answer as A
 use Rattle.deck.specs.Word.{Word}
-use Rattle.deck.specs.declared.Contents as C
-use Rattle.deck.specs.declared.Found as F
 use Rattle.deck.specs.declared.Spelled.{Spelled}
 use Rattle.deck.specs.declared.Sought.{Sought}
 use Rattle.deck.specs.declared.Sought.TheVariants as S
@@ -295,11 +295,11 @@ module _ (d : List ℕ) (x : D.Sought) (n k : ℕ) (s : Finding d x n k) where
   unfolding find
   finding_more t h e f = record { all = s.all; is = rw (add-one k) (rw (add-one k) at (rw (lines_next d n k h, ← e, f) at s.is)) }
 
-  pub finding_here : (t : Bool) → k < n → t ≡ is_called mixed x (line_at d k) → t ≡ true → F.TheVariants.Line k ≡ A.found_for (find mixed x 0 (lines d))
+  pub finding_here : (t : Bool) → k < n → t ≡ is_called mixed x (line_at d k) → t ≡ true → Some k ≡ A.found_for (find mixed x 0 (lines d))
   unfolding find
   finding_here t h e f = ap A.found_for (rw (lines_next d n k h, ← e, f) at s.is)
 
-  pub finding_none : n ≤ k → F.TheVariants.Nothing ≡ A.found_for (find mixed x 0 (lines d))
+  pub finding_none : n ≤ k → None ≡ A.found_for (find mixed x 0 (lines d))
   unfolding find
   finding_none h = ap A.found_for (rw (lines_none d n k h) at s.is)
 
@@ -385,9 +385,9 @@ module _ (d : List ℕ) (n at k : ℕ) (i : Following d n at k) where
   following_done h = rw (lines_none d n k h) at i.is
 
 -- ---- the whole deck
-pub of_sound : (d : List ℕ) (t : Bool) (n : ℕ) → t ≡ is_sound mixed d → t ≡ true → n ≡ count d → C.TheVariants.Sound (record { lines = n }) ≡ A.answer_for (contents mixed d)
+pub of_sound : (d : List ℕ) (t : Bool) (n : ℕ) → t ≡ is_sound mixed d → t ≡ true → n ≡ count d → Some (record { lines = n }) ≡ A.answer_for (contents mixed d)
 unfolding contents
-of_sound d t n e f g = rw (← e, f) (ap (λ (m : ℕ). C.TheVariants.Sound (record { lines = m })) (g ∙ sym (length_lines d 0 (count d))))
+of_sound d t n e f g = rw (← e, f) (ap (λ (m : ℕ). Some (record { lines = m })) (g ∙ sym (length_lines d 0 (count d))))
 
 -- ---- the body of a line
 pub body_line : (d : List ℕ) (k from n : ℕ) → from ≡ (line_at d k).offset → n ≡ (line_at d k).size → (r : List ℕ) → r ≡ body_bytes d from n → r ≡ A.body_in d k

@@ -1,30 +1,27 @@
 -- What the answers about a deck stand for in the definition.
-use Rattle.std.specs.Prelude.{ℕ, List, Bool, true, cond, ◌&&◌, length}
+use Rattle.deck.specs.declared.Deck.{Deck}
+use Rattle.std.specs.Prelude.{ℕ, List, Bool, true, cond, ◌&&◌, length, Option, Some, None}
 use Rattle.definition.specs.Bytes.{mixed, folded}
 use Rattle.definition.specs.Lists.{part}
 use Rattle.definition.specs.Deck as D
 use Rattle.member.specs.Body.{body_bytes}
-use Rattle.deck.specs.declared.Contents.{Contents}
-use Rattle.deck.specs.declared.Contents.TheVariants.{Malformed, Sound}
-use Rattle.deck.specs.declared.Found.{Found}
-use Rattle.deck.specs.declared.Found.TheVariants.{Line, Nothing}
 use Rattle.deck.specs.declared.Spelled.{Spelled}
 use Rattle.deck.specs.declared.Sought.{Sought}
 use Rattle.deck.specs.declared.Sought.TheVariants.{Bare, InLibrary}
 
 -- the answer for the contents of a deck: its lines can be read off the deck, so their number is enough
-abbrev pub answer_for : D.Contents → Contents
-answer_for D.malformed = Malformed
-answer_for (D.holds ls) = Sound (record { lines = length ls })
+abbrev pub answer_for : D.Contents → Option Deck
+answer_for D.malformed = None
+answer_for (D.holds ls) = Some (record { lines = length ls })
 
 -- the number in 01's table; 0 where there is no refusal
-abbrev pub refusal_of : Contents → ℕ
-refusal_of Malformed = 1
-refusal_of (Sound d) = 0
+abbrev pub refusal_of : Option Deck → ℕ
+refusal_of None = 1
+refusal_of (Some d) = 0
 
-abbrev pub found_for : D.Found → Found
-found_for D.none = Nothing
-found_for (D.line k) = Line k
+abbrev pub found_for : D.Found → Option ℕ
+found_for D.none = None
+found_for (D.line k) = Some k
 
 -- line k, of those that `areNamed` tests
 unfoldable pub is_named : List ℕ → ℕ → Bool

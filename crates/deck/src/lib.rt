@@ -20,12 +20,6 @@ pub struct Deck {
     pub lines: u16,
 }
 
-#[derive(Clone, Copy)]
-pub enum Contents {
-    Malformed,
-    Sound(Deck),
-}
-
 // Where a name is spelled in the deck.
 #[derive(Clone, Copy)]
 pub struct Spelled {
@@ -38,13 +32,6 @@ pub struct Spelled {
 pub enum Sought {
     Bare(Spelled),
     InLibrary(Spelled, Spelled),
-}
-
-// Which line is sought.
-#[derive(Clone, Copy)]
-pub enum Found {
-    Line(u16),
-    Nothing,
 }
 
 // Whether the lines name libraries.
@@ -188,16 +175,16 @@ fn is_called(d: &[u8], k: u16, x: Sought) -> bool
 }
 
 // The line of the member that is sought: the first that is called so.
-pub fn find(d: &[u8], x: Sought) -> Found
+pub fn find(d: &[u8], x: Sought) -> Option<u16>
     ensures { result ≡ found_for (D.find mixed (sought_in d.now x) 0 (D.lines d.now)) }
 {
     let n = count(d);
     for k in 0..n {
         if is_called(d, k, x) {
-            return Found::Line(k);
+            return Some(k);
         }
     }
-    Found::Nothing
+    None
 }
 
 // Whether line j has the names of line k.
@@ -278,13 +265,13 @@ impl Deck {
 
     // The contents of a deck of any bytes.
     #[tactic(auto, unfolding(definition::specs::Deck::contents))]
-    pub fn of(d: &[u8]) -> Contents
+    pub fn of(d: &[u8]) -> Option<Deck>
         ensures { result ≡ answer_for (D.contents mixed d.now) }
     {
         if is_sound(d) {
-            Contents::Sound(Deck { lines: count(d) })
+            Some(Deck { lines: count(d) })
         } else {
-            Contents::Malformed
+            None
         }
     }
 }
@@ -297,11 +284,11 @@ pub fn body(d: &[u8], k: u16) -> &[u8]
 }
 
 // 01's number for the contents: 0, or 1 where the deck is malformed.
-pub fn refusal(c: Contents) -> u8
+pub fn refusal(c: Option<Deck>) -> u8
     ensures { result ≡ refusal_of c }
 {
     match c {
-        Contents::Malformed => 1,
-        Contents::Sound(_) => 0,
+        None => 1,
+        Some(_) => 0,
     }
 }

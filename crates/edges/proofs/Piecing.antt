@@ -1,5 +1,6 @@
 -- The loop over the pieces: what is left gives what all gives.
 -- Assumes nothing.
+use Rattle.std.proofs.Common.{Option, Some, None}
 use mathlib.Core.Path.{◌≡◌, refl, sym, ap, subst, ◌∙◌}
 use mathlib.Core.Bool.{Bool, true, false, cond, ◌&&◌, not, false≢true}
 use mathlib.Core.List.{List, ◌∷◌, ◌++◌, append_assoc, append-nil}
@@ -13,8 +14,6 @@ use Rattle.definition.specs.Events.{Event, copied, goes_on, joins, text_of, Line
 use Rattle.definition.specs.Cards.{is_first, column, pieces}
 use Rattle.definition.proofs.Parts.{length_part, part_append}
 use Rattle.output.specs.declared.Out.{Out}
-use Rattle.output.specs.declared.Put.{Put}
-use Rattle.output.specs.declared.Put.TheVariants.{Done, Full}
 use Rattle.output.specs.Shows as Output
 use Rattle.output.specs.Shows.{Fine, Shows, More, PutsFine}
 use Rattle.edges.specs.Pieces.{PieceIs, onto, Answers, fits, PiecesFine}
@@ -49,7 +48,7 @@ piecing_start s from to m o t l = record {
 all_fit : (on : Bool) (p : ℕ) (bs : List ℕ) (o : Out) → pieces on p bs ≤ o.free → length bs ≤ o.room → fits on p bs o ≡ true
 all_fit on p bs o h k = rw (le-leb (pieces on p bs) o.free h, le-leb (length bs) o.room k) refl
 
-pub piecing_end : (s : List ℕ) (from to m : ℕ) (o₀ : Out) (t₀ l₀ : List ℕ) (at : ℕ) (o : Out) (t l : List ℕ) → Piecing s from to m o₀ t₀ l₀ at o t l → to ≤ at → PiecesFine s from to m o₀ t₀ l₀ (Done o) t l
+pub piecing_end : (s : List ℕ) (from to m : ℕ) (o₀ : Out) (t₀ l₀ : List ℕ) (at : ℕ) (o : Out) (t l : List ℕ) → Piecing s from to m o₀ t₀ l₀ at o t l → to ≤ at → PiecesFine s from to m o₀ t₀ l₀ (Some o) t l
 piecing_end s from to m o₀ t₀ l₀ at o t l i h = record {
   is = λ f g k. record {
     is = λ es on sh j.
@@ -90,18 +89,18 @@ none_fit on p bs o a x b e h k = by (leb a x.free) refl e
         go false = refl
     by false i j = rw (lt-leb (pieces on p bs) o.free (h (leb-false a x.free i))) refl
 
-abbrev is_full : Put → Bool
-is_full (Done y) = false
-is_full Full = true
+abbrev is_full : Option Out → Bool
+is_full (Some y) = false
+is_full None = true
 
-abbrev out_of : Out → Put → Out
-out_of o (Done y) = y
-out_of o Full = o
+abbrev out_of : Out → Option Out → Out
+out_of o (Some y) = y
+out_of o None = o
 
-full_done : {A : Type 0} (r : Put) (x : Out) → r ≡ Full → r ≡ Done x → A
+full_done : {A : Type 0} (r : Option Out) (x : Out) → r ≡ None → r ≡ Some x → A
 full_done r x e f = let z : false ≡ true = ap is_full (sym f ∙ e) in absurd (false≢true z)
 
-module _ (s : List ℕ) (from to m : ℕ) (o₀ : Out) (t₀ l₀ : List ℕ) (at : ℕ) (o : Out) (t l : List ℕ) (i : Piecing s from to m o₀ t₀ l₀ at o t l) (h : at < to) (n : ℕ) (pc : PieceIs at to n) (c : ℕ) (ce : c ≡ column (at % 65536)) (r : Put) (t' l' : List ℕ) (put : PutsFine (copied m c (part n at s)) o t l r t' l') where
+module _ (s : List ℕ) (from to m : ℕ) (o₀ : Out) (t₀ l₀ : List ℕ) (at : ℕ) (o : Out) (t l : List ℕ) (i : Piecing s from to m o₀ t₀ l₀ at o t l) (h : at < to) (n : ℕ) (pc : PieceIs at to n) (c : ℕ) (ce : c ≡ column (at % 65536)) (r : Option Out) (t' l' : List ℕ) (put : PutsFine (copied m c (part n at s)) o t l r t' l') where
   abbrev bs : List ℕ
   bs = part n at s
 
@@ -167,24 +166,24 @@ module _ (s : List ℕ) (from to m : ℕ) (o₀ : Out) (t₀ l₀ : List ℕ) (a
       free = omega (arith, y.free, u, all_counted, z.free);
     }
 
-    done_by : (x : Out) → r ≡ Done x → (b : Bool) → Output.fits e z.events o ≡ b → Output.Answers b e z.events o r t' l' → Along s from to m o₀ es on (at + n) x t' l'
+    done_by : (x : Out) → r ≡ Some x → (b : Bool) → Output.fits e z.events o ≡ b → Output.Answers b e z.events o r t' l' → Along s from to m o₀ es on (at + n) x t' l'
     done_by x q true b a =
         let w = two_true _ _ b in
         let same : a.0 ≡ x = ap (out_of o) (sym a.1 ∙ q) in
         subst (λ (y : Out). Along s from to m o₀ es on (at + n) y t' l') same (more a.0 a.2 (leb-true taken o.free w.0) (leb-true (length bs) o.room w.1))
     done_by x q false b a = full_done r x a q
 
-    full_by : r ≡ Full → (b : Bool) → Output.fits e z.events o ≡ b → Output.Answers b e z.events o r t' l' → Answers (fits on from all o₀) on m from all es o₀ Full t' l'
+    full_by : r ≡ None → (b : Bool) → Output.fits e z.events o ≡ b → Output.Answers b e z.events o r t' l' → Answers (fits on from all o₀) on m from all es o₀ None t' l'
     full_by q true b a = full_done r a.0 q a.1
     full_by q false b a =
         rw (none_fit on from all o₀ taken o (length bs) b (λ u. omega (arith, u, all_counted, z.free)) (λ u. omega (arith, u, size, left, z.room, length_part (to - from) from s))) refl
 
-  pub piecing_more : (x : Out) → r ≡ Done x → length t' ≡ length t → length l' ≡ length l → Piecing s from to m o₀ t₀ l₀ (at + n) x t' l'
+  pub piecing_more : (x : Out) → r ≡ Some x → length t' ≡ length t → length l' ≡ length l → Piecing s from to m o₀ t₀ l₀ (at + n) x t' l'
   piecing_more x q u v = record {
     long = u ∙ i.long;
     list = v ∙ i.list;
     so = λ f g k es on sh j. done_by f g k es on sh j x q _ refl (answered f g k es on sh j);
   }
 
-  pub piecing_full : r ≡ Full → PiecesFine s from to m o₀ t₀ l₀ Full t' l'
+  pub piecing_full : r ≡ None → PiecesFine s from to m o₀ t₀ l₀ None t' l'
   piecing_full q = record { is = λ f g k. record { is = λ es on sh j. full_by f g k es on sh j q _ refl (answered f g k es on sh j) } }

@@ -7,7 +7,7 @@ ghost use Rattle.definition.specs.Cards as C;
 ghost use Rattle.edges.specs.Pieces.{PieceIs, PiecesFine};
 
 use limits::Record;
-use output::{Out, Put, put_copied};
+use output::{Out, put_copied};
 
 // Where byte p of the joined columns stands in its body as given; no body has 65,536 of them.
 pub fn column(p: usize) -> u32
@@ -46,18 +46,18 @@ pub fn put_pieces(
     list: &mut [u8],
     o0: Out,
     member: u8,
-) -> Put
+) -> Option<Out>
     ensures { PiecesFine src.now from to member o0 text.old list.old result text.new list.new }
 {
     let mut o = o0;
     let mut at = from;
     while at < to {
         let n = piece(at, to);
-        let Put::Done(x) = put_copied(src, at, n, text, list, o, member, column(at)) else {
-            return Put::Full;
+        let Some(x) = put_copied(src, at, n, text, list, o, member, column(at)) else {
+            return None;
         };
         o = x;
         at += n as usize;
     }
-    Put::Done(o)
+    Some(o)
 }

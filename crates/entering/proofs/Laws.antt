@@ -25,11 +25,8 @@ use Rattle.names.specs.declared.Name.{Name}
 use Rattle.names.specs.declared.Owner.{Owner}
 use Rattle.names.specs.declared.Activity.TheVariants.{Inactive}
 use Rattle.names.specs.declared.Address.{Address}
-use Rattle.names.specs.declared.Found.{Found}
-use Rattle.names.specs.declared.Found.TheVariants.{Known, Unknown}
 use Rattle.names.specs.declared.Denotation.{Denotation}
 use Rattle.entering.specs.declared.Meaning.{Meaning}
-use Rattle.entering.specs.declared.Mark.{Mark}
 use Rattle.entering.specs.declared.Tally.{Tally}
 use Rattle.entering.specs.declared.Spelling.{Spelling}
 use Rattle.entering.specs.Book.{joint_for, tally_past, tally_second, tally_of, new_denotation, Book, book_add, book_joint, book_join, book_at, book_one, denotations_from, activities_from, book_of, Roomy, Declarable, identifier_in, new_name, Added, Joining, JoinedAt, Entered, AddedIf, JoinedIf, EnteredIf, identifier_at}
@@ -114,7 +111,7 @@ module _ (t u : List ℕ) (a : ℕ) (x : Name) (h : u ≡ over t (16 * a) (numbe
         either i false e = ap f (elsewhere i (eqb-false a i e))
 
 -- ---- a name that was not known
-book_eq : {i j : List W.Identifier} {d e : List W.Denotation} {a b : List W.Activity} (p q : Mark) → i ≡ j → d ≡ e → a ≡ b
+book_eq : {i j : List W.Identifier} {d e : List W.Denotation} {a b : List W.Activity} (p q : Option ℕ) → i ≡ j → d ≡ e → a ≡ b
     → ◌≡◌ {A = Book} (record { identifiers = i; denotations = d; activities = a; past = p; second = q }) (record { identifiers = j; denotations = e; activities = b; past = p; second = q })
 book_eq p q f g h = rw (f, g, h)
 
@@ -188,11 +185,11 @@ module _ (t : List ℕ) (x : Tally) (a p : ℕ) (e : Denotation) (r : Joining t 
         }
 
 -- ---- a declaration
-known_is : (f : W.Address) (a : Address) → found_for f ≡ Known a → f ≡ W.address a.0
+known_is : (f : W.Address) (a : Address) → found_for f ≡ Some a → f ≡ W.address a.0
 known_is (W.address b) a e = let z : ◌≡◌ {A = Address} (record { 0 = b }) a = cc in rw (← z)
 known_is W.unknown a e = let z : ◌≡◌ {A = ℕ} 0 1 = cc in absurd (omega arith)
 
-unknown_is : (f : W.Address) → found_for f ≡ Unknown → f ≡ W.unknown
+unknown_is : (f : W.Address) → found_for f ≡ None → f ≡ W.unknown
 unknown_is (W.address b) e = let z : ◌≡◌ {A = ℕ} 0 1 = cc in absurd (omega arith)
 unknown_is W.unknown e = refl
 
@@ -206,11 +203,11 @@ address_low w k b c [] e = let z : ◌≡◌ {A = ℕ} 0 1 = cc in absurd (omega
 address_low w k b c (i ∷ is) e = hit w k b c is (W.is_identifier w k i) e (address_low w k (suc b) c is)
 
 module _ (d s t : List ℕ) (x : Tally) (p : Spelling) (o : Owner) (h : Declarable d s t x p) (n : ℕ) (hn : n ≡ p.to - p.from)
-    (f : Found) (hf : f ≡ found_for (W.address_in (folded mixed (part n p.from s)) (owner_of o) 0 (identifiers_from d t 0 x.names))) where
+    (f : Option Address) (hf : f ≡ found_for (W.address_in (folded mixed (part n p.from s)) (owner_of o) 0 (identifiers_from d t 0 x.names))) where
   looked : f ≡ found_for (W.address_in (folded mixed (part (p.to - p.from) p.from s)) (owner_of o) 0 (identifiers_from d t 0 x.names))
   looked = rw hn at hf
 
-  pub declare_joining : (a : Address) → f ≡ Known a → Joining t x a.0
+  pub declare_joining : (a : Address) → f ≡ Some a → Joining t x a.0
   declare_joining a e = record {
     roomy = h.roomy;
     known = omega (arith, address_low (folded mixed (part (p.to - p.from) p.from s)) (owner_of o) 0 a.0 (identifiers_from d t 0 x.names) (known_is (W.address_in (folded mixed (part (p.to - p.from) p.from s)) (owner_of o) 0 (identifiers_from d t 0 x.names)) a (sym looked ∙ e)), identifiers_length d t x.names);
@@ -226,7 +223,7 @@ module _ (d s t : List ℕ) (x : Tally) (p : Spelling) (o : Owner) (h : Declarab
       rw (a, b, c) (ap (folded mixed) h.spelled.same)
 
   module _ (g : Meaning) (e : Denotation) (he : e ≡ new_denotation x.member g) (u : List ℕ) (y : Tally) where
-    pub declare_known : (a : Address) → f ≡ Known a → JoinedAt t x a.0 p.from e u y
+    pub declare_known : (a : Address) → f ≡ Some a → JoinedAt t x a.0 p.from e u y
         → Entered d t x (book_one (identifier_at s p o) (denotation_of (new_denotation x.member g)) p.from) u y
     unfolding book_one book_of
     declare_known a k j = record {
@@ -236,7 +233,7 @@ module _ (d s t : List ℕ) (x : Tally) (p : Spelling) (o : Owner) (h : Declarab
       base = j.base;
     }
 
-    pub declare_unknown : f ≡ Unknown → Added t x p o e u y
+    pub declare_unknown : f ≡ None → Added t x p o e u y
         → Entered d t x (book_one (identifier_at s p o) (denotation_of (new_denotation x.member g)) p.from) u y
     unfolding book_one book_of
     declare_unknown k j = record {
@@ -263,9 +260,9 @@ module _ (t : List ℕ) (x : Tally) (a p : ℕ) (e : Denotation) (o : Name) (h :
   joins_set v f u w = record { is = λ r. joined_set t x a p e r o h j k v f u w }
 
 module _ (d s t : List ℕ) (x : Tally) (p : Spelling) (o : Owner) (n : ℕ) (hn : n ≡ p.to - p.from)
-    (f : Found) (hf : f ≡ found_for (W.address_in (folded mixed (part n p.from s)) (owner_of o) 0 (identifiers_from d t 0 x.names))) (g : Meaning) (e : Denotation) (he : e ≡ new_denotation x.member g) (u : List ℕ) (y : Tally) where
-  pub declares_known : (a : Address) → f ≡ Known a → JoinedIf t x a.0 p.from e u y → EnteredIf d s t x p (book_one (identifier_at s p o) (denotation_of (new_denotation x.member g)) p.from) u y
+    (f : Option Address) (hf : f ≡ found_for (W.address_in (folded mixed (part n p.from s)) (owner_of o) 0 (identifiers_from d t 0 x.names))) (g : Meaning) (e : Denotation) (he : e ≡ new_denotation x.member g) (u : List ℕ) (y : Tally) where
+  pub declares_known : (a : Address) → f ≡ Some a → JoinedIf t x a.0 p.from e u y → EnteredIf d s t x p (book_one (identifier_at s p o) (denotation_of (new_denotation x.member g)) p.from) u y
   declares_known a k j = record { is = λ h. declare_known d s t x p o h n hn f hf g e he u y a k (j.is (declare_joining d s t x p o h n hn f hf a k)) }
 
-  pub declares_unknown : f ≡ Unknown → AddedIf t x p o e u y → EnteredIf d s t x p (book_one (identifier_at s p o) (denotation_of (new_denotation x.member g)) p.from) u y
+  pub declares_unknown : f ≡ None → AddedIf t x p o e u y → EnteredIf d s t x p (book_one (identifier_at s p o) (denotation_of (new_denotation x.member g)) p.from) u y
   declares_unknown k j = record { is = λ h. declare_unknown d s t x p o h n hn f hf g e he u y k (j.is h.roomy) }

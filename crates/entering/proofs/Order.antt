@@ -1,6 +1,7 @@
 -- Names that are entered while a member is read decide as the definition does, which enters them afterwards: the first name that
 -- is one too many, the first that is declared twice, and else the names.
 -- Assumes nothing.
+use Rattle.std.proofs.Common.{Option, Some, None, Result, Ok, Err}
 use mathlib.Core.Path.{◌≡◌, refl, sym, ap, subst, ◌∙◌}
 use mathlib.Core.Bool.{Bool, true, false, cond, ◌||◌}
 use mathlib.Core.List.{List, [], ◌∷◌, ◌++◌}
@@ -15,10 +16,6 @@ use Rattle.definition.specs.Names as N
 use Rattle.definition.specs.Limits.{entered_sentences}
 use Rattle.definition.specs.declared.Why.{Why}
 use Rattle.definition.specs.declared.Why.TheVariants.{OverLimit, DeclaredTwice}
-use Rattle.entering.specs.declared.Mark.{Mark}
-use Rattle.entering.specs.declared.Mark.TheVariants.{Unmarked, Marked}
-use Rattle.entering.specs.declared.Fault.{Fault}
-use Rattle.entering.specs.declared.Fault.TheVariants.{Sound, Faulty}
 use Rattle.entering.specs.Book.{Book, mark_of, book_past, book_second, book_more, book_set, book_add, book_joint, book_join, book_at, book_one, listed_one, book_listed, book_whole, fault_for, fault_in, sooner, twice_or}
 use Rattle.entering.specs.Entry.{Shows, Entry, goes_in, stays_out}
 
@@ -78,28 +75,28 @@ listed_names : (g : Bool) (p : ℕ) (b : Book) → (cond {A = Book} g (book_seco
 listed_names true p b = refl
 listed_names false p b = refl
 
-marked_add : (g : Bool) (i : W.Identifier) (d : W.Denotation) (p q : ℕ) (b : Book) → b.past ≡ Marked q → (cond {A = Book} g (book_past p b) (book_more i d b)).past ≡ Marked q
+marked_add : (g : Bool) (i : W.Identifier) (d : W.Denotation) (p q : ℕ) (b : Book) → b.past ≡ Some q → (cond {A = Book} g (book_past p b) (book_more i d b)).past ≡ Some q
 marked_add true i d p q b h = rw h
 marked_add false i d p q b h = h
 
-marked_at : (x : W.Address) (i : W.Identifier) (d : W.Denotation) (p q : ℕ) (b : Book) → b.past ≡ Marked q → (book_at x i d p b).past ≡ Marked q
+marked_at : (x : W.Address) (i : W.Identifier) (d : W.Denotation) (p q : ℕ) (b : Book) → b.past ≡ Some q → (book_at x i d p b).past ≡ Some q
 unfolding book_add book_join
 marked_at (W.address a) i d p q b h = joint_past (N.joint_of (get_or b.denotations a W.builtin_name) d) a p b ∙ h
 marked_at W.unknown i d p q b h = marked_add (leb 256 (length b.identifiers)) i d p q b h
 
-marked_one : (x : N.New) (i : W.Identifier) (ps : List W.Identifier) (p q : ℕ) (b : Book) → b.past ≡ Marked q → (book_listed x i ps p b).past ≡ Marked q
+marked_one : (x : N.New) (i : W.Identifier) (ps : List W.Identifier) (p q : ℕ) (b : Book) → b.past ≡ Some q → (book_listed x i ps p b).past ≡ Some q
 unfolding book_one
 marked_one (N.new d) i ps p q b h = marked_at (W.address_in i.spelling i.owner 0 b.identifiers) i d p q b h
 marked_one N.listing i ps p q b h = listed_past (N.is_listed i ps) p b ∙ h
 
-marked_stays : (m : ℕ) (ps : List W.Identifier) (ds : List P.Declared) (q : ℕ) (b : Book) → b.past ≡ Marked q → (book_whole m ps ds b).past ≡ Marked q
+marked_stays : (m : ℕ) (ps : List W.Identifier) (ds : List P.Declared) (q : ℕ) (b : Book) → b.past ≡ Some q → (book_whole m ps ds b).past ≡ Some q
 unfolding book_whole
 marked_stays m ps [] q b h = h
 marked_stays m ps (d ∷ ds) q b h = marked_stays m (listed_one (N.new_of m d.meaning) (N.identifier_of m d) ps) ds q (book_listed (N.new_of m d.meaning) (N.identifier_of m d) ps d.place b) (marked_one (N.new_of m d.meaning) (N.identifier_of m d) ps d.place q b h)
 
 -- ---- THE FIRST NAME that is one too many is the definition's
 pub record Alike (b : Book) (is : List W.Identifier) : Type 0 where
-  pub past : b.past ≡ Unmarked
+  pub past : b.past ≡ None
   pub size : length is ≡ length b.identifiers
   pub listed : (i : W.Identifier) → N.is_listed i is ≡ N.is_listed i b.identifiers
 
@@ -142,37 +139,37 @@ past_is m ps [] b is h = h.past
 past_is m ps (d ∷ ds) b is h = one_past m ds (λ qs c js k. past_is m qs ds c js k) ps b is (N.identifier_of m d) d.place (N.new_of m d.meaning) (N.is_parameter d.meaning) (case_of m d.meaning) h
 
 -- ---- the first name that is declared twice stays
-second_listed : (g : Bool) (p q : ℕ) (b : Book) → b.second ≡ Marked q → (cond {A = Book} g (book_second p b) b).second ≡ Marked q
+second_listed : (g : Bool) (p q : ℕ) (b : Book) → b.second ≡ Some q → (cond {A = Book} g (book_second p b) b).second ≡ Some q
 second_listed true p q b h = rw h
 second_listed false p q b h = h
 
-second_joint : (x : N.Joint) (a p q : ℕ) (b : Book) → b.second ≡ Marked q → (book_joint x a p b).second ≡ Marked q
+second_joint : (x : N.Joint) (a p q : ℕ) (b : Book) → b.second ≡ Some q → (book_joint x a p b).second ≡ Some q
 second_joint (N.joint d) a p q b h = h
 second_joint N.twice a p q b h = rw h
 
-second_add : (g : Bool) (i : W.Identifier) (d : W.Denotation) (p q : ℕ) (b : Book) → b.second ≡ Marked q → (cond {A = Book} g (book_past p b) (book_more i d b)).second ≡ Marked q
+second_add : (g : Bool) (i : W.Identifier) (d : W.Denotation) (p q : ℕ) (b : Book) → b.second ≡ Some q → (cond {A = Book} g (book_past p b) (book_more i d b)).second ≡ Some q
 second_add true i d p q b h = h
 second_add false i d p q b h = h
 
-second_at : (x : W.Address) (i : W.Identifier) (d : W.Denotation) (p q : ℕ) (b : Book) → b.second ≡ Marked q → (book_at x i d p b).second ≡ Marked q
+second_at : (x : W.Address) (i : W.Identifier) (d : W.Denotation) (p q : ℕ) (b : Book) → b.second ≡ Some q → (book_at x i d p b).second ≡ Some q
 unfolding book_add book_join
 second_at (W.address a) i d p q b h = second_joint (N.joint_of (get_or b.denotations a W.builtin_name) d) a p q b h
 second_at W.unknown i d p q b h = second_add (leb 256 (length b.identifiers)) i d p q b h
 
-second_one : (x : N.New) (i : W.Identifier) (ps : List W.Identifier) (p q : ℕ) (b : Book) → b.second ≡ Marked q → (book_listed x i ps p b).second ≡ Marked q
+second_one : (x : N.New) (i : W.Identifier) (ps : List W.Identifier) (p q : ℕ) (b : Book) → b.second ≡ Some q → (book_listed x i ps p b).second ≡ Some q
 unfolding book_one
 second_one (N.new d) i ps p q b h = second_at (W.address_in i.spelling i.owner 0 b.identifiers) i d p q b h
 second_one N.listing i ps p q b h = second_listed (N.is_listed i ps) p q b h
 
-second_stays : (m : ℕ) (ps : List W.Identifier) (ds : List P.Declared) (q : ℕ) (b : Book) → b.second ≡ Marked q → (book_whole m ps ds b).second ≡ Marked q
+second_stays : (m : ℕ) (ps : List W.Identifier) (ds : List P.Declared) (q : ℕ) (b : Book) → b.second ≡ Some q → (book_whole m ps ds b).second ≡ Some q
 unfolding book_whole
 second_stays m ps [] q b h = h
 second_stays m ps (d ∷ ds) q b h = second_stays m (listed_one (N.new_of m d.meaning) (N.identifier_of m d) ps) ds q (book_listed (N.new_of m d.meaning) (N.identifier_of m d) ps d.place b) (second_one (N.new_of m d.meaning) (N.identifier_of m d) ps d.place q b h)
 
 -- ---- the world that a book shows
 pub data Outcome (x : N.Declaring) (c : Book) : Type 0 where
-  enters : (v : W.World) → x ≡ N.fine v → Shows v c → c.second ≡ Unmarked → Outcome x c
-  repeats : (p : ℕ) → x ≡ N.second p → c.second ≡ Marked p → Outcome x c
+  enters : (v : W.World) → x ≡ N.fine v → Shows v c → c.second ≡ None → Outcome x c
+  repeats : (p : ℕ) → x ≡ N.second p → c.second ≡ Some p → Outcome x c
 
 abbrev jointly : N.Joint → ℕ → ℕ → W.World → N.Declaring
 jointly (N.joint e) a p w = N.fine (N.set_denotation a e w)
@@ -182,18 +179,18 @@ declared_joint : (x : N.Joint) (a : ℕ) (i : W.Identifier) (d : W.Denotation) (
 declared_joint (N.joint e) a i d p w h = rw h
 declared_joint N.twice a i d p w h = rw h
 
-module _ (m : ℕ) (ds : List P.Declared) (again : (ps : List W.Identifier) (w : W.World) (b : Book) → Shows w b → b.second ≡ Unmarked → (book_whole m ps ds b).past ≡ Unmarked → Outcome (N.declare_all m ps ds w) (book_whole m ps ds b)) where
-  joint_outcome : (ps : List W.Identifier) (w : W.World) (b : Book) (a p : ℕ) (x : N.Joint) → Shows w b → b.second ≡ Unmarked → (book_whole m ps ds (book_joint x a p b)).past ≡ Unmarked
+module _ (m : ℕ) (ds : List P.Declared) (again : (ps : List W.Identifier) (w : W.World) (b : Book) → Shows w b → b.second ≡ None → (book_whole m ps ds b).past ≡ None → Outcome (N.declare_all m ps ds w) (book_whole m ps ds b)) where
+  joint_outcome : (ps : List W.Identifier) (w : W.World) (b : Book) (a p : ℕ) (x : N.Joint) → Shows w b → b.second ≡ None → (book_whole m ps ds (book_joint x a p b)).past ≡ None
       → Outcome (N.onward (jointly x a p w) (N.declare_all m ps ds)) (book_whole m ps ds (book_joint x a p b))
   joint_outcome ps w b a p (N.joint e) h u k = again ps (N.set_denotation a e w) (book_set a e b) (record { identifiers = h.identifiers; denotations = rw h.denotations; activities = h.activities }) u k
   joint_outcome ps w b a p N.twice h u k = repeats p refl (second_stays m ps ds p (book_second p b) (rw u))
 
-  add_outcome : (ps : List W.Identifier) (w : W.World) (b : Book) (i : W.Identifier) (d : W.Denotation) (p : ℕ) (g : Bool) → Shows w b → b.past ≡ Unmarked → b.second ≡ Unmarked → (book_whole m ps ds (cond {A = Book} g (book_past p b) (book_more i d b))).past ≡ Unmarked
+  add_outcome : (ps : List W.Identifier) (w : W.World) (b : Book) (i : W.Identifier) (d : W.Denotation) (p : ℕ) (g : Bool) → Shows w b → b.past ≡ None → b.second ≡ None → (book_whole m ps ds (cond {A = Book} g (book_past p b) (book_more i d b))).past ≡ None
       → Outcome (N.declare_all m ps ds (N.add_name i d w)) (book_whole m ps ds (cond {A = Book} g (book_past p b) (book_more i d b)))
-  add_outcome ps w b i d p true h v u k = let q : (book_whole m ps ds (book_past p b)).past ≡ Marked p = marked_stays m ps ds p (book_past p b) (rw v) in let z : ◌≡◌ {A = ℕ} 0 1 = cc in absurd (omega arith)
+  add_outcome ps w b i d p true h v u k = let q : (book_whole m ps ds (book_past p b)).past ≡ Some p = marked_stays m ps ds p (book_past p b) (rw v) in let z : ◌≡◌ {A = ℕ} 0 1 = cc in absurd (omega arith)
   add_outcome ps w b i d p false h v u k = again ps (N.add_name i d w) (book_more i d b) (record { identifiers = rw h.identifiers; denotations = rw h.denotations; activities = rw h.activities }) u k
 
-  at_outcome : (ps : List W.Identifier) (w : W.World) (b : Book) (i : W.Identifier) (d : W.Denotation) (p : ℕ) (x : W.Address) → Shows w b → b.past ≡ Unmarked → b.second ≡ Unmarked → (book_whole m ps ds (book_at x i d p b)).past ≡ Unmarked
+  at_outcome : (ps : List W.Identifier) (w : W.World) (b : Book) (i : W.Identifier) (d : W.Denotation) (p : ℕ) (x : W.Address) → Shows w b → b.past ≡ None → b.second ≡ None → (book_whole m ps ds (book_at x i d p b)).past ≡ None
       → Outcome (N.onward (N.declared_at x i d p w) (N.declare_all m ps ds)) (book_whole m ps ds (book_at x i d p b))
   unfolding book_add book_join
   at_outcome ps w b i d p (W.address a) h v u k =
@@ -201,23 +198,23 @@ module _ (m : ℕ) (ds : List P.Declared) (again : (ps : List W.Identifier) (w :
       rw (declared_joint x a i d p w (rw h.denotations)) (joint_outcome ps w b a p x h u k)
   at_outcome ps w b i d p W.unknown h v u k = add_outcome ps w b i d p (leb 256 (length b.identifiers)) h v u k
 
-  listed_outcome : (ps : List W.Identifier) (w : W.World) (b : Book) (i : W.Identifier) (p : ℕ) (g : Bool) → Shows w b → b.second ≡ Unmarked → (book_whole m (i ∷ ps) ds (cond {A = Book} g (book_second p b) b)).past ≡ Unmarked
+  listed_outcome : (ps : List W.Identifier) (w : W.World) (b : Book) (i : W.Identifier) (p : ℕ) (g : Bool) → Shows w b → b.second ≡ None → (book_whole m (i ∷ ps) ds (cond {A = Book} g (book_second p b) b)).past ≡ None
       → Outcome (when g (λ _. N.second p) (λ _. N.declare_all m (i ∷ ps) ds w)) (book_whole m (i ∷ ps) ds (cond {A = Book} g (book_second p b) b))
   listed_outcome ps w b i p true h u k = repeats p refl (second_stays m (i ∷ ps) ds p (book_second p b) (rw u))
   listed_outcome ps w b i p false h u k = again (i ∷ ps) w b h u k
 
-  one_outcome : (ps : List W.Identifier) (w : W.World) (b : Book) (i : W.Identifier) (p : ℕ) (x : N.New) → Shows w b → b.past ≡ Unmarked → b.second ≡ Unmarked → (book_whole m (listed_one x i ps) ds (book_listed x i ps p b)).past ≡ Unmarked
+  one_outcome : (ps : List W.Identifier) (w : W.World) (b : Book) (i : W.Identifier) (p : ℕ) (x : N.New) → Shows w b → b.past ≡ None → b.second ≡ None → (book_whole m (listed_one x i ps) ds (book_listed x i ps p b)).past ≡ None
       → Outcome (N.declare_one x i ps p w (λ qs v. N.declare_all m qs ds v)) (book_whole m (listed_one x i ps) ds (book_listed x i ps p b))
   unfolding book_one
   one_outcome ps w b i p (N.new d) h v u k = subst (λ (z : W.Address). Outcome (N.onward (N.declared_at z i d p w) (N.declare_all m ps ds)) (book_whole m ps ds (book_at (W.address_in i.spelling i.owner 0 b.identifiers) i d p b))) (ap (λ (z : List W.Identifier). W.address_in i.spelling i.owner 0 z) (sym h.identifiers)) (at_outcome ps w b i d p (W.address_in i.spelling i.owner 0 b.identifiers) h v u k)
   one_outcome ps w b i p N.listing h v u k = listed_outcome ps w b i p (N.is_listed i ps) h u k
 
-unmarked : (m : ℕ) (ps : List W.Identifier) (ds : List P.Declared) (b : Book) (x : Mark) → b.past ≡ x → (book_whole m ps ds b).past ≡ Unmarked → b.past ≡ Unmarked
-unmarked m ps ds b Unmarked e k = e
-unmarked m ps ds b (Marked q) e k = let r : (book_whole m ps ds b).past ≡ Marked q = marked_stays m ps ds q b e in let z : ◌≡◌ {A = ℕ} 0 1 = cc in absurd (omega arith)
+unmarked : (m : ℕ) (ps : List W.Identifier) (ds : List P.Declared) (b : Book) (x : Option ℕ) → b.past ≡ x → (book_whole m ps ds b).past ≡ None → b.past ≡ None
+unmarked m ps ds b None e k = e
+unmarked m ps ds b (Some q) e k = let r : (book_whole m ps ds b).past ≡ Some q = marked_stays m ps ds q b e in let z : ◌≡◌ {A = ℕ} 0 1 = cc in absurd (omega arith)
 
 -- THE NAMES are the definition's, or the first that is declared twice is, where no name is one too many
-pub names_are : (m : ℕ) (ps : List W.Identifier) (ds : List P.Declared) (w : W.World) (b : Book) → Shows w b → b.second ≡ Unmarked → (book_whole m ps ds b).past ≡ Unmarked → Outcome (N.declare_all m ps ds w) (book_whole m ps ds b)
+pub names_are : (m : ℕ) (ps : List W.Identifier) (ds : List P.Declared) (w : W.World) (b : Book) → Shows w b → b.second ≡ None → (book_whole m ps ds b).past ≡ None → Outcome (N.declare_all m ps ds w) (book_whole m ps ds b)
 unfolding book_whole N.declare_all
 names_are m ps [] w b h u k = enters w refl h u
 names_are m ps (d ∷ ds) w b h u k = one_outcome m ds (λ qs v c. names_are m qs ds v c) ps w b (N.identifier_of m d) d.place (N.new_of m d.meaning) h (unmarked m ps (d ∷ ds) b b.past refl k) u k
@@ -232,32 +229,32 @@ sound_as m s w (N.fine v) e = rw e
 sound_as m s w (N.second p) e = rw e
 
 module _ (m : ℕ) (s : P.Source) (w : W.World) (c : Book) where
-  by_second : Outcome (N.declare_all m [] s.declared w) c → Entry m s c (N.entered_as P.sound m s w) (twice_or c.second Sound)
+  by_second : Outcome (N.declare_all m [] s.declared w) c → Entry m s c (N.entered_as P.sound m s w) (twice_or c.second (Ok tt))
   by_second (enters v e h u) = goes_in v (sound_as m s w (N.fine v) e) h (rw u)
   by_second (repeats p e u) = stays_out DeclaredTwice p (sound_as m s w (N.second p) e) (rw u)
 
-  by_fault : (f : Fault) → Outcome (N.declare_all m [] s.declared w) c → Entry m s c (N.entered_as (fault_for f) m s w) (twice_or c.second f)
-  by_fault Sound o = by_second o
-  by_fault (Faulty e p) o = stays_out e p refl (any_mark c.second e p)
+  by_fault : (f : Result (Unit {0}) (Why × ℕ)) → Outcome (N.declare_all m [] s.declared w) c → Entry m s c (N.entered_as (fault_for f) m s w) (twice_or c.second f)
+  by_fault (Ok tt) o = by_second o
+  by_fault (Err (e, p)) o = stays_out e p refl (any_mark c.second e p)
     where
-      any_mark : (k : Mark) (e : Why) (p : ℕ) → twice_or k (Faulty e p) ≡ Faulty e p
-      any_mark Unmarked e p = refl
-      any_mark (Marked q) e p = refl
+      any_mark : (k : Option ℕ) (e : Why) (p : ℕ) → twice_or k (Err (e, p)) ≡ Err (e, p)
+      any_mark None e p = refl
+      any_mark (Some q) e p = refl
 
-  by_place : (p : ℕ) (e : Why) (q : ℕ) (g : Bool) → Entry m s c (N.entered_as (cond g (P.faulty OverLimit p) (P.faulty e q)) m s w) (cond g (Faulty OverLimit p) (Faulty e q))
+  by_place : (p : ℕ) (e : Why) (q : ℕ) (g : Bool) → Entry m s c (N.entered_as (cond g (P.faulty OverLimit p) (P.faulty e q)) m s w) (cond g (Err (OverLimit, p)) (Err (e, q)))
   by_place p e q true = stays_out OverLimit p refl refl
   by_place p e q false = stays_out e q refl refl
 
-  by_past : (x : N.Past) (f : Fault) → (x ≡ N.within → Outcome (N.declare_all m [] s.declared w) c) → Entry m s c (N.entered_as (N.sooner x (fault_for f)) m s w) (sooner (mark_of x) f (twice_or c.second f))
+  by_past : (x : N.Past) (f : Result (Unit {0}) (Why × ℕ)) → (x ≡ N.within → Outcome (N.declare_all m [] s.declared w) c) → Entry m s c (N.entered_as (N.sooner x (fault_for f)) m s w) (sooner (mark_of x) f (twice_or c.second f))
   by_past N.within f o = by_fault f (o refl)
-  by_past (N.past_at p) Sound o = stays_out OverLimit p refl refl
-  by_past (N.past_at p) (Faulty e q) o = by_place p e q (ltb p q)
+  by_past (N.past_at p) (Ok tt) o = stays_out OverLimit p refl refl
+  by_past (N.past_at p) (Err (e, q)) o = by_place p e q (ltb p q)
 
-pub decides : (m : ℕ) (s : P.Source) (w : W.World) (b : Book) (f : Fault) → Shows w b → b.past ≡ Unmarked → b.second ≡ Unmarked
+pub decides : (m : ℕ) (s : P.Source) (w : W.World) (b : Book) (f : Result (Unit {0}) (Why × ℕ)) → Shows w b → b.past ≡ None → b.second ≡ None
     → fault_for f ≡ N.sooner (N.sentences_past (entered_sentences - w.sentences) s.begun) s.fault
     → Entry m s (book_whole m [] s.declared b) (N.enter m s w) (fault_in (book_whole m [] s.declared b).past (book_whole m [] s.declared b).second f)
 unfolding N.enter N.fault_of fault_in
 decides m s w b f h p u e =
     let c : Book = book_whole m [] s.declared b in
     let a : c.past ≡ mark_of (N.names_past m w.identifiers s.declared) = past_is m [] s.declared b w.identifiers (record { past = p; size = rw h.identifiers; listed = λ i. rw h.identifiers }) in
-    rw (← e) (subst (λ (z : Mark). Entry m s c (N.entered_as (N.sooner (N.names_past m w.identifiers s.declared) (fault_for f)) m s w) (sooner z f (twice_or c.second f))) (sym a) (by_past m s w c (N.names_past m w.identifiers s.declared) f (λ z. names_are m [] s.declared w b h u (a ∙ ap mark_of z))))
+    rw (← e) (subst (λ (z : Option ℕ). Entry m s c (N.entered_as (N.sooner (N.names_past m w.identifiers s.declared) (fault_for f)) m s w) (sooner z f (twice_or c.second f))) (sym a) (by_past m s w c (N.names_past m w.identifiers s.declared) f (λ z. names_are m [] s.declared w b h u (a ∙ ap mark_of z))))

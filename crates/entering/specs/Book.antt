@@ -1,6 +1,7 @@
 -- The names that are declared so far, in the definition's terms, with the two places that decide which refusal comes first; and
 -- how one declaration after the other changes them.
-use Rattle.std.specs.Prelude.{Option, Some, None, ℕ, zero, suc, ◌+◌, ◌-◌, ◌%◌, ◌≤◌, ◌<◌, Bool, true, false, cond, List, [], ◌∷◌, ◌++◌, ◌≡◌, leb, ltb, length, get_or, set}
+use Rattle.definition.specs.declared.Why.{Why}
+use Rattle.std.specs.Prelude.{Option, Some, None, ℕ, zero, suc, ◌+◌, ◌-◌, ◌%◌, ◌≤◌, ◌<◌, Bool, true, false, cond, List, [], ◌∷◌, ◌++◌, ◌≡◌, leb, ltb, length, get_or, set, Result, Ok, Err}
 use Rattle.definition.specs.Bytes.{mixed, folded}
 use Rattle.definition.specs.Lists.{part}
 use Rattle.definition.specs.Limits.{declared_names}
@@ -14,17 +15,12 @@ use Rattle.names.specs.declared.Name.{Name}
 use Rattle.names.specs.declared.Activity.TheVariants.{Inactive}
 use Rattle.names.specs.declared.Place.{Place}
 use Rattle.names.specs.declared.Owner.{Owner}
-use Rattle.names.specs.declared.Body.TheVariants as Body
 use Rattle.names.specs.declared.Denotation.{Denotation}
 use Rattle.names.specs.declared.Denotation.TheVariants.{Variable, EntryName, LabelName, Builtin}
 use Rattle.entering.specs.declared.Meaning.{Meaning}
 use Rattle.entering.specs.declared.Meaning.TheVariants as M
-use Rattle.entering.specs.declared.Mark.{Mark}
-use Rattle.entering.specs.declared.Mark.TheVariants.{Unmarked, Marked}
 use Rattle.entering.specs.declared.Tally.{Tally}
 use Rattle.entering.specs.declared.Spelling.{Spelling}
-use Rattle.entering.specs.declared.Fault.{Fault}
-use Rattle.entering.specs.declared.Fault.TheVariants.{Sound, Faulty}
 
 -- ---- what the answers stand for
 abbrev pub meaning_of : Meaning → P.Meaning
@@ -39,26 +35,26 @@ abbrev pub joint_for : Option Denotation → N.Joint
 joint_for (Some d) = N.joint (denotation_of d)
 joint_for None = N.twice
 
-abbrev pub fault_for : Fault → P.Fault
-fault_for Sound = P.sound
-fault_for (Faulty w p) = P.faulty w p
+abbrev pub fault_for : Result (Unit {0}) (Why × ℕ) → P.Fault
+fault_for (Ok tt) = P.sound
+fault_for (Err (w, p)) = P.faulty w p
 
 -- an entry with its body and its declaration, if the one that was missing is new
 abbrev pub joint_both : Bool → Place → N.Joint
 joint_both b p = cond b (N.joint (W.entry_of true (W.body_at p.member p.row))) N.twice
 
 -- ---- the marks: the first place stays
-abbrev pub first_of : Mark → ℕ → Mark
-first_of Unmarked p = Marked p
-first_of (Marked q) p = Marked q
+abbrev pub first_of : Option ℕ → ℕ → Option ℕ
+first_of None p = Some p
+first_of (Some q) p = Some q
 
-abbrev pub mark_of : N.Past → Mark
-mark_of N.within = Unmarked
-mark_of (N.past_at p) = Marked p
+abbrev pub mark_of : N.Past → Option ℕ
+mark_of N.within = None
+mark_of (N.past_at p) = Some p
 
-abbrev pub past_of : Mark → N.Past
-past_of Unmarked = N.within
-past_of (Marked p) = N.past_at p
+abbrev pub past_of : Option ℕ → N.Past
+past_of None = N.within
+past_of (Some p) = N.past_at p
 
 abbrev pub tally_past : Tally → ℕ → Tally
 tally_past t p = record { member = t.member; base = t.base; names = t.names; past = first_of t.past p; second = t.second }
@@ -66,7 +62,7 @@ tally_past t p = record { member = t.member; base = t.base; names = t.names; pas
 abbrev pub tally_second : Tally → ℕ → Tally
 tally_second t p = record { member = t.member; base = t.base; names = t.names; past = t.past; second = first_of t.second p }
 
-abbrev pub tally_of : ℕ → ℕ → ℕ → Mark → Mark → Tally
+abbrev pub tally_of : ℕ → ℕ → ℕ → Option ℕ → Option ℕ → Tally
 tally_of m b n p q = record { member = m; base = b; names = n; past = p; second = q }
 
 -- what a name that had no meaning becomes
@@ -75,8 +71,8 @@ place_at m r = record { member = m; row = r }
 
 abbrev pub new_denotation : ℕ → Meaning → Denotation
 new_denotation m (M.Variable t) = Variable t
-new_denotation m M.EntryOnly = EntryName (record { declared = true; body = Body.Nothing })
-new_denotation m (M.BodyAt r) = EntryName (record { declared = false; body = Body.At (place_at m r) })
+new_denotation m M.EntryOnly = EntryName (record { declared = true; body = None })
+new_denotation m (M.BodyAt r) = EntryName (record { declared = false; body = Some (place_at m r) })
 new_denotation m (M.LabelAt r) = LabelName (record { place = place_at m r; is_end = false })
 new_denotation m (M.EndLabelAt r) = LabelName (record { place = place_at m r; is_end = true })
 new_denotation m M.BuiltinName = Builtin
@@ -86,8 +82,8 @@ pub record Book : Type 0 where
   pub identifiers : List W.Identifier
   pub denotations : List W.Denotation
   pub activities : List W.Activity
-  pub past : Mark
-  pub second : Mark
+  pub past : Option ℕ
+  pub second : Option ℕ
 
 abbrev pub book_past : ℕ → Book → Book
 book_past p b = record { identifiers = b.identifiers; denotations = b.denotations; activities = b.activities; past = first_of b.past p; second = b.second }
@@ -216,15 +212,15 @@ pub record EnteredIf (d s t : List ℕ) (x : Tally) (p : Spelling) (f : Book →
   pub is : Declarable d s t x p → Entered d t x f u y
 
 -- ---- which refusal comes first: 3 and 4 by place, and then 5
-abbrev pub twice_or : Mark → Fault → Fault
-twice_or Unmarked Sound = Sound
-twice_or (Marked p) Sound = Faulty DeclaredTwice p
-twice_or m (Faulty w q) = Faulty w q
+abbrev pub twice_or : Option ℕ → Result (Unit {0}) (Why × ℕ) → Result (Unit {0}) (Why × ℕ)
+twice_or None (Ok tt) = (Ok tt)
+twice_or (Some p) (Ok tt) = Err (DeclaredTwice, p)
+twice_or m (Err (w, q)) = Err (w, q)
 
-abbrev pub sooner : Mark → Fault → Fault → Fault
-sooner Unmarked f other = other
-sooner (Marked p) Sound other = Faulty OverLimit p
-sooner (Marked p) (Faulty w q) other = cond (ltb p q) (Faulty OverLimit p) (Faulty w q)
+abbrev pub sooner : Option ℕ → Result (Unit {0}) (Why × ℕ) → Result (Unit {0}) (Why × ℕ) → Result (Unit {0}) (Why × ℕ)
+sooner None f other = other
+sooner (Some p) (Ok tt) other = Err (OverLimit, p)
+sooner (Some p) (Err (w, q)) other = cond (ltb p q) (Err (OverLimit, p)) (Err (w, q))
 
-unfoldable pub fault_in : Mark → Mark → Fault → Fault
+unfoldable pub fault_in : Option ℕ → Option ℕ → Result (Unit {0}) (Why × ℕ) → Result (Unit {0}) (Why × ℕ)
 fault_in past second f = sooner past f (twice_or second f)

@@ -6,14 +6,13 @@ ghost use Rattle.std.specs.Prelude.{◌≡◌, ◌-◌};
 ghost use Rattle.definition.specs.Names as N;
 ghost use Rattle.names.specs.Table.{denotation_of};
 ghost use Rattle.names.specs.declared.Denotation.TheVariants as D;
-ghost use Rattle.entering.specs.declared.Mark.TheVariants as K;
 ghost use Rattle.entering.specs.Book as B;
 
-use definition::{ValueType, Why};
+use definition::{Fault, ValueType, Why};
 use limits::Names;
 use names::{
-    Activity, Address, Body, Denotation, Entry, Found, Identifier, Label, Name, Owner, Place, find,
-    name_at, put_name,
+    Activity, Address, Denotation, Entry, Identifier, Label, Name, Owner, Place, find, name_at,
+    put_name,
 };
 use sums::less;
 
@@ -28,13 +27,6 @@ pub enum Meaning {
     BuiltinName,
 }
 
-// A place that was met, or none.
-#[derive(Clone, Copy)]
-pub enum Mark {
-    Unmarked,
-    Marked(usize),
-}
-
 // The member whose names are declared, and where its body begins in the deck; how many names there are; the first name that is
 // one too many, and the first that is declared twice.
 #[derive(Clone, Copy)]
@@ -42,8 +34,8 @@ pub struct Tally {
     pub member: u16,
     pub base: u16,
     pub names: u16,
-    pub past: Mark,
-    pub second: Mark,
+    pub past: Option<usize>,
+    pub second: Option<usize>,
 }
 
 // Where a name is spelled in its member's body.
@@ -54,12 +46,12 @@ pub struct Spelling {
 }
 
 // The first place stays.
-fn first_of(m: Mark, p: usize) -> Mark
+fn first_of(m: Option<usize>, p: usize) -> Option<usize>
     ensures { result ≡ B.first_of m p }
 {
     match m {
-        Mark::Unmarked => Mark::Marked(p),
-        Mark::Marked(_) => m,
+        None => Some(p),
+        Some(_) => m,
     }
 }
 
@@ -82,14 +74,14 @@ pub fn with_second(t: Tally, p: usize) -> Tally
 }
 
 pub fn new_tally(member: u16, base: u16, names: u16) -> Tally
-    ensures { result ≡ B.tally_of member base names K.Unmarked K.Unmarked }
+    ensures { result ≡ B.tally_of member base names None None }
 {
     Tally {
         member,
         base,
         names,
-        past: Mark::Unmarked,
-        second: Mark::Unmarked,
+        past: None,
+        second: None,
     }
 }
 
@@ -101,11 +93,11 @@ fn denotation_of(m: u16, x: Meaning) -> Denotation
         Meaning::Variable(t) => Denotation::Variable(t),
         Meaning::EntryOnly => Denotation::EntryName(Entry {
             declared: true,
-            body: Body::Nothing,
+            body: None,
         }),
         Meaning::BodyAt(r) => Denotation::EntryName(Entry {
             declared: false,
-            body: Body::At(Place { member: m, row: r }),
+            body: Some(Place { member: m, row: r }),
         }),
         Meaning::LabelAt(r) => Denotation::LabelName(Label {
             place: Place { member: m, row: r },
@@ -124,9 +116,9 @@ fn joint_entry(a: Entry, b: Entry) -> Option<Denotation>
     ensures { B.joint_for result ≡ N.joint_of (denotation_of (D.EntryName a)) (denotation_of (D.EntryName b)) }
 {
     match (a.body, b.body) {
-        (Body::Nothing, Body::At(p)) => both(a.declared, p),
-        (Body::At(p), Body::Nothing) => both(!a.declared, p),
-        (Body::Nothing, Body::Nothing) | (Body::At(_), Body::At(_)) => None,
+        (None, Some(p)) => both(a.declared, p),
+        (Some(p), None) => both(!a.declared, p),
+        (None, None) | (Some(_), Some(_)) => None,
     }
 }
 
@@ -136,7 +128,7 @@ fn both(is_new: bool, p: Place) -> Option<Denotation>
 {
     is_new.then_some(Denotation::EntryName(Entry {
         declared: true,
-        body: Body::At(p),
+        body: Some(p),
     }))
 }
 
@@ -211,37 +203,30 @@ pub fn declare(
 {
     let d = denotation_of(t.member, meaning);
     match find(deck, names, t.names, s, x.from, length_of(x), owner) {
-        Found::Known(a) => join_name(names, t, a, x.from, d),
-        Found::Unknown => add_name(names, t, x, owner, d),
+        Some(a) => join_name(names, t, a, x.from, d),
+        None => add_name(names, t, x, owner, d),
     }
-}
-
-// What is wrong with a member, if anything is.
-#[derive(Clone, Copy)]
-pub enum Fault {
-    Sound,
-    Faulty(Why, usize),
 }
 
 // 3 and 4 by place, and then 5.
 #[tactic(auto, unfolding(crate::specs::Book::fault_in))]
-pub fn fault_of(t: Tally, f: Fault) -> Fault
+pub fn fault_of(t: Tally, f: Result<(), Fault>) -> Result<(), Fault>
     ensures { result ≡ B.fault_in t.past t.second f }
 {
     match t.past {
-        Mark::Unmarked => twice_or(t, f),
-        Mark::Marked(p) => match f {
-            Fault::Faulty(_, q) if q <= p => f,
-            Fault::Faulty(_, _) | Fault::Sound => Fault::Faulty(Why::OverLimit, p),
+        None => twice_or(t, f),
+        Some(p) => match f {
+            Err((_, q)) if q <= p => f,
+            Err((_, _)) | Ok(()) => Err((Why::OverLimit, p)),
         },
     }
 }
 
-fn twice_or(t: Tally, f: Fault) -> Fault
+fn twice_or(t: Tally, f: Result<(), Fault>) -> Result<(), Fault>
     ensures { result ≡ B.twice_or t.second f }
 {
     match (f, t.second) {
-        (Fault::Sound, Mark::Marked(p)) => Fault::Faulty(Why::DeclaredTwice, p),
-        (Fault::Sound, Mark::Unmarked) | (Fault::Faulty(_, _), _) => f,
+        (Ok(()), Some(p)) => Err((Why::DeclaredTwice, p)),
+        (Ok(()), None) | (Err((_, _)), _) => f,
     }
 }

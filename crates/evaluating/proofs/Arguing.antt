@@ -1,5 +1,6 @@
 -- The loop over a list of arguments, and the functions around it.
 -- Assumes nothing.
+use Rattle.operands.specs.Types.{Evaluated}
 use mathlib.Core.Path.{◌≡◌, refl, sym, ap, subst, ◌∙◌}
 use mathlib.Core.Bool.{Bool, true, false, cond}
 use mathlib.Core.List.{List, [], ◌∷◌, ◌++◌}
@@ -39,8 +40,6 @@ use Rattle.callees.specs.declared.Held.{Held}
 use Rattle.callees.specs.Shown.{world_in, Slots, Typed}
 use Rattle.callees.specs.Answer.{HeldWith, held_in, held_size}
 use Rattle.operands.specs.declared.Scene.{Scene}
-use Rattle.operands.specs.declared.Evaluated.{Evaluated}
-use Rattle.operands.specs.declared.Evaluated.TheVariants.{Is, Failed}
 use Rattle.operands.specs.declared.Wished.{Wished}
 use Rattle.operands.specs.declared.Target.{Target}
 use Rattle.operands.specs.Shown.{Shows}
@@ -303,7 +302,7 @@ module _ (deck rows names s c₀ l₀ h₀ w₀ : List ℕ) (from left u : ℕ) 
           ∙ ap (λ (a : List Ev.Wish). bind (taken x j.tree a top (world_in B c l h m.used)) (λ ys r. good (j.values ++ ys) r)) (sym q.ws_is)
           ∙ j.same
 
-      failed_by : (a : Why) (n : Meter) → y ≡ Failed a n → (B : World) (p e : ℕ) (ws₀ : List Ev.Wish) (n₀ : ℕ) (R : Res Why (List Val.Value)) (j : Took B p e ws₀ n₀ R i listed top at f k m c l h w) → Now B p e ws₀ n₀ R j → Args B u w₀ c₁ l₁ h₁ w₂ ws₀ n₀ e R (Err (a, n))
+      failed_by : (a : Why) (n : Meter) → y ≡ Err (a, n) → (B : World) (p e : ℕ) (ws₀ : List Ev.Wish) (n₀ : ℕ) (R : Res Why (List Val.Value)) (j : Took B p e ws₀ n₀ R i listed top at f k m c l h w) → Now B p e ws₀ n₀ R j → Args B u w₀ c₁ l₁ h₁ w₂ ws₀ n₀ e R (Err (a, n))
       failed_by a n ey B p e ws₀ n₀ R j q = record {
         is = sym (whole B p e ws₀ n₀ R j q) ∙ rw ey;
         below = below_then u top w₀ w w₂ j.below (path_place w f k 0 u ws₀ j.values i top j.ws j.path).1 q.below;
@@ -311,10 +310,10 @@ module _ (deck rows names s c₀ l₀ h₀ w₀ : List ℕ) (from left u : ℕ) 
         slots = q.slots;
       }
 
-      pub taking_failed : (a : Why) (n : Meter) → y ≡ Failed a n → TakenIs deck s rows names c₀ l₀ h₀ w₀ from left u t x m₀ c₁ l₁ h₁ w₂ (Err (a, n))
+      pub taking_failed : (a : Why) (n : Meter) → y ≡ Err (a, n) → TakenIs deck s rows names c₀ l₀ h₀ w₀ from left u t x m₀ c₁ l₁ h₁ w₂ (Err (a, n))
       taking_failed a n ey = record { is = λ B sh p d e q g ws co a₁ b₁. let j : Took B p e ws (count d) (taken x d ws u (world_in B c₀ l₀ h₀ m₀.used)) i listed top at f k m c l h w = ta.is B sh p d e q g ws co a₁ b₁ in failed_by a n ey B p e ws (count d) _ j (now B p e ws (count d) _ j) }
 
-      module _ (v : Value) (q₁ : ℕ) (n : Meter) (ey : y ≡ Is v q₁ n) (k' : Held) (hw : HeldWith k i v k') (f' : Value) (ef : f' ≡ cond (ltb i 1) v f) (z top' : ℕ) (ez : z ≡ size_for v) (et : top' ≡ top_of top z)
+      module _ (v : Value) (q₁ : ℕ) (n : Meter) (ey : y ≡ Ok (v, q₁, n)) (k' : Held) (hw : HeldWith k i v k') (f' : Value) (ef : f' ≡ cond (ltb i 1) v f) (z top' : ℕ) (ez : z ≡ size_for v) (et : top' ≡ top_of top z)
           (lx : Lexeme) (lex : Lexed s q₁ lx) (i' : ℕ) (ei : i' ≡ i + 1) (z₂ : length w₂ ≡ length w₁) where
         first_kept : 0 < i → f' ≡ f
         first_kept h = ef ∙ rw (le-ltb i 1 (omega (arith, h)))

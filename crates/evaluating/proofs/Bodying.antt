@@ -1,5 +1,8 @@
 -- The statements of a body: each leads where the definition's does.
 -- Assumes nothing.
+use Rattle.bodies.specs.Types.{Done, Tested, Started}
+use Rattle.operands.specs.Types.{Evaluated}
+use Rattle.std.proofs.Common.{Result, Ok, Err}
 use mathlib.Core.Logic.{◌⊎◌, inl, inr}
 use mathlib.Core.Path.{◌≡◌, refl, sym, ap, subst, ◌∙◌}
 use mathlib.Core.Bool.{Bool, true, false, cond}
@@ -50,22 +53,12 @@ use Rattle.flow.proofs.Framing.{once_of, has_entered, framed_entered, start_own,
 use Rattle.flow.proofs.Arriving.{chosen_stands, chosen_walk_stands, landing_code_stands, arrived_stands}
 use Rattle.operators.specs.Stands.{value_in}
 use Rattle.operands.specs.declared.Scene.{Scene}
-use Rattle.operands.specs.declared.Evaluated.{Evaluated}
-use Rattle.operands.specs.declared.Evaluated.TheVariants.{Is, Failed}
 use Rattle.operands.specs.Shown.{Stated, Shows}
 use Rattle.operands.specs.Answer.{Gave, run_in, value_of, Turns}
 use Rattle.operands.specs.Takes.{wished_on}
 use Rattle.operands.proofs.Trees.{clash, expect_is}
-use Rattle.bodies.specs.declared.Done.{Done}
-use Rattle.bodies.specs.declared.Done.TheVariants as Dn
-use Rattle.bodies.specs.declared.Tested.{Tested}
-use Rattle.bodies.specs.declared.Tested.TheVariants as Te
-use Rattle.bodies.specs.declared.Started.{Started}
-use Rattle.bodies.specs.declared.Started.TheVariants as Sd
 use Rattle.bodies.specs.declared.Step.TheVariants as St
 use Rattle.bodies.specs.declared.Turned.{Turned}
-use Rattle.bodies.specs.declared.Jump.{Jump}
-use Rattle.bodies.specs.declared.Jump.TheVariants as Ju
 use Rattle.bodies.specs.Deeds.{Serves, scene_machine, Leaves, done_in, done_meter, tested_in, tested_meter}
 use Rattle.bodies.specs.Ways.{turned_by, after_done, after_test, into_group, after_start, step_of, ReturnIs}
 use Rattle.bodies.specs.Jumps.{jump_for, local_target, global_target, out_target, target_for, target_in, jump_by, after_jump, JumpsIn}
@@ -230,8 +223,8 @@ module _ (deck s t rows names c l h w : List ℕ) (p : Place) (n : ℕ) (fs : Fr
     done_turns : (c' l' h' w' : List ℕ) (d : Done) (R : Res Why (Unit {0})) → done_in B c' l' h' d ≡ R → Leaves B u w c' l' h' w' (done_meter d)
         → TurnsTo machine t B u c' l' h' w' (bind R (λ _ v. F.onward machine G (F.behind machine G n v))) fs (after_done d (behind_on t fs (n + 1) n)) × Leaves B u w c' l' h' w' (step_meter (after_done d (behind_on t fs (n + 1) n)))
     unfolding body_machine
-    done_turns c' l' h' w' (Dn.Good m₁) R e lv = ((G, ap (λ (i : Res Why (Unit {0})). bind i (λ _ v. F.onward machine G (F.behind machine G n v))) (sym e) ∙ ap (F.onward machine G) (behind_good (world_in B c' l' h' m₁.used)), behind_stands_here), lv)
-    done_turns c' l' h' w' (Dn.Bad f m₁) R e lv = (ap (λ (i : Res Why (Unit {0})). bind i (λ _ v. F.onward machine G (F.behind machine G n v))) (sym e), lv)
+    done_turns c' l' h' w' (Ok m₁) R e lv = ((G, ap (λ (i : Res Why (Unit {0})). bind i (λ _ v. F.onward machine G (F.behind machine G n v))) (sym e) ∙ ap (F.onward machine G) (behind_good (world_in B c' l' h' m₁.used)), behind_stands_here), lv)
+    done_turns c' l' h' w' (Err (f, m₁)) R e lv = (ap (λ (i : Res Why (Unit {0})). bind i (λ _ v. F.onward machine G (F.behind machine G n v))) (sym e), lv)
 
     -- ---- IF
     chosen_goes : (b : Bool) (v : World) → D.is_iterated (row_of lines n).statement ≡ false → F.chosen machine (F.alternative_of machine b n) G n v ≡ good (F.on (next_from (arrived_at t fs (chosen_walk t n b))) G) v
@@ -241,7 +234,7 @@ module _ (deck s t rows names c l h w : List ℕ) (p : Place) (n : ℕ) (fs : Fr
     test_turns : (c' l' h' w' : List ℕ) (y : Tested) (R : Res Why Bool) → tested_in B c' l' h' y ≡ R → D.is_iterated (row_of lines n).statement ≡ false → Leaves B u w c' l' h' w' (tested_meter y)
         → TurnsTo machine t B u c' l' h' w' (bind R (λ b v. F.chosen machine (F.alternative_of machine b n) G n v)) fs (after_test y (λ b. arrived_at t fs (chosen_walk t n b))) × Leaves B u w c' l' h' w' (step_meter (after_test y (λ b. arrived_at t fs (chosen_walk t n b))))
     unfolding body_machine
-    test_turns c' l' h' w' (Te.Is b m₁) R e i lv = (
+    test_turns c' l' h' w' (Ok (b, m₁)) R e i lv = (
       (
         G,
         ap (λ (j : Res Why Bool). bind j (λ b v. F.chosen machine (F.alternative_of machine b n) G n v)) (sym e) ∙ chosen_goes b (world_in B c' l' h' m₁.used) i,
@@ -249,7 +242,7 @@ module _ (deck s t rows names c l h w : List ℕ) (p : Place) (n : ℕ) (fs : Fr
       ),
       lv,
     )
-    test_turns c' l' h' w' (Te.Bad f m₁) R e i lv = (ap (λ (j : Res Why Bool). bind j (λ b v. F.chosen machine (F.alternative_of machine b n) G n v)) (sym e), lv)
+    test_turns c' l' h' w' (Err (f, m₁)) R e i lv = (ap (λ (j : Res Why Bool). bind j (λ b v. F.chosen machine (F.alternative_of machine b n) G n v)) (sym e), lv)
 
     -- ---- DO
     plain : D.is_iterated (row_of lines n).statement ≡ false → D.is_iterated (row_of lines n).statement ≡ true → FrameOf B.denotations (frame_in t fs n) n G
@@ -279,11 +272,11 @@ module _ (deck s t rows names c l h w : List ℕ) (p : Place) (n : ℕ) (fs : Fr
         → Leaves B u w c' l' h' w' (started_meter y) → (r : Turned) → r ≡ after_start t fs n y
         → TurnsTo machine t B u c' l' h' w' (bind R starts) r.frames r.step × Leaves B u w c' l' h' w' (step_meter r.step)
     unfolding body_machine
-    start_turns c' l' h' w' (Sd.Bad f m₁) R e co i lv r er = rw er (ap (λ (j : Res Why F.Started). bind j starts) e, lv)
-    start_turns c' l' h' w' (Sd.Is f true m₁) R e co i lv r er =
+    start_turns c' l' h' w' (Err (f, m₁)) R e co i lv r er = rw er (ap (λ (j : Res Why F.Started). bind j starts) e, lv)
+    start_turns c' l' h' w' (Ok (f, true, m₁)) R e co i lv r er =
         let cc₁ : Controls n e.0 B = co e.0 true (world_in B c' l' h' m₁.used) e.2 in
         rw er ((e.0 ∷ G, ap (λ (j : Res Why F.Started). bind j starts) e.2 ∙ ap (F.onward machine (e.0 ∷ G)) (enter_goes i f e.0 e.1 cc₁ (world_in B c' l' h' m₁.used)), enter_at i f e.0 e.1 cc₁), lv)
-    start_turns c' l' h' w' (Sd.Is f false m₁) R e co i lv r er =
+    start_turns c' l' h' w' (Ok (f, false, m₁)) R e co i lv r er =
         rw er ((G, ap (λ (j : Res Why F.Started). bind j starts) e.2 ∙ ap (F.onward machine G) (behind_good (world_in B c' l' h' m₁.used)), behind_stands_here), lv)
 
     -- ---- GOTO
@@ -298,7 +291,7 @@ module _ (deck s t rows names c l h w : List ℕ) (p : Place) (n : ℕ) (fs : Fr
 
       goes_by : (b : Bool) → may_go_on t n 2048 (label_from t to a.is_end) ≡ b
           → TurnsTo machine t B u c l h w (bind (Calls.jump_to lines n to a.is_end now) (λ j v. F.follow machine j G v)) fs
-          (cond b (St.On (arrived_at t fs (landing_walk t fs to a.is_end)) m) (St.Bad WrongGoto m))
+          (cond b (Ok (St.On (arrived_at t fs (landing_walk t fs to a.is_end)) m)) (Err (WrongGoto, m)))
       unfolding body_machine
       goes_by true e =
           let g : F.may_go lines n to a.is_end ≡ true = may_go_is t lines shown n k.at.within (k.shows.rowed.few p.member) to a.is_end within ∙ e in
@@ -308,16 +301,16 @@ module _ (deck s t rows names c l h w : List ℕ) (p : Place) (n : ℕ) (fs : Fr
           let g : F.may_go lines n to a.is_end ≡ false = may_go_is t lines shown n k.at.within (k.shows.rowed.few p.member) to a.is_end within ∙ e in
           rw g
 
-      goes_there : TurnsTo machine t B u c l h w (bind (Calls.jump_to lines n to a.is_end now) (λ j v. F.follow machine j G v)) fs (after_jump t fs n (Ju.To a) m)
+      goes_there : TurnsTo machine t B u c l h w (bind (Calls.jump_to lines n to a.is_end now) (λ j v. F.follow machine j G v)) fs (after_jump t fs n (Ok a) m)
       unfolding body_machine
       goes_there = by (may_go_on t n 2048 (label_from t to a.is_end)) refl
         where
           by : (b : Bool) → may_go_on t n 2048 (label_from t to a.is_end) ≡ b
               → TurnsTo machine t B u c l h w (bind (Calls.jump_to lines n to a.is_end now) (λ j v. F.follow machine j G v)) fs
-              (cond b (St.On (arrived_at t fs (landing_walk t fs to a.is_end)) m) (St.Bad WrongGoto m))
+              (cond b (Ok (St.On (arrived_at t fs (landing_walk t fs to a.is_end)) m)) (Err (WrongGoto, m)))
           by b e = goes_by b e
 
-    jump_turns : (v : List ℕ) (j : Jump) → jump_for j ≡ target_in deck names x.names (owner_of x.owner) v
+    jump_turns : (v : List ℕ) (j : Result Label Why) → jump_for j ≡ target_in deck names x.names (owner_of x.owner) v
         → TurnsTo machine t B u c l h w (bind (Calls.jump_in (W.address_of v (W.procedure_at p.member p.row) now) v lines n now) (λ i z. F.follow machine i G z)) fs (after_jump t fs n j m)
     unfolding body_machine
     jump_turns v j e = by j e
@@ -325,16 +318,16 @@ module _ (deck s t rows names c l h w : List ℕ) (p : Place) (n : ℕ) (fs : Fr
         there : target_for (W.address_of v (W.procedure_at p.member p.row) now) v now ≡ target_in deck names x.names (owner_of x.owner) v
         there = rw owner_is (target_there deck names x.names now k.shows.named.identifiers k.shows.named.denotations (owner_of x.owner) v)
 
-        goes : (i : Jump) → jump_for i ≡ target_in deck names x.names (owner_of x.owner) v → Calls.jump_in (W.address_of v (W.procedure_at p.member p.row) now) v lines n now ≡ jump_by (jump_for i) lines n now
+        goes : (i : Result Label Why) → jump_for i ≡ target_in deck names x.names (owner_of x.owner) v → Calls.jump_in (W.address_of v (W.procedure_at p.member p.row) now) v lines n now ≡ jump_by (jump_for i) lines n now
         goes i f = jump_is (W.address_of v (W.procedure_at p.member p.row) now) v lines n now ∙ ap (λ (q : Val.Answer F.Target). jump_by q lines n now) (there ∙ sym f)
 
-        by : (i : Jump) → jump_for i ≡ target_in deck names x.names (owner_of x.owner) v
+        by : (i : Result Label Why) → jump_for i ≡ target_in deck names x.names (owner_of x.owner) v
             → TurnsTo machine t B u c l h w (bind (Calls.jump_in (W.address_of v (W.procedure_at p.member p.row) now) v lines n now) (λ i z. F.follow machine i G z)) fs (after_jump t fs n i m)
-        by (Ju.Bad f) q = ap (λ (o : Res Why F.Jump). bind o (λ i z. F.follow machine i G z)) (goes (Ju.Bad f) q)
-        by (Ju.To a) q =
+        by (Err f) q = ap (λ (o : Res Why F.Jump). bind o (λ i z. F.follow machine i G z)) (goes (Err f) q)
+        by (Ok a) q =
             let within : a.place.row < length lines = local_row (λ r. r < length lines) (W.address_of v (W.procedure_at p.member p.row) now) v now (record { member = a.place.member; row = a.place.row; is_end = a.is_end })
             (λ b y z. k.shows.rowed.labels v p.member p.row b a.place.member a.place.row a.is_end y z) (there ∙ sym q) in
-            subst (λ (o : Res Why F.Jump). TurnsTo machine t B u c l h w (bind o (λ i z. F.follow machine i G z)) fs (after_jump t fs n (Ju.To a) m)) (sym (goes (Ju.To a) q)) (goes_there a within)
+            subst (λ (o : Res Why F.Jump). TurnsTo machine t B u c l h w (bind o (λ i z. F.follow machine i G z)) fs (after_jump t fs n (Ok a) m)) (sym (goes (Ok a) q)) (goes_there a within)
 
     -- ---- RETURN
     type_is : (row_in t p.row).value_type ≡ Calls.type_of (row_of lines p.row).statement
@@ -348,10 +341,10 @@ module _ (deck s t rows names c l h w : List ℕ) (p : Place) (n : ℕ) (fs : Fr
       where
         by : (a : Evaluated) → Turns w₁ u u b (wished_on u (Ev.as_type (row_in t p.row).value_type)) w₂ a
             → TurnsTo machine t B u c₁ l₁ h₁ w₂ (bind (wished_on u (Ev.as_type (row_in t p.row).value_type) (value_of x e u now)) (λ v z. good (F.ended (F.returned v)) z)) r.frames (step_of a) × Leaves B u w c₁ l₁ h₁ w₂ (step_meter (step_of a))
-        by (Is v o m₁) tu =
+        by (Ok (v, o, m₁)) tu =
             let R : good (value_in w₂ u v) (world_in B c₁ l₁ h₁ m₁.used) ≡ wished_on u (Ev.as_type (row_in t p.row).value_type) (value_of x e u now) = tu.is B c₁ l₁ h₁ ∙ ap (wished_on u (Ev.as_type (row_in t p.row).value_type)) gv.is in
             ((ap (λ (i : Res Why Val.Value). bind i (λ v z. good (F.ended (F.returned v)) z)) (sym R), tu.fits), record { below = tu.below ∙ gv.below; limit = tu.limit ∙ gv.limit; slots = gv.slots })
-        by (Failed f m₁) tu =
+        by (Err (f, m₁)) tu =
             let R : bad f m₁.used ≡ wished_on u (Ev.as_type (row_in t p.row).value_type) (value_of x e u now) = tu.is B c₁ l₁ h₁ ∙ ap (wished_on u (Ev.as_type (row_in t p.row).value_type)) gv.is in
             (ap (λ (i : Res Why Val.Value). bind i (λ v z. good (F.ended (F.returned v)) z)) (sym R), record { below = tu.below ∙ gv.below; limit = tu.limit ∙ gv.limit; slots = gv.slots })
 
@@ -381,11 +374,11 @@ module _ (deck s t rows names c l h w : List ℕ) (p : Place) (n : ℕ) (fs : Fr
   passed_is B G (D.deactivate ns) q e v = rw q
   passed_is B G (D.return a) q e v = clash (cc)
 
-  statement_passed : passed_kind (row_in t n).statement ≡ true → (r : Turned) → r ≡ turned_by fs (after_done (Dn.Good m) (behind_on t fs (n + 1) n)) → StatementIs deck s t rows names c l h w p n fs u x m c l h w r
+  statement_passed : passed_kind (row_in t n).statement ≡ true → (r : Turned) → r ≡ turned_by fs (after_done (Ok m) (behind_on t fs (n + 1) n)) → StatementIs deck s t rows names c l h w p n fs u x m c l h w r
   unfolding body_machine
-  statement_passed e r er = rw er (statement_by c l h w (turned_by fs (after_done (Dn.Good m) (behind_on t fs (n + 1) n))) (λ B G k.
+  statement_passed e r er = rw er (statement_by c l h w (turned_by fs (after_done (Ok m) (behind_on t fs (n + 1) n))) (λ B G k.
       let i : is_passed (row_of (rows_of p.member B) n).statement ≡ true = sym (kind_passed (row_of (rows_of p.member B) n).statement) ∙ ap passed_kind (sym (kind_is B G k)) ∙ e in
-      let D₁ : TurnsTo (body_of x p u B) t B u c l h w (F.onward (body_of x p u B) G (F.behind (body_of x p u B) G n (world_in B c l h m.used))) fs (St.On (behind_on t fs (n + 1) n) m) × Leaves B u w c l h w m = done_turns B G k c l h w (Dn.Good m) (good tt (world_in B c l h m.used)) refl (stays_here B G k) in
+      let D₁ : TurnsTo (body_of x p u B) t B u c l h w (F.onward (body_of x p u B) G (F.behind (body_of x p u B) G n (world_in B c l h m.used))) fs (Ok (St.On (behind_on t fs (n + 1) n) m)) × Leaves B u w c l h w m = done_turns B G k c l h w (Ok m) (good tt (world_in B c l h m.used)) refl (stays_here B G k) in
       rw (passed_is B G (row_of (rows_of p.member B) n).statement refl i (world_in B c l h m.used)) D₁))
 
   -- those that evaluate
@@ -471,14 +464,14 @@ module _ (deck s t rows names c l h w : List ℕ) (p : Place) (n : ℕ) (fs : Fr
       of B G k (D.deactivate ns) q st i = clash (cc)
       of B G k (D.return e) q st i = clash (cc)
 
-  statement_group : (row_in t n).statement ≡ S.Group → (y : Next) → y ≡ into_group t fs n → (r : Turned) → r ≡ turned_by fs (St.On y m) → StatementIs deck s t rows names c l h w p n fs u x m c l h w r
+  statement_group : (row_in t n).statement ≡ S.Group → (y : Next) → y ≡ into_group t fs n → (r : Turned) → r ≡ turned_by fs (Ok (St.On y m)) → StatementIs deck s t rows names c l h w p n fs u x m c l h w r
   unfolding F.statement D.is_iterated body_machine
-  statement_group e y ey r er = rw (er, ey) (statement_by c l h w (turned_by fs (St.On (into_group t fs n) m)) (λ B G k. of B G k (row_of (rows_of p.member B) n).statement refl (sym (kind_is B G k) ∙ e)))
+  statement_group e y ey r er = rw (er, ey) (statement_by c l h w (turned_by fs (Ok (St.On (into_group t fs n) m))) (λ B G k. of B G k (row_of (rows_of p.member B) n).statement refl (sym (kind_is B G k) ∙ e)))
     where
-      grouped : (B : World) (G : List F.Frame) (k : Here B G) → (row_of (rows_of p.member B) n).statement ≡ D.group → Turning c l h w (turned_by fs (St.On (into_group t fs n) m)) B G D.group
+      grouped : (B : World) (G : List F.Frame) (k : Here B G) → (row_of (rows_of p.member B) n).statement ≡ D.group → Turning c l h w (turned_by fs (Ok (St.On (into_group t fs n) m))) B G D.group
       grouped B G k q = ((G, ap (F.onward (body_of x p u B) G) (into_goes x p u B t (shown B G k) (linked B G k) fs G n k.at.within k.at.framed (plain B G k (rw q)) (world_in B c l h m.used)), into_at x p u B t (shown B G k) (linked B G k) fs G n k.at.within k.at.framed (plain B G k (rw q))), stays_here B G k)
 
-      of : (B : World) (G : List F.Frame) (k : Here B G) (st : D.Statement) → (row_of (rows_of p.member B) n).statement ≡ st → kind_of st ≡ S.Group → Turning c l h w (turned_by fs (St.On (into_group t fs n) m)) B G st
+      of : (B : World) (G : List F.Frame) (k : Here B G) (st : D.Statement) → (row_of (rows_of p.member B) n).statement ≡ st → kind_of st ≡ S.Group → Turning c l h w (turned_by fs (Ok (St.On (into_group t fs n) m))) B G st
       of B G k D.null q i = clash (cc)
       of B G k (D.declare ns) q i = clash (cc)
       of B G k (D.procedure ns v) q i = clash (cc)
@@ -496,11 +489,11 @@ module _ (deck s t rows names c l h w : List ℕ) (p : Place) (n : ℕ) (fs : Fr
   unfolding F.statement body_machine
   statement_goto e r ji = rw ji.turned (statement_by c l h w (turned_by fs (after_jump t fs n ji.jump m)) (λ B G k. of B G k (row_of (rows_of p.member B) n).statement (stated B G k) (sym (kind_is B G k) ∙ e)))
     where
-      left_as : (B : World) (G : List F.Frame) → Here B G → (j : Jump) → Leaves B u w c l h w (step_meter (after_jump t fs n j m))
-      left_as B G k (Ju.Bad f) = stays_here B G k
-      left_as B G k (Ju.To a) = by (may_go_on t n 2048 (label_from t a.place.row a.is_end))
+      left_as : (B : World) (G : List F.Frame) → Here B G → (j : Result Label Why) → Leaves B u w c l h w (step_meter (after_jump t fs n j m))
+      left_as B G k (Err f) = stays_here B G k
+      left_as B G k (Ok a) = by (may_go_on t n 2048 (label_from t a.place.row a.is_end))
         where
-          by : (b : Bool) → Leaves B u w c l h w (step_meter (cond b (St.On (arrived_at t fs (landing_walk t fs a.place.row a.is_end)) m) (St.Bad WrongGoto m)))
+          by : (b : Bool) → Leaves B u w c l h w (step_meter (cond b (Ok (St.On (arrived_at t fs (landing_walk t fs a.place.row a.is_end)) m)) (Err (WrongGoto, m))))
           by true = stays_here B G k
           by false = stays_here B G k
 
@@ -567,11 +560,11 @@ module _ (deck s t rows names c l h w : List ℕ) (p : Place) (n : ℕ) (fs : Fr
     kind_of_lem : (k : Statement) → q.statement ≡ k → (row_in t n).statement ≡ k
     kind_of_lem k e = ap (λ (i : Row). i.statement) (sym eq) ∙ e
 
-    row_passed : (k : Statement) → q.statement ≡ k → passed_kind k ≡ true → (r : Turned) → r ≡ turned_by fs (after_done (Dn.Good m) (behind_on t fs (n + 1) n)) → StatementIs deck s t rows names c l h w p n fs u x m c l h w r
+    row_passed : (k : Statement) → q.statement ≡ k → passed_kind k ≡ true → (r : Turned) → r ≡ turned_by fs (after_done (Ok m) (behind_on t fs (n + 1) n)) → StatementIs deck s t rows names c l h w p n fs u x m c l h w r
     row_passed k e f = statement_passed (rw (kind_of_lem k e) f)
 
     pub row_other : (q.statement ≡ S.Null) ⊎ ((q.statement ≡ S.Declare) ⊎ ((q.statement ≡ S.Procedure) ⊎ ((q.statement ≡ S.Include) ⊎ ((q.statement ≡ S.Activate) ⊎ (q.statement ≡ S.Deactivate))))) → (r : Turned)
-        → r ≡ turned_by fs (after_done (Dn.Good m) (behind_on t fs (n + 1) n)) → StatementIs deck s t rows names c l h w p n fs u x m c l h w r
+        → r ≡ turned_by fs (after_done (Ok m) (behind_on t fs (n + 1) n)) → StatementIs deck s t rows names c l h w p n fs u x m c l h w r
     row_other (inl e) = row_passed S.Null e refl
     row_other (inr (inl e)) = row_passed S.Declare e refl
     row_other (inr (inr (inl e))) = row_passed S.Procedure e refl
@@ -591,7 +584,7 @@ module _ (deck s t rows names c l h w : List ℕ) (p : Place) (n : ℕ) (fs : Fr
         → StatementIs deck s t rows names c l h w p n fs u x m c' l' h' w' r
     row_start e c' l' h' w' y si = statement_start (kind_of_lem S.Iterated e) c' l' h' w' y (subst (λ (i : Row). StartIs deck s rows names c l h w n i.content u x m c' l' h' w' y) eq si)
 
-    pub row_group : q.statement ≡ S.Group → (y : Next) → y ≡ into_group t fs n → (r : Turned) → r ≡ turned_by fs (St.On y m) → StatementIs deck s t rows names c l h w p n fs u x m c l h w r
+    pub row_group : q.statement ≡ S.Group → (y : Next) → y ≡ into_group t fs n → (r : Turned) → r ≡ turned_by fs (Ok (St.On y m)) → StatementIs deck s t rows names c l h w p n fs u x m c l h w r
     row_group e = statement_group (kind_of_lem S.Group e)
 
     pub row_goto : q.statement ≡ S.Goto → (r : Turned) → JumpsIn deck s t names fs n x m r → StatementIs deck s t rows names c l h w p n fs u x m c l h w r

@@ -1,5 +1,7 @@
 -- A call: 12, then 15, then the body.
 -- Assumes nothing.
+use Rattle.std.proofs.Common.{Err}
+use Rattle.operands.specs.Types.{Evaluated}
 use mathlib.Core.Path.{◌≡◌, refl, sym, ap, ◌∙◌}
 use mathlib.Core.Bool.{Bool, true, false}
 use mathlib.Core.List.{List, [], ◌∷◌}
@@ -24,8 +26,6 @@ use Rattle.callees.specs.declared.Running.{Running}
 use Rattle.callees.specs.Shown.{denotations_from, values_from, with_values, world_in, Slots}
 use Rattle.callees.specs.Answer.{on_of, place_of, StartedIs, Waiting, held_from, store_cells, AllStored}
 use Rattle.operands.specs.declared.Scene.{Scene}
-use Rattle.operands.specs.declared.Evaluated.{Evaluated}
-use Rattle.operands.specs.declared.Evaluated.TheVariants.{Failed}
 use Rattle.operands.specs.Shown.{Shows}
 use Rattle.operands.specs.Answer.{Gave, run_in}
 use Rattle.evaluating.specs.Cycle.{CalleeShown, CallIs, BodyIs}
@@ -55,14 +55,14 @@ module _ (deck rows names c l h w : List ℕ) (u : ℕ) (x : Scene) (m : Meter) 
   runs : (b : Ev.Callee) (B : World) → CalleeShown deck names x.names y b B → (o : Bool) → v ≡ o → is_running b.member b.row (on_of x.running) ≡ o
   runs b B s o f = rw (s.member, s.row) (sym e ∙ f)
 
-  gave_no : (B : World) → Shows deck rows names c l h w u x m B → (f : Why) (R : Res Why Val.Value) → R ≡ bad f m.used → Gave B u w c l h w (Failed f m) 0 R
+  gave_no : (B : World) → Shows deck rows names c l h w u x m B → (f : Why) (R : Res Why Val.Value) → R ≡ bad f m.used → Gave B u w c l h w (Err (f, m)) 0 R
   gave_no B sh f R q = record { is = sym q; end = refl; below = below_same u w; fits = omega (arith, sh.taken); limit = sh.limit; slots = sh.slots }
 
-  pub call_running : v ≡ true → CallIs deck rows names c l h w u x m y k c l h w (Failed WronglyRun m)
+  pub call_running : v ≡ true → CallIs deck rows names c l h w u x m y k c l h w (Err (WronglyRun, m))
   call_running f = record { is = λ B sh b s wa. gave_no B sh WronglyRun _ (calls_running (on_of x.running) b (held_from w k 0 u b.parameters) u (world_in B c l h m.used) x.running.left (runs b B s true f)) }
 
   module _ (f : v ≡ false) where
-    pub call_deep : x.running.left < 1 → CallIs deck rows names c l h w u x m y k c l h w (Failed TooDeep m)
+    pub call_deep : x.running.left < 1 → CallIs deck rows names c l h w u x m y k c l h w (Err (TooDeep, m))
     call_deep g = record { is = λ B sh b s wa. gave_no B sh TooDeep _ (calls_deep (on_of x.running) b (held_from w k 0 u b.parameters) u (world_in B c l h m.used) x.running.left (runs b B s false f) g) }
 
     module _ (some : 1 ≤ x.running.left) (c₁ l₁ h₁ : List ℕ) (st : AllStored deck names c l h w x.names y k u c₁ l₁ h₁) (g : Running) (sg : StartedIs x.running y.place g) (c₂ l₂ h₂ w₂ : List ℕ) (r : Evaluated)

@@ -1,5 +1,7 @@
 -- One law for each way out of the functions that read an expression again and evaluate it.
 -- Assumes nothing.
+use Rattle.operands.specs.Types.{Evaluated}
+use Rattle.std.proofs.Common.{Option, Some, None, Ok, Err}
 use mathlib.Core.Logic.{◌⊎◌, inl, inr}
 use mathlib.Core.Path.{◌≡◌, refl, sym, ap, subst, ◌∙◌}
 use mathlib.Core.Bool.{Bool, true, false, cond}
@@ -32,8 +34,6 @@ use Rattle.tokens.specs.declared.Kind.{Kind}
 use Rattle.tokens.specs.declared.Kind.TheVariants as K
 use Rattle.tokens.specs.Answer.{Lexed, written, spelling, content, token_for, is_sign_in}
 use Rattle.tokens.proofs.Lexemes as L
-use Rattle.expressions.specs.declared.InfixAt.{InfixAt}
-use Rattle.expressions.specs.declared.InfixAt.TheVariants as I
 use Rattle.expressions.specs.declared.Prefixes.{Prefixes}
 use Rattle.expressions.specs.Check.{infix_for, infix_at, prefixes, inside_of, primitive_at, operand_in, levels_in}
 use Rattle.operators.specs.declared.Value.{Value}
@@ -44,8 +44,6 @@ use Rattle.callees.specs.declared.Meant.{Meant}
 use Rattle.callees.specs.Shown.{denotations_from, names_world, world_in, Slots}
 use Rattle.callees.specs.Answer.{meant_for}
 use Rattle.operands.specs.declared.Scene.{Scene}
-use Rattle.operands.specs.declared.Evaluated.{Evaluated}
-use Rattle.operands.specs.declared.Evaluated.TheVariants.{Is, Failed}
 use Rattle.operands.specs.Shown.{Shows}
 use Rattle.operands.specs.Answer.{Below, res_in, size_of, meter_of, with_end, Gave, run_in, value_of, infix_on, Turns, WithInfix, signs_at, prefixed_by, PrefixesDone, ConstantIs, IntegerIs, string_tree, ClosedIs, Means, is_entry, PlainIs}
 use Rattle.evaluating.specs.Cycle.{Evaluates, Chains, NameIs, ListedIs}
@@ -76,9 +74,9 @@ module _ (deck rows names s c l h w : List ℕ) (at n left u : ℕ) (x : Scene) 
     first_gave : (B : World) → Shows deck rows names c l h w u x m B → (z : Parsed) → levels_in left s (n - 1) at ≡ read z → Gave B u w c₁ l₁ h₁ w₁ y z.to (value_of x z.tree u (world_in B c l h m.used))
     first_gave B sh z a = g.is B sh z.tree z.to a
 
-    failed_by : (f : Why) (k : Meter) → y ≡ Failed f k → (B : World) → Shows deck rows names c l h w u x m B → (t : Tree) (e : ℕ) (z : Parsed) → levels_in left s (n - 1) at ≡ read z → chained z.tree z.to ≡ read (parsed t e) → Gave B u w c₁ l₁ h₁ w₁ (Failed f k) e (value_of x t u (world_in B c l h m.used))
+    failed_by : (f : Why) (k : Meter) → y ≡ Err (f, k) → (B : World) → Shows deck rows names c l h w u x m B → (t : Tree) (e : ℕ) (z : Parsed) → levels_in left s (n - 1) at ≡ read z → chained z.tree z.to ≡ read (parsed t e) → Gave B u w c₁ l₁ h₁ w₁ (Err (f, k)) e (value_of x t u (world_in B c l h m.used))
     failed_by f k i B sh t e z a b =
-        let G : Gave B u w c₁ l₁ h₁ w₁ (Failed f k) z.to (value_of x z.tree u (world_in B c l h m.used)) = rw i at (first_gave B sh z a) in
+        let G : Gave B u w c₁ l₁ h₁ w₁ (Err (f, k)) z.to (value_of x z.tree u (world_in B c l h m.used)) = rw i at (first_gave B sh z a) in
         record {
           is = sym (strict x u (world_in B c l h m.used) (n - 1) (levels_in left s (n - 1)) s (suc (length s)) z.tree z.to (parsed t e) f k.used (sym G.is) b);
           end = refl;
@@ -88,17 +86,17 @@ module _ (deck rows names s c l h w : List ℕ) (at n left u : ℕ) (x : Scene) 
           slots = G.slots;
         }
 
-    pub levels_failed : ((v : Value) (q : ℕ) (k : Meter) → y ≡ Is v q k → ⊥) → Evaluates deck rows names c l h w u x m c₁ l₁ h₁ w₁ y (levels_in left s n at)
+    pub levels_failed : ((v : Value) (q : ℕ) (k : Meter) → y ≡ Ok (v, q, k) → ⊥) → Evaluates deck rows names c l h w u x m c₁ l₁ h₁ w₁ y (levels_in left s n at)
     levels_failed over = by y refl
       where
         by : (a : Evaluated) → y ≡ a → Evaluates deck rows names c l h w u x m c₁ l₁ h₁ w₁ a (levels_in left s n at)
-        by (Is v q k) i = absurd (over v q k i)
-        by (Failed f k) i = record { is = λ B sh t e q. let j : IsRead (levels_in left s (n - 1) at) (λ r. chained r.tree r.to) (parsed t e) = levels_first (operand_in left s) s n at t e big q in failed_by f k i B sh t e j.first j.is j.rest }
+        by (Ok (v, q, k)) i = absurd (over v q k i)
+        by (Err (f, k)) i = record { is = λ B sh t e q. let j : IsRead (levels_in left s (n - 1) at) (λ r. chained r.tree r.to) (parsed t e) = levels_first (operand_in left s) s n at t e big q in failed_by f k i B sh t e j.first j.is j.rest }
 
-    module _ (v : Value) (q : ℕ) (k : Meter) (i : y ≡ Is v q k) (z₁ : length w₁ ≡ length w) (c₂ l₂ h₂ w₂ : List ℕ) (r : Evaluated) (ch : Chains deck rows names s c₁ l₁ h₁ w₁ v q (n - 1) left u x k c₂ l₂ h₂ w₂ r) where
+    module _ (v : Value) (q : ℕ) (k : Meter) (i : y ≡ Ok (v, q, k)) (z₁ : length w₁ ≡ length w) (c₂ l₂ h₂ w₂ : List ℕ) (r : Evaluated) (ch : Chains deck rows names s c₁ l₁ h₁ w₁ v q (n - 1) left u x k c₂ l₂ h₂ w₂ r) where
       chain_by : (B : World) → Shows deck rows names c l h w u x m B → (t : Tree) (e : ℕ) (z : Parsed) → levels_in left s (n - 1) at ≡ read z → chained z.tree z.to ≡ read (parsed t e) → Gave B u w c₂ l₂ h₂ w₂ r e (value_of x t u (world_in B c l h m.used))
       chain_by B sh t e z a b =
-          let G : Gave B u w c₁ l₁ h₁ w₁ (Is v q k) z.to (value_of x z.tree u (world_in B c l h m.used)) = rw i at (first_gave B sh z a) in
+          let G : Gave B u w c₁ l₁ h₁ w₁ (Ok (v, q, k)) z.to (value_of x z.tree u (world_in B c l h m.used)) = rw i at (first_gave B sh z a) in
           let o : q ≡ z.to = end_is v q z.to k G.end in
           gave_over B u w w₁ c₂ l₂ h₂ w₂ r e (value_of x t u (world_in B c l h m.used)) G.below
           (ch.is B (shows_as deck rows names c l h w u x m B sh c₁ l₁ h₁ w₁ u k G.slots z₁ sh.taken G.limit) G.fits z.tree (world_in B c l h m.used) (sym G.is) t e (rw o b))
@@ -107,19 +105,19 @@ module _ (deck rows names s c l h w : List ℕ) (at n left u : ℕ) (x : Scene) 
       levels_chain = record { is = λ B sh t e p. let j : IsRead (levels_in left s (n - 1) at) (λ r. chained r.tree r.to) (parsed t e) = levels_first (operand_in left s) s n at t e big p in chain_by B sh t e j.first j.is j.rest }
 
 -- ---- a chain
-infix_some : (l : ℕ) (s : List ℕ) (at : ℕ) (n : InfixAt) (o : Operator) (q : ℕ) → n ≡ infix_at l s at → n ≡ I.Is o q → (infix_of l (token_at mixed s at).token ≡ is o) × (q ≡ (token_at mixed s at).to)
+infix_some : (l : ℕ) (s : List ℕ) (at : ℕ) (n : Option (Operator × ℕ)) (o : Operator) (q : ℕ) → n ≡ infix_at l s at → n ≡ Some (o, q) → (infix_of l (token_at mixed s at).token ≡ is o) × (q ≡ (token_at mixed s at).to)
 unfolding infix_at
 infix_some l s at n o q e f = by (infix_of l (token_at mixed s at).token) (sym f ∙ e)
   where
-    by : (x : Maybe Operator) → I.Is o q ≡ infix_for x (token_at mixed s at).to → (x ≡ is o) × (q ≡ (token_at mixed s at).to)
+    by : (x : Maybe Operator) → Some (o, q) ≡ infix_for x (token_at mixed s at).to → (x ≡ is o) × (q ≡ (token_at mixed s at).to)
     by (is p) g = let h : p ≡ o = cc in let k : q ≡ (token_at mixed s at).to = cc in (ap is h, k)
     by no_operator g = absurd (let z : ◌≡◌ {A = ℕ} 0 1 = cc in omega arith)
 
-infix_other : (l : ℕ) (s : List ℕ) (at : ℕ) (n : InfixAt) → n ≡ infix_at l s at → n ≡ I.Other → infix_of l (token_at mixed s at).token ≡ no_operator
+infix_other : (l : ℕ) (s : List ℕ) (at : ℕ) (n : Option (Operator × ℕ)) → n ≡ infix_at l s at → n ≡ None → infix_of l (token_at mixed s at).token ≡ no_operator
 unfolding infix_at
 infix_other l s at n e f = by (infix_of l (token_at mixed s at).token) (sym f ∙ e)
   where
-    by : (x : Maybe Operator) → I.Other ≡ infix_for x (token_at mixed s at).to → x ≡ no_operator
+    by : (x : Maybe Operator) → None ≡ infix_for x (token_at mixed s at).to → x ≡ no_operator
     by (is p) g = absurd (let z : ◌≡◌ {A = ℕ} 0 1 = cc in omega arith)
     by no_operator g = refl
 
@@ -152,21 +150,21 @@ module _ (deck rows names s c₀ l₀ h₀ w₀ : List ℕ) (v : Value) (from le
         by : (B z₀ : World) (t : Tree) (e : ℕ) → Chained B z₀ (parsed t e) turns y at m c l h w → Gave B u w₀ c l h w r e (value_of x t u z₀)
         by B z₀ t e j = let d : turns ≡ 0 = omega (arith, o) in chain_none level next s j.tree at (parsed t e) (rw d at j.same)
 
-    module _ (some : 0 < turns) (n : InfixAt) (ni : n ≡ infix_at level s at) where
+    module _ (some : 0 < turns) (n : Option (Operator × ℕ)) (ni : n ≡ infix_at level s at) where
       turned : (B z₀ : World) (z : Parsed) → (j : Chained B z₀ z turns y at m c l h w) → chain mixed level next s (suc (turns - 1)) j.tree at ≡ read z
       turned B z₀ z j = let d : turns ≡ suc (turns - 1) = omega (arith, some) in rw d at j.same
 
-      done_by : n ≡ I.Other → (B z₀ : World) (t : Tree) (e : ℕ) → Chained B z₀ (parsed t e) turns y at m c l h w → Gave B u w₀ c l h w (Is y at m) e (value_of x t u z₀)
+      done_by : n ≡ None → (B z₀ : World) (t : Tree) (e : ℕ) → Chained B z₀ (parsed t e) turns y at m c l h w → Gave B u w₀ c l h w (Ok (y, at, m)) e (value_of x t u z₀)
       done_by o B z₀ t e j =
           let d : parsed j.tree at ≡ parsed t e = chain_done level next s (turns - 1) j.tree at (parsed t e) (infix_other level s at n ni o) (turned B z₀ (parsed t e) j) in
           let d₁ : j.tree ≡ t = ap (λ (p : Parsed). p.tree) d in
           let d₂ : at ≡ e = ap (λ (p : Parsed). p.to) d in
           record { is = sym (rw d₁ at j.value); end = rw d₂; below = j.below; fits = j.fits; limit = j.shows.limit; slots = j.shows.slots }
 
-      pub chaining_done : n ≡ I.Other → Chains deck rows names s c₀ l₀ h₀ w₀ v from level left u x m₀ c l h w (Is y at m)
+      pub chaining_done : n ≡ None → Chains deck rows names s c₀ l₀ h₀ w₀ v from level left u x m₀ c l h w (Ok (y, at, m))
       chaining_done o = record { is = λ B sh f t₀ z₀ a t e b. done_by o B z₀ t e (k.is B sh f t₀ z₀ a t e b) }
 
-      module _ (o : Operator) (q : ℕ) (no : n ≡ I.Is o q) (size top : ℕ) (es : size ≡ size_for y) (et : top ≡ top_of u size) (c₁ l₁ h₁ w₁ : List ℕ) (z₁ : length w₁ ≡ length w) (b : Evaluated)
+      module _ (o : Operator) (q : ℕ) (no : n ≡ Some (o, q)) (size top : ℕ) (es : size ≡ size_for y) (et : top ≡ top_of u size) (c₁ l₁ h₁ w₁ : List ℕ) (z₁ : length w₁ ≡ length w) (b : Evaluated)
           (g : Evaluates deck rows names c l h w top x m c₁ l₁ h₁ w₁ b (levels_in left s level q)) (w₂ : List ℕ) (r : Evaluated) (wi : WithInfix w₁ u o y b w₂ r) where
         -- the state after the operator with its right side, if the answer is r
         pub record After (B z₀ : World) (z : Parsed) : Type 0 where
@@ -211,7 +209,7 @@ module _ (deck rows names s c₀ l₀ h₀ w₀ : List ℕ) (v : Value) (from le
             let a : IsRead (next (token_at mixed s at).to) (λ p. chain mixed level next s (turns - 1) (binary o j.tree p.tree) p.to) z = chain_more level next s (turns - 1) j.tree at z o i.0 (turned B z₀ z j) in
             after_by B z₀ z j a.first (ap next i.1 ∙ a.is) a.rest
 
-        failed_with : (f : Why) (i : Meter) → r ≡ Failed f i → (B z₀ : World) (t : Tree) (e : ℕ) → Chained B z₀ (parsed t e) turns y at m c l h w → After B z₀ (parsed t e) → Gave B u w₀ c₁ l₁ h₁ w₂ (Failed f i) e (value_of x t u z₀)
+        failed_with : (f : Why) (i : Meter) → r ≡ Err (f, i) → (B z₀ : World) (t : Tree) (e : ℕ) → Chained B z₀ (parsed t e) turns y at m c l h w → After B z₀ (parsed t e) → Gave B u w₀ c₁ l₁ h₁ w₂ (Err (f, i)) e (value_of x t u z₀)
         failed_with f i ri B z₀ t e j a = record {
           is = sym (strict x u z₀ level next s (turns - 1) a.tree a.place (parsed t e) f i.used (sym (rw ri at a.value)) a.same);
           end = refl;
@@ -221,10 +219,10 @@ module _ (deck rows names s c₀ l₀ h₀ w₀ : List ℕ) (v : Value) (from le
           slots = a.slots;
         }
 
-        pub chaining_failed : (f : Why) (i : Meter) → r ≡ Failed f i → Chains deck rows names s c₀ l₀ h₀ w₀ v from level left u x m₀ c₁ l₁ h₁ w₂ (Failed f i)
+        pub chaining_failed : (f : Why) (i : Meter) → r ≡ Err (f, i) → Chains deck rows names s c₀ l₀ h₀ w₀ v from level left u x m₀ c₁ l₁ h₁ w₂ (Err (f, i))
         chaining_failed f i ri = record { is = λ B sh ff t₀ z₀ a t e d. let j : Chained B z₀ (parsed t e) turns y at m c l h w = k.is B sh ff t₀ z₀ a t e d in failed_with f i ri B z₀ t e j (after B z₀ (parsed t e) j) }
 
-        on_with : (y' : Value) (p : ℕ) (i : Meter) → r ≡ Is y' p i → length w₂ ≡ length w₁ → (B z₀ : World) (z : Parsed) → Chained B z₀ z turns y at m c l h w → After B z₀ z → Chained B z₀ z (turns - 1) y' p i c₁ l₁ h₁ w₂
+        on_with : (y' : Value) (p : ℕ) (i : Meter) → r ≡ Ok (y', p, i) → length w₂ ≡ length w₁ → (B z₀ : World) (z : Parsed) → Chained B z₀ z turns y at m c l h w → After B z₀ z → Chained B z₀ z (turns - 1) y' p i c₁ l₁ h₁ w₂
         on_with y' p i ri z₂ B z₀ z j a =
             let d : p ≡ a.place = end_is y' p a.place i (rw ri at a.end) in
             record {
@@ -236,7 +234,7 @@ module _ (deck rows names s c₀ l₀ h₀ w₀ : List ℕ) (v : Value) (from le
               below = below_then u u w₀ w w₂ j.below (omega arith) a.below;
             }
 
-        pub chaining_more : (y' : Value) (p : ℕ) (i : Meter) → r ≡ Is y' p i → length w₂ ≡ length w₁ → (fewer : ℕ) → fewer ≡ turns - 1 → Chaining fewer y' p i c₁ l₁ h₁ w₂
+        pub chaining_more : (y' : Value) (p : ℕ) (i : Meter) → r ≡ Ok (y', p, i) → length w₂ ≡ length w₁ → (fewer : ℕ) → fewer ≡ turns - 1 → Chaining fewer y' p i c₁ l₁ h₁ w₂
         chaining_more y' p i ri z₂ fewer ef = rw ef record {
           is = λ B sh ff t₀ z₀ a t e d. let j : Chained B z₀ (parsed t e) turns y at m c l h w = k.is B sh ff t₀ z₀ a t e d in on_with y' p i ri z₂ B z₀ (parsed t e) j (after B z₀ (parsed t e) j);
         }
@@ -343,20 +341,20 @@ module _ (deck rows names s c l h w : List ℕ) (at left u : ℕ) (x : Scene) (m
 
   module _ (e : t.kind ≡ K.Sign) (c₁ l₁ h₁ w₁ : List ℕ) (b : Evaluated) (g : Evaluates deck rows names c l h w u x m c₁ l₁ h₁ w₁ b (inside_of left s 0 t.to)) (r : Evaluated) (cl : ClosedIs s b r) where
     end_same : (a : Evaluated) (f : ℕ) → with_end a f ≡ with_end (with_end a f) f
-    end_same (Is v q k) f = refl
-    end_same (Failed v k) f = refl
+    end_same (Ok (v, q, k)) f = refl
+    end_same (Err (v, k)) f = refl
 
     end_res : (B : World) (a : Evaluated) (f : ℕ) → res_in B c₁ l₁ h₁ w₁ u (with_end a f) ≡ res_in B c₁ l₁ h₁ w₁ u a
-    end_res B (Is v q k) f = refl
-    end_res B (Failed v k) f = refl
+    end_res B (Ok (v, q, k)) f = refl
+    end_res B (Err (v, k)) f = refl
 
     end_size : (a : Evaluated) (f : ℕ) → size_of (with_end a f) ≡ size_of a
-    end_size (Is v q k) f = refl
-    end_size (Failed v k) f = refl
+    end_size (Ok (v, q, k)) f = refl
+    end_size (Err (v, k)) f = refl
 
     end_meter : (a : Evaluated) (f : ℕ) → meter_of (with_end a f) ≡ meter_of a
-    end_meter (Is v q k) f = refl
-    end_meter (Failed v k) f = refl
+    end_meter (Ok (v, q, k)) f = refl
+    end_meter (Err (v, k)) f = refl
 
     closed_by : (B : World) → Shows deck rows names c l h w u x m B → (y : Tree) (q : ℕ) (p : Parsed) → inside_of left s t.from t.to ≡ read p → (i : ℕ) → expect_sign mixed ")" s p.to ≡ read i → p.tree ≡ y → i ≡ q → Gave B u w c₁ l₁ h₁ w₁ r q (value_of x y u (world_in B c l h m.used))
     closed_by B sh y q p a i f j k =

@@ -1,5 +1,8 @@
 -- A name with a list: whose arguments it takes, the call, and SUBSTR.
 -- Assumes nothing.
+use Rattle.operands.specs.Types.{Evaluated}
+use Rattle.std.proofs.Common.{Option, Some, None}
+use Rattle.names.specs.declared.Place.{Place}
 use mathlib.Core.Path.{◌≡◌, refl, sym, ap, subst, ◌∙◌}
 use mathlib.Core.Bool.{Bool, true, false, cond}
 use mathlib.Core.List.{List, [], ◌∷◌}
@@ -28,8 +31,6 @@ use Rattle.callees.specs.declared.Callee.{Callee}
 use Rattle.callees.specs.Shown.{names_world, world_in, Slots}
 use Rattle.callees.specs.Answer.{owner_at, held_size}
 use Rattle.operands.specs.declared.Scene.{Scene}
-use Rattle.operands.specs.declared.Evaluated.{Evaluated}
-use Rattle.operands.specs.declared.Evaluated.TheVariants.{Is, Failed}
 use Rattle.operands.specs.declared.Target.{Target}
 use Rattle.operands.specs.declared.Target.TheVariants as T
 use Rattle.evaluating.specs.declared.Taken.{Taken}
@@ -46,16 +47,10 @@ use Rattle.definition.specs.World as W
 use Rattle.definition.specs.World.{body_at, no_body}
 use Rattle.definition.specs.Evaluate.{callee, listed_name}
 use Rattle.definition.specs.declared.Why.TheVariants.{WrongArguments}
-use Rattle.names.specs.declared.Body.{Body}
-use Rattle.names.specs.declared.Body.TheVariants as B
 use Rattle.names.specs.Table.{body_of}
 use Rattle.callees.specs.declared.Meant.{Meant}
 use Rattle.callees.specs.declared.Meant.TheVariants as M
-use Rattle.callees.specs.declared.Called.{Called}
-use Rattle.callees.specs.declared.Called.TheVariants as K
 use Rattle.callees.specs.Answer.{meant_for, CalleeOf, Waiting, held_from}
-use Rattle.operands.specs.declared.Aim.{Aim}
-use Rattle.operands.specs.declared.Aim.TheVariants as A
 use Rattle.operands.specs.Answer.{Means}
 use Rattle.evaluating.specs.Cycle.{ListedIs, CalleeShown, CallIs}
 use Rattle.operands.specs.Blocks.{CountIs}
@@ -113,8 +108,8 @@ path_substr w f k u (a ∷ b ∷ c ∷ []) j t ws' (pa, pf, (pb, pg, ph, (pc, pk
 path_substr w f k u (a ∷ b ∷ c ∷ d ∷ vs) j t ws' (pa, pf, (pb, pg, ph, (pc, pk, pl, pm))) h = absurd pm
 
 -- ---- the ways out
-module _ (deck s rows names c l h w : List ℕ) (at left u : ℕ) (x : Scene) (m : Meter) (y : Meant) (n : ℕ) (cn : CountIs s at left n) (aim : Aim) (ai : AimIs deck rows x.starts names x.names y n aim) where
-  no : (B₁ : World) → Shows deck rows names c l h w u x m B₁ → (to : ℕ) (f : Why) (R : Res Why Val.Value) → R ≡ bad f m.used → Gave B₁ u w c l h w (Failed f m) to R
+module _ (deck s rows names c l h w : List ℕ) (at left u : ℕ) (x : Scene) (m : Meter) (y : Meant) (n : ℕ) (cn : CountIs s at left n) (aim : Result Target Why) (ai : AimIs deck rows x.starts names x.names y n aim) where
+  no : (B₁ : World) → Shows deck rows names c l h w u x m B₁ → (to : ℕ) (f : Why) (R : Res Why Val.Value) → R ≡ bad f m.used → Gave B₁ u w c l h w (Err (f, m)) to R
   no B₁ sh to f R q = record { is = sym q; end = refl; below = refl; fits = omega (arith, sh.taken); limit = sh.limit; slots = sh.slots }
 
   -- the callee that an entry has
@@ -124,10 +119,10 @@ module _ (deck s rows names c l h w : List ℕ) (at left u : ℕ) (x : Scene) (m
     pub few : length callee.parameters ≤ 256
     pub value : (t : Tree) → named x t (meant_for y₁) u (world_in B₁ c l h m.used) ≡ when (eqb (length callee.parameters) (count t)) (λ _. bind (asked x t (Ev.wishes callee.parameters) u (world_in B₁ c l h m.used)) (λ vs z. run_in x callee vs u z)) (λ _. bad WrongArguments m.used)
 
-  module _ (B₁ : World) (sh : Shows deck rows names c l h w u x m B₁) (b : Body) (cy : Called) (co : CalleeOf deck rows x.starts names x.names b cy) (me : Means (M.AnEntry b) B₁) where
-    entered_by : (z : Callee) → cy ≡ K.Is z → (o : Body) → b ≡ o → Entered B₁ z (M.AnEntry o)
-    entered_by z e B.Nothing j = absurd (let g : K.Is z ≡ K.Fails WrongName = sym e ∙ co.none j in let q : ◌≡◌ {A = ℕ} 0 1 = cc in omega arith)
-    entered_by z e (B.At p) j =
+  module _ (B₁ : World) (sh : Shows deck rows names c l h w u x m B₁) (b : Option Place) (cy : Result Callee Why) (co : CalleeOf deck rows x.starts names x.names b cy) (me : Means (M.AnEntry b) B₁) where
+    entered_by : (z : Callee) → cy ≡ Ok z → (o : Option Place) → b ≡ o → Entered B₁ z (M.AnEntry o)
+    entered_by z e None j = absurd (let g : Ok z ≡ Err WrongName = sym e ∙ co.none j in let q : ◌≡◌ {A = ℕ} 0 1 = cc in omega arith)
+    entered_by z e (Some p) j =
         let q : Found deck rows names x.names p cy (world_in B₁ c l h m.used) B₁ = found deck rows names c l h w u x m b cy co B₁ sh p j me in
         let g : Got deck rows names c l h w u x m b cy co p q.list z (Ev.parameters (owner_at p) q.listed (names_world deck names x.names)) = called_is deck rows names c l h w u x m b cy co p q.list _ z (sym e ∙ q.called) in
         let a : callee (body_at p.member p.row) (world_in B₁ c l h m.used) ≡ Val.gives (record { member = p.member; row = p.row; parameters = g.parameters }) = q.value ∙ ap (λ (i : Val.Answer (List Ev.Parameter)). Val.and_then i (λ ps. Val.gives (record { member = p.member; row = p.row; parameters = ps }))) g.is in
@@ -138,20 +133,20 @@ module _ (deck s rows names c l h w : List ℕ) (at left u : ℕ) (x : Scene) (m
           value = λ t. named_gives x t (body_at p.member p.row) u (world_in B₁ c l h m.used) (record { member = p.member; row = p.row; parameters = g.parameters }) a;
         }
 
-    entry_refused : (f : Why) → cy ≡ K.Fails f → (o : Body) → b ≡ o → (t : Tree) → named x t (Ev.an_entry (body_of o)) u (world_in B₁ c l h m.used) ≡ bad f m.used
-    entry_refused f e B.Nothing j t =
-        let d : WrongName ≡ f = (let g : K.Fails f ≡ K.Fails WrongName = sym e ∙ co.none j in let a : f ≡ WrongName = cc in sym a) in
+    entry_refused : (f : Why) → cy ≡ Err f → (o : Option Place) → b ≡ o → (t : Tree) → named x t (Ev.an_entry (body_of o)) u (world_in B₁ c l h m.used) ≡ bad f m.used
+    entry_refused f e None j t =
+        let d : WrongName ≡ f = (let g : Err f ≡ Err WrongName = sym e ∙ co.none j in let a : f ≡ WrongName = cc in sym a) in
         named_fails x t no_body u (world_in B₁ c l h m.used) WrongName (callee_none deck rows names c l h w u x m b cy co (world_in B₁ c l h m.used)) ∙ ap (λ (a : Why). bad a m.used) d
-    entry_refused f e (B.At p) j t =
+    entry_refused f e (Some p) j t =
         let q : Found deck rows names x.names p cy (world_in B₁ c l h m.used) B₁ = found deck rows names c l h w u x m b cy co B₁ sh p j me in
         let a : Ev.parameters (owner_at p) q.listed (names_world deck names x.names) ≡ Val.fails f = called_fails deck rows names c l h w u x m b cy co p q.list _ f (sym e ∙ q.called) in
         named_fails x t (body_at p.member p.row) u (world_in B₁ c l h m.used) f (q.value ∙ rw a)
 
-    entry_no : (f : Why) (t : Tree) → n ≡ count t → (cz : Called) → cy ≡ cz → A.Fails f ≡ aim_for cz n → named x t (Ev.an_entry (body_of b)) u (world_in B₁ c l h m.used) ≡ bad f m.used
-    entry_no f t en (K.Fails g) e q = let d : f ≡ g = cc in entry_refused f (e ∙ ap K.Fails (sym d)) b refl t
-    entry_no f t en (K.Is z) e q = by (eqb z.count n) refl q
+    entry_no : (f : Why) (t : Tree) → n ≡ count t → (cz : Result Callee Why) → cy ≡ cz → Err f ≡ aim_for cz n → named x t (Ev.an_entry (body_of b)) u (world_in B₁ c l h m.used) ≡ bad f m.used
+    entry_no f t en (Err g) e q = let d : f ≡ g = cc in entry_refused f (e ∙ ap Err (sym d)) b refl t
+    entry_no f t en (Ok z) e q = by (eqb z.count n) refl q
       where
-        by : (v : Bool) → eqb z.count n ≡ v → A.Fails f ≡ cond v (A.At (T.Entry z)) (A.Fails WrongArguments) → named x t (Ev.an_entry (body_of b)) u (world_in B₁ c l h m.used) ≡ bad f m.used
+        by : (v : Bool) → eqb z.count n ≡ v → Err f ≡ cond v (Ok (T.Entry z)) (Err WrongArguments) → named x t (Ev.an_entry (body_of b)) u (world_in B₁ c l h m.used) ≡ bad f m.used
         by true g q₁ = clash (cc)
         by false g q₁ =
             let d : f ≡ WrongArguments = cc in
@@ -159,20 +154,20 @@ module _ (deck s rows names c l h w : List ℕ) (at left u : ℕ) (x : Scene) (m
             let a : eqb (length k.callee.parameters) (count t) ≡ false = rw (← en, ← k.shown.count) g in
             k.value t ∙ rw (a, d)
 
-  fails_by : (f : Why) (B₁ : World) → Shows deck rows names c l h w u x m B₁ → (t : Tree) → n ≡ count t → (y₁ : Meant) → AimAs deck rows x.starts names x.names y₁ n (A.Fails f) → Means y₁ B₁ → named x t (meant_for y₁) u (world_in B₁ c l h m.used) ≡ bad f m.used
+  fails_by : (f : Why) (B₁ : World) → Shows deck rows names c l h w u x m B₁ → (t : Tree) → n ≡ count t → (y₁ : Meant) → AimAs deck rows x.starts names x.names y₁ n (Err f) → Means y₁ B₁ → named x t (meant_for y₁) u (world_in B₁ c l h m.used) ≡ bad f m.used
   fails_by f B₁ sh t en (M.AVariable a v) k me = let d : f ≡ WrongName = cc in named_variable x t a v u (world_in B₁ c l h m.used) ∙ rw d
   fails_by f B₁ sh t en (M.AnEntry b) (cy, co, q) me = entry_no B₁ sh b cy co me f t en cy refl q
   fails_by f B₁ sh t en M.TheSubstr k me = by (eqb n 2 || eqb n 3) refl k
     where
-      by : (v : Bool) → (eqb n 2 || eqb n 3) ≡ v → A.Fails f ≡ cond v (A.At (T.Substr n)) (A.Fails WrongArguments) → named x t Ev.the_substr u (world_in B₁ c l h m.used) ≡ bad f m.used
+      by : (v : Bool) → (eqb n 2 || eqb n 3) ≡ v → Err f ≡ cond v (Ok (T.Substr n)) (Err WrongArguments) → named x t Ev.the_substr u (world_in B₁ c l h m.used) ≡ bad f m.used
       by true g q = clash (cc)
       by false g q = let d : f ≡ WrongArguments = cc in named_substr x t u (world_in B₁ c l h m.used) false (rw (← en) g) ∙ rw d
   fails_by f B₁ sh t en M.NoSuch k me = let d : f ≡ WrongName = cc in named_none x t u (world_in B₁ c l h m.used) ∙ rw d
 
-  pub listed_fails : (f : Why) → aim ≡ A.Fails f → ListedIs deck s rows names c l h w at left u x m y c l h w (Failed f m)
+  pub listed_fails : (f : Why) → aim ≡ Err f → ListedIs deck s rows names c l h w at left u x m y c l h w (Err (f, m))
   listed_fails f e = record { is = λ B₁ sh me p t q r. no B₁ sh q f _ (fails_by f B₁ sh t (cn.is p t q r) y (rw e at ai.is) me) }
 
-  module _ (t : Target) (et : aim ≡ A.At t) (c₁ l₁ h₁ w₁ : List ℕ) (z₁ : length w₁ ≡ length w) (o : Result Taken (Why × Meter)) (ti : TakenIs deck s rows names c l h w at left u t x m c₁ l₁ h₁ w₁ o) where
+  module _ (t : Target) (et : aim ≡ Ok t) (c₁ l₁ h₁ w₁ : List ℕ) (z₁ : length w₁ ≡ length w) (o : Result Taken (Why × Meter)) (ti : TakenIs deck s rows names c l h w at left u t x m c₁ l₁ h₁ w₁ o) where
     -- the whole is what is made of the arguments
     pub record Aimed (B₁ : World) (tr : Tree) (t₁ : Target) : Type 0 where
       pub ws : List Ev.Wish
@@ -186,11 +181,11 @@ module _ (deck s rows names c l h w : List ℕ) (at left u : ℕ) (x : Scene) (m
       pub is_substr_lem : (j : ℕ) → t₁ ≡ T.Substr j → (ws ≡ Ev.substr_wishes) × ((eqb (count tr) 2 || eqb (count tr) 3) ≡ true) × (n ≡ count tr) × ((vs : List Val.Value) (W₁ : World) → made vs W₁ ≡ put u (Val.substr vs) W₁)
 
     module _ (B₁ : World) (sh : Shows deck rows names c l h w u x m B₁) (tr : Tree) (en : n ≡ count tr) where
-      entry_aimed : (b : Body) → y ≡ M.AnEntry b → Means (M.AnEntry b) B₁ → (cy : Called) (co : CalleeOf deck rows x.starts names x.names b cy) (cz : Called) → cy ≡ cz → A.At t ≡ aim_for cz n → Aimed B₁ tr t
-      entry_aimed b ey me cy co (K.Fails g) e q = clash (cc)
-      entry_aimed b ey me cy co (K.Is z) e q = by (eqb z.count n) refl q
+      entry_aimed : (b : Option Place) → y ≡ M.AnEntry b → Means (M.AnEntry b) B₁ → (cy : Result Callee Why) (co : CalleeOf deck rows x.starts names x.names b cy) (cz : Result Callee Why) → cy ≡ cz → Ok t ≡ aim_for cz n → Aimed B₁ tr t
+      entry_aimed b ey me cy co (Err g) e q = clash (cc)
+      entry_aimed b ey me cy co (Ok z) e q = by (eqb z.count n) refl q
         where
-          by : (v : Bool) → eqb z.count n ≡ v → A.At t ≡ cond v (A.At (T.Entry z)) (A.Fails WrongArguments) → Aimed B₁ tr t
+          by : (v : Bool) → eqb z.count n ≡ v → Ok t ≡ cond v (Ok (T.Entry z)) (Err WrongArguments) → Aimed B₁ tr t
           by false g q₁ = clash (cc)
           by true g q₁ =
               let d : t ≡ T.Entry z = cc in
@@ -212,7 +207,7 @@ module _ (deck s rows names c l h w : List ℕ) (at left u : ℕ) (x : Scene) (m
                 is_substr_lem = λ j e₂. clash (let i : T.Entry z ≡ T.Substr j = sym d ∙ e₂ in cc);
               }
 
-      substr_aimed : y ≡ M.TheSubstr → (v : Bool) → (eqb n 2 || eqb n 3) ≡ v → A.At t ≡ cond v (A.At (T.Substr n)) (A.Fails WrongArguments) → Aimed B₁ tr t
+      substr_aimed : y ≡ M.TheSubstr → (v : Bool) → (eqb n 2 || eqb n 3) ≡ v → Ok t ≡ cond v (Ok (T.Substr n)) (Err WrongArguments) → Aimed B₁ tr t
       substr_aimed ey false g q = clash (cc)
       substr_aimed ey true g q =
           let d : t ≡ T.Substr n = cc in
@@ -237,7 +232,7 @@ module _ (deck s rows names c l h w : List ℕ) (at left u : ℕ) (x : Scene) (m
               by false i true j k = omega (arith, eqb-true a 3 j)
               by false i false j k = true_false (sym k)
 
-      aimed_by : (y₁ : Meant) → y ≡ y₁ → AimAs deck rows x.starts names x.names y₁ n (A.At t) → Means y₁ B₁ → Aimed B₁ tr t
+      aimed_by : (y₁ : Meant) → y ≡ y₁ → AimAs deck rows x.starts names x.names y₁ n (Ok t) → Means y₁ B₁ → Aimed B₁ tr t
       aimed_by (M.AVariable a v) ey k me = clash (cc)
       aimed_by (M.AnEntry b) ey (cy, co, q) me = entry_aimed b ey me cy co cy refl q
       aimed_by M.TheSubstr ey k me = substr_aimed ey (eqb n 2 || eqb n 3) refl k
@@ -249,12 +244,12 @@ module _ (deck s rows names c l h w : List ℕ) (at left u : ℕ) (x : Scene) (m
     args : (B₁ : World) → Shows deck rows names c l h w u x m B₁ → (p : ℕ) (tr : Tree) (e : ℕ) → E.arguments mixed (inside_of left s p) s (length s) at ≡ read (parsed tr e) → (a : Aimed B₁ tr t) → Args B₁ u w c₁ l₁ h₁ w₁ a.ws (count tr) e (asked x tr a.ws u (world_in B₁ c l h m.used)) o
     args B₁ sh p tr e q a = ti.is B₁ sh p tr e q a.wanted a.ws a.coming a.enough a.few
 
-    refused_by : (g : Why) (m₁ : Meter) → o ≡ Err (g, m₁) → (B₁ : World) → Shows deck rows names c l h w u x m B₁ → (tr : Tree) (e : ℕ) (a : Aimed B₁ tr t) → Args B₁ u w c₁ l₁ h₁ w₁ a.ws (count tr) e (asked x tr a.ws u (world_in B₁ c l h m.used)) o → Gave B₁ u w c₁ l₁ h₁ w₁ (Failed g m₁) e (named x tr (meant_for y) u (world_in B₁ c l h m.used))
+    refused_by : (g : Why) (m₁ : Meter) → o ≡ Err (g, m₁) → (B₁ : World) → Shows deck rows names c l h w u x m B₁ → (tr : Tree) (e : ℕ) (a : Aimed B₁ tr t) → Args B₁ u w c₁ l₁ h₁ w₁ a.ws (count tr) e (asked x tr a.ws u (world_in B₁ c l h m.used)) o → Gave B₁ u w c₁ l₁ h₁ w₁ (Err (g, m₁)) e (named x tr (meant_for y) u (world_in B₁ c l h m.used))
     refused_by g m₁ eo B₁ sh tr e a r =
         let q : asked x tr a.ws u (world_in B₁ c l h m.used) ≡ bad g m₁.used = rw eo at r.is in
         record { is = sym (a.value ∙ ap (λ (i : Res Why (List Val.Value)). bind i a.made) q); end = refl; below = r.below; fits = omega (arith, sh.taken); limit = rw eo at r.limit; slots = r.slots }
 
-    pub listed_refused : (g : Why) (m₁ : Meter) → o ≡ Err (g, m₁) → ListedIs deck s rows names c l h w at left u x m y c₁ l₁ h₁ w₁ (Failed g m₁)
+    pub listed_refused : (g : Why) (m₁ : Meter) → o ≡ Err (g, m₁) → ListedIs deck s rows names c l h w at left u x m y c₁ l₁ h₁ w₁ (Err (g, m₁))
     listed_refused g m₁ eo = record { is = λ B₁ sh me p tr e q. let a : Aimed B₁ tr t = aimed B₁ sh me tr (cn.is p tr e q) in refused_by g m₁ eo B₁ sh tr e a (args B₁ sh p tr e q a) }
 
     module _ (got : Taken) (eo : o ≡ Ok got) where
@@ -275,8 +270,8 @@ module _ (deck s rows names c l h w : List ℕ) (at left u : ℕ) (x : Scene) (m
 
       module _ (z : Callee) (ez : t ≡ T.Entry z) (c₂ l₂ h₂ w₂ : List ℕ) (v : Evaluated) (ca : CallIs deck rows names c₁ l₁ h₁ w₁ u x m₁ z k c₂ l₂ h₂ w₂ v) (r : Evaluated) (re : r ≡ with_end v to) where
         up_gave : (B₁ : World) (d : Evaluated) (R : Res Why Val.Value) → Gave B₁ u w₁ c₂ l₂ h₂ w₂ d 0 R → Gave B₁ u w₁ c₂ l₂ h₂ w₂ (with_end d to) to R
-        up_gave B₁ (Is e q k) R g = record { is = g.is; end = refl; below = g.below; fits = g.fits; limit = g.limit; slots = g.slots }
-        up_gave B₁ (Failed e k) R g = record { is = g.is; end = refl; below = g.below; fits = g.fits; limit = g.limit; slots = g.slots }
+        up_gave B₁ (Ok (e, q, k)) R g = record { is = g.is; end = refl; below = g.below; fits = g.fits; limit = g.limit; slots = g.slots }
+        up_gave B₁ (Err (e, k)) R g = record { is = g.is; end = refl; below = g.below; fits = g.fits; limit = g.limit; slots = g.slots }
 
         call_by : (B₁ : World) → Shows deck rows names c l h w u x m B₁ → (tr : Tree) (e : ℕ) (a : Aimed B₁ tr t) → Args B₁ u w c₁ l₁ h₁ w₁ a.ws (count tr) e (asked x tr a.ws u (world_in B₁ c l h m.used)) (Ok got) → Gave B₁ u w c₂ l₂ h₂ w₂ r e (named x tr (meant_for y) u (world_in B₁ c l h m.used))
         call_by B₁ sh tr e a g =

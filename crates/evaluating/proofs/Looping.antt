@@ -1,5 +1,8 @@
 -- The turns of a body, and its loop: every turn that goes on takes a step, so that the turns are enough.
 -- Assumes nothing.
+use Rattle.bodies.specs.Types.{Tested}
+use Rattle.std.proofs.Common.{Ok, Err, Result}
+use Rattle.operands.specs.Types.{Evaluated}
 use mathlib.Core.Path.{◌≡◌, refl, sym, ap, subst, ◌∙◌}
 use mathlib.Core.Bool.{Bool, true, false}
 use mathlib.Core.List.{List, []}
@@ -24,8 +27,7 @@ use Rattle.definition.specs.declared.Why.{Why}
 use Rattle.definition.specs.declared.Why.TheVariants.{NoStep, WronglyRun, WrongGoto}
 use Rattle.definition.proofs.Thrift.{used_by, statement_used}
 use Rattle.meter.specs.declared.Meter.{Meter}
-use Rattle.meter.specs.declared.Charged.{Charged}
-use Rattle.meter.specs.Charges.{Charges}
+use Rattle.meter.specs.Charges.{Charges, Charged, charged_for, ChargedAs}
 use Rattle.names.specs.declared.Place.{Place}
 use Rattle.rows.specs.declared.Row.{Row}
 use Rattle.rows.specs.Table.{row_in}
@@ -44,12 +46,8 @@ use Rattle.flow.proofs.Arriving.{first_stands}
 use Rattle.operators.specs.declared.Value.{Value}
 use Rattle.operators.specs.Stands.{size_for, value_in}
 use Rattle.operands.specs.declared.Scene.{Scene}
-use Rattle.operands.specs.declared.Evaluated.{Evaluated}
-use Rattle.operands.specs.declared.Evaluated.TheVariants.{Is, Failed}
 use Rattle.operands.specs.Shown.{Shows}
 use Rattle.operands.specs.Answer.{Gave, run_in}
-use Rattle.bodies.specs.declared.Tested.{Tested}
-use Rattle.bodies.specs.declared.Tested.TheVariants as Te
 use Rattle.bodies.specs.declared.Step.{Step}
 use Rattle.bodies.specs.declared.Step.TheVariants as St
 use Rattle.bodies.specs.declared.Turned.{Turned}
@@ -119,10 +117,10 @@ stepped_spends d w v b e = by (W.value_at d.at w) e
     by (W.holds a) f = added (Val.from_fixed (Fx.sum (Val.as_number a) d.step)) f
 
 -- ---- what a turn leads to is no end of the list
-returns_turns : (M : Machine Why) (t : List ℕ) (B : World) (u : ℕ) (c l h w : List ℕ) (R : Res Why F.Turn) (fs : Frames) (y : Step) → TurnsTo M t B u c l h w R fs y → TurnsTo M t B u c l h w (returns_of R) fs y
-returns_turns M t B u c l h w R fs (St.On y m) k = (k.0, ap returns_of k.1, k.2)
-returns_turns M t B u c l h w R fs (St.Gave v m) k = (ap returns_of k.0, k.1)
-returns_turns M t B u c l h w R fs (St.Bad e m) k = ap returns_of k
+returns_turns : (M : Machine Why) (t : List ℕ) (B : World) (u : ℕ) (c l h w : List ℕ) (R : Res Why F.Turn) (fs : Frames) (y : Result Step (Why × Meter)) → TurnsTo M t B u c l h w R fs y → TurnsTo M t B u c l h w (returns_of R) fs y
+returns_turns M t B u c l h w R fs (Ok (St.On y m)) k = (k.0, ap returns_of k.1, k.2)
+returns_turns M t B u c l h w R fs (Ok (St.Gave v m)) k = (ap returns_of k.0, k.1)
+returns_turns M t B u c l h w R fs (Err (e, m)) k = ap returns_of k
 
 -- ---- a group that is tested again: into it or behind it, where nothing is put out on the way
 module _ (deck s t rows names c l h w : List ℕ) (p : Place) (fs : Frames) (u : ℕ) (x : Scene) (m : Meter) (B : World) (sh : Shows deck rows names c l h w u x m B) (ib : InBody deck s t rows x p B)
@@ -157,7 +155,7 @@ module _ (deck s t rows names c l h w : List ℕ) (p : Place) (fs : Frames) (u :
 
 -- ---- a turn
 module _ (deck s t rows names c l h w : List ℕ) (p : Place) (y : Next) (fs : Frames) (u : ℕ) (x : Scene) (m : Meter) where
-  pub turn_over : y ≡ Over → (r : Turned) → r ≡ turned_by fs (St.Bad WronglyRun m) → TurnIs deck s t rows names c l h w p y fs u x m c l h w r
+  pub turn_over : y ≡ Over → (r : Turned) → r ≡ turned_by fs (Err (WronglyRun, m)) → TurnIs deck s t rows names c l h w p y fs u x m c l h w r
   unfolding F.turn
   turn_over e r er = rw (er, e) record { is = λ B sh ib G at. (refl, record { below = refl; limit = sh.limit; slots = sh.slots }) }
 
@@ -167,7 +165,7 @@ module _ (deck s t rows names c l h w : List ℕ) (p : Place) (y : Next) (fs : F
     unfolding F.turn body_machine
     turn_is B G R q = ap (λ (i : Res Why (Unit {0})). bind i (λ _ v. F.statement (body_of x p u B) (row_of (rows_of p.member B) n).statement G n v)) (placed_same (W.charge (world_in B c l h m.used)) ∙ q)
 
-    pub turn_due : k.paid ≡ false → (r : Turned) → r ≡ turned_by fs (St.Bad NoStep k.meter) → TurnIs deck s t rows names c l h w p y fs u x m c l h w r
+    pub turn_due : k.paid ≡ false → (r : Turned) → r ≡ turned_by fs (Err (NoStep, k.meter)) → TurnIs deck s t rows names c l h w p y fs u x m c l h w r
     turn_due pd r er = rw (er, e) record {
       is = λ B sh ib G at.
           let lf : is_left m.limit m.used ≡ false = sym ch.paid ∙ pd in
@@ -200,12 +198,12 @@ module _ (deck s t rows names c l h w : List ℕ) (p : Place) (y : Next) (fs : F
       turn_again_is = ap (λ (i : Res Why Bool). bind i (goes deck s t rows names c l h w p fs u x m B sh ib G g at)) (placed_same (F.stepped (body_of x p u B) g G (world_in B c l h m.used)) ∙ stepped_own (body_of x p u B) g at.own.frame G (world_in B c l h m.used) at.own.newest ∙ sym (si.is B l h at.own.frame framing).0)
 
       again_by : (a : Tested) → b ≡ a → TurnsTo (body_of x p u B) t B u c' l h w (returns_of (F.turn (body_of x p u B) (F.again g) G (world_in B c l h m.used))) fs (after_test a (λ o. again_in t fs g o)) × Leaves B u w c' l h w (step_meter (after_test a (λ o. again_in t fs g o)))
-      again_by (Te.Is o k) q =
+      again_by (Ok (o, k)) q =
           let R : F.turn (body_of x p u B) (F.again g) G (world_in B c l h m.used) ≡ good (F.on (next_from (again_in t fs g o)) G) (world_in B c' l h k.used) = turn_again_is ∙ rw q (goes_on_lem deck s t rows names c l h w p fs u x m B sh ib G g at o (world_in B c' l h k.used)) in (
             (G, ap returns_of R, on_at deck s t rows names c l h w p fs u x m B sh ib G g at o),
             record { below = refl; limit = rw q at (si.is B l h at.own.frame framing).1; slots = (si.is B l h at.own.frame framing).2 },
           )
-      again_by (Te.Bad z k) q =
+      again_by (Err (z, k)) q =
           let R : F.turn (body_of x p u B) (F.again g) G (world_in B c l h m.used) ≡ bad z k.used = turn_again_is ∙ rw q in
           (ap returns_of R, record { below = refl; limit = rw q at (si.is B l h at.own.frame framing).1; slots = (si.is B l h at.own.frame framing).2 })
 
@@ -371,9 +369,9 @@ module _ (deck s t rows names c₀ l₀ h₀ w₀ : List ℕ) (p : Place) (u : �
       on_ran : (a : F.Next) (G : List F.Frame) → F.on a G ≡ F.ended F.ran → ⊥
       on_ran a G e = clash (cc)
 
-      more_by : (z : Next) (k : Meter) → r.step ≡ St.On z k → (f : ℕ) → go.fuel ≡ f → Going B (turns - 1) z r.frames k c' l' h' w'
+      more_by : (z : Next) (k : Meter) → r.step ≡ Ok (St.On z k) → (f : ℕ) → go.fuel ≡ f → Going B (turns - 1) z r.frames k c' l' h' w'
       more_by z k e f ef =
-          let d : (G : List F.Frame) × (returns_of turned ≡ good (F.on (next_from z) G) (world_in B c' l' h' k.used)) × AtNext (body_of x p u B) t B.denotations r.frames G z = subst (λ (i : Step). TurnsTo (body_of x p u B) t B u c' l' h' w' (returns_of turned) r.frames i) e done.0 in
+          let d : (G : List F.Frame) × (returns_of turned ≡ good (F.on (next_from z) G) (world_in B c' l' h' k.used)) × AtNext (body_of x p u B) t B.denotations r.frames G z = subst (λ (i : Result Step (Why × Meter)). TurnsTo (body_of x p u B) t B u c' l' h' w' (returns_of turned) r.frames i) e done.0 in
           let T : turned ≡ good (F.on (next_from z) d.0) (world_in B c' l' h' k.used) = returns_on turned (next_from z) d.0 (world_in B c' l' h' k.used) d.1 in
           let ad : Advances (world_in B c l h m.used) (world_in B c' l' h' k.used) = advances y refl (F.on (next_from z) d.0) (world_in B c' l' h' k.used) T (on_ran (next_from z) d.0) in
           of f ef d T ad
@@ -392,32 +390,32 @@ module _ (deck s t rows names c₀ l₀ h₀ w₀ : List ℕ) (p : Place) (u : �
             leaves = leaves_now k (ap step_meter e);
           }
 
-      gave_by : (v : Value) (k : Meter) → r.step ≡ St.Gave v k → Gave B u w₀ c' l' h' w' (Is v 0 k) 0 (whole B)
+      gave_by : (v : Value) (k : Meter) → r.step ≡ Ok (St.Gave v k) → Gave B u w₀ c' l' h' w' (Ok (v, 0, k)) 0 (whole B)
       gave_by v k e =
-          let d : (returns_of turned ≡ good (F.ended (F.returned (value_in w' u v))) (world_in B c' l' h' k.used)) × (u + size_for v ≤ 65536) = subst (λ (i : Step). TurnsTo (body_of x p u B) t B u c' l' h' w' (returns_of turned) r.frames i) e done.0 in
+          let d : (returns_of turned ≡ good (F.ended (F.returned (value_in w' u v))) (world_in B c' l' h' k.used)) × (u + size_for v ≤ 65536) = subst (λ (i : Result Step (Why × Meter)). TurnsTo (body_of x p u B) t B u c' l' h' w' (returns_of turned) r.frames i) e done.0 in
           let R : Calls.value_of (F.run_on (body_of x p u B) go.fuel (next_from y) go.frames (world_in B c l h m.used)) ≡ good (value_in w' u v) (world_in B c' l' h' k.used) =
           ends_as x p u B go.fuel (next_from y) go.frames (world_in B c l h m.used) _ go.enough (λ o. value_returned (body_of x p u B) turned o (value_in w' u v) (world_in B c' l' h' k.used) d.0) in
           let lv : Leaves B u w₀ c' l' h' w' k = leaves_now k (ap step_meter e) in
           record { is = sym R ∙ go.same; end = refl; below = lv.below; fits = d.1; limit = lv.limit; slots = lv.slots }
 
-      bad_by : (f : Why) (k : Meter) → r.step ≡ St.Bad f k → Gave B u w₀ c' l' h' w' (Failed f k) 0 (whole B)
+      bad_by : (f : Why) (k : Meter) → r.step ≡ Err (f, k) → Gave B u w₀ c' l' h' w' (Err (f, k)) 0 (whole B)
       bad_by f k e =
-          let d : returns_of turned ≡ bad f k.used = subst (λ (i : Step). TurnsTo (body_of x p u B) t B u c' l' h' w' (returns_of turned) r.frames i) e done.0 in
+          let d : returns_of turned ≡ bad f k.used = subst (λ (i : Result Step (Why × Meter)). TurnsTo (body_of x p u B) t B u c' l' h' w' (returns_of turned) r.frames i) e done.0 in
           let R : Calls.value_of (F.run_on (body_of x p u B) go.fuel (next_from y) go.frames (world_in B c l h m.used)) ≡ bad f k.used =
           ends_as x p u B go.fuel (next_from y) go.frames (world_in B c l h m.used) _ go.enough (λ o. value_bad (body_of x p u B) turned o f k.used d) in
           let lv : Leaves B u w₀ c' l' h' w' k = leaves_now k (ap step_meter e) in
           record { is = sym R ∙ go.same; end = refl; below = lv.below; fits = omega (arith, sh.taken); limit = lv.limit; slots = lv.slots }
 
-    pub runs_more : (z : Next) (k : Meter) → r.step ≡ St.On z k → length w' ≡ length w → (fewer : ℕ) → fewer ≡ turns - 1 → Runs fewer z r.frames k c' l' h' w'
+    pub runs_more : (z : Next) (k : Meter) → r.step ≡ Ok (St.On z k) → length w' ≡ length w → (fewer : ℕ) → fewer ≡ turns - 1 → Runs fewer z r.frames k c' l' h' w'
     runs_more z k e ew fewer ef = rw ef record {
       is = λ B sh ib. more_by B sh ib z k e (go B sh ib).fuel refl;
       work_size = ew ∙ ru.work_size;
     }
 
-    pub runs_gave : (v : Value) (k : Meter) → r.step ≡ St.Gave v k → BodyIs deck s t rows names c₀ l₀ h₀ w₀ u x m₀ p c' l' h' w' (Is v 0 k)
+    pub runs_gave : (v : Value) (k : Meter) → r.step ≡ Ok (St.Gave v k) → BodyIs deck s t rows names c₀ l₀ h₀ w₀ u x m₀ p c' l' h' w' (Ok (v, 0, k))
     runs_gave v k e = record { is = λ B sh eo es et ip. gave_by B sh (record { owner = eo; body = es; part = et; procedure = ip }) v k e }
 
-    pub runs_bad : (f : Why) (k : Meter) → r.step ≡ St.Bad f k → BodyIs deck s t rows names c₀ l₀ h₀ w₀ u x m₀ p c' l' h' w' (Failed f k)
+    pub runs_bad : (f : Why) (k : Meter) → r.step ≡ Err (f, k) → BodyIs deck s t rows names c₀ l₀ h₀ w₀ u x m₀ p c' l' h' w' (Err (f, k))
     runs_bad f k e = record { is = λ B sh eo es et ip. bad_by B sh (record { owner = eo; body = es; part = et; procedure = ip }) f k e }
 
   -- the turns do not run out

@@ -1,5 +1,8 @@
 -- Statements that evaluate: assignment and IF.
 -- Assumes nothing.
+use Rattle.bodies.specs.Types.{Done, Tested}
+use Rattle.operands.specs.Types.{Evaluated}
+use Rattle.std.proofs.Common.{Option, Some, None, Err}
 use mathlib.Core.Path.{◌≡◌, refl, sym, ap, ◌∙◌}
 use mathlib.Core.Bool.{Bool, true, false, cond}
 use mathlib.Core.List.{List}
@@ -31,12 +34,6 @@ use Rattle.callees.proofs.Naming.{meant_there}
 use Rattle.callees.specs.Shown.{names_world, world_in}
 use Rattle.callees.proofs.Listing.{name_is}
 use Rattle.operands.specs.declared.Scene.{Scene}
-use Rattle.operands.specs.declared.Evaluated.{Evaluated}
-use Rattle.bodies.specs.declared.Done.{Done}
-use Rattle.bodies.specs.declared.Done.TheVariants as Dn
-use Rattle.bodies.specs.declared.Variable.{Variable}
-use Rattle.bodies.specs.declared.Variable.TheVariants as Va
-use Rattle.bodies.specs.declared.Tested.{Tested}
 use Rattle.operands.specs.Shown.{Shows}
 use Rattle.operands.specs.Answer.{res_in, Gave, value_of}
 use Rattle.evaluating.specs.Cycle.{Evaluates}
@@ -90,14 +87,14 @@ module _ (x : Scene) (u : ℕ) (n : List ℕ) (t : Tree) (w : World) where
   unfolding F.assigned stored_on meant
   assigned_is = target_at_lem (scene_machine x u) n (λ a k. bind (value_of x t u w) λ v y. bind (put u (Val.convert k v) y) λ c z. good tt (W.store a c z)) w (seen_from (owner_of x.owner) n w)
 
-pub at_by : (a : ℕ) (k : ValueType) (v : Meant) → Va.At a k ≡ variable_for v → v ≡ M.AVariable a k
+pub at_by : (a : ℕ) (k : ValueType) (v : Meant) → Some (a, k) ≡ variable_for v → v ≡ M.AVariable a k
 at_by a k (M.AVariable a₁ k₁) e = let f : a ≡ a₁ = cc in let q : k ≡ k₁ = cc in rw (f, q)
 at_by a k (M.AnEntry d) e = clash (cc)
 at_by a k M.TheSubstr e = clash (cc)
 at_by a k M.NoSuch e = clash (cc)
 
 -- ---- assignment
-module _ (deck s rows names c l h w : List ℕ) (at u : ℕ) (x : Scene) (m : Meter) (t : Lexeme) (lex : Lexed s at t) (y : Variable) (ti : TargetIs deck s names x.names x.owner t y) where
+module _ (deck s rows names c l h w : List ℕ) (at u : ℕ) (x : Scene) (m : Meter) (t : Lexeme) (lex : Lexed s at t) (y : Option (ℕ × ValueType)) (ti : TargetIs deck s names x.names x.owner t y) where
   pub spelled : (nm : Named) → name_at mixed s at ≡ read nm → folded mixed (part (t.to - t.from) t.from s) ≡ nm.spelling
   spelled nm q = rw (lex.from, lex.to) (sym (name_is s at nm q).spelling)
 
@@ -107,13 +104,13 @@ module _ (deck s rows names c l h w : List ℕ) (at u : ℕ) (x : Scene) (m : Me
   pub meant_now : (B : World) → Shows deck rows names c l h w u x m B → (n : List ℕ) → folded mixed (part (t.to - t.from) t.from s) ≡ n → meant_for ti.name ≡ meant (owner_of x.owner) n (world_in B c l h m.used)
   meant_now B sh n e = ti.is ∙ ap (λ (i : List ℕ). meant (owner_of x.owner) i (names_world deck names x.names)) e ∙ sym (meant_there deck names x.names (world_in B c l h m.used) sh.named.identifiers sh.named.denotations (owner_of x.owner) n)
 
-  pub none_by : {A : Type 0} (v : Meant) → Va.None ≡ variable_for v → (f : ℕ → ValueType → Res Why A) (W₁ : World) → on_meant (meant_for v) f W₁ ≡ bad WrongName W₁.used
+  pub none_by : {A : Type 0} (v : Meant) → None ≡ variable_for v → (f : ℕ → ValueType → Res Why A) (W₁ : World) → on_meant (meant_for v) f W₁ ≡ bad WrongName W₁.used
   none_by (M.AVariable a k) e f W₁ = clash (cc)
   none_by (M.AnEntry b) e f W₁ = refl
   none_by M.TheSubstr e f W₁ = refl
   none_by M.NoSuch e f W₁ = refl
 
-  pub assign_none : y ≡ Va.None → AssignIs deck s rows names c l h w at u x m c l h w (Dn.Bad WrongName m)
+  pub assign_none : y ≡ None → AssignIs deck s rows names c l h w at u x m c l h w (Err (WrongName, m))
   assign_none ey = record {
     is = λ B sh n tr st.
         let e : folded mixed (part (t.to - t.from) t.from s) ≡ n = spelled st.0 st.1 ∙ st.2 in
@@ -123,7 +120,7 @@ module _ (deck s rows names c l h w : List ℕ) (at u : ℕ) (x : Scene) (m : Me
         );
   }
 
-  module _ (a : ℕ) (k : ValueType) (ey : y ≡ Va.At a k) (g : Lexeme) (lg : Lexed s t.to g) (c₁ l₁ h₁ w₁ : List ℕ) (z₁ : length w₁ ≡ length w) (b : Evaluated)
+  module _ (a : ℕ) (k : ValueType) (ey : y ≡ Some (a, k)) (g : Lexeme) (lg : Lexed s t.to g) (c₁ l₁ h₁ w₁ : List ℕ) (z₁ : length w₁ ≡ length w) (b : Evaluated)
       (ev : Evaluates deck rows names c l h w u x m c₁ l₁ h₁ w₁ b (whole_expression mixed s g.to)) (c₂ l₂ h₂ w₂ : List ℕ) (r : Done) (si : StoredIs c₁ l₁ h₁ w₁ a k u b c₂ l₂ h₂ w₂ r) where
     is_at : ti.name ≡ M.AVariable a k
     is_at = at_by a k ti.name (sym ey ∙ ti.variable)

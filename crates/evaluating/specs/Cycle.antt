@@ -1,4 +1,5 @@
 -- THE CONTRACTS of what evaluates and calls: for every world that the rooms show, the answer is the definition's.
+use Rattle.operands.specs.Types.{Evaluated}
 use Rattle.std.specs.Prelude.{ℕ, suc, ◌+◌, ◌≤◌, ◌≡◌, Result, Ok, Err, List, length}
 use Rattle.definition.specs.Bytes.{mixed}
 use Rattle.definition.specs.Expressions as E
@@ -26,7 +27,6 @@ use Rattle.callees.specs.declared.Held.{Held}
 use Rattle.callees.specs.Shown.{names_world, world_in, Slots}
 use Rattle.callees.specs.Answer.{meant_for, owner_at, Names, Waiting, held_from}
 use Rattle.operands.specs.declared.Scene.{Scene}
-use Rattle.operands.specs.declared.Evaluated.{Evaluated}
 use Rattle.operands.specs.declared.Target.{Target}
 use Rattle.operands.specs.Shown.{IsRow, Shows}
 use Rattle.operands.specs.Answer.{Below, Gave, run_in, value_of, Means}

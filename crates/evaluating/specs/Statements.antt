@@ -1,5 +1,6 @@
 -- THE CONTRACTS of the statements that evaluate, in bodies and in members, and of the turns of a body.
-use Rattle.std.specs.Prelude.{ℕ, ◌+◌, ◌≤◌, true, ◌≡◌, List, [], ◌∷◌, ℤ, length, get_or}
+use Rattle.bodies.specs.Types.{Done, Tested, Bound, Widened, Started}
+use Rattle.std.specs.Prelude.{ℕ, ◌+◌, ◌≤◌, true, ◌≡◌, List, [], ◌∷◌, ℤ, length, get_or, Ok, Err, Result}
 use Rattle.definition.specs.Expressions.{Tree}
 use Rattle.definition.specs.Fixed.{in_range}
 use Rattle.definition.specs.Program as D
@@ -28,14 +29,6 @@ use Rattle.callees.specs.Shown.{world_in}
 use Rattle.operands.specs.declared.Scene.{Scene}
 use Rattle.operands.specs.Shown.{Stated, Bounded, Shows}
 use Rattle.operands.specs.Answer.{run_in}
-use Rattle.bodies.specs.declared.Done.{Done}
-use Rattle.bodies.specs.declared.Tested.{Tested}
-use Rattle.bodies.specs.declared.Bound.{Bound}
-use Rattle.bodies.specs.declared.Bound.TheVariants as Bo
-use Rattle.bodies.specs.declared.Widened.{Widened}
-use Rattle.bodies.specs.declared.Widened.TheVariants as Wd
-use Rattle.bodies.specs.declared.Started.{Started}
-use Rattle.bodies.specs.declared.Started.TheVariants as Sd
 use Rattle.bodies.specs.declared.Step.{Step}
 use Rattle.bodies.specs.declared.Step.TheVariants as St
 use Rattle.bodies.specs.declared.Turned.{Turned}
@@ -53,12 +46,12 @@ pub record TestIs (deck s rows names c l h w : List ℕ) (at u : ℕ) (x : Scene
 
 -- ---- DO: a frame with its bounds so far stands for R, and the bounds bs are left at the place behind them
 abbrev pub WidensAs : World → List ℕ → List ℕ → List ℕ → List ℕ → Res Why F.Frame → List D.Bound → Widened → Type 0
-WidensAs B s c l h R bs (Wd.Is f q m) = (d : F.Frame) × FrameShown f d × (R ≡ good d (world_in B c l h m.used)) × Bounded s bs q
-WidensAs B s c l h R bs (Wd.Bad e m) = R ≡ bad e m.used
+WidensAs B s c l h R bs (Ok (f, q, m)) = (d : F.Frame) × FrameShown f d × (R ≡ good d (world_in B c l h m.used)) × Bounded s bs q
+WidensAs B s c l h R bs (Err (e, m)) = R ≡ bad e m.used
 
 abbrev pub widened_meter : Widened → Meter
-widened_meter (Wd.Is f q m) = m
-widened_meter (Wd.Bad e m) = m
+widened_meter (Ok (f, q, m)) = m
+widened_meter (Err (e, m)) = m
 
 -- the next bound, if there is one
 abbrev pub bounded_on : Scene → ℕ → List D.Bound → F.Frame → World → Res Why F.Frame
@@ -70,28 +63,28 @@ bounds_left [] = []
 bounds_left (b ∷ bs) = bs
 
 pub record BoundedIs (deck s rows names c l h w : List ℕ) (u : ℕ) (x : Scene) (y : Widened) (c' l' h' w' : List ℕ) (r : Widened) : Type 0 where
-  pub goes : (f : Frame) (q : ℕ) (m : Meter) → y ≡ Wd.Is f q m → (B : World) → Shows deck rows names c l h w u x m B → (bs : List D.Bound) (d : F.Frame) → Bounded s bs q → FrameShown f d
+  pub goes : (f : Frame) (q : ℕ) (m : Meter) → y ≡ Ok (f, q, m) → (B : World) → Shows deck rows names c l h w u x m B → (bs : List D.Bound) (d : F.Frame) → Bounded s bs q → FrameShown f d
       → WidensAs B s c' l' h' (bounded_on x u bs d (world_in B c l h m.used)) (bounds_left bs) r × Leaves B u w c' l' h' w' (widened_meter r)
-  pub stays : (e : Why) (m : Meter) → y ≡ Wd.Bad e m → (r ≡ y) × (c' ≡ c) × (l' ≡ l) × (h' ≡ h) × (w' ≡ w)
+  pub stays : (e : Why) (m : Meter) → y ≡ Err (e, m) → (r ≡ y) × (c' ≡ c) × (l' ≡ l) × (h' ≡ h) × (w' ≡ w)
 
 -- the start of a group, whose frame stands for that of R
 abbrev pub StartsAs : World → List ℕ → List ℕ → List ℕ → Res Why F.Started → Started → Type 0
-StartsAs B c l h R (Sd.Is f b m) = (d : F.Frame) × FrameShown f d × (R ≡ good (record { frame = d; begins = b }) (world_in B c l h m.used))
-StartsAs B c l h R (Sd.Bad e m) = R ≡ bad e m.used
+StartsAs B c l h R (Ok (f, b, m)) = (d : F.Frame) × FrameShown f d × (R ≡ good (record { frame = d; begins = b }) (world_in B c l h m.used))
+StartsAs B c l h R (Err (e, m)) = R ≡ bad e m.used
 
 abbrev pub started_meter : Started → Meter
-started_meter (Sd.Is f b m) = m
-started_meter (Sd.Bad e m) = m
+started_meter (Ok (f, b, m)) = m
+started_meter (Err (e, m)) = m
 
 -- bounds, then the variable gets the number z
 abbrev pub bounds_on : Scene → ℕ → List D.Bound → F.Frame → ℤ → World → Res Why F.Started
 bounds_on x u bs d z w = bind (F.bounds (scene_machine x u) bs d w) λ f v. good (record { frame = f; begins = F.passes f z }) (W.store d.at (Val.fixed z) v)
 
 pub record BoundsIs (deck s rows names c l h w : List ℕ) (f : Frame) (b : Bound) (u : ℕ) (x : Scene) (c' l' h' w' : List ℕ) (r : Started) : Type 0 where
-  pub goes : (z : Fixed) (q : ℕ) (m : Meter) → b ≡ Bo.Is z q m → (B : World) → Shows deck rows names c l h w u x m B → in_range z.value ≡ true
+  pub goes : (z : Fixed) (q : ℕ) (m : Meter) → b ≡ Ok (z, q, m) → (B : World) → Shows deck rows names c l h w u x m B → in_range z.value ≡ true
       → (bs : List D.Bound) (d : F.Frame) → length bs ≤ 2 → Bounded s bs q → FrameShown f d → get_or B.denotations d.at builtin_name ≡ variable_of FixedType
       → StartsAs B c' l' h' (bounds_on x u bs d z.value (world_in B c l h m.used)) r × Leaves B u w c' l' h' w' (started_meter r)
-  pub stays : (e : Why) (m : Meter) → b ≡ Bo.Bad e m → (r ≡ Sd.Bad e m) × (c' ≡ c) × (l' ≡ l) × (h' ≡ h) × (w' ≡ w)
+  pub stays : (e : Why) (m : Meter) → b ≡ Err (e, m) → (r ≡ Err (e, m)) × (c' ≡ c) × (l' ≡ l) × (h' ≡ h) × (w' ≡ w)
 
 pub record StartIs (deck s rows names c l h w : List ℕ) (g at u : ℕ) (x : Scene) (m : Meter) (c' l' h' w' : List ℕ) (r : Started) : Type 0 where
   pub is : (B : World) → Shows deck rows names c l h w u x m B → (n : List ℕ) (t : Tree) (bs : List D.Bound) → Stated s at (D.iterated n t bs)
@@ -108,15 +101,15 @@ abbrev pub body_of : Scene → Place → ℕ → World → Machine Why
 body_of x p u B = body_machine (run_in x) p.member p.row u (rows_of p.member B)
 
 -- what a turn leads to stands for R: the next row, where the frames stand, or the value of RETURN
-abbrev pub TurnsTo : Machine Why → List ℕ → World → ℕ → List ℕ → List ℕ → List ℕ → List ℕ → Res Why F.Turn → Frames → Step → Type 0
-TurnsTo M t B u c l h w R fs (St.On y m) = (F' : List F.Frame) × (R ≡ good (F.on (next_from y) F') (world_in B c l h m.used)) × AtNext M t B.denotations fs F' y
-TurnsTo M t B u c l h w R fs (St.Gave v m) = (R ≡ good (F.ended (F.returned (value_in w u v))) (world_in B c l h m.used)) × (u + size_for v ≤ 65536)
-TurnsTo M t B u c l h w R fs (St.Bad e m) = R ≡ bad e m.used
+abbrev pub TurnsTo : Machine Why → List ℕ → World → ℕ → List ℕ → List ℕ → List ℕ → List ℕ → Res Why F.Turn → Frames → Result Step (Why × Meter) → Type 0
+TurnsTo M t B u c l h w R fs (Ok (St.On y m)) = (F' : List F.Frame) × (R ≡ good (F.on (next_from y) F') (world_in B c l h m.used)) × AtNext M t B.denotations fs F' y
+TurnsTo M t B u c l h w R fs (Ok (St.Gave v m)) = (R ≡ good (F.ended (F.returned (value_in w u v))) (world_in B c l h m.used)) × (u + size_for v ≤ 65536)
+TurnsTo M t B u c l h w R fs (Err (e, m)) = R ≡ bad e m.used
 
-abbrev pub step_meter : Step → Meter
-step_meter (St.On y m) = m
-step_meter (St.Gave v m) = m
-step_meter (St.Bad e m) = m
+abbrev pub step_meter : Result Step (Why × Meter) → Meter
+step_meter (Ok (St.On y m)) = m
+step_meter (Ok (St.Gave v m)) = m
+step_meter (Err (e, m)) = m
 
 pub record StatementIs (deck s t rows names c l h w : List ℕ) (p : Place) (n : ℕ) (fs : Frames) (u : ℕ) (x : Scene) (m : Meter) (c' l' h' w' : List ℕ) (r : Turned) : Type 0 where
   pub is : (B : World) → Shows deck rows names c l h w u x m B → InBody deck s t rows x p B → (F' : List F.Frame) → AtRow (body_of x p u B) t B.denotations fs F' n

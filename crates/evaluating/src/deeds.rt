@@ -5,9 +5,9 @@ ghost use Rattle.evaluating.specs.Statements.{AssignIs, TestIs, BoundedIs, Bound
 
 use crate::evaluate;
 use bodies::{
-    Bound, Done, Started, Step, Tested, Turned, Variable, Widened, Word, bound_of, bound_word,
-    bounded_by, control_address, into_group, jump_in, new_frame, on_again, on_behind, on_return,
-    on_start, on_test, set_off, stepped, stored, target_at, truth_of, with_step,
+    Bound, Done, Started, Step, Tested, Turned, Widened, bound_of, bound_word, bounded_by,
+    control_address, into_group, jump_in, new_frame, on_again, on_behind, on_return, on_start,
+    on_test, set_off, stepped, stored, target_at, truth_of, with_step,
 };
 use deck::body;
 use definition::Why;
@@ -15,7 +15,7 @@ use flow::{Frame, Frames, Next};
 use meter::Meter;
 use names::Place;
 use operands::{Evaluated, Scene};
-use rows::{Link, Statement, row_at};
+use rows::{Statement, row_at};
 use tokens::token_at;
 
 // The assignment whose target stands at a place.
@@ -38,14 +38,14 @@ pub fn assign(
 {
     let t = token_at(s, at);
     match target_at(deck, s, names, c.names, c.owner, t) {
-        Variable::At(a, k) => {
+        Some((a, k)) => {
             let sign = token_at(s, t.to);
             let x = evaluate(
                 deck, s, rows, names, cells, low, high, work, sign.to, u, c, m,
             );
             stored(cells, low, high, work, a, k, u, x)
         }
-        Variable::None => Done::Bad(Why::WrongName, m),
+        None => Err((Why::WrongName, m)),
     }
 }
 
@@ -89,14 +89,14 @@ fn bounded(
     ensures { BoundedIs deck.now s.now rows.now names.now cells.old low.old high.old work.old u c x cells.new low.new high.new work.new result }
 {
     match x {
-        Widened::Is(f, at, m) => match bound_word(s, at) {
-            Word::Of(side, q) => {
+        Ok((f, at, m)) => match bound_word(s, at) {
+            Some((side, q)) => {
                 let e = evaluate(deck, s, rows, names, cells, low, high, work, q, u, c, m);
                 bounded_by(f, side, bound_of(work, u, e))
             }
-            Word::Neither => Widened::Is(f, at, m),
+            None => Ok((f, at, m)),
         },
-        Widened::Bad(w, m) => Widened::Bad(w, m),
+        Err((w, m)) => Err((w, m)),
     }
 }
 
@@ -119,7 +119,7 @@ fn bounds(
     ensures { BoundsIs deck.now s.now rows.now names.now cells.old low.old high.old work.old f b u c cells.new low.new high.new work.new result }
 {
     match b {
-        Bound::Is(x, q, m) => {
+        Ok((x, q, m)) => {
             let one = bounded(
                 deck,
                 s,
@@ -129,14 +129,14 @@ fn bounds(
                 low,
                 high,
                 work,
-                Widened::Is(f, q, m),
+                Ok((f, q, m)),
                 u,
                 c,
             );
             let two = bounded(deck, s, rows, names, cells, low, high, work, one, u, c);
             set_off(cells, x, two)
         }
-        Bound::Bad(w, m) => Started::Bad(w, m),
+        Err((w, m)) => Err((w, m)),
     }
 }
 
@@ -161,7 +161,7 @@ pub fn start(
 {
     let t = token_at(s, at);
     match control_address(target_at(deck, s, names, c.names, c.owner, t)) {
-        Link::To(a) => {
+        Some(a) => {
             let sign = token_at(s, t.to);
             let e = evaluate(
                 deck, s, rows, names, cells, low, high, work, sign.to, u, c, m,
@@ -182,7 +182,7 @@ pub fn start(
                 c,
             )
         }
-        Link::Nowhere => Started::Bad(Why::WrongName, m),
+        None => Err((Why::WrongName, m)),
     }
 }
 
@@ -231,14 +231,14 @@ fn begun(
             );
             on_return(work, fs, u, row_at(part, p.row).value_type, v)
         }
-        Statement::Group => with_step(fs, Step::On(into_group(part, fs, n), m)),
+        Statement::Group => with_step(fs, Ok(Step::On(into_group(part, fs, n), m))),
         Statement::Goto => jump_in(deck, s, part, names, fs, n, c, m),
         Statement::Null
         | Statement::Declare
         | Statement::Procedure
         | Statement::Include
         | Statement::Activate
-        | Statement::Deactivate => on_behind(part, fs, n, Done::Good(m)),
+        | Statement::Deactivate => on_behind(part, fs, n, Ok(m)),
     }
 }
 
@@ -264,20 +264,17 @@ fn body_turn(
     ensures { TurnIs deck.now s.now part.now rows.now names.now cells.old low.old high.old work.old p next fs u c m cells.new low.new high.new work.new result }
 {
     match next {
-        Next::Begin(n) => {
-            let paid = m.charged();
-            if paid.paid {
-                return begun(
-                    deck, s, part, rows, names, cells, low, high, work, p, n, fs, u, c, paid.meter,
-                );
-            }
-            with_step(fs, Step::Bad(Why::NoStep, paid.meter))
-        }
+        Next::Begin(n) => match m.charged() {
+            Ok(k) => begun(
+                deck, s, part, rows, names, cells, low, high, work, p, n, fs, u, c, k,
+            ),
+            Err((w, k)) => with_step(fs, Err((w, k))),
+        },
         Next::Again(g) => {
             let t = stepped(cells, flow::frame_of(part, fs, g), m);
             on_again(part, fs, g, t)
         }
-        Next::Over => with_step(fs, Step::Bad(Why::WronglyRun, m)),
+        Next::Over => with_step(fs, Err((Why::WronglyRun, m))),
     }
 }
 
@@ -316,13 +313,13 @@ pub fn run_body(
         );
         fs = t.frames;
         match t.step {
-            Step::On(x, k) => {
+            Ok(Step::On(x, k)) => {
                 next = x;
                 m = k;
             }
-            Step::Gave(v, k) => return Evaluated::Is(v, 0, k),
-            Step::Bad(w, k) => return Evaluated::Failed(w, k),
+            Ok(Step::Gave(v, k)) => return Ok((v, 0, k)),
+            Err((w, k)) => return Err((w, k)),
         }
     }
-    Evaluated::Failed(Why::NoStep, m)
+    Err((Why::NoStep, m))
 }

@@ -13,18 +13,18 @@ ghost use Rattle.expressions.specs.Check.{inside_of, primitive_at, operand_in, l
 ghost use Rattle.evaluating.specs.Cycle.{Evaluates, Chains, NameIs, ListedIs, TakenIs, CallIs};
 
 use callees::{
-    Called, Callee, Held, Meant, callee_of, is_running, meant_by, nothing_held, started, store_all,
+    Callee, Held, Meant, callee_of, is_running, meant_by, nothing_held, started, store_all,
     with_held,
 };
 use deck::body;
 use deeds::run_body;
 use definition::Why;
-use expressions::{InfixAt, LEVELS, infix_at, past_prefixes};
+use expressions::{LEVELS, infix_at, past_prefixes};
 use limits::Nesting;
 use meter::Meter;
 use names::Owner;
 use operands::{
-    Aim, Evaluated, Scene, Target, aim_of, closed, count_arguments, first_kept, first_parameter,
+    Evaluated, Scene, Target, aim_of, closed, count_arguments, first_kept, first_parameter,
     integer_value, plain_value, prefixes_done, string_value, substr_of, up_to, wanted_count,
     wish_for, with_infix, with_wish,
 };
@@ -63,7 +63,7 @@ fn inside(
     ensures { Evaluates deck.now rows.now names.now cells.old low.old high.old work.old u c m cells.new low.new high.new work.new result (inside_of left s.now 0 at) }
 {
     if left < 1 {
-        return Evaluated::Failed(Why::OverLimit, m);
+        return Err((Why::OverLimit, m));
     }
     levels(
         deck,
@@ -116,14 +116,14 @@ fn arguments(
             deck, s, rows, names, cells, low, high, work, at, left, top, c, m,
         );
         match with_wish(work, top, w.wish, x) {
-            Evaluated::Is(v, e, n) => {
+            Ok((v, e, n)) => {
                 held = with_held(held, i, v);
                 first = first_kept(i, first, v);
                 top = above(top, size_of(v));
                 at = token_at(s, e).to;
                 m = n;
             }
-            Evaluated::Failed(why, n) => return Err((why, n)),
+            Err((why, n)) => return Err((why, n)),
         }
     }
     Ok(Taken {
@@ -156,7 +156,7 @@ fn listed(
 {
     let n = count_arguments(s, at, left);
     match aim_of(deck, rows, c.starts, names, c.names, x, n) {
-        Aim::At(t) => match arguments(
+        Ok(t) => match arguments(
             deck, s, rows, names, cells, low, high, work, at, left, t, u, c, m,
         ) {
             Ok(a) => match t {
@@ -168,9 +168,9 @@ fn listed(
                 }
                 Target::Substr(_) => substr_of(work, u, n, a.held, a.first, a.to, a.meter),
             },
-            Err((w, k)) => Evaluated::Failed(w, k),
+            Err((w, k)) => Err((w, k)),
         },
-        Aim::Fails(w) => Evaluated::Failed(w, m),
+        Err(w) => Err((w, m)),
     }
 }
 
@@ -194,7 +194,7 @@ fn plain(
 {
     match x {
         Meant::AnEntry(b) => match callee_of(deck, rows, c.starts, names, c.names, b) {
-            Called::Is(z) => {
+            Ok(z) => {
                 if z.count == 0 {
                     let v = call(
                         deck,
@@ -212,9 +212,9 @@ fn plain(
                     );
                     return up_to(v, to);
                 }
-                Evaluated::Failed(Why::WrongArguments, m)
+                Err((Why::WrongArguments, m))
             }
-            Called::Fails(w) => Evaluated::Failed(w, m),
+            Err(w) => Err((w, m)),
         },
         Meant::AVariable(..) | Meant::TheSubstr | Meant::NoSuch => {
             plain_value(cells, low, high, work, x, u, to, m)
@@ -283,7 +283,7 @@ fn primitive(
             );
             closed(s, x)
         }
-        Kind::Nothing | Kind::Wrong => Evaluated::Failed(Why::Syntax, m),
+        Kind::Nothing | Kind::Wrong => Err((Why::Syntax, m)),
     }
 }
 
@@ -340,24 +340,24 @@ fn chain(
     // each operator has a byte at least, and one more turn finds what follows
     for _ in 0..s.len() + 1 {
         match infix_at(s, at, level) {
-            InfixAt::Is(o, q) => {
+            Some((o, q)) => {
                 let top = above(u, size_of(x));
                 let y = levels(
                     deck, s, rows, names, cells, low, high, work, q, level, left, top, c, m,
                 );
                 match with_infix(work, u, o, x, y) {
-                    Evaluated::Is(w, e, n) => {
+                    Ok((w, e, n)) => {
                         x = w;
                         at = e;
                         m = n;
                     }
-                    Evaluated::Failed(w, n) => return Evaluated::Failed(w, n),
+                    Err((w, n)) => return Err((w, n)),
                 }
             }
-            InfixAt::Other => return Evaluated::Is(x, at, m),
+            None => return Ok((x, at, m)),
         }
     }
-    Evaluated::Failed(Why::Syntax, m)
+    Err((Why::Syntax, m))
 }
 
 // n levels of infix operators over operands.
@@ -401,7 +401,7 @@ fn levels(
         c,
         m,
     );
-    let Evaluated::Is(v, e, k) = first else {
+    let Ok((v, e, k)) = first else {
         return first;
     };
     chain(
@@ -479,10 +479,10 @@ pub fn call(
 {
     let p = y.place;
     if is_running(c.running, p) {
-        return Evaluated::Failed(Why::WronglyRun, m);
+        return Err((Why::WronglyRun, m));
     }
     if c.running.left < 1 {
-        return Evaluated::Failed(Why::TooDeep, m);
+        return Err((Why::TooDeep, m));
     }
     store_all(deck, names, cells, low, high, work, c.names, y, held, u);
     let inner = Scene {

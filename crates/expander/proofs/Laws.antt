@@ -1,5 +1,7 @@
 -- One law for each way out of a function of the expander.
 -- Assumes nothing.
+use Rattle.texts.specs.Types.{Ran}
+use Rattle.std.proofs.Common.{Some, None}
 use mathlib.Core.Path.{◌≡◌, refl, sym, ap, subst, ◌∙◌}
 use mathlib.Core.Bool.{Bool, true, false, false≢true, cond, ◌&&◌}
 use mathlib.Core.List.{List, [], ◌∷◌, ◌++◌}
@@ -33,7 +35,6 @@ use Rattle.definition.specs.Expansion.{world_for, size_in, expansion_of, text_ro
 use Rattle.definition.proofs.Expanding.{ran_deck, ran_in, told_as, ran_sound, malformed_is, uneven_is, short_is, ran_is}
 use Rattle.definition.proofs.Refused.{Empty, refused_empty, refused_text, refused_list}
 use Rattle.definition.proofs.Rooms.{over_next_at}
-use Rattle.deck.specs.declared.Contents.TheVariants.{Malformed, Sound}
 use Rattle.deck.specs.declared.Deck.{Deck}
 use Rattle.deck.specs.Answer as C
 use Rattle.cards.specs.Joins.{Joins}
@@ -42,8 +43,6 @@ use Rattle.origin.specs.Written.{place_as, Written}
 use Rattle.output.specs.Shows as Output
 use Rattle.texts.specs.declared.Progress.{Progress}
 use Rattle.texts.specs.declared.Stop.{Stop}
-use Rattle.texts.specs.declared.Ran.{Ran}
-use Rattle.texts.specs.declared.Ran.TheVariants.{Good, Bad}
 use Rattle.stepping.specs.Stage.{Roomy}
 use Rattle.running.specs.Included.{entered_run, enter_run}
 use Rattle.running.specs.Members.{RanTo, RunIs}
@@ -76,19 +75,19 @@ some_number W.SubstrOutside e = omega arith
 some_number W.UnevenBody e = omega arith
 
 -- ---- the deck
-told_malformed : (b : Bool) (ls : List D.Line) → Malformed ≡ C.answer_for (cond b (D.holds ls) D.malformed) → false ≡ b
+told_malformed : (b : Bool) (ls : List D.Line) → None ≡ C.answer_for (cond b (D.holds ls) D.malformed) → false ≡ b
 told_malformed true ls e = cc
 told_malformed false ls e = refl
 
-told_sound : (b : Bool) (ls : List D.Line) (k : Deck) → Sound k ≡ C.answer_for (cond b (D.holds ls) D.malformed) → true ≡ b
+told_sound : (b : Bool) (ls : List D.Line) (k : Deck) → Some k ≡ C.answer_for (cond b (D.holds ls) D.malformed) → true ≡ b
 told_sound true ls k e = refl
 told_sound false ls k e = cc
 
-pub sound_not : (d : List ℕ) → Malformed ≡ C.answer_for (D.contents mixed d) → false ≡ D.is_sound mixed d
+pub sound_not : (d : List ℕ) → None ≡ C.answer_for (D.contents mixed d) → false ≡ D.is_sound mixed d
 unfolding D.contents
 sound_not d e = told_malformed (D.is_sound mixed d) (D.lines d) e
 
-pub sound_is : (d : List ℕ) (k : Deck) → Sound k ≡ C.answer_for (D.contents mixed d) → true ≡ D.is_sound mixed d
+pub sound_is : (d : List ℕ) (k : Deck) → Some k ≡ C.answer_for (D.contents mixed d) → true ≡ D.is_sound mixed d
 unfolding D.contents
 sound_is d k e = told_sound (D.is_sound mixed d) (D.lines d) k e
 
@@ -173,8 +172,8 @@ module _ (y : Layout) (d t l : List ℕ) where
       rw (told_refused y d s.why s.member s.place g.meter.used, place) (record { numbers = refl; text = λ n. absurd (some_number s.why n); list = λ n. absurd (some_number s.why n) })
 
   ran_to : (R : Res Run.Stop F.End) (r : Ran) → (X.result R).offset < 65536 → RanTo d y t l R r → Answered (told_as y d (X.result R)) (answer_for y d r) t l
-  ran_to R (Good g) near (B, w, e, u) = rw e (ran_good g B w u)
-  ran_to R (Bad s g) near (x, k, e) =
+  ran_to R (Ok g) near (B, w, e, u) = rw e (ran_good g B w u)
+  ran_to R (Err (s, g)) near (x, k, e) =
       let f : X.result R ≡ X.refusal s.why s.member s.place g.meter.used = e ∙ ap (λ (z : Run.Stop). X.refusal z.why z.member z.place g.meter.used) k in
       rw f (ran_bad s g (omega (arith, near, ap (λ (z : X.Expansion). z.offset) f)))
 

@@ -1,5 +1,6 @@
 -- The six numbers of an answer: of an expansion of the definition, of what is refused before a run, and of what a run answers.
-use Rattle.std.specs.Prelude.{ℕ, ◌%◌, Bool, cond, List, length, Result, Ok, Err}
+use Rattle.texts.specs.Types.{Ran}
+use Rattle.std.specs.Prelude.{ℕ, ◌%◌, Bool, cond, List, length, Result, Ok, Err, Option, Some, None}
 use Rattle.std.specs.Result.{result_and}
 use Rattle.definition.specs.declared.Layout.{Layout}
 use Rattle.definition.specs.Bytes.{mixed}
@@ -8,14 +9,10 @@ use Rattle.definition.specs.Deck.{is_sound}
 use Rattle.definition.specs.Cards.{uneven_in}
 use Rattle.definition.specs.Expansion as X
 use Rattle.definition.specs.Expansion.{size_in}
-use Rattle.deck.specs.declared.Found.{Found}
-use Rattle.deck.specs.declared.Found.TheVariants.{Line, Nothing}
 use Rattle.deck.specs.Answer.{found_for}
 use Rattle.origin.specs.Written.{place_as}
 use Rattle.texts.specs.declared.Progress.{Progress}
 use Rattle.texts.specs.declared.Stop.{Stop}
-use Rattle.texts.specs.declared.Ran.{Ran}
-use Rattle.texts.specs.declared.Ran.TheVariants.{Good, Bad}
 use Rattle.expander.specs.declared.Expansion.{Expansion}
 
 -- THE SIX NUMBERS of an expansion x. The count of lines is given modulo 2^32, the size of its number; so many lines need a list room
@@ -43,9 +40,9 @@ bare n = refusal_at n 0 0 0
 abbrev pub malformed_for : Bool → Result (Unit {0}) Expansion
 malformed_for sound = cond sound (Ok tt) (Err (bare 1))
 
-abbrev pub uneven_for : Found → Result (Unit {0}) Expansion
-uneven_for (Line k) = Err (refusal_at 20 k 0 0)
-uneven_for Nothing = Ok tt
+abbrev pub uneven_for : Option ℕ → Result (Unit {0}) Expansion
+uneven_for (Some k) = Err (refusal_at 20 k 0 0)
+uneven_for None = Ok tt
 
 abbrev pub short_for : Bool → Result (Unit {0}) Expansion
 short_for roomy = cond roomy (Ok tt) (Err (bare 2))
@@ -71,5 +68,5 @@ finished_for g =
     }
 
 abbrev pub answer_for : Layout → List ℕ → Ran → Expansion
-answer_for y d (Good g) = finished_for g
-answer_for y d (Bad x g) = refused_for y d x g
+answer_for y d (Ok g) = finished_for g
+answer_for y d (Err (x, g)) = refused_for y d x g

@@ -14,7 +14,7 @@ ghost use Rattle.expander.specs.Answer.{refusal_at, refused_for, finished_for, a
 ghost use Rattle.expander.specs.Promise.{are_roomy, working, Cleared, RanFor, Decided, Emptied, Expanded, six_of, Told};
 
 use cards::{join, uneven};
-use deck::{Contents, Deck, Found, size};
+use deck::{Deck, size};
 use definition::{Layout, Why};
 use origin::told_place;
 use printing::used;
@@ -115,23 +115,23 @@ fn answer(layout: Layout, d: &[u8], r: Ran) -> Expansion
     ensures { result ≡ answer_for layout d.now r }
 {
     match r {
-        Ran::Good(g) => finished(g),
-        Ran::Bad(x, g) => refused(layout, d, x, g),
+        Ok(g) => finished(g),
+        Err((x, g)) => refused(layout, d, x, g),
     }
 }
 
 fn is_sound(deck: &[u8]) -> bool
     ensures { result ≡ is_sound mixed deck.now }
 {
-    matches!(Deck::of(deck), Contents::Sound(_))
+    matches!(Deck::of(deck), Some(_))
 }
 
 // The first body that is no whole number of records; of a plain deck none is asked for.
-fn uneven_in(layout: Layout, deck: &[u8]) -> Found
+fn uneven_in(layout: Layout, deck: &[u8]) -> Option<u16>
     ensures { result ≡ found_for (uneven_in layout deck.now) }
 {
     match layout {
-        Layout::Plain => Found::Nothing,
+        Layout::Plain => None,
         Layout::Cards => uneven(deck),
     }
 }
@@ -167,12 +167,12 @@ fn malformed(sound: bool) -> Result<(), Expansion>
     }
 }
 
-fn odd(f: Found) -> Result<(), Expansion>
+fn odd(f: Option<u16>) -> Result<(), Expansion>
     ensures { result ≡ uneven_for f }
 {
     match f {
-        Found::Line(k) => Err(refusal(20, u32::from(k), 0, 0)),
-        Found::Nothing => Ok(()),
+        Some(k) => Err(refusal(20, u32::from(k), 0, 0)),
+        None => Ok(()),
     }
 }
 

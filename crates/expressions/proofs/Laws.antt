@@ -1,5 +1,6 @@
 -- What a test on a lexeme tells of the definition's token, and one law for each way out.
 -- Assumes nothing.
+use Rattle.std.proofs.Common.{Option, Some, None, Ok, Err}
 use mathlib.Core.Path.{◌≡◌, refl, sym, ap, ◌∙◌}
 use mathlib.Core.Bool.{Bool, true, false, ◌&&◌, false≢true}
 use mathlib.Core.List.{List, [], ◌∷◌}
@@ -24,10 +25,6 @@ use Rattle.tokens.specs.declared.Kind.TheVariants.{Word, Integer, String, Bits, 
 use Rattle.tokens.specs.declared.Lexeme.{Lexeme}
 use Rattle.tokens.specs.Answer.{written, Lexed, spelling, is_sign_in, is_word_in, is_sign_kind, is_word_kind, content, token_for}
 use Rattle.tokens.proofs.Lexemes as L
-use Rattle.expressions.specs.declared.Expected.TheVariants.{Past, Refused}
-use Rattle.expressions.specs.declared.NamedAt.TheVariants as N
-use Rattle.expressions.specs.declared.InfixAt.{InfixAt}
-use Rattle.expressions.specs.declared.InfixAt.TheVariants as Infix
 use Rattle.expressions.specs.Check.{infix_for, infix_at, single_for, prefix_for, is_spelled, expected, is_worded, expected_word, named_for}
 
 module _ (s : List ℕ) (at : ℕ) (l : Lexeme) (lex : Lexed s at l) where
@@ -65,19 +62,19 @@ module _ (s : List ℕ) (at : ℕ) (l : Lexeme) (lex : Lexed s at l) where
   unfolding E.prefix_of
   prefix_tests = rw (L.is_sign_lem s at l lex "+" (43 ∷ []) refl, L.is_sign_lem s at l lex "-" (45 ∷ []) refl, L.is_sign_lem s at l lex "^" (94 ∷ []) refl, lex.to)
 
-  pub there : (w : List ℕ) (r : Bool) → r ≡ is_sign_in s l w → r ≡ true → Past l.to ≡ expected w s at
+  pub there : (w : List ℕ) (r : Bool) → r ≡ is_sign_in s l w → r ≡ true → Ok l.to ≡ expected w s at
   unfolding expected
   there w r f g = rw (← spelled w, ← f, g, lex.to)
 
-  pub not_there : (w : List ℕ) (r : Bool) → r ≡ is_sign_in s l w → r ≡ false → Refused Syntax l.from ≡ expected w s at
+  pub not_there : (w : List ℕ) (r : Bool) → r ≡ is_sign_in s l w → r ≡ false → Err (Syntax, l.from) ≡ expected w s at
   unfolding expected
   not_there w r f g = rw (← spelled w, ← f, g, lex.from)
 
-  pub single_there : (w : List ℕ) (o : Operator) (r : Bool) → r ≡ is_sign_in s l w → r ≡ true → Infix.Is o l.to ≡ single_for w o s at
+  pub single_there : (w : List ℕ) (o : Operator) (r : Bool) → r ≡ is_sign_in s l w → r ≡ true → Some (o, l.to) ≡ single_for w o s at
   unfolding single_for
   single_there w o r f g = rw (← spelled w, ← f, g, lex.to)
 
-  pub single_not_there : (w : List ℕ) (o : Operator) (r : Bool) → r ≡ is_sign_in s l w → r ≡ false → Infix.Other ≡ single_for w o s at
+  pub single_not_there : (w : List ℕ) (o : Operator) (r : Bool) → r ≡ is_sign_in s l w → r ≡ false → None ≡ single_for w o s at
   unfolding single_for
   single_not_there w o r f g = rw (← spelled w, ← f, g)
 
@@ -94,11 +91,11 @@ module _ (s : List ℕ) (at : ℕ) (l : Lexeme) (lex : Lexed s at l) where
       by_kind Nothing x y = refl
       by_kind Wrong x y = refl
 
-  pub word_there : (w : List ℕ) (r : Bool) → r ≡ is_word_in s l w → r ≡ true → Past l.to ≡ expected_word w s at
+  pub word_there : (w : List ℕ) (r : Bool) → r ≡ is_word_in s l w → r ≡ true → Ok l.to ≡ expected_word w s at
   unfolding expected_word
   word_there w r f g = rw (← worded w, ← f, g, lex.to)
 
-  pub word_not_there : (w : List ℕ) (r : Bool) → r ≡ is_word_in s l w → r ≡ false → Refused Syntax l.from ≡ expected_word w s at
+  pub word_not_there : (w : List ℕ) (r : Bool) → r ≡ is_word_in s l w → r ≡ false → Err (Syntax, l.from) ≡ expected_word w s at
   unfolding expected_word
   word_not_there w r f g = rw (← worded w, ← f, g, lex.from)
 
@@ -120,15 +117,15 @@ module _ (s : List ℕ) (at : ℕ) (l : Lexeme) (lex : Lexed s at l) where
     unfolding written
     size = length_folded mixed (part (l.to - l.from) l.from s) ∙ length_part (l.to - l.from) l.from s
 
-    pub short_name : (n : ℕ) → r ≡ true → n ≡ l.to - l.from → n ≤ 31 → N.Is l.from l.to ≡ named_for (E.name_at mixed s at)
+    pub short_name : (n : ℕ) → r ≡ true → n ≡ l.to - l.from → n ≤ 31 → Ok (l.from, l.to) ≡ named_for (E.name_at mixed s at)
     unfolding E.name_at
     short_name n g e h = rw (named g, le-leb (length (spelling s l)) 31 (omega (arith, size, e, h)), lex.from, lex.to)
 
-    pub long_name : (n : ℕ) → r ≡ true → n ≡ l.to - l.from → 31 < n → N.Refused OverLimit l.from ≡ named_for (E.name_at mixed s at)
+    pub long_name : (n : ℕ) → r ≡ true → n ≡ l.to - l.from → 31 < n → Err (OverLimit, l.from) ≡ named_for (E.name_at mixed s at)
     unfolding E.name_at
     long_name n g e h = rw (named g, lt-leb (length (spelling s l)) 31 (omega (arith, size, e, h)), lex.from)
 
-    no_name : (k : Kind) (x y : List ℕ) (p q : ℕ) → is_word_kind k ≡ false → named_for (E.name_of (token_for k x y) p q) ≡ N.Refused Syntax p
+    no_name : (k : Kind) (x y : List ℕ) (p q : ℕ) → is_word_kind k ≡ false → named_for (E.name_of (token_for k x y) p q) ≡ Err (Syntax, p)
     no_name Word x y p q e = absurd (false≢true (sym e))
     no_name Integer x y p q e = refl
     no_name String x y p q e = refl
@@ -137,15 +134,15 @@ module _ (s : List ℕ) (at : ℕ) (l : Lexeme) (lex : Lexed s at l) where
     no_name Nothing x y p q e = refl
     no_name Wrong x y p q e = refl
 
-    pub not_a_name : r ≡ false → N.Refused Syntax l.from ≡ named_for (E.name_at mixed s at)
+    pub not_a_name : r ≡ false → Err (Syntax, l.from) ≡ named_for (E.name_at mixed s at)
     unfolding E.name_at
     not_a_name g = rw (L.token_is s at l lex, ← lex.from) (sym (no_name l.kind (written s l) (content s l.from) l.from (T.token_at mixed s at).to (sym f ∙ g)))
 
 -- ---- the levels
-pub of_level : (n k : ℕ) (s : List ℕ) (at : ℕ) (r : InfixAt) → n ≡ k → r ≡ infix_at k s at → r ≡ infix_at n s at
+pub of_level : (n k : ℕ) (s : List ℕ) (at : ℕ) (r : Option (Operator × ℕ)) → n ≡ k → r ≡ infix_at k s at → r ≡ infix_at n s at
 of_level n k s at r e f = f ∙ ap (λ (m : ℕ). infix_at m s at) (sym e)
 
-pub of_rest : (n : ℕ) (s : List ℕ) (at : ℕ) (r : InfixAt) → (n ≡ 0 → ⊥) → (n ≡ 1 → ⊥) → (n ≡ 2 → ⊥) → (n ≡ 3 → ⊥) → (n ≡ 4 → ⊥) → r ≡ infix_at 5 s at → r ≡ infix_at n s at
+pub of_rest : (n : ℕ) (s : List ℕ) (at : ℕ) (r : Option (Operator × ℕ)) → (n ≡ 0 → ⊥) → (n ≡ 1 → ⊥) → (n ≡ 2 → ⊥) → (n ≡ 3 → ⊥) → (n ≡ 4 → ⊥) → r ≡ infix_at 5 s at → r ≡ infix_at n s at
 unfolding infix_at E.infix_of
 of_rest zero s at r a b c d e f = absurd (a refl)
 of_rest (suc zero) s at r a b c d e f = absurd (b refl)

@@ -1,5 +1,7 @@
 -- The check of an expression answers where the tree ends that the definition reads: one law for each way out.
 -- Assumes nothing.
+use Rattle.expressions.specs.Types.{Expected, NamedAt}
+use Rattle.std.proofs.Common.{Option, Some, None, Ok, Err}
 use mathlib.Core.Path.{◌≡◌, refl, sym, ap, ◌∙◌}
 use mathlib.Core.Bool.{Bool, true, false, cond, ◌&&◌}
 use mathlib.Core.Logic.{◌⊎◌, inl, inr}
@@ -28,14 +30,6 @@ use Rattle.tokens.specs.declared.Lexeme.{Lexeme}
 use Rattle.tokens.specs.Answer.{Lexed, kind_of, lexeme_for, is_token, written, spelling, content, is_sign_in, is_sign_kind, token_for}
 use Rattle.tokens.proofs.Lexemes.{token_is}
 use Rattle.tokens.proofs.Reach.{token_low, token_past, token_inside}
-use Rattle.expressions.specs.declared.Expected.{Expected}
-use Rattle.expressions.specs.declared.Expected.TheVariants.{Past, Refused}
-use Rattle.expressions.specs.declared.NamedAt.{NamedAt}
-use Rattle.expressions.specs.declared.NamedAt.TheVariants as N
-use Rattle.expressions.specs.declared.InfixAt.{InfixAt}
-use Rattle.expressions.specs.declared.InfixAt.TheVariants as I
-use Rattle.expressions.specs.declared.PrefixAt.{PrefixAt}
-use Rattle.expressions.specs.declared.PrefixAt.TheVariants as P
 use Rattle.expressions.specs.declared.Prefixes.{Prefixes}
 use Rattle.expressions.specs.Check.{infix_for, infix_at, single_for, prefix_for, expect_for, is_spelled, expected, is_worded, expected_word, named_for, prefixes_of, with_prefix, prefixes, end_for, inside_of, referred, primitive_at, levels_in}
 use Rattle.expressions.proofs.Laws.{told}
@@ -60,7 +54,7 @@ module _ (W : S.String) (w : List ℕ) (e : bytes_of W ≡ w) where
   word_spelled nothing = refl
   word_spelled wrong = refl
 
-  expect_either : (b c : Bool) (to from : ℕ) → b ≡ c → cond b (Past to) (Refused Syntax from) ≡ expect_for (cond c (read to) (refused Syntax from))
+  expect_either : (b c : Bool) (to from : ℕ) → b ≡ c → cond b (Ok to) (Err (Syntax, from)) ≡ expect_for (cond c (read to) (refused Syntax from))
   expect_either b true to from h = rw h
   expect_either b false to from h = rw h
 
@@ -72,7 +66,7 @@ module _ (W : S.String) (w : List ℕ) (e : bytes_of W ≡ w) where
   unfolding expected_word expect_word
   expected_word_is s at = expect_either _ _ (token_at mixed s at).to (token_at mixed s at).from (word_spelled (token_at mixed s at).token)
 
-  single_either : (b : Bool) (o : Operator) (to : ℕ) → cond b (I.Is o to) I.Other ≡ infix_for (cond b (is o) no_operator) to
+  single_either : (b : Bool) (o : Operator) (to : ℕ) → cond b (Some (o, to)) None ≡ infix_for (cond b (is o) no_operator) to
   single_either true o to = refl
   single_either false o to = refl
 
@@ -81,7 +75,7 @@ module _ (W : S.String) (w : List ℕ) (e : bytes_of W ≡ w) where
   single_is o s at = rw (sign_spelled (token_at mixed s at).token) (single_either (is_sign W (token_at mixed s at).token) o (token_at mixed s at).to)
 
 -- ---- operators that are alone on their level
-module _ (s : List ℕ) (at : ℕ) (r : InfixAt) where
+module _ (s : List ℕ) (at : ℕ) (r : Option (Operator × ℕ)) where
   pub of_join : (n : ℕ) → n ≡ 2 → r ≡ single_for (124 ∷ 124 ∷ []) CatOp s at → r ≡ infix_at n s at
   unfolding infix_at infix_of
   of_join n e f = rw e (f ∙ single_is "||" (124 ∷ 124 ∷ []) refl CatOp s at)
@@ -96,21 +90,21 @@ module _ (s : List ℕ) (at : ℕ) (r : InfixAt) where
 
 -- ---- what an answer says of what was read
 module _ (x : Expected) where
-  pub ended : (e : ℕ) (R : Reading Parsed) → x ≡ end_for R → x ≡ Past e → (t : Tree) × (R ≡ read (parsed t e))
+  pub ended : (e : ℕ) (R : Reading Parsed) → x ≡ end_for R → x ≡ Ok e → (t : Tree) × (R ≡ read (parsed t e))
   unfolding end_for
   ended e (read r) h k = let z : e ≡ r.to = cc in (r.tree, rw z)
   ended e (refused w p) h k = let z : ◌≡◌ {A = ℕ} 0 1 = cc in absurd (omega arith)
 
-  pub refused_is : (w : Why) (p : ℕ) (R : Reading Parsed) → x ≡ end_for R → x ≡ Refused w p → R ≡ refused w p
+  pub refused_is : (w : Why) (p : ℕ) (R : Reading Parsed) → x ≡ end_for R → x ≡ Err (w, p) → R ≡ refused w p
   unfolding end_for
   refused_is w p (read r) h k = let z : ◌≡◌ {A = ℕ} 0 1 = cc in absurd (omega arith)
   refused_is w p (refused v q) h k = cc
 
   module _ (f : Parsed → Reading Parsed) (R : Reading Parsed) (h : x ≡ end_for R) where
-    then_past : (y : Expected) (e : ℕ) → x ≡ Past e → ((t : Tree) → y ≡ end_for (f (parsed t e))) → y ≡ end_for (then R f)
+    then_past : (y : Expected) (e : ℕ) → x ≡ Ok e → ((t : Tree) → y ≡ end_for (f (parsed t e))) → y ≡ end_for (then R f)
     then_past y e k l = let q : (t : Tree) × (R ≡ read (parsed t e)) = ended e R h k in rw q.1 (l q.0)
 
-    then_refused : (w : Why) (p : ℕ) → x ≡ Refused w p → Refused w p ≡ end_for (then R f)
+    then_refused : (w : Why) (p : ℕ) → x ≡ Err (w, p) → Err (w, p) ≡ end_for (then R f)
     unfolding end_for
     then_refused w p k = rw (refused_is w p R h k)
 
@@ -136,11 +130,11 @@ chained_same : (g h : Operator → Reading Parsed) (a b : Reading Parsed) → ((
 chained_same g h a b i j (is o) = i o
 chained_same g h a b i j no_operator = j
 
-infix_is : (x : InfixAt) (o : Operator) (q to : ℕ) (m : Maybe Operator) → x ≡ infix_for m to → x ≡ I.Is o q → (m ≡ is o) × (to ≡ q)
+infix_is : (x : Option (Operator × ℕ)) (o : Operator) (q to : ℕ) (m : Maybe Operator) → x ≡ infix_for m to → x ≡ Some (o, q) → (m ≡ is o) × (to ≡ q)
 infix_is x o q to (is v) h k = (cc, cc)
 infix_is x o q to no_operator h k = let z : ◌≡◌ {A = ℕ} 0 1 = cc in absurd (omega arith)
 
-infix_none : (x : InfixAt) (to : ℕ) (m : Maybe Operator) → x ≡ infix_for m to → x ≡ I.Other → m ≡ no_operator
+infix_none : (x : Option (Operator × ℕ)) (to : ℕ) (m : Maybe Operator) → x ≡ infix_for m to → x ≡ None → m ≡ no_operator
 infix_none x to (is v) h k = let z : ◌≡◌ {A = ℕ} 0 1 = cc in absurd (omega arith)
 infix_none x to no_operator h k = refl
 
@@ -165,30 +159,30 @@ module _ (l : ℕ) (next : Reader) (s : List ℕ) where
   chaining_start from = record { same = rw add-one }
 
   module _ (from turns at : ℕ) (h : Chaining l next s from turns at) where
-    pub chaining_end : turns ≤ 0 → Refused Syntax at ≡ end_for (chain mixed l next s (suc (length s)) none from)
+    pub chaining_end : turns ≤ 0 → Err (Syntax, at) ≡ end_for (chain mixed l next s (suc (length s)) none from)
     unfolding chain end_for
     chaining_end k = let z : turns ≡ 0 = omega arith in rw z at h.same
 
-    module _ (k : 0 < turns) (x : InfixAt) (i : x ≡ infix_at l s at) where
-      off : x ≡ I.Other → chain mixed l next s turns none at ≡ read (parsed none at)
+    module _ (k : 0 < turns) (x : Option (Operator × ℕ)) (i : x ≡ infix_at l s at) where
+      off : x ≡ None → chain mixed l next s turns none at ≡ read (parsed none at)
       unfolding infix_at
       off e = chain_turn turns none at k ∙ rw (infix_none x (token_at mixed s at).to (infix_of l (token_at mixed s at).token) i e)
 
-      pub chaining_done : x ≡ I.Other → Past at ≡ end_for (chain mixed l next s (suc (length s)) none from)
+      pub chaining_done : x ≡ None → Ok at ≡ end_for (chain mixed l next s (suc (length s)) none from)
       unfolding end_for
       chaining_done e = rw (off e) at h.same
 
-      module _ (o : Operator) (q : ℕ) (e : x ≡ I.Is o q) (y : Expected) (a : y ≡ end_for (next q)) where
+      module _ (o : Operator) (q : ℕ) (e : x ≡ Some (o, q)) (y : Expected) (a : y ≡ end_for (next q)) where
         on : chain mixed l next s turns none at ≡ then (next q) λ r. chain mixed l next s (turns - 1) (binary o none r.tree) r.to
         unfolding infix_at
         on =
             let z : (infix_of l (token_at mixed s at).token ≡ is o) × ((token_at mixed s at).to ≡ q) = infix_is x o q (token_at mixed s at).to (infix_of l (token_at mixed s at).token) i e in
             chain_turn turns none at k ∙ rw (z.0, z.1)
 
-        pub chaining_more : (p : ℕ) → y ≡ Past p → Chaining l next s from (turns - 1) p
+        pub chaining_more : (p : ℕ) → y ≡ Ok p → Chaining l next s from (turns - 1) p
         chaining_more p b = record { same = then_past y _ (next q) a _ p b (λ t. chain_same (turns - 1) none _ p) ∙ ap end_for (sym on) ∙ h.same }
 
-        pub chaining_refused : (w : Why) (p : ℕ) → y ≡ Refused w p → Refused w p ≡ end_for (chain mixed l next s (suc (length s)) none from)
+        pub chaining_refused : (w : Why) (p : ℕ) → y ≡ Err (w, p) → Err (w, p) ≡ end_for (chain mixed l next s (suc (length s)) none from)
         chaining_refused w p b = then_refused y _ (next q) a w p b ∙ ap end_for (sym on) ∙ h.same
 
 -- ---- levels
@@ -203,10 +197,10 @@ module _ (inner : Reader) (s : List ℕ) (at n : ℕ) where
   levels_none y h e = let z : n ≡ 0 = omega arith in rw z e
 
   module _ (h : 1 ≤ n) (x : Expected) (e : x ≡ end_for (levels mixed inner s (n - 1) at)) where
-    pub levels_more : (p : ℕ) → x ≡ Past p → (y : Expected) → y ≡ end_for (chain mixed (n - 1) (levels mixed inner s (n - 1)) s (suc (length s)) none p) → y ≡ end_for (levels mixed inner s n at)
+    pub levels_more : (p : ℕ) → x ≡ Ok p → (y : Expected) → y ≡ end_for (chain mixed (n - 1) (levels mixed inner s (n - 1)) s (suc (length s)) none p) → y ≡ end_for (levels mixed inner s n at)
     levels_more p k y f = then_past x _ (levels mixed inner s (n - 1) at) e y p k (λ t. f ∙ chain_same (n - 1) (levels mixed inner s (n - 1)) s (suc (length s)) none t p) ∙ ap end_for (sym (levels_turn inner s at n h))
 
-    pub levels_refused : (w : Why) (p : ℕ) → x ≡ Refused w p → Refused w p ≡ end_for (levels mixed inner s n at)
+    pub levels_refused : (w : Why) (p : ℕ) → x ≡ Err (w, p) → Err (w, p) ≡ end_for (levels mixed inner s n at)
     levels_refused w p k = then_refused x _ (levels mixed inner s (n - 1) at) e w p k ∙ ap end_for (sym (levels_turn inner s at n h))
 
 -- ---- an expression inside a parenthesis
@@ -218,7 +212,7 @@ expression_is (suc d) s at = refl
 pub checked : (s : List ℕ) (at : ℕ) (y : Expected) → y ≡ end_for (levels_in 16 s 6 at) → y ≡ end_for (whole_expression mixed s at)
 checked s at y e = e ∙ ap end_for (sym (expression_is 16 s at))
 
-pub inside_none : (d : ℕ) (s : List ℕ) (p at : ℕ) → d < 1 → Refused OverLimit p ≡ end_for (inside_of d s p at)
+pub inside_none : (d : ℕ) (s : List ℕ) (p at : ℕ) → d < 1 → Err (OverLimit, p) ≡ end_for (inside_of d s p at)
 unfolding inside_of end_for
 inside_none d s p at h = let z : d ≡ 0 = omega arith in rw z
 
@@ -247,15 +241,15 @@ module _ (inside : Reader) (s : List ℕ) where
   arguing_start from = record { same = refl }
 
   module _ (from turns at : ℕ) (h : Arguing inside s from turns at) where
-    pub arguing_end : turns ≤ 0 → Refused Syntax at ≡ end_for (arguments mixed inside s (length s) from)
+    pub arguing_end : turns ≤ 0 → Err (Syntax, at) ≡ end_for (arguments mixed inside s (length s) from)
     unfolding arguments end_for
     arguing_end k = let z : turns ≡ 0 = omega arith in rw z at h.same
 
     module _ (k : 0 < turns) (x : Expected) (a : x ≡ end_for (inside at)) where
-      pub arguing_refused : (w : Why) (p : ℕ) → x ≡ Refused w p → Refused w p ≡ end_for (arguments mixed inside s (length s) from)
+      pub arguing_refused : (w : Why) (p : ℕ) → x ≡ Err (w, p) → Err (w, p) ≡ end_for (arguments mixed inside s (length s) from)
       arguing_refused w p b = then_refused x _ (inside at) a w p b ∙ ap end_for (sym (arguments_turn turns at k)) ∙ h.same
 
-      module _ (e : ℕ) (b : x ≡ Past e) (l : Lexeme) (lex : Lexed s e l) (v : Bool) (c : v ≡ is_sign_in s l (44 ∷ [])) where
+      module _ (e : ℕ) (b : x ≡ Ok e) (l : Lexeme) (lex : Lexed s e l) (v : Bool) (c : v ≡ is_sign_in s l (44 ∷ [])) where
         behind : (y : Expected) → ((t : Tree) → y ≡ end_for (next (turns - 1) (parsed t e))) → y ≡ end_for (arguments mixed inside s (length s) from)
         behind y f = then_past x _ (inside at) a y e b f ∙ ap end_for (sym (arguments_turn turns at k)) ∙ h.same
 
@@ -269,24 +263,24 @@ module _ (inside : Reader) (s : List ℕ) where
 
 -- ---- a reference
 module _ (g : Named → Reading Parsed) (x : NamedAt) where
-  named_then : (R : Reading Named) (y : Expected) (from to : ℕ) → x ≡ named_for R → x ≡ N.Is from to → ((n : Named) → n.to ≡ to → y ≡ end_for (g n)) → y ≡ end_for (then R g)
+  named_then : (R : Reading Named) (y : Expected) (from to : ℕ) → x ≡ named_for R → x ≡ Ok (from, to) → ((n : Named) → n.to ≡ to → y ≡ end_for (g n)) → y ≡ end_for (then R g)
   named_then (read n) y from to h k f = f n (cc)
   named_then (refused w p) y from to h k f = let z : ◌≡◌ {A = ℕ} 0 1 = cc in absurd (omega arith)
 
-  named_refused : (R : Reading Named) (w : Why) (p : ℕ) → x ≡ named_for R → x ≡ N.Refused w p → Refused w p ≡ end_for (then R g)
+  named_refused : (R : Reading Named) (w : Why) (p : ℕ) → x ≡ named_for R → x ≡ Err (w, p) → Err (w, p) ≡ end_for (then R g)
   unfolding end_for
   named_refused (read n) w p h k = let z : ◌≡◌ {A = ℕ} 0 1 = cc in absurd (omega arith)
   named_refused (refused v q) w p h k = cc
 
 module _ (inside : ℕ → Reader) (s : List ℕ) (at : ℕ) (x : NamedAt) (h : x ≡ named_for (name_at mixed s at)) where
-  pub reference_refused : (w : Why) (p : ℕ) → x ≡ N.Refused w p → Refused w p ≡ end_for (referred inside s at)
+  pub reference_refused : (w : Why) (p : ℕ) → x ≡ Err (w, p) → Err (w, p) ≡ end_for (referred inside s at)
   unfolding referred
   reference_refused w p k = named_refused _ x (name_at mixed s at) w p h k
 
-  module _ (from to : ℕ) (k : x ≡ N.Is from to) (l : Lexeme) (lex : Lexed s to l) (v : Bool) (c : v ≡ is_sign_in s l (40 ∷ [])) where
-    pub reference_name : v ≡ false → Past to ≡ end_for (referred inside s at)
+  module _ (from to : ℕ) (k : x ≡ Ok (from, to)) (l : Lexeme) (lex : Lexed s to l) (v : Bool) (c : v ≡ is_sign_in s l (40 ∷ [])) where
+    pub reference_name : v ≡ false → Ok to ≡ end_for (referred inside s at)
     unfolding referred reference_at end_for
-    reference_name d = named_then _ x (name_at mixed s at) (Past to) from to h k λ n e. rw (e, told s to l lex "(" (40 ∷ []) v false refl c d)
+    reference_name d = named_then _ x (name_at mixed s at) (Ok to) from to h k λ n e. rw (e, told s to l lex "(" (40 ∷ []) v false refl c d)
 
     pub reference_call : v ≡ true → (y : Expected) → y ≡ end_for (arguments mixed (inside l.from) s (length s) l.to) → y ≡ end_for (referred inside s at)
     unfolding referred reference_at
@@ -305,13 +299,13 @@ module _ (inside : ℕ → Reader) (s : List ℕ) (at : ℕ) (l : Lexeme) (lex :
   pub by_kind : (k : Kind) → l.kind ≡ k → (y : Expected) → y ≡ end_for (primitive mixed inside s (token_for k (written s l) (content s l.from)) l.from l.to) → y ≡ end_for (primitive_at inside s at)
   by_kind k e y f = rw (token_of k e, ← lex.from, ← lex.to) f
 
-  pub is_constant : (l.kind ≡ K.Integer) ⊎ ((l.kind ≡ K.String) ⊎ (l.kind ≡ K.Bits)) → Past l.to ≡ end_for (primitive_at inside s at)
+  pub is_constant : (l.kind ≡ K.Integer) ⊎ ((l.kind ≡ K.String) ⊎ (l.kind ≡ K.Bits)) → Ok l.to ≡ end_for (primitive_at inside s at)
   unfolding primitive end_for
   is_constant (inl e) = by_kind K.Integer e _ refl
   is_constant (inr (inl e)) = by_kind K.String e _ refl
   is_constant (inr (inr e)) = by_kind K.Bits e _ refl
 
-  pub is_none : (l.kind ≡ K.Nothing) ⊎ (l.kind ≡ K.Wrong) → Refused Syntax l.from ≡ end_for (primitive_at inside s at)
+  pub is_none : (l.kind ≡ K.Nothing) ⊎ (l.kind ≡ K.Wrong) → Err (Syntax, l.from) ≡ end_for (primitive_at inside s at)
   unfolding primitive end_for
   is_none (inl e) = by_kind K.Nothing e _ refl
   is_none (inr e) = by_kind K.Wrong e _ refl
@@ -326,7 +320,7 @@ module _ (inside : ℕ → Reader) (s : List ℕ) (l : Lexeme) (e : l.kind ≡ K
   unfolding is_sign_in
   opens b d = sym (ap (λ (k : Kind). is_sign_kind k && same (written s l) (40 ∷ [])) e) ∙ sym c ∙ d
 
-  pub not_open : v ≡ false → Refused Syntax l.from ≡ end_for (primitive mixed inside s (sign (written s l)) l.from l.to)
+  pub not_open : v ≡ false → Err (Syntax, l.from) ≡ end_for (primitive mixed inside s (sign (written s l)) l.from l.to)
   unfolding primitive end_for
   not_open d = rw (opens false d)
 
@@ -335,10 +329,10 @@ module _ (inside : ℕ → Reader) (s : List ℕ) (l : Lexeme) (e : l.kind ≡ K
     unfolding primitive
     opened = rw (opens true d)
 
-    pub open_refused : (w : Why) (p : ℕ) → x ≡ Refused w p → Refused w p ≡ end_for (primitive mixed inside s (sign (written s l)) l.from l.to)
+    pub open_refused : (w : Why) (p : ℕ) → x ≡ Err (w, p) → Err (w, p) ≡ end_for (primitive mixed inside s (sign (written s l)) l.from l.to)
     open_refused w p b = then_refused x _ (inside l.from l.to) a w p b ∙ ap end_for (sym opened)
 
-    pub open_closed : (p : ℕ) → x ≡ Past p → (y : Expected) → y ≡ expected (41 ∷ []) s p → y ≡ end_for (primitive mixed inside s (sign (written s l)) l.from l.to)
+    pub open_closed : (p : ℕ) → x ≡ Ok p → (y : Expected) → y ≡ expected (41 ∷ []) s p → y ≡ end_for (primitive mixed inside s (sign (written s l)) l.from l.to)
     open_closed p b y f = then_past x _ (inside l.from l.to) a y p b (λ t. f ∙ expected_is ")" (41 ∷ []) refl s p ∙ sym (closed t (expect_sign mixed ")" s p))) ∙ ap end_for (sym opened)
 
 -- ---- prefix operators: each has a byte, so that they are no more than the bytes
@@ -404,11 +398,11 @@ pub record Passing (s : List ℕ) (from count at : ℕ) : Type 0 where
   pub sum : count + turns ≡ length s
   pub same : prefixes_of (count + (prefixes turns s at).count) (prefixes turns s at).to ≡ prefixes (length s) s from
 
-prefix_is : (x : PrefixAt) (o : Prefix) (q to : ℕ) (m : Maybe Prefix) → x ≡ prefix_for m to → x ≡ P.Is o q → (m ≡ is o) × (to ≡ q)
+prefix_is : (x : Option (Prefix × ℕ)) (o : Prefix) (q to : ℕ) (m : Maybe Prefix) → x ≡ prefix_for m to → x ≡ Some (o, q) → (m ≡ is o) × (to ≡ q)
 prefix_is x o q to (is v) h k = (cc, cc)
 prefix_is x o q to no_operator h k = let z : ◌≡◌ {A = ℕ} 0 1 = cc in absurd (omega arith)
 
-prefix_none : (x : PrefixAt) (to : ℕ) (m : Maybe Prefix) → x ≡ prefix_for m to → x ≡ P.Other → m ≡ no_operator
+prefix_none : (x : Option (Prefix × ℕ)) (to : ℕ) (m : Maybe Prefix) → x ≡ prefix_for m to → x ≡ None → m ≡ no_operator
 prefix_none x to (is v) h k = let z : ◌≡◌ {A = ℕ} 0 1 = cc in absurd (omega arith)
 prefix_none x to no_operator h k = refl
 
@@ -424,13 +418,13 @@ module _ (s : List ℕ) (from : ℕ) where
         let e : count ≡ length s = omega (arith, h.sum) in
         rw (z, add-zero, e) at h.same
 
-    module _ (k : count < length s) (x : PrefixAt) (i : x ≡ prefix_for (prefix_of (token_at mixed s at).token) (token_at mixed s at).to) where
+    module _ (k : count < length s) (x : Option (Prefix × ℕ)) (i : x ≡ prefix_for (prefix_of (token_at mixed s at).token) (token_at mixed s at).to) where
       a_turn : (n : ℕ) → count + n ≡ length s → prefixes_of (count + (prefixes n s at).count) (prefixes n s at).to ≡ prefixes (length s) s from → (r : Prefixes) → with_prefix (prefix_of (token_at mixed s at).token) at (prefixes (n - 1) s (token_at mixed s at).to) ≡ r → prefixes_of (count + r.count) r.to ≡ prefixes (length s) s from
       unfolding prefixes
       a_turn zero a b r e = absurd (omega arith)
       a_turn (suc n) a b r e = rw (← e, sub-one) b
 
-      pub passing_more : (o : Prefix) (q : ℕ) → x ≡ P.Is o q → Passing s from (count + 1) q
+      pub passing_more : (o : Prefix) (q : ℕ) → x ≡ Some (o, q) → Passing s from (count + 1) q
       passing_more o q e =
           let z : (prefix_of (token_at mixed s at).token ≡ is o) × ((token_at mixed s at).to ≡ q) = prefix_is x o q (token_at mixed s at).to (prefix_of (token_at mixed s at).token) i e in
           let p : Prefixes = prefixes (h.turns - 1) s q in
@@ -441,5 +435,5 @@ module _ (s : List ℕ) (from : ℕ) where
             same = rw n (a_turn h.turns h.sum h.same (prefixes_of (suc p.count) p.to) (rw (z.0, z.1)));
           }
 
-      pub passing_stop : x ≡ P.Other → prefixes_of count at ≡ prefixes (length s) s from
+      pub passing_stop : x ≡ None → prefixes_of count at ≡ prefixes (length s) s from
       passing_stop e = rw add-zero at (a_turn h.turns h.sum h.same (prefixes_of 0 at) (rw (prefix_none x (token_at mixed s at).to (prefix_of (token_at mixed s at).token) i e)))

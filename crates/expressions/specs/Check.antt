@@ -1,5 +1,6 @@
 -- What the answers about an expression's syntax stand for.
-use Rattle.std.specs.Prelude.{ℕ, zero, suc, Bool, false, cond, List, length}
+use Rattle.expressions.specs.Types.{Expected, NamedAt}
+use Rattle.std.specs.Prelude.{ℕ, zero, suc, Bool, false, cond, List, length, Option, Some, None, Ok, Err}
 use Rattle.definition.specs.Bytes.{mixed}
 use Rattle.definition.specs.Lists.{same}
 use Rattle.definition.specs.Tokens.{Token, word, integer, string, bits, sign, nothing, wrong, token_at}
@@ -7,33 +8,25 @@ use Rattle.definition.specs.Expressions.{Reading, read, refused, then, none, Par
 use Rattle.definition.specs.declared.Why.TheVariants.{Syntax, OverLimit}
 use Rattle.definition.specs.declared.Operator.{Operator}
 use Rattle.definition.specs.declared.Prefix.{Prefix}
-use Rattle.expressions.specs.declared.InfixAt.{InfixAt}
-use Rattle.expressions.specs.declared.InfixAt.TheVariants as Infix
-use Rattle.expressions.specs.declared.PrefixAt.{PrefixAt}
-use Rattle.expressions.specs.declared.PrefixAt.TheVariants as Prefixed
 use Rattle.expressions.specs.declared.Prefixes.{Prefixes}
-use Rattle.expressions.specs.declared.Expected.{Expected}
-use Rattle.expressions.specs.declared.Expected.TheVariants as Must
-use Rattle.expressions.specs.declared.NamedAt.{NamedAt}
-use Rattle.expressions.specs.declared.NamedAt.TheVariants as Word
 
 -- the operator that stands next, and the place past it
-abbrev pub infix_for : Maybe Operator → ℕ → InfixAt
-infix_for (is o) to = Infix.Is o to
-infix_for no_operator to = Infix.Other
+abbrev pub infix_for : Maybe Operator → ℕ → Option (Operator × ℕ)
+infix_for (is o) to = Some (o, to)
+infix_for no_operator to = None
 
 -- of level l, behind the place `at`
-unfoldable pub infix_at : ℕ → List ℕ → ℕ → InfixAt
+unfoldable pub infix_at : ℕ → List ℕ → ℕ → Option (Operator × ℕ)
 infix_at l s at = infix_for (infix_of l (token_at mixed s at).token) (token_at mixed s at).to
 
-abbrev pub prefix_for : Maybe Prefix → ℕ → PrefixAt
-prefix_for (is o) to = Prefixed.Is o to
-prefix_for no_operator to = Prefixed.Other
+abbrev pub prefix_for : Maybe Prefix → ℕ → Option (Prefix × ℕ)
+prefix_for (is o) to = Some (o, to)
+prefix_for no_operator to = None
 
 -- what must follow was there, or it is refused
 abbrev pub expect_for : Reading ℕ → Expected
-expect_for (read e) = Must.Past e
-expect_for (refused w p) = Must.Refused w p
+expect_for (read e) = Ok e
+expect_for (refused w p) = Err (w, p)
 
 -- whether a token is the sign that bytes spell
 abbrev pub is_spelled : List ℕ → Token → Bool
@@ -47,15 +40,15 @@ is_spelled w wrong = false
 
 -- the definition's `expectSign`, for bytes
 unfoldable pub expected : List ℕ → List ℕ → ℕ → Expected
-expected w s at = cond (is_spelled w (token_at mixed s at).token) (Must.Past (token_at mixed s at).to) (Must.Refused Syntax (token_at mixed s at).from)
+expected w s at = cond (is_spelled w (token_at mixed s at).token) (Ok (token_at mixed s at).to) (Err (Syntax, (token_at mixed s at).from))
 
 -- an operator that is alone on its level, by the bytes of its sign
-unfoldable pub single_for : List ℕ → Operator → List ℕ → ℕ → InfixAt
-single_for w o s at = cond (is_spelled w (token_at mixed s at).token) (Infix.Is o (token_at mixed s at).to) Infix.Other
+unfoldable pub single_for : List ℕ → Operator → List ℕ → ℕ → Option (Operator × ℕ)
+single_for w o s at = cond (is_spelled w (token_at mixed s at).token) (Some (o, (token_at mixed s at).to)) None
 
 abbrev pub named_for : Reading Named → NamedAt
-named_for (read n) = Word.Is n.place n.to
-named_for (refused w p) = Word.Refused w p
+named_for (read n) = Ok (n.place, n.to)
+named_for (refused w p) = Err (w, p)
 
 -- whether a token is the word that bytes spell
 abbrev pub is_worded : List ℕ → Token → Bool
@@ -69,7 +62,7 @@ is_worded w wrong = false
 
 -- the definition's `expectWord`, for bytes
 unfoldable pub expected_word : List ℕ → List ℕ → ℕ → Expected
-expected_word w s at = cond (is_worded w (token_at mixed s at).token) (Must.Past (token_at mixed s at).to) (Must.Refused Syntax (token_at mixed s at).from)
+expected_word w s at = cond (is_worded w (token_at mixed s at).token) (Ok (token_at mixed s at).to) (Err (Syntax, (token_at mixed s at).from))
 
 -- ---- the prefix operators at a place, at most f of them
 abbrev pub prefixes_of : ℕ → ℕ → Prefixes
@@ -85,8 +78,8 @@ prefixes (suc f) s at = with_prefix (prefix_of (token_at mixed s at).token) at (
 
 -- ---- the check of an expression answers where the tree ends that the definition reads
 unfoldable pub end_for : Reading Parsed → Expected
-end_for (read r) = Must.Past r.to
-end_for (refused w p) = Must.Refused w p
+end_for (read r) = Ok r.to
+end_for (refused w p) = Err (w, p)
 
 -- what stands behind the parenthesis at p, where d may still be opened
 unfoldable pub inside_of : ℕ → List ℕ → ℕ → Reader

@@ -1,2 +1,3 @@
 -- What the contracts of `expressions` cite.
 pub mod Check
+pub mod Types

@@ -11,130 +11,109 @@ ghost use Rattle.tokens.specs.Answer.{written};
 ghost use Rattle.tokens.specs.declared.Kind.TheVariants.{Sign};
 ghost use Rattle.expressions.specs.Check.{infix_at, single_for, prefix_for, expected, expected_word, named_for, prefixes, end_for, inside_of, referred, primitive_at, operand_in, levels_in, chain_in};
 
-use definition::{Operator, Prefix, Why};
+use definition::{Fault, Operator, Prefix, Why};
 use limits::{Name, Nesting};
 use tokens::{Kind, Lexeme, is_sign, is_word, is_word_kind, token_at, width};
 
 // How many levels of binding the infix operators have.
 pub const LEVELS: usize = 6;
 
-// The infix operator that stands next, and the place past it.
-#[derive(Clone, Copy)]
-pub enum InfixAt {
-    Is(Operator, usize),
-    Other,
-}
-
-#[derive(Clone, Copy)]
-pub enum PrefixAt {
-    Is(Prefix, usize),
-    Other,
-}
-
 // The place past what must follow, or the refusal and its place.
-#[derive(Clone, Copy)]
-pub enum Expected {
-    Past(usize),
-    Refused(Why, usize),
-}
+pub type Expected = Result<usize, Fault>;
 
 // A name: where it begins and the place past it.
-#[derive(Clone, Copy)]
-pub enum NamedAt {
-    Is(usize, usize),
-    Refused(Why, usize),
-}
+pub type NamedAt = Result<(usize, usize), Fault>;
 
 // The prefix operator that stands next.
-pub fn prefix_at(s: &[u8], at: usize) -> PrefixAt
+pub fn prefix_at(s: &[u8], at: usize) -> Option<(Prefix, usize)>
     ensures { result ≡ prefix_for (E.prefix_of (token_at mixed s.now at).token) (token_at mixed s.now at).to }
 {
     let t = token_at(s, at);
     if is_sign(s, t, b"+") {
-        return PrefixAt::Is(Prefix::Positive, t.to);
+        return Some((Prefix::Positive, t.to));
     }
     if is_sign(s, t, b"-") {
-        return PrefixAt::Is(Prefix::Negative, t.to);
+        return Some((Prefix::Negative, t.to));
     }
     if is_sign(s, t, b"^") {
-        return PrefixAt::Is(Prefix::Complement, t.to);
+        return Some((Prefix::Complement, t.to));
     }
-    PrefixAt::Other
+    None
 }
 
 // An operator that is alone on its level, with its sign.
-fn single_at(s: &[u8], at: usize, w: &[u8], o: Operator) -> InfixAt
+fn single_at(s: &[u8], at: usize, w: &[u8], o: Operator) -> Option<(Operator, usize)>
     ensures { result ≡ single_for w.now o s.now at }
 {
     let t = token_at(s, at);
     if is_sign(s, t, w) {
-        return InfixAt::Is(o, t.to);
+        return Some((o, t.to));
     }
-    InfixAt::Other
+    None
 }
 
 // `*` or `/`, the tightest.
-fn product_at(s: &[u8], at: usize) -> InfixAt
+fn product_at(s: &[u8], at: usize) -> Option<(Operator, usize)>
     ensures { result ≡ infix_at 0 s.now at }
 {
     let t = token_at(s, at);
     if is_sign(s, t, b"*") {
-        return InfixAt::Is(Operator::Times, t.to);
+        return Some((Operator::Times, t.to));
     }
     if is_sign(s, t, b"/") {
-        return InfixAt::Is(Operator::Divided, t.to);
+        return Some((Operator::Divided, t.to));
     }
-    InfixAt::Other
+    None
 }
 
 // `+` or `-`.
-fn sum_at(s: &[u8], at: usize) -> InfixAt
+fn sum_at(s: &[u8], at: usize) -> Option<(Operator, usize)>
     ensures { result ≡ infix_at 1 s.now at }
 {
     let t = token_at(s, at);
     if is_sign(s, t, b"+") {
-        return InfixAt::Is(Operator::Plus, t.to);
+        return Some((Operator::Plus, t.to));
     }
     if is_sign(s, t, b"-") {
-        return InfixAt::Is(Operator::Minus, t.to);
+        return Some((Operator::Minus, t.to));
     }
-    InfixAt::Other
+    None
 }
 
 // A comparison.
-fn comparison_at(s: &[u8], at: usize) -> InfixAt
+fn comparison_at(s: &[u8], at: usize) -> Option<(Operator, usize)>
     ensures { result ≡ infix_at 3 s.now at }
 {
     let t = token_at(s, at);
     if is_sign(s, t, b">") {
-        return InfixAt::Is(Operator::Greater, t.to);
+        return Some((Operator::Greater, t.to));
     }
     if is_sign(s, t, b">=") {
-        return InfixAt::Is(Operator::GreaterEqual, t.to);
+        return Some((Operator::GreaterEqual, t.to));
     }
     if is_sign(s, t, b"=") {
-        return InfixAt::Is(Operator::Equal, t.to);
+        return Some((Operator::Equal, t.to));
     }
     if is_sign(s, t, b"<") {
-        return InfixAt::Is(Operator::Less, t.to);
+        return Some((Operator::Less, t.to));
     }
     if is_sign(s, t, b"<=") {
-        return InfixAt::Is(Operator::LessEqual, t.to);
+        return Some((Operator::LessEqual, t.to));
     }
     if is_sign(s, t, b"^>") {
-        return InfixAt::Is(Operator::NotGreater, t.to);
+        return Some((Operator::NotGreater, t.to));
     }
     if is_sign(s, t, b"^=") {
-        return InfixAt::Is(Operator::NotEqual, t.to);
+        return Some((Operator::NotEqual, t.to));
     }
     if is_sign(s, t, b"^<") {
-        return InfixAt::Is(Operator::NotLess, t.to);
+        return Some((Operator::NotLess, t.to));
     }
-    InfixAt::Other
+    None
 }
 
 // The infix operator of a level that stands next; level 0 binds tightest.
-pub fn infix_at(s: &[u8], at: usize, level: usize) -> InfixAt
+pub fn infix_at(s: &[u8], at: usize, level: usize) -> Option<(Operator, usize)>
     ensures { result ≡ infix_at level s.now at }
 {
     match level {
@@ -153,9 +132,9 @@ pub fn expect_sign(s: &[u8], at: usize, w: &[u8]) -> Expected
 {
     let t = token_at(s, at);
     if is_sign(s, t, w) {
-        return Expected::Past(t.to);
+        return Ok(t.to);
     }
-    Expected::Refused(Why::Syntax, t.from)
+    Err((Why::Syntax, t.from))
 }
 
 // A name that must follow.
@@ -165,11 +144,11 @@ pub fn name_at(s: &[u8], at: usize) -> NamedAt
     let t = token_at(s, at);
     if is_word_kind(t.kind) {
         if width(t) <= Name::LONGEST {
-            return NamedAt::Is(t.from, t.to);
+            return Ok((t.from, t.to));
         }
-        return NamedAt::Refused(Why::OverLimit, t.from);
+        return Err((Why::OverLimit, t.from));
     }
-    NamedAt::Refused(Why::Syntax, t.from)
+    Err((Why::Syntax, t.from))
 }
 
 // A word that must follow.
@@ -178,9 +157,9 @@ pub fn expect_word(s: &[u8], at: usize, w: &[u8]) -> Expected
 {
     let t = token_at(s, at);
     if is_word(s, t, w) {
-        return Expected::Past(t.to);
+        return Ok(t.to);
     }
-    Expected::Refused(Why::Syntax, t.from)
+    Err((Why::Syntax, t.from))
 }
 
 // Prefix operators: how many they are, and the place behind them.
@@ -196,8 +175,8 @@ pub fn past_prefixes(s: &[u8], from: usize) -> Prefixes
     let mut at = from;
     for count in 0..s.len() {
         match prefix_at(s, at) {
-            PrefixAt::Is(_, q) => at = q,
-            PrefixAt::Other => return Prefixes { count, to: at },
+            Some((_, q)) => at = q,
+            None => return Prefixes { count, to: at },
         }
     }
     Prefixes {
@@ -214,7 +193,7 @@ pub fn inside(s: &[u8], p: usize, at: usize, left: usize) -> Expected
     ensures { result ≡ end_for (inside_of left s.now p at) }
 {
     if left < 1 {
-        return Expected::Refused(Why::OverLimit, p);
+        return Err((Why::OverLimit, p));
     }
     levels(s, at, LEVELS, left - 1)
 }
@@ -227,17 +206,17 @@ fn arguments(s: &[u8], p: usize, from: usize, left: usize) -> Expected
     let mut at = from;
     for turn in (0..s.len()).rev() {
         match inside(s, p, at, left) {
-            Expected::Past(e) => {
+            Ok(e) => {
                 let t = token_at(s, e);
                 if !is_sign(s, t, b",") {
                     return expect_sign(s, e, b")");
                 }
                 at = t.to;
             }
-            Expected::Refused(w, q) => return Expected::Refused(w, q),
+            Err((w, q)) => return Err((w, q)),
         }
     }
-    Expected::Refused(Why::Syntax, at)
+    Err((Why::Syntax, at))
 }
 
 #[cycle(expression)]
@@ -245,14 +224,14 @@ fn reference(s: &[u8], at: usize, left: usize) -> Expected
     ensures { result ≡ end_for (referred (inside_of left s.now) s.now at) }
 {
     match name_at(s, at) {
-        NamedAt::Is(_, to) => {
+        Ok((_, to)) => {
             let t = token_at(s, to);
             if is_sign(s, t, b"(") {
                 return arguments(s, t.from, t.to, left);
             }
-            Expected::Past(to)
+            Ok(to)
         }
-        NamedAt::Refused(w, q) => Expected::Refused(w, q),
+        Err((w, q)) => Err((w, q)),
     }
 }
 
@@ -263,11 +242,11 @@ fn parenthesized(s: &[u8], t: Lexeme, left: usize) -> Expected
 {
     if is_sign(s, t, b"(") {
         return match inside(s, t.from, t.to, left) {
-            Expected::Past(e) => expect_sign(s, e, b")"),
-            Expected::Refused(w, q) => Expected::Refused(w, q),
+            Ok(e) => expect_sign(s, e, b")"),
+            Err((w, q)) => Err((w, q)),
         };
     }
-    Expected::Refused(Why::Syntax, t.from)
+    Err((Why::Syntax, t.from))
 }
 
 #[cycle(expression)]
@@ -277,9 +256,9 @@ fn primitive(s: &[u8], at: usize, left: usize) -> Expected
     let t = token_at(s, at);
     match t.kind {
         Kind::Word => reference(s, at, left),
-        Kind::Integer | Kind::String | Kind::Bits => Expected::Past(t.to),
+        Kind::Integer | Kind::String | Kind::Bits => Ok(t.to),
         Kind::Sign => parenthesized(s, t, left),
-        Kind::Nothing | Kind::Wrong => Expected::Refused(Why::Syntax, t.from),
+        Kind::Nothing | Kind::Wrong => Err((Why::Syntax, t.from)),
     }
 }
 
@@ -298,14 +277,14 @@ fn chain(s: &[u8], from: usize, level: usize, left: usize) -> Expected
     let mut at = from;
     for turn in (0..s.len() + 1).rev() {
         match infix_at(s, at, level) {
-            InfixAt::Is(_, q) => match levels(s, q, level, left) {
-                Expected::Past(e) => at = e,
-                Expected::Refused(w, p) => return Expected::Refused(w, p),
+            Some((_, q)) => match levels(s, q, level, left) {
+                Ok(e) => at = e,
+                Err((w, p)) => return Err((w, p)),
             },
-            InfixAt::Other => return Expected::Past(at),
+            None => return Ok(at),
         }
     }
-    Expected::Refused(Why::Syntax, at)
+    Err((Why::Syntax, at))
 }
 
 // n levels of infix operators over operands.
@@ -317,8 +296,8 @@ fn levels(s: &[u8], at: usize, n: usize, left: usize) -> Expected
         return operand(s, at, left);
     }
     match levels(s, at, n - 1, left) {
-        Expected::Past(e) => chain(s, e, n - 1, left),
-        Expected::Refused(w, p) => Expected::Refused(w, p),
+        Ok(e) => chain(s, e, n - 1, left),
+        Err((w, p)) => Err((w, p)),
     }
 }
 

@@ -1,9 +1,12 @@
 -- What an answer of the code stands for in the definition.
-use Rattle.definition.specs.Fixed.{Result, is, out_of_range, zero_divisor}
-use Rattle.fixed.specs.declared.Answer.{Answer}
-use Rattle.fixed.specs.declared.Answer.TheVariants.{Is, OutOfRange, ZeroDivisor}
+use Rattle.fixed.specs.declared.FixedError.TheVariants.{OutOfRange, ZeroDivisor}
+use Rattle.std.specs.Prelude.{Result, Ok, Err}
+use Rattle.fixed.specs.declared.FixedError.{FixedError}
+use Rattle.fixed.specs.declared.Fixed.{Fixed}
+use Rattle.definition.specs.Fixed as F
+use Rattle.definition.specs.Fixed.{is, out_of_range, zero_divisor}
 
-abbrev pub result_of : Answer → Result
-result_of (Is x) = is x.value
-result_of OutOfRange = out_of_range
-result_of ZeroDivisor = zero_divisor
+abbrev pub result_of : Result Fixed FixedError → F.Result
+result_of (Ok x) = is x.value
+result_of (Err OutOfRange) = out_of_range
+result_of (Err ZeroDivisor) = zero_divisor

@@ -15,9 +15,8 @@ pub struct Fixed {
 }
 
 // What arithmetic gives: a number in range, or why there is none.
-#[derive(Clone, Copy)]
-pub enum Answer {
-    Is(Fixed),
+#[derive(Clone, Copy, PartialEq, Eq)]
+pub enum FixedError {
     OutOfRange,
     ZeroDivisor,
 }
@@ -41,13 +40,13 @@ impl Fixed {
     }
 
     // The checked constructor, through which every result goes.
-    pub fn of(n: i64) -> Answer
+    pub fn of(n: i64) -> Result<Fixed, FixedError>
         ensures { result_of result ≡ ranged n }
     {
         if Fixed::in_range(n) {
-            Answer::Is(Fixed { value: n as i32 })
+            Ok(Fixed { value: n as i32 })
         } else {
-            Answer::OutOfRange
+            Err(FixedError::OutOfRange)
         }
     }
 
@@ -58,37 +57,37 @@ impl Fixed {
         i64::from(self.value)
     }
 
-    pub fn add(self, other: Fixed) -> Answer
+    pub fn add(self, other: Fixed) -> Result<Fixed, FixedError>
         ensures { result_of result ≡ sum self.value other.value }
     {
         Fixed::of(self.wide() + other.wide())
     }
 
-    pub fn subtract(self, other: Fixed) -> Answer
+    pub fn subtract(self, other: Fixed) -> Result<Fixed, FixedError>
         ensures { result_of result ≡ difference self.value other.value }
     {
         Fixed::of(self.wide() - other.wide())
     }
 
-    pub fn multiply(self, other: Fixed) -> Answer
+    pub fn multiply(self, other: Fixed) -> Result<Fixed, FixedError>
         ensures { result_of result ≡ product self.value other.value }
     {
         Fixed::of(self.wide() * other.wide())
     }
 
-    pub fn negate(self) -> Answer
+    pub fn negate(self) -> Result<Fixed, FixedError>
         ensures { result_of result ≡ negative self.value }
     {
         Fixed::of(-self.wide())
     }
 
     // The quotient, cut towards zero.
-    pub fn divide(self, other: Fixed) -> Answer
+    pub fn divide(self, other: Fixed) -> Result<Fixed, FixedError>
         ensures { result_of result ≡ quotient self.value other.value }
     {
         let divisor = other.wide();
         if divisor == 0 {
-            return Answer::ZeroDivisor;
+            return Err(FixedError::ZeroDivisor);
         }
         Fixed::of(self.wide() / divisor)
     }
@@ -105,7 +104,7 @@ impl Fixed {
         self.value.unsigned_abs()
     }
 
-    pub fn of_magnitude(negative: bool, magnitude: u32) -> Answer
+    pub fn of_magnitude(negative: bool, magnitude: u32) -> Result<Fixed, FixedError>
         ensures { result_of result ≡ ranged (signed_by negative magnitude) }
     {
         let wide = i64::from(magnitude);
@@ -140,7 +139,7 @@ impl Fixed {
         }
     }
 
-    pub fn from_stored(n: u32) -> Answer
+    pub fn from_stored(n: u32) -> Result<Fixed, FixedError>
         ensures { result_of result ≡ from_stored n }
     {
         Fixed::of(i64::from(n) - Fixed::STORED_ZERO)
@@ -148,12 +147,12 @@ impl Fixed {
 }
 
 // 01's number of a refusal, and 0 where there is none.
-pub fn refusal(a: Answer) -> u8
+pub fn refusal(a: Result<Fixed, FixedError>) -> u8
     ensures { result ≡ Rattle.definition.specs.Fixed.refusal (result_of a) }
 {
     match a {
-        Answer::Is(_) => 0,
-        Answer::OutOfRange => 9,
-        Answer::ZeroDivisor => 10,
+        Ok(_) => 0,
+        Err(FixedError::OutOfRange) => 9,
+        Err(FixedError::ZeroDivisor) => 10,
     }
 }

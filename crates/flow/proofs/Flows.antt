@@ -1,6 +1,7 @@
 -- What the functions of this crate are in the definition: where the table stands for the rows of a member, each walk leads where
 -- the definition goes, and a GOTO may go where it may.
 -- Assumes nothing.
+use Rattle.std.proofs.Common.{Some, None}
 use mathlib.Core.Path.{◌≡◌, refl, sym, ap, ◌∙◌}
 use mathlib.Core.Bool.{Bool, true, false, cond, ◌&&◌}
 use mathlib.Core.List.{List, ◌∷◌}
@@ -19,7 +20,6 @@ use Rattle.fixed.specs.Signed.{from_stored}
 use Rattle.rows.specs.declared.Statement.{Statement}
 use Rattle.rows.specs.declared.Statement.TheVariants.{Null, Declare, Procedure, Assign, Conditional, Group, Iterated, Goto, Include, Activate, Deactivate, Return}
 use Rattle.rows.specs.declared.Role.{Role}
-use Rattle.rows.specs.declared.Link.TheVariants.{Nowhere, To}
 use Rattle.rows.specs.Table.{row_in}
 use Rattle.rows.specs.Tabled.{kind_of}
 use Rattle.flow.specs.declared.Next.TheVariants.{Again}
@@ -272,18 +272,18 @@ module _ (t : List ℕ) (rs : List P.Row) (s : Shown t rs) where
 
   -- a group is around a row
   module _ (g : ℕ) (i : P.is_iterated (row_of rs g).statement ≡ true) where
-    around_none : (k : ℕ) → false ≡ C.around_on t g k Nowhere
+    around_none : (k : ℕ) → false ≡ C.around_on t g k None
     unfolding C.around_on
     around_none zero = refl
     around_none (suc k) = refl
 
-    around_link_lem : (k : ℕ) (from : ℕ → List ℕ) (x : P.Link) → ((q : ℕ) → x ≡ P.row q → D.is_in g (from q) ≡ C.around_on t g k (To q))
+    around_link_lem : (k : ℕ) (from : ℕ → List ℕ) (x : P.Link) → ((q : ℕ) → x ≡ P.row q → D.is_in g (from q) ≡ C.around_on t g k (Some q))
         → D.is_in g (D.groups_up x from) ≡ C.around_on t g k (link_of x)
     unfolding D.is_in
     around_link_lem k from P.nowhere h = around_none k
     around_link_lem k from (P.row q) h = h q refl
 
-    around_from : (f k p : ℕ) → p < f → p < k → p < length rs → D.is_in g (D.groups_from rs f p) ≡ C.around_on t g k (To p)
+    around_from : (f k p : ℕ) → p < f → p < k → p < length rs → D.is_in g (D.groups_from rs f p) ≡ C.around_on t g k (Some p)
     unfolding D.groups_from C.around_on
     around_from zero k p h j l = absurd (omega arith)
     around_from (suc f) zero p h j l = absurd (omega arith)
@@ -309,18 +309,18 @@ module _ (t : List ℕ) (rs : List P.Row) (s : Shown t rs) where
         go true e = in_around q e
         go false e = refl
 
-    go_none : (k : ℕ) → true ≡ C.may_go_on t n k Nowhere
+    go_none : (k : ℕ) → true ≡ C.may_go_on t n k None
     unfolding C.may_go_on
     go_none zero = refl
     go_none (suc k) = refl
 
-    go_link : (k : ℕ) (from : ℕ → List ℕ) (x : P.Link) → ((q : ℕ) → x ≡ P.row q → D.are_in (from q) (D.groups_around rs (row_of rs n).parent) ≡ C.may_go_on t n k (To q))
+    go_link : (k : ℕ) (from : ℕ → List ℕ) (x : P.Link) → ((q : ℕ) → x ≡ P.row q → D.are_in (from q) (D.groups_around rs (row_of rs n).parent) ≡ C.may_go_on t n k (Some q))
         → D.are_in (D.groups_up x from) (D.groups_around rs (row_of rs n).parent) ≡ C.may_go_on t n k (link_of x)
     unfolding D.are_in
     go_link k from P.nowhere h = go_none k
     go_link k from (P.row q) h = h q refl
 
-    go_from : (f k q : ℕ) → q < f → q < k → q < length rs → D.are_in (D.groups_from rs f q) (D.groups_around rs (row_of rs n).parent) ≡ C.may_go_on t n k (To q)
+    go_from : (f k q : ℕ) → q < f → q < k → q < length rs → D.are_in (D.groups_from rs f q) (D.groups_around rs (row_of rs n).parent) ≡ C.may_go_on t n k (Some q)
     unfolding D.groups_from C.may_go_on
     go_from zero k q h j l = absurd (omega arith)
     go_from (suc f) zero q h j l = absurd (omega arith)

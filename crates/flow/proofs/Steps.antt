@@ -1,5 +1,8 @@
 -- The test of a pass, and the turns of the loops.
 -- Assumes nothing.
+use Rattle.fixed.specs.declared.FixedError.TheVariants.{OutOfRange, ZeroDivisor}
+use Rattle.fixed.specs.declared.FixedError.{FixedError}
+use Rattle.std.proofs.Common.{Option, Some, None, Result, Ok, Err}
 use mathlib.Core.Path.{◌≡◌, refl, sym, ◌∙◌}
 use mathlib.Core.Bool.{Bool, true, false, not}
 use mathlib.Core.Logic.{◌⊎◌, inl, inr}
@@ -12,11 +15,7 @@ use lib.IntN.{ℤ, pos, negsuc}
 use lib.Signed.{le_z, lt_z}
 use Rattle.definition.specs.Fixed as F
 use Rattle.fixed.specs.declared.Fixed.{Fixed}
-use Rattle.fixed.specs.declared.Answer.{Answer}
-use Rattle.fixed.specs.declared.Answer.TheVariants as A
 use Rattle.fixed.specs.Answer.{result_of}
-use Rattle.rows.specs.declared.Link.{Link}
-use Rattle.rows.specs.declared.Link.TheVariants.{Nowhere, To}
 use Rattle.flow.specs.declared.Next.{Next}
 use Rattle.flow.specs.declared.Next.TheVariants.{Over}
 use Rattle.flow.specs.declared.Walk.{Walk}
@@ -38,8 +37,8 @@ not_less_lem (pos a) (negsuc b) = refl
 not_less_lem (negsuc a) (pos b) = refl
 not_less_lem (negsuc a) (negsuc b) = less b a
 
-module _ (l s : F.Result) (z : ℤ) (to by : Answer) (p : result_of to ≡ l) where
-  module _ (limit : Fixed) (e : to ≡ A.Is limit) (q : result_of by ≡ s) (d : Bool) (f : d ≡ is_down (result_of by)) (b : Bool) where
+module _ (l s : F.Result) (z : ℤ) (to by : Result Fixed FixedError) (p : result_of to ≡ l) where
+  module _ (limit : Fixed) (e : to ≡ Ok limit) (q : result_of by ≡ s) (d : Bool) (f : d ≡ is_down (result_of by)) (b : Bool) where
     is : F.is limit.value ≡ l
     is = rw e at p
 
@@ -51,7 +50,7 @@ module _ (l s : F.Result) (z : ℤ) (to by : Answer) (p : result_of to ≡ l) wh
     unfolding passes_by
     passes_up g h = let k : is_down s ≡ false = rw (← q) (sym f ∙ g) in rw (← is, k, h) (not_less_lem limit.value z)
 
-  pub passes_none : (to ≡ A.OutOfRange) ⊎ (to ≡ A.ZeroDivisor) → true ≡ passes_by l s z
+  pub passes_none : (to ≡ (Err OutOfRange)) ⊎ (to ≡ (Err ZeroDivisor)) → true ≡ passes_by l s z
   unfolding passes_by
   passes_none (inl e) = let k : F.out_of_range ≡ l = rw e at p in rw (← k)
   passes_none (inr e) = let k : F.zero_divisor ≡ l = rw e at p in rw (← k)
@@ -80,15 +79,15 @@ module _ (t : List ℕ) (fs : Frames) (whole : Next) (at m k : ℕ) (c : Walking
     walking_up g f = record { is = rw f at turn }
 
 -- ---- GOTO
-pub nowhere_if : (x : Link) → ((n : ℕ) → x ≡ To n → ⊥) → x ≡ Nowhere
-nowhere_if Nowhere h = refl
-nowhere_if (To n) h = absurd (h n refl)
+pub nowhere_if : (x : Option ℕ) → ((n : ℕ) → x ≡ Some n → ⊥) → x ≡ None
+nowhere_if None h = refl
+nowhere_if (Some n) h = absurd (h n refl)
 
 -- ---- whether a row is around another: after k of 2048 turns, what is left decides
-pub record Looking (t : List ℕ) (g : ℕ) (whole : Bool) (x : Link) (k : ℕ) : Type 0 where
+pub record Looking (t : List ℕ) (g : ℕ) (whole : Bool) (x : Option ℕ) (k : ℕ) : Type 0 where
   pub is : around_on t g (2048 - k) x ≡ whole
 
-module _ (t : List ℕ) (g : ℕ) (whole : Bool) (x : Link) (k : ℕ) (c : Looking t g whole x k) where
+module _ (t : List ℕ) (g : ℕ) (whole : Bool) (x : Option ℕ) (k : ℕ) (c : Looking t g whole x k) where
   pub looking_done : 2048 ≤ k → false ≡ whole
   unfolding around_on
   looking_done h = let e : 2048 - k ≡ 0 = omega arith in rw e at c.is
@@ -98,20 +97,20 @@ module _ (t : List ℕ) (g : ℕ) (whole : Bool) (x : Link) (k : ℕ) (c : Looki
     unfolding around_on
     turn_around = let f : 2048 - k ≡ suc (2048 - (k + 1)) = omega arith in rw f at c.is
 
-    pub looking_none : x ≡ Nowhere → false ≡ whole
+    pub looking_none : x ≡ None → false ≡ whole
     looking_none e = rw e at turn_around
 
-    module _ (p : ℕ) (e : x ≡ To p) where
+    module _ (p : ℕ) (e : x ≡ Some p) where
       pub looking_there : p ≡ g → true ≡ whole
       looking_there f = rw (e, eq-eqb p g f) at turn_around
 
-      pub looking_up : (y : Link) → (p ≡ g → ⊥) → y ≡ parent_at t p → Looking t g whole y (k + 1)
+      pub looking_up : (y : Option ℕ) → (p ≡ g → ⊥) → y ≡ parent_at t p → Looking t g whole y (k + 1)
       looking_up y f i = record { is = rw i (rw (e, ne_eqb p g f) at turn_around) }
 
-pub record Going (t : List ℕ) (n : ℕ) (whole : Bool) (x : Link) (k : ℕ) : Type 0 where
+pub record Going (t : List ℕ) (n : ℕ) (whole : Bool) (x : Option ℕ) (k : ℕ) : Type 0 where
   pub is : may_go_on t n (2048 - k) x ≡ whole
 
-module _ (t : List ℕ) (n : ℕ) (whole : Bool) (x : Link) (k : ℕ) (c : Going t n whole x k) where
+module _ (t : List ℕ) (n : ℕ) (whole : Bool) (x : Option ℕ) (k : ℕ) (c : Going t n whole x k) where
   pub going_done : 2048 ≤ k → true ≡ whole
   unfolding may_go_on
   going_done h = let e : 2048 - k ≡ 0 = omega arith in rw e at c.is
@@ -121,12 +120,12 @@ module _ (t : List ℕ) (n : ℕ) (whole : Bool) (x : Link) (k : ℕ) (c : Going
     unfolding may_go_on
     turn_going = let f : 2048 - k ≡ suc (2048 - (k + 1)) = omega arith in rw f at c.is
 
-    pub going_out : x ≡ Nowhere → true ≡ whole
+    pub going_out : x ≡ None → true ≡ whole
     going_out e = rw e at turn_going
 
-    module _ (g : ℕ) (e : x ≡ To g) (b : Bool) (f : b ≡ may_stand t g n) where
+    module _ (g : ℕ) (e : x ≡ Some g) (b : Bool) (f : b ≡ may_stand t g n) where
       pub going_not : b ≡ false → false ≡ whole
       going_not i = rw (e, ← f, i) at turn_going
 
-      pub going_up : (y : Link) → b ≡ true → y ≡ parent_at t g → Going t n whole y (k + 1)
+      pub going_up : (y : Option ℕ) → b ≡ true → y ≡ parent_at t g → Going t n whole y (k + 1)
       going_up y i l = record { is = rw l (rw (e, ← f, i) at turn_going) }

@@ -1,5 +1,5 @@
 -- What the rows of a member stand for; t is the part of the table that they begin.
-use Rattle.std.specs.Prelude.{ℕ, ◌<◌, ◌≡◌, Bool, true, List, ◌∷◌, ℤ, length, get_or}
+use Rattle.std.specs.Prelude.{ℕ, ◌<◌, ◌≡◌, Bool, true, List, ◌∷◌, ℤ, length, get_or, Option, Some, None}
 use Rattle.definition.specs.Program as P
 use Rattle.definition.specs.declared.ValueType.TheVariants.{FixedType}
 use Rattle.definition.specs.declared.Why.{Why}
@@ -12,8 +12,6 @@ use Rattle.definition.specs.Flow as D
 use Rattle.fixed.specs.Signed.{from_stored}
 use Rattle.rows.specs.declared.Role.{Role}
 use Rattle.rows.specs.declared.Role.TheVariants.{Listed, ThenPart, ElsePart}
-use Rattle.rows.specs.declared.Link.{Link}
-use Rattle.rows.specs.declared.Link.TheVariants.{Nowhere, To}
 use Rattle.rows.specs.declared.Row.{Row}
 use Rattle.rows.specs.Table.{row_in}
 use Rattle.rows.specs.Tabled.{Tabled}
@@ -30,9 +28,9 @@ role_of P.listed = Listed
 role_of P.then_part = ThenPart
 role_of P.else_part = ElsePart
 
-abbrev pub link_of : P.Link → Link
-link_of P.nowhere = Nowhere
-link_of (P.row n) = To n
+abbrev pub link_of : P.Link → Option ℕ
+link_of P.nowhere = None
+link_of (P.row n) = Some n
 
 -- a record stands for a row: its links
 pub record Stands (r : Row) (d : P.Row) : Type 0 where
@@ -60,7 +58,7 @@ to_of F.out_of_range = D.no_to
 to_of F.zero_divisor = D.no_to
 
 pub record FrameShown (f : Frame) (d : D.Frame) : Type 0 where
-  pub group : f.group ≡ To d.group
+  pub group : f.group ≡ Some d.group
   pub address : f.address ≡ d.at
   pub step : from_stored f.step ≡ F.is d.step
   pub to : to_of (from_stored f.limit) ≡ d.to

@@ -1,13 +1,11 @@
 -- Where control goes, by the rows that the table t holds. What each is in the definition stands in proofs/Flows.antt.
-use Rattle.std.specs.Prelude.{ℕ, zero, suc, ◌+◌, Bool, true, false, cond, not, List, eqb, ltb, ℤ, get_or, set, replicate}
+use Rattle.std.specs.Prelude.{ℕ, zero, suc, ◌+◌, Bool, true, false, cond, not, List, eqb, ltb, ℤ, get_or, set, replicate, Option, Some, None}
 use Rattle.std.specs.Int.Signed.{le_z, non_neg}
 use Rattle.definition.specs.Fixed as F
 use Rattle.rows.specs.declared.Statement.{Statement}
 use Rattle.rows.specs.declared.Statement.TheVariants.{Null, Declare, Procedure, Assign, Conditional, Group, Iterated, Goto, Include, Activate, Deactivate, Return}
 use Rattle.rows.specs.declared.Role.{Role}
 use Rattle.rows.specs.declared.Role.TheVariants.{Listed, ThenPart, ElsePart}
-use Rattle.rows.specs.declared.Link.{Link}
-use Rattle.rows.specs.declared.Link.TheVariants.{Nowhere, To}
 use Rattle.rows.specs.Table.{row_in}
 use Rattle.flow.specs.declared.Next.{Next}
 use Rattle.flow.specs.declared.Next.TheVariants.{Begin, Again, Over}
@@ -18,18 +16,18 @@ use Rattle.flow.specs.declared.Frames.{Frames}
 
 -- ---- frames: one for each depth
 unfoldable pub no_frame : Frame
-no_frame = record { group = Nowhere; address = 0; step = 0; limit = 0; is_once = true }
+no_frame = record { group = None; address = 0; step = 0; limit = 0; is_once = true }
 
 unfoldable pub no_frames : Frames
 no_frames = record { items = replicate 16 no_frame }
 
-unfoldable pub leads_to : Link → ℕ → Bool
-leads_to Nowhere n = false
-leads_to (To m) n = eqb m n
+unfoldable pub leads_to : Option ℕ → ℕ → Bool
+leads_to None n = false
+leads_to (Some m) n = eqb m n
 
 -- what no array has at a place within it
 abbrev pub blank_frame : Frame
-blank_frame = record { group = Nowhere; address = 0; step = 0; limit = 0; is_once = false }
+blank_frame = record { group = None; address = 0; step = 0; limit = 0; is_once = false }
 
 -- the frame at the group's depth, if it is the group's
 unfoldable pub frame_at : List Frame → ℕ → ℕ → Frame
@@ -70,16 +68,16 @@ end_as Return o g = Up g
 unfoldable pub end_walk : List ℕ → Frames → ℕ → Walk
 end_walk t fs g = end_as (row_in t g).statement (frame_in t fs g).is_once g
 
-unfoldable pub next_walk : List ℕ → Frames → Link → Link → Walk
-next_walk t fs (To m) p = Arrives (Begin m)
-next_walk t fs Nowhere Nowhere = Arrives Over
-next_walk t fs Nowhere (To g) = end_walk t fs g
+unfoldable pub next_walk : List ℕ → Frames → Option ℕ → Option ℕ → Walk
+next_walk t fs (Some m) p = Arrives (Begin m)
+next_walk t fs None None = Arrives Over
+next_walk t fs None (Some g) = end_walk t fs g
 
-unfoldable pub up_walk : Link → Walk
-up_walk Nowhere = Arrives Over
-up_walk (To g) = Up g
+unfoldable pub up_walk : Option ℕ → Walk
+up_walk None = Arrives Over
+up_walk (Some g) = Up g
 
-unfoldable pub behind_as : Role → List ℕ → Frames → Link → Link → Walk
+unfoldable pub behind_as : Role → List ℕ → Frames → Option ℕ → Option ℕ → Walk
 behind_as Listed t fs n p = next_walk t fs n p
 behind_as ThenPart t fs n p = up_walk p
 behind_as ElsePart t fs n p = up_walk p
@@ -100,23 +98,23 @@ unfoldable pub arrived_at : List ℕ → Frames → Walk → Next
 arrived_at t fs w = follow w (λ g. behind_on t fs (g + 1) g)
 
 -- ---- into a group, an alternative, a list
-unfoldable pub first_as : Link → List ℕ → Frames → ℕ → Walk
-first_as (To m) t fs g = Arrives (Begin m)
-first_as Nowhere t fs g = end_walk t fs g
+unfoldable pub first_as : Option ℕ → List ℕ → Frames → ℕ → Walk
+first_as (Some m) t fs g = Arrives (Begin m)
+first_as None t fs g = end_walk t fs g
 
 unfoldable pub first_walk : List ℕ → Frames → ℕ → Walk
 first_walk t fs g = first_as (row_in t g).child t fs g
 
-unfoldable pub link_walk : Link → ℕ → Walk
-link_walk (To m) n = Arrives (Begin m)
-link_walk Nowhere n = Up n
+unfoldable pub link_walk : Option ℕ → ℕ → Walk
+link_walk (Some m) n = Arrives (Begin m)
+link_walk None n = Up n
 
 unfoldable pub chosen_walk : List ℕ → ℕ → Bool → Walk
 chosen_walk t n b = cond b (link_walk (row_in t n).child n) (link_walk (row_in t n).other n)
 
-unfoldable pub first_of : Link → Next
-first_of (To n) = Begin n
-first_of Nowhere = Over
+unfoldable pub first_of : Option ℕ → Next
+first_of (Some n) = Begin n
+first_of None = Over
 
 -- ---- GOTO
 unfoldable pub is_iterated : Statement → Bool
@@ -136,31 +134,31 @@ is_iterated Return = false
 unfoldable pub iterated_at : List ℕ → ℕ → Bool
 iterated_at t n = is_iterated (row_in t n).statement
 
-unfoldable pub parent_at : List ℕ → ℕ → Link
+unfoldable pub parent_at : List ℕ → ℕ → Option ℕ
 parent_at t n = (row_in t n).parent
 
 -- whether the row g is among a row and those around it, so many turns
-abbrev pub around_link : List ℕ → ℕ → (Link → Bool) → Link → Bool
-around_link t g up Nowhere = false
-around_link t g up (To p) = cond (eqb p g) true (up (parent_at t p))
+abbrev pub around_link : List ℕ → ℕ → ((Option ℕ) → Bool) → Option ℕ → Bool
+around_link t g up None = false
+around_link t g up (Some p) = cond (eqb p g) true (up (parent_at t p))
 
-unfoldable pub around_on : List ℕ → ℕ → ℕ → Link → Bool
+unfoldable pub around_on : List ℕ → ℕ → ℕ → Option ℕ → Bool
 around_on t g zero x = false
 around_on t g (suc f) x = around_link t g (λ y. around_on t g f y) x
 
 unfoldable pub may_stand : List ℕ → ℕ → ℕ → Bool
 may_stand t g n = cond (iterated_at t g) (around_on t g 2048 (parent_at t n)) true
 
-abbrev pub may_go_link : List ℕ → ℕ → (Link → Bool) → Link → Bool
-may_go_link t n up Nowhere = true
-may_go_link t n up (To g) = cond (may_stand t g n) (up (parent_at t g)) false
+abbrev pub may_go_link : List ℕ → ℕ → ((Option ℕ) → Bool) → Option ℕ → Bool
+may_go_link t n up None = true
+may_go_link t n up (Some g) = cond (may_stand t g n) (up (parent_at t g)) false
 
-unfoldable pub may_go_on : List ℕ → ℕ → ℕ → Link → Bool
+unfoldable pub may_go_on : List ℕ → ℕ → ℕ → Option ℕ → Bool
 may_go_on t n zero x = true
 may_go_on t n (suc f) x = may_go_link t n (λ y. may_go_on t n f y) x
 
-unfoldable pub label_from : List ℕ → ℕ → Bool → Link
-label_from t r is_end = cond is_end (To r) (parent_at t r)
+unfoldable pub label_from : List ℕ → ℕ → Bool → Option ℕ
+label_from t r is_end = cond is_end (Some r) (parent_at t r)
 
 unfoldable pub landing_walk : List ℕ → Frames → ℕ → Bool → Walk
 landing_walk t fs r is_end = cond is_end (end_walk t fs r) (Arrives (Begin r))

@@ -8,9 +8,9 @@ ghost use Rattle.fixed.specs.Answer.{result_of};
 ghost use Rattle.fixed.specs.Signed.{from_stored};
 ghost use Rattle.flow.specs.Walks.{no_frame, no_frames, leads_to, frame_in, frames_with, is_down, passes_by, end_walk, next_walk, up_walk, behind_walk, behind_on, arrived_at, first_walk, chosen_walk, link_walk, first_of, iterated_at, parent_at, around_on, may_stand, may_go_on, label_from, landing_walk};
 
-use fixed::{Answer, Fixed};
+use fixed::{Fixed, FixedError};
 use names::Label;
-use rows::{Link, Role, Row, Statement, row_at};
+use rows::{Role, Row, Statement, row_at};
 
 // What begins next: a statement, another test of an iterated group, or nothing.
 #[derive(Clone, Copy)]
@@ -30,7 +30,7 @@ pub enum Walk {
 // An iterated group that was entered: the address of its variable, BY and TO as stored (0: no TO). Without both there is one pass.
 #[derive(Clone, Copy)]
 pub struct Frame {
-    pub group: Link,
+    pub group: Option<u16>,
     pub address: u16,
     pub step: u32,
     pub limit: u32,
@@ -48,7 +48,7 @@ fn no_frame() -> Frame
     ensures { result ≡ no_frame }
 {
     Frame {
-        group: Link::Nowhere,
+        group: None,
         address: 0,
         step: 0,
         limit: 0,
@@ -66,10 +66,10 @@ pub fn no_frames() -> Frames
 }
 
 #[tactic(auto, unfolding(crate::specs::Walks::leads_to))]
-fn leads_to(x: Link, n: u16) -> bool
+fn leads_to(x: Option<u16>, n: u16) -> bool
     ensures { result ≡ leads_to x n }
 {
-    matches!(x, Link::To(m) if m == n)
+    matches!(x, Some(m) if m == n)
 }
 
 // The frame of the group g.
@@ -103,21 +103,21 @@ pub fn passes(f: Frame, x: Fixed) -> bool
 {
     let by = Fixed::from_stored(f.step);
     match Fixed::from_stored(f.limit) {
-        Answer::Is(limit) => {
+        Ok(limit) => {
             if is_down(by) {
                 return !x.is_less(limit);
             }
             !limit.is_less(x)
         }
-        Answer::OutOfRange | Answer::ZeroDivisor => true,
+        Err(FixedError::OutOfRange) | Err(FixedError::ZeroDivisor) => true,
     }
 }
 
 #[tactic(auto, unfolding(crate::specs::Walks::is_down))]
-fn is_down(by: Answer) -> bool
+fn is_down(by: Result<Fixed, FixedError>) -> bool
     ensures { result ≡ is_down (result_of by) }
 {
-    matches!(by, Answer::Is(x) if x.is_negative())
+    matches!(by, Ok(x) if x.is_negative())
 }
 
 // ---- behind a statement
@@ -154,21 +154,21 @@ fn next_in(rows: &[u16], fs: Frames, x: Row) -> Walk
     ensures { result ≡ next_walk rows.now fs x.next x.parent }
 {
     match x.next {
-        Link::To(m) => Walk::To(Next::Begin(m)),
-        Link::Nowhere => match x.parent {
-            Link::To(g) => end_in(rows, fs, g),
-            Link::Nowhere => Walk::To(Next::Over),
+        Some(m) => Walk::To(Next::Begin(m)),
+        None => match x.parent {
+            Some(g) => end_in(rows, fs, g),
+            None => Walk::To(Next::Over),
         },
     }
 }
 
 #[tactic(auto, unfolding(crate::specs::Walks::up_walk))]
-fn up_from(parent: Link) -> Walk
+fn up_from(parent: Option<u16>) -> Walk
     ensures { result ≡ up_walk parent }
 {
     match parent {
-        Link::To(g) => Walk::Up(g),
-        Link::Nowhere => Walk::To(Next::Over),
+        Some(g) => Walk::Up(g),
+        None => Walk::To(Next::Over),
     }
 }
 
@@ -216,8 +216,8 @@ pub fn first_in(rows: &[u16], fs: Frames, g: u16) -> Walk
     ensures { result ≡ first_walk rows.now fs g }
 {
     match row_at(rows, g).child {
-        Link::To(m) => Walk::To(Next::Begin(m)),
-        Link::Nowhere => end_in(rows, fs, g),
+        Some(m) => Walk::To(Next::Begin(m)),
+        None => end_in(rows, fs, g),
     }
 }
 
@@ -234,22 +234,22 @@ pub fn chosen(rows: &[u16], n: u16, holds: bool) -> Walk
 }
 
 #[tactic(auto, unfolding(crate::specs::Walks::link_walk))]
-fn link_walk(x: Link, n: u16) -> Walk
+fn link_walk(x: Option<u16>, n: u16) -> Walk
     ensures { result ≡ link_walk x n }
 {
     match x {
-        Link::To(m) => Walk::To(Next::Begin(m)),
-        Link::Nowhere => Walk::Up(n),
+        Some(m) => Walk::To(Next::Begin(m)),
+        None => Walk::Up(n),
     }
 }
 
 #[tactic(auto, unfolding(crate::specs::Walks::first_of))]
-pub fn first_of(x: Link) -> Next
+pub fn first_of(x: Option<u16>) -> Next
     ensures { result ≡ first_of x }
 {
     match x {
-        Link::To(n) => Next::Begin(n),
-        Link::Nowhere => Next::Over,
+        Some(n) => Next::Begin(n),
+        None => Next::Over,
     }
 }
 
@@ -263,7 +263,7 @@ fn is_iterated(rows: &[u16], n: u16) -> bool
 }
 
 #[tactic(auto, unfolding(crate::specs::Walks::parent_at))]
-fn parent_of(rows: &[u16], n: u16) -> Link
+fn parent_of(rows: &[u16], n: u16) -> Option<u16>
     ensures { result ≡ parent_at rows.now n }
 {
     row_at(rows, n).parent
@@ -278,7 +278,7 @@ fn is_around(rows: &[u16], g: u16, n: u16) -> bool
 {
     let mut up = parent_of(rows, n);
     for _ in 0..TURNS {
-        let Link::To(p) = up else {
+        let Some(p) = up else {
             return false;
         };
         if p == g {
@@ -298,11 +298,11 @@ fn may_be_around(rows: &[u16], g: u16, n: u16) -> bool
 }
 
 #[tactic(auto, unfolding(crate::specs::Walks::label_from))]
-fn label_from(rows: &[u16], r: u16, is_end: bool) -> Link
+fn label_from(rows: &[u16], r: u16, is_end: bool) -> Option<u16>
     ensures { result ≡ label_from rows.now r is_end }
 {
     if is_end {
-        return Link::To(r);
+        return Some(r);
     }
     parent_of(rows, r)
 }
@@ -313,7 +313,7 @@ pub fn may_go(rows: &[u16], n: u16, r: u16, is_end: bool) -> bool
 {
     let mut up = label_from(rows, r, is_end);
     for _ in 0..TURNS {
-        let Link::To(g) = up else {
+        let Some(g) = up else {
             return true;
         };
         if !may_be_around(rows, g, n) {

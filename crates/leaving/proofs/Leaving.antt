@@ -1,5 +1,7 @@
 -- GOTO outside procedures.
 -- Assumes nothing.
+use Rattle.definition.specs.declared.Why.{Why}
+use Rattle.std.proofs.Common.{Option, Some, None, Result, Ok, Err}
 use mathlib.Core.Path.{◌≡◌, refl, sym, ap, ◌∙◌}
 use mathlib.Core.Bool.{Bool, true, false, cond}
 use mathlib.Core.List.{List, [], ◌∷◌}
@@ -23,11 +25,7 @@ use Rattle.names.specs.declared.Label.{Label}
 use Rattle.names.specs.declared.Name.{Name}
 use Rattle.names.specs.declared.Owner.TheVariants.{Everyone}
 use Rattle.names.specs.declared.Denotation.TheVariants.{Variable, EntryName, LabelName, Builtin}
-use Rattle.names.specs.declared.Found.{Found}
-use Rattle.names.specs.declared.Found.TheVariants.{Known, Unknown}
 use Rattle.names.specs.Table.{owner_of, denotation_of, name_in, identifiers_from, found_for}
-use Rattle.rows.specs.declared.Link.{Link}
-use Rattle.rows.specs.declared.Link.TheVariants.{Nowhere, To}
 use Rattle.rows.specs.declared.Starts.{Starts}
 use Rattle.rows.specs.Parts.{part_in}
 use Rattle.tokens.specs.declared.Lexeme.{Lexeme}
@@ -43,28 +41,28 @@ use Rattle.leaving.specs.Places.{below_of, row_for, Stand}
 use Rattle.leaving.specs.Leads.{jump_for, may_lead, away_to, label_to, RowsThere, JumpIs}
 
 -- ---- the ways of the code
-module _ (t : List ℕ) (b : Below) (l : Label) (x : Link) (e : x ≡ row_for (below_of b) l.place.member) where
-  pub away_none : x ≡ Nowhere → J.Bad WrongGoto ≡ away_to (row_for (below_of b) l.place.member) t l
+module _ (t : List ℕ) (b : Below) (l : Label) (x : Option ℕ) (e : x ≡ row_for (below_of b) l.place.member) where
+  pub away_none : x ≡ None → Err WrongGoto ≡ away_to (row_for (below_of b) l.place.member) t l
   away_none f = rw (← e, f)
 
-  module _ (n : ℕ) (f : x ≡ To n) (g : Bool) (h : g ≡ may_lead t n l) where
-    pub away_may : g ≡ true → J.Away l ≡ away_to (row_for (below_of b) l.place.member) t l
+  module _ (n : ℕ) (f : x ≡ Some n) (g : Bool) (h : g ≡ may_lead t n l) where
+    pub away_may : g ≡ true → Ok (J.Away l) ≡ away_to (row_for (below_of b) l.place.member) t l
     away_may k = rw (← e, f, ← h, k)
 
-    pub away_not : g ≡ false → J.Bad WrongGoto ≡ away_to (row_for (below_of b) l.place.member) t l
+    pub away_not : g ≡ false → Err WrongGoto ≡ away_to (row_for (below_of b) l.place.member) t l
     away_not k = rw (← e, f, ← h, k)
 
 module _ (rows : List ℕ) (x : Starts) (b : Below) (m n : ℕ) (l : Label) (t : List ℕ) (e : t ≡ part_in rows x l.place.member) where
-  pub label_away : (l.place.member ≡ m → ⊥) → (r : Jump) → r ≡ away_to (row_for (below_of b) l.place.member) t l → r ≡ label_to rows x b m n l
+  pub label_away : (l.place.member ≡ m → ⊥) → (r : Result Jump Why) → r ≡ away_to (row_for (below_of b) l.place.member) t l → r ≡ label_to rows x b m n l
   unfolding label_to
   label_away h r k = rw (ne_eqb l.place.member m h, ← e) k
 
   module _ (h : l.place.member ≡ m) (g : Bool) (k : g ≡ may_lead t n l) where
-    pub label_may : g ≡ true → J.Here l ≡ label_to rows x b m n l
+    pub label_may : g ≡ true → Ok (J.Here l) ≡ label_to rows x b m n l
     unfolding label_to
     label_may i = rw (eq-eqb l.place.member m h, ← e, ← k, i)
 
-    pub label_not : g ≡ false → J.Bad WrongGoto ≡ label_to rows x b m n l
+    pub label_not : g ≡ false → Err WrongGoto ≡ label_to rows x b m n l
     unfolding label_to
     label_not i = rw (eq-eqb l.place.member m h, ← e, ← k, i)
 
@@ -76,11 +74,11 @@ module _ (rows : List ℕ) (x : Starts) (b : Below) (m n : ℕ) (B : World) (the
   abbrev target : F.Jump
   target = F.away (record { member = l.place.member; row = l.place.row; is_end = l.is_end })
 
-  away_by : (v : Bool) → ask (jump_for (cond v (J.Away l) (J.Bad WrongGoto))) B ≡ when v (λ _. good target B) (λ _. bad WrongGoto B.used)
+  away_by : (v : Bool) → ask (jump_for (cond v (Ok (J.Away l)) (Err WrongGoto))) B ≡ when v (λ _. good target B) (λ _. bad WrongGoto B.used)
   away_by true = refl
   away_by false = refl
 
-  here_by : (v : Bool) → ask (jump_for (cond v (J.Here l) (J.Bad WrongGoto))) B ≡ when v (λ _. good (landing l.place.row l.is_end) B) (λ _. bad WrongGoto B.used)
+  here_by : (v : Bool) → ask (jump_for (cond v (Ok (J.Here l)) (Err WrongGoto))) B ≡ when v (λ _. good (landing l.place.row l.is_end) B) (λ _. bad WrongGoto B.used)
   here_by true = refl
   here_by false = refl
 
@@ -92,7 +90,7 @@ module _ (rows : List ℕ) (x : Starts) (b : Below) (m n : ℕ) (B : World) (the
     where
       by : (v : Bool) → eqb p.member l.place.member ≡ v
           → ask (jump_for (away_to (row_for ps l.place.member) (part_in rows x l.place.member) l)) B ≡ jump_away ps l.place.member l.place.row l.is_end B
-          → ask (jump_for (away_to (cond v (To p.row) (row_for ps l.place.member)) (part_in rows x l.place.member) l)) B
+          → ask (jump_for (away_to (cond v (Some p.row) (row_for ps l.place.member)) (part_in rows x l.place.member) l)) B
           ≡ when v (λ _. when (F.may_go (rows_of l.place.member B) p.row l.place.row l.is_end) (λ _. good target B) (λ _. bad WrongGoto B.used)) (λ _. jump_away ps l.place.member l.place.row l.is_end B)
       by true e f = rw (may_lead_lem p.row (rw (eqb-true p.member l.place.member e) at h.0)) (away_by (may_lead (part_in rows x l.place.member) p.row l))
       by false e f = f
@@ -102,7 +100,7 @@ module _ (rows : List ℕ) (x : Starts) (b : Below) (m n : ℕ) (B : World) (the
   label_is = by (eqb l.place.member m) refl
     where
       by : (v : Bool) → eqb l.place.member m ≡ v
-          → ask (jump_for (cond v (cond (may_lead (part_in rows x l.place.member) n l) (J.Here l) (J.Bad WrongGoto)) (away_to (row_for (below_of b) l.place.member) (part_in rows x l.place.member) l))) B
+          → ask (jump_for (cond v (cond (may_lead (part_in rows x l.place.member) n l) (Ok (J.Here l)) (Err WrongGoto)) (away_to (row_for (below_of b) l.place.member) (part_in rows x l.place.member) l))) B
           ≡ when v (λ _. when (F.may_go (rows_of m B) n l.place.row l.is_end) (λ _. good (landing l.place.row l.is_end) B) (λ _. bad WrongGoto B.used)) (λ _. jump_away (below_of b) l.place.member l.place.row l.is_end B)
       by true e =
           let q : m ≡ l.place.member = sym (eqb-true l.place.member m e) in
@@ -111,7 +109,7 @@ module _ (rows : List ℕ) (x : Starts) (b : Below) (m n : ℕ) (B : World) (the
       by false e = away_is (below_of b) there.below
 
 -- ---- the name of the label
-module _ (d s rows t : List ℕ) (count : ℕ) (b : Below) (m : ℕ) (x : Starts) (n at : ℕ) (z : Lexeme) (lex : Lexed s at z) (len : ℕ) (hl : len ≡ z.to - z.from) (f : Found)
+module _ (d s rows t : List ℕ) (count : ℕ) (b : Below) (m : ℕ) (x : Starts) (n at : ℕ) (z : Lexeme) (lex : Lexed s at z) (len : ℕ) (hl : len ≡ z.to - z.from) (f : Option Address)
     (e : f ≡ found_for (address_in (folded mixed (part len z.from s)) (owner_of Everyone) 0 (identifiers_from d t 0 count))) where
   abbrev name : List ℕ
   name = spelled_at s at
@@ -125,10 +123,10 @@ module _ (d s rows t : List ℕ) (count : ℕ) (b : Below) (m : ℕ) (x : Starts
   address_there : (B : World) → Named d t count B → address_of name everyone B ≡ found
   address_there B nd = rw nd.identifiers
 
-  pub from_unknown : f ≡ Unknown → JumpIs d s rows t count b m x n at (J.Bad WrongName)
+  pub from_unknown : f ≡ None → JumpIs d s rows t count b m x n at (Err WrongName)
   from_unknown u = record { is = λ B nd there. rw (address_there B nd, unknown_is d t count found f is_found u) }
 
-  module _ (a : Address) (g : f ≡ Known a) (y : Name) (h : y ≡ name_in t a.0) where
+  module _ (a : Address) (g : f ≡ Some a) (y : Name) (h : y ≡ name_in t a.0) where
     at_known : found ≡ W.address a.0
     at_known = known_is d t count found f a is_found g
 
@@ -142,16 +140,16 @@ module _ (d s rows t : List ℕ) (count : ℕ) (b : Below) (m : ℕ) (x : Starts
         ap (λ (q : W.Address). jump_from q m (rows_of m B) (below_of b) n B) (address_there B nd ∙ at_known)
         ∙ ap (λ (q : W.Denotation). jump_by q m (rows_of m B) (below_of b) n B) (denotes B nd ∙ k)
 
-    pub from_variable : (v : ValueType) → y.denotation ≡ Variable v → JumpIs d s rows t count b m x n at (J.Bad WrongName)
+    pub from_variable : (v : ValueType) → y.denotation ≡ Variable v → JumpIs d s rows t count b m x n at (Err WrongName)
     from_variable v k = record { is = λ B nd there. sym (from_is B nd (W.variable_of v) (ap denotation_of k)) }
 
-    pub from_entry : (v : Entry) → y.denotation ≡ EntryName v → JumpIs d s rows t count b m x n at (J.Bad WrongName)
+    pub from_entry : (v : Entry) → y.denotation ≡ EntryName v → JumpIs d s rows t count b m x n at (Err WrongName)
     from_entry v k = record { is = λ B nd there. sym (from_is B nd (denotation_of (EntryName v)) (ap denotation_of k)) }
 
-    pub from_builtin : y.denotation ≡ Builtin → JumpIs d s rows t count b m x n at (J.Bad WrongName)
+    pub from_builtin : y.denotation ≡ Builtin → JumpIs d s rows t count b m x n at (Err WrongName)
     from_builtin k = record { is = λ B nd there. sym (from_is B nd W.builtin_name (ap denotation_of k)) }
 
-    pub from_label : (l : Label) → y.denotation ≡ LabelName l → (r : Jump) → r ≡ label_to rows x b m n l → JumpIs d s rows t count b m x n at r
+    pub from_label : (l : Label) → y.denotation ≡ LabelName l → (r : Result Jump Why) → r ≡ label_to rows x b m n l → JumpIs d s rows t count b m x n at r
     from_label l k r q = record {
       is = λ B nd there.
           let low : l.place.row < length (rows_of l.place.member B) =

@@ -1,5 +1,6 @@
 -- Members that run below.
 -- Assumes nothing.
+use Rattle.std.proofs.Common.{Some, None}
 use mathlib.Core.Path.{◌≡◌, refl, sym, ap, ◌∙◌}
 use mathlib.Core.Bool.{Bool, true, false, cond}
 use mathlib.Core.List.{List, [], ◌∷◌}
@@ -11,7 +12,6 @@ use lib.Dec.{eqb}
 use lib.ListN.{length, get_or, set}
 use lib.Seq.{get_or-set_same, get_or-set_other}
 use Rattle.names.specs.declared.Place.{Place}
-use Rattle.rows.specs.declared.Link.TheVariants.{Nowhere, To}
 use Rattle.callees.specs.Answer.{place_of}
 use Rattle.leaving.specs.declared.Below.{Below}
 use Rattle.leaving.specs.Places.{place_at, blank, places_in, below_of, row_for, NoneBelow, WithBelow}
@@ -81,7 +81,7 @@ unfolding below_of
 looking_start b m = record { is = refl }
 
 module _ (b : Below) (m i : ℕ) (k : Looking b m i) where
-  pub looking_done : i ≤ 0 → Nowhere ≡ row_for (below_of b) m
+  pub looking_done : i ≤ 0 → None ≡ row_for (below_of b) m
   unfolding places_in row_for
   looking_done h = let e : i ≡ 0 = omega arith in rw e at k.is
 
@@ -93,11 +93,11 @@ module _ (b : Below) (m i : ℕ) (k : Looking b m i) where
     looking_free g = record { is = ap (λ z. row_for z m) (sym (free b (i - 1) g) ∙ ap (places_in b) one_less) ∙ k.is }
 
     module _ (g : i - 1 < b.count) where
-      here_is : row_for (below_of b) m ≡ cond (eqb (get_or b.places (i - 1) blank).member m) (To (get_or b.places (i - 1) blank).row) (row_for (places_in b (i - 1)) m)
+      here_is : row_for (below_of b) m ≡ cond (eqb (get_or b.places (i - 1) blank).member m) (Some (get_or b.places (i - 1) blank).row) (row_for (places_in b (i - 1)) m)
       unfolding row_for
       here_is = sym k.is ∙ ap (λ z. row_for z m) (ap (places_in b) (sym one_less) ∙ taken b (i - 1) g)
 
-      pub looking_here : (get_or b.places (i - 1) blank).member ≡ m → To (get_or b.places (i - 1) blank).row ≡ row_for (below_of b) m
+      pub looking_here : (get_or b.places (i - 1) blank).member ≡ m → Some (get_or b.places (i - 1) blank).row ≡ row_for (below_of b) m
       looking_here e = sym (here_is ∙ rw (eq-eqb (get_or b.places (i - 1) blank).member m e))
 
       pub looking_on : ((get_or b.places (i - 1) blank).member ≡ m → ⊥) → Looking b m (i - 1)

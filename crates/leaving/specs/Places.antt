@@ -1,10 +1,8 @@
 -- The members that run below this one, each with the row where it stands: the definition's list of places.
-use Rattle.std.specs.Prelude.{ℕ, zero, suc, ◌<◌, ◌≡◌, cond, List, [], ◌∷◌, eqb, ltb, length, get_or}
+use Rattle.std.specs.Prelude.{ℕ, zero, suc, ◌<◌, ◌≡◌, cond, List, [], ◌∷◌, eqb, ltb, length, get_or, Option, Some, None}
 use Rattle.definition.specs.Calls.{Place}
 use Rattle.names.specs.declared.Place as N
 use Rattle.definition.specs.World.{World, rows_of}
-use Rattle.rows.specs.declared.Link.{Link}
-use Rattle.rows.specs.declared.Link.TheVariants.{Nowhere, To}
 use Rattle.callees.specs.Answer.{place_of}
 use Rattle.leaving.specs.declared.Below.{Below}
 
@@ -24,9 +22,9 @@ unfoldable pub below_of : Below → List Place
 below_of b = places_in b 16
 
 -- the row where the newest of this member stands
-unfoldable pub row_for : List Place → ℕ → Link
-row_for [] m = Nowhere
-row_for (p ∷ ps) m = cond (eqb p.member m) (To p.row) (row_for ps m)
+unfoldable pub row_for : List Place → ℕ → Option ℕ
+row_for [] m = None
+row_for (p ∷ ps) m = cond (eqb p.member m) (Some p.row) (row_for ps m)
 
 pub record NoneBelow (r : Below) : Type 0 where
   pub is : below_of r ≡ []

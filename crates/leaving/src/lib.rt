@@ -7,8 +7,8 @@ ghost use Rattle.leaving.specs.Leads.{away_to, label_to, JumpIs};
 
 use definition::Why;
 use flow::may_go;
-use names::{Denotation, Found, Label, Owner, Place, find, name_at};
-use rows::{Link, Starts, part_of};
+use names::{Denotation, Label, Owner, Place, find, name_at};
+use rows::{Starts, part_of};
 use tokens::{token_at, width};
 
 // Members that are running below this one: how many, and of each the row where it stands.
@@ -40,16 +40,16 @@ pub fn with_below(b: Below, member: u16, row: u16) -> Below
 }
 
 // The row where the newest running member of this number stands.
-fn row_below(b: Below, member: u16) -> Link
+fn row_below(b: Below, member: u16) -> Option<u16>
     ensures { result ≡ row_for (below_of b) member }
 {
     // stays: a loop; a chain of take, rev and find is no plainer
     for i in (0..16).rev() {
         if i < b.count && b.places[i].member == member {
-            return Link::To(b.places[i].row);
+            return Some(b.places[i].row);
         }
     }
-    Link::Nowhere
+    None
 }
 
 // A label that GOTO leads to, here or in a member below, or why it may not.
@@ -57,32 +57,38 @@ fn row_below(b: Below, member: u16) -> Link
 pub enum Jump {
     Here(Label),
     Away(Label),
-    Bad(Why),
 }
 
 // The label stands in a member below, whose rows are `part`.
-fn jump_away(part: &[u16], below: Below, l: Label) -> Jump
+fn jump_away(part: &[u16], below: Below, l: Label) -> Result<Jump, Why>
     ensures { result ≡ away_to (row_for (below_of below) l.place.member) part.now l }
 {
-    let Link::To(n) = row_below(below, l.place.member) else {
-        return Jump::Bad(Why::WrongGoto);
+    let Some(n) = row_below(below, l.place.member) else {
+        return Err(Why::WrongGoto);
     };
     if may_go(part, n, l.place.row, l.is_end) {
-        return Jump::Away(l);
+        return Ok(Jump::Away(l));
     }
-    Jump::Bad(Why::WrongGoto)
+    Err(Why::WrongGoto)
 }
 
-fn jump_label(rows: &[u16], below: Below, member: u16, starts: Starts, n: u16, l: Label) -> Jump
+fn jump_label(
+    rows: &[u16],
+    below: Below,
+    member: u16,
+    starts: Starts,
+    n: u16,
+    l: Label,
+) -> Result<Jump, Why>
     ensures { result ≡ label_to rows.now starts below member n l }
 {
     let p = l.place;
     let part = part_of(rows, starts, p.member);
     if p.member == member {
         if may_go(part, n, p.row, l.is_end) {
-            return Jump::Here(l);
+            return Ok(Jump::Here(l));
         }
-        return Jump::Bad(Why::WrongGoto);
+        return Err(Why::WrongGoto);
     }
     jump_away(part, below, l)
 }
@@ -99,18 +105,18 @@ pub fn jump_from(
     starts: Starts,
     n: u16,
     at: usize,
-) -> Jump
+) -> Result<Jump, Why>
     ensures { JumpIs deck.now s.now rows.now names.now count below member starts n at result }
 {
     let t = token_at(s, at);
     let found = find(deck, names, count, s, t.from, width(t), Owner::Everyone);
-    let Found::Known(a) = found else {
-        return Jump::Bad(Why::WrongName);
+    let Some(a) = found else {
+        return Err(Why::WrongName);
     };
     match name_at(names, a).denotation {
         Denotation::LabelName(l) => jump_label(rows, below, member, starts, n, l),
         Denotation::Variable(_) | Denotation::EntryName(_) | Denotation::Builtin => {
-            Jump::Bad(Why::WrongName)
+            Err(Why::WrongName)
         }
     }
 }

@@ -3,7 +3,9 @@
 
 ghost use Rattle.std.specs.Prelude.{◌≡◌};
 ghost use Rattle.definition.specs.Limits.{program_steps};
-ghost use Rattle.meter.specs.Charges.{Charges};
+ghost use Rattle.meter.specs.Charges.{Charges, ChargedAs};
+
+use definition::Why;
 
 #[derive(Clone, Copy)]
 pub struct Meter {
@@ -11,12 +13,8 @@ pub struct Meter {
     pub used: u32,
 }
 
-// What comes of a step that is due: whether it was paid, and the meter after it.
-#[derive(Clone, Copy)]
-pub struct Charged {
-    pub paid: bool,
-    pub meter: Meter,
-}
+// A refusal, and the steps.
+pub type Refused = (Why, Meter);
 
 impl Meter {
     // The steps that a program may take.
@@ -37,12 +35,15 @@ impl Meter {
     }
 
     // Through `charge`, for whoever holds the meter by value.
-    pub fn charged(self) -> Charged
-        ensures { Charges self result }
+    pub fn charged(self) -> Result<Meter, Refused>
+        ensures { ChargedAs self result }
     {
         let mut meter = self;
-        let paid = charge(&mut meter);
-        Charged { paid, meter }
+        if charge(&mut meter) {
+            Ok(meter)
+        } else {
+            Err((Why::NoStep, meter))
+        }
     }
 }
 

@@ -1,5 +1,7 @@
 -- One law for each way out of a function on names; a record reads back as it was written.
 -- Assumes nothing.
+use Rattle.names.specs.declared.Place.{Place}
+use Rattle.std.proofs.Common.{Option, Some, None}
 use mathlib.Core.Path.{◌≡◌, refl, sym, ap, ◌∙◌}
 use mathlib.Core.Bool.{Bool, true, false}
 use mathlib.Core.List.{List, [], ◌∷◌, ◌++◌}
@@ -22,15 +24,11 @@ use Rattle.types.proofs.Laws.{type_back}
 use Rattle.names.specs.declared.Address.{Address}
 use Rattle.names.specs.declared.Owner.{Owner}
 use Rattle.names.specs.declared.Owner.TheVariants.{Everyone, Procedure}
-use Rattle.names.specs.declared.Body.{Body}
-use Rattle.names.specs.declared.Body.TheVariants.{Nothing, At}
 use Rattle.names.specs.declared.Denotation.{Denotation}
 use Rattle.names.specs.declared.Denotation.TheVariants.{Variable, EntryName, LabelName, Builtin}
 use Rattle.names.specs.declared.Activity.{Activity}
 use Rattle.names.specs.declared.Activity.TheVariants.{Inactive, Rescanned, CopiedOnly}
 use Rattle.names.specs.declared.Name.{Name}
-use Rattle.names.specs.declared.Found.{Found}
-use Rattle.names.specs.declared.Found.TheVariants.{Known, Unknown}
 use Rattle.names.specs.Table.{owner_of, owner_tag, owner_place, owner_numbers, body_tag, body_place, body_in, flag, activity_number, denotation_tag, denotation_flag, denotation_body, denotation_place, denotation_numbers, numbers_of, spelled, identifier_of, found_for, owner_in, denotation_in, activity_in, name_in, identifiers_from, or_else, seen_in}
 
 -- ---- whether a record is that of an identifier
@@ -72,35 +70,35 @@ module _ (d t w : List ℕ) (k : W.Owner) (n a : ℕ) (s : Searching d t w k n a
   search_more x g h e f y = record { low = omega arith; is = rw (add-one a) (rw (add-one a) at (rw (ids_next d t n a h, ← e, ← f, y) at s.is)) }
 
   pub search_here : (x : Name) (g : Bool) → a < n → x ≡ name_in t a → g ≡ is_identifier w k (identifier_of d x) → g ≡ true
-      → Known (record { 0 = a }) ≡ found_for (address_in w k 0 (identifiers_from d t 0 n))
+      → Some (record { 0 = a }) ≡ found_for (address_in w k 0 (identifiers_from d t 0 n))
   unfolding address_in
   search_here x g h e f y = ap found_for (rw (ids_next d t n a h, ← e, ← f, y) at s.is)
 
-  pub search_none : n ≤ a → Unknown ≡ found_for (address_in w k 0 (identifiers_from d t 0 n))
+  pub search_none : n ≤ a → None ≡ found_for (address_in w k 0 (identifiers_from d t 0 n))
   unfolding address_in
   search_none h = ap found_for (rw (ids_none d t n a h) at s.is)
 
 -- ---- its own names first
-known_first : (f g : W.Address) (a : Address) → found_for f ≡ Known a → Known a ≡ found_for (or_else f g)
+known_first : (f g : W.Address) (a : Address) → found_for f ≡ Some a → Some a ≡ found_for (or_else f g)
 known_first (W.address b) g a e = sym e
 known_first W.unknown g a e = let z : ◌≡◌ {A = ℕ} 0 1 = cc in absurd (omega arith)
 
-unknown_first : (f g : W.Address) → found_for f ≡ Unknown → or_else f g ≡ g
+unknown_first : (f g : W.Address) → found_for f ≡ None → or_else f g ≡ g
 unknown_first (W.address b) g e = let z : ◌≡◌ {A = ℕ} 0 1 = cc in absurd (omega arith)
 unknown_first W.unknown g e = refl
 
-module _ (d t : List ℕ) (n : ℕ) (l : List ℕ) (k : W.Owner) (r : Found) (e : r ≡ found_for (address_in l k 0 (identifiers_from d t 0 n))) where
+module _ (d t : List ℕ) (n : ℕ) (l : List ℕ) (k : W.Owner) (r : Option Address) (e : r ≡ found_for (address_in l k 0 (identifiers_from d t 0 n))) where
   own : W.Address
   own = address_in l k 0 (identifiers_from d t 0 n)
 
   global : W.Address
   global = address_in l W.everyone 0 (identifiers_from d t 0 n)
 
-  pub seen_own : (a : Address) → r ≡ Known a → Known a ≡ found_for (seen_in d t n l k)
+  pub seen_own : (a : Address) → r ≡ Some a → Some a ≡ found_for (seen_in d t n l k)
   unfolding own global
   seen_own a f = known_first own global a (sym e ∙ f)
 
-  pub seen_global : (q : Found) → r ≡ Unknown → q ≡ found_for (address_in l W.everyone 0 (identifiers_from d t 0 n)) → q ≡ found_for (seen_in d t n l k)
+  pub seen_global : (q : Option Address) → r ≡ None → q ≡ found_for (address_in l W.everyone 0 (identifiers_from d t 0 n)) → q ≡ found_for (seen_in d t n l k)
   unfolding own global
   seen_global q f g = g ∙ ap found_for (sym (unknown_first own global (sym e ∙ f)))
 
@@ -148,9 +146,9 @@ flag_back : (b : Bool) → eqb (flag b) 1 ≡ b
 flag_back true = refl
 flag_back false = refl
 
-body_back : (b : Body) → body_in (body_tag b) (body_place b).member (body_place b).row ≡ b
-body_back Nothing = refl
-body_back (At p) = refl
+body_back : (b : Option Place) → body_in (body_tag b) (body_place b).member (body_place b).row ≡ b
+body_back None = refl
+body_back (Some p) = refl
 
 denotation_back : (x : Denotation) → denotation_in (denotation_tag x) (denotation_flag x) (body_tag (denotation_body x)) (denotation_place x).member (denotation_place x).row ≡ x
 denotation_back (Variable t) = ap Variable (type_back t)

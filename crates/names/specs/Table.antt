@@ -1,5 +1,6 @@
 -- What a record of the table stands for in the definition, and the sixteen numbers that hold it.
-use Rattle.std.specs.Prelude.{ℕ, zero, suc, ◌+◌, ◌*◌, Bool, cond, ◌&&◌, List, [], ◌∷◌, ◌++◌, eqb, get_or}
+use Rattle.names.specs.declared.Address.{Address}
+use Rattle.std.specs.Prelude.{ℕ, zero, suc, ◌+◌, ◌*◌, Bool, cond, ◌&&◌, List, [], ◌∷◌, ◌++◌, eqb, get_or, Option, Some, None}
 use Rattle.definition.specs.Bytes.{mixed, folded}
 use Rattle.definition.specs.Lists.{part}
 use Rattle.definition.specs.World as W
@@ -8,21 +9,18 @@ use Rattle.names.specs.declared.Identifier.{Identifier}
 use Rattle.names.specs.declared.Place.{Place}
 use Rattle.names.specs.declared.Owner.{Owner}
 use Rattle.names.specs.declared.Owner.TheVariants.{Everyone, Procedure}
-use Rattle.names.specs.declared.Body.{Body}
 use Rattle.names.specs.declared.Denotation.{Denotation}
 use Rattle.names.specs.declared.Denotation.TheVariants.{Variable, EntryName, LabelName, Builtin}
 use Rattle.names.specs.declared.Activity.{Activity}
 use Rattle.names.specs.declared.Activity.TheVariants.{Inactive, Rescanned, CopiedOnly}
 use Rattle.names.specs.declared.Name.{Name}
-use Rattle.names.specs.declared.Found.{Found}
-use Rattle.names.specs.declared.Found.TheVariants.{Known, Unknown}
 
 -- ---- in the definition's terms
 abbrev pub owner_of : Owner → W.Owner
 owner_of Everyone = W.everyone
 owner_of (Procedure p) = W.procedure_at p.member p.row
 
-abbrev pub body_of : Body → W.Body
+abbrev pub body_of : Option Place → W.Body
 body_of Body.Nothing = W.no_body
 body_of (Body.At p) = W.body_at p.member p.row
 
@@ -47,9 +45,9 @@ identifier_of d x = record { spelling = spelled d x.identifier; owner = owner_of
 abbrev pub same_place : Place → Place → Bool
 same_place p q = eqb p.member q.member && eqb p.row q.row
 
-abbrev pub found_for : W.Address → Found
-found_for (W.address a) = Known (record { 0 = a })
-found_for W.unknown = Unknown
+abbrev pub found_for : W.Address → Option Address
+found_for (W.address a) = Some (record { 0 = a })
+found_for W.unknown = None
 
 -- ---- a record as eleven numbers: where it is spelled, its owner (3), its denotation (5), its activity
 abbrev pub place_in : ℕ → ℕ → Place
@@ -74,15 +72,15 @@ owner_place (Procedure p) = p
 abbrev pub owner_numbers : Owner → List ℕ
 owner_numbers o = owner_tag o ∷ (owner_place o).member ∷ (owner_place o).row ∷ []
 
-abbrev pub body_tag : Body → ℕ
+abbrev pub body_tag : Option Place → ℕ
 body_tag Body.Nothing = 0
 body_tag (Body.At p) = 1
 
-abbrev pub body_place : Body → Place
+abbrev pub body_place : Option Place → Place
 body_place Body.Nothing = place_in 0 0
 body_place (Body.At p) = p
 
-abbrev pub body_numbers : Body → List ℕ
+abbrev pub body_numbers : Option Place → List ℕ
 body_numbers b = body_tag b ∷ (body_place b).member ∷ (body_place b).row ∷ []
 
 abbrev pub denotation_tag : Denotation → ℕ
@@ -98,7 +96,7 @@ denotation_flag (LabelName l) = flag l.is_end
 denotation_flag Builtin = 0
 
 -- the body of an entry; the place of a label stands where that of a body would
-abbrev pub denotation_body : Denotation → Body
+abbrev pub denotation_body : Denotation → Option Place
 denotation_body (Variable t) = Body.Nothing
 denotation_body (EntryName e) = e.body
 denotation_body (LabelName l) = Body.Nothing
@@ -120,7 +118,7 @@ numbers_of x = x.identifier.0 ∷ x.identifier.1 ∷ (owner_numbers x.owner ++ (
 abbrev pub owner_in : ℕ → ℕ → ℕ → Owner
 owner_in k m r = cond (eqb k 0) Everyone (Procedure (place_in m r))
 
-abbrev pub body_in : ℕ → ℕ → ℕ → Body
+abbrev pub body_in : ℕ → ℕ → ℕ → Option Place
 body_in k m r = cond (eqb k 0) Body.Nothing (Body.At (place_in m r))
 
 abbrev pub denotation_in : ℕ → ℕ → ℕ → ℕ → ℕ → Denotation

@@ -38,17 +38,11 @@ pub enum Owner {
     Procedure(Place),
 }
 
-#[derive(Clone, Copy)]
-pub enum Body {
-    Nothing,
-    At(Place),
-}
-
 // An entry: whether ENTRY declares it, and its body.
 #[derive(Clone, Copy)]
 pub struct Entry {
     pub declared: bool,
-    pub body: Body,
+    pub body: Option<Place>,
 }
 
 // A label of a row, or of the END of a row.
@@ -81,12 +75,6 @@ pub struct Name {
     pub activity: Activity,
 }
 
-#[derive(Clone, Copy)]
-pub enum Found {
-    Known(Address),
-    Unknown,
-}
-
 pub fn same_owner(a: Owner, b: Owner) -> bool
     ensures { result ≡ same_owner (owner_of a) (owner_of b) }
 {
@@ -104,13 +92,13 @@ fn owner_in(k: u16, m: u16, r: u16) -> Owner
 }
 
 // stays: beside `owner_in`, since the two public enums differ (a)
-fn body_in(k: u16, m: u16, r: u16) -> Body
+fn body_in(k: u16, m: u16, r: u16) -> Option<Place>
     ensures { result ≡ T.body_in k m r }
 {
     if k == 0 {
-        Body::Nothing
+        None
     } else {
-        Body::At(Place { member: m, row: r })
+        Some(Place { member: m, row: r })
     }
 }
 
@@ -214,15 +202,15 @@ pub fn find(
     from: usize,
     len: usize,
     owner: Owner,
-) -> Found
+) -> Option<Address>
     ensures { result ≡ found_for (address_in (folded mixed (part len from s.now)) (owner_of owner) 0 (identifiers_from deck.now names.now 0 n)) }
 {
     for a in 0..n {
         if is_at(deck, names, Address(a), s, from, len, owner) {
-            return Found::Known(Address(a));
+            return Some(Address(a));
         }
     }
-    Found::Unknown
+    None
 }
 
 // The same seen from a scope: its own names first, then the global ones.
@@ -234,12 +222,12 @@ pub fn seen_from(
     from: usize,
     len: usize,
     owner: Owner,
-) -> Found
+) -> Option<Address>
     ensures { result ≡ found_for (T.seen_in deck.now names.now n (folded mixed (part len from s.now)) (owner_of owner)) }
 {
     match find(deck, names, n, s, from, len, owner) {
-        Found::Known(a) => Found::Known(a),
-        Found::Unknown => find(deck, names, n, s, from, len, Owner::Everyone),
+        Some(a) => Some(a),
+        None => find(deck, names, n, s, from, len, Owner::Everyone),
     }
 }
 
@@ -268,8 +256,8 @@ fn denotation_numbers(d: Denotation) -> [u16; 5]
     match d {
         Denotation::Variable(t) => [0, type_number(t), 0, 0, 0],
         Denotation::EntryName(e) => match e.body {
-            Body::Nothing => [1, u16::from(e.declared), 0, 0, 0],
-            Body::At(p) => [1, u16::from(e.declared), 1, p.member, p.row],
+            None => [1, u16::from(e.declared), 0, 0, 0],
+            Some(p) => [1, u16::from(e.declared), 1, p.member, p.row],
         },
         Denotation::LabelName(l) => [2, u16::from(l.is_end), 0, l.place.member, l.place.row],
         Denotation::Builtin => [3, 0, 0, 0, 0],

@@ -1,5 +1,7 @@
 -- Labels are read as the definition reads them: one law for each way out.
 -- Assumes nothing.
+use Rattle.expressions.specs.Types.{NamedAt}
+use Rattle.std.proofs.Common.{Option, Some, None, Ok, Err}
 use mathlib.Core.Path.{◌≡◌, refl, sym, ap, ◌∙◌}
 use mathlib.Core.Bool.{Bool, true, false, cond, not, ◌&&◌, ◌||◌}
 use mathlib.Core.List.{List, [], ◌∷◌, ◌++◌}
@@ -22,25 +24,21 @@ use Rattle.definition.proofs.Parts.{length_part, same_length}
 use Rattle.tokens.specs.declared.Lexeme.{Lexeme}
 use Rattle.tokens.specs.Answer.{written, spelling}
 use Rattle.expressions.specs.Check.{named_for}
-use Rattle.expressions.specs.declared.NamedAt.{NamedAt}
-use Rattle.expressions.specs.declared.NamedAt.TheVariants as N
-use Rattle.entering.specs.declared.Mark.{Mark}
-use Rattle.entering.specs.declared.Mark.TheVariants.{Unmarked, Marked}
 use Rattle.entering.specs.Book.{first_of}
 use Rattle.statements.proofs.Listed.{named_is}
 use Rattle.openings.specs.declared.Labels.{Labels}
 use Rattle.openings.specs.Open.{label_past, labelled, first_long, long_after, LabelsAt, names_as}
 
 -- ---- a label that is too long
-pub long_kept : (m : Mark) (p : ℕ) (R : Reading Named) → m ≡ Marked p → Marked p ≡ long_after m R
+pub long_kept : (m : Option ℕ) (p : ℕ) (R : Reading Named) → m ≡ Some p → Some p ≡ long_after m R
 long_kept m p (read n) e = sym e
 long_kept m p (refused w q) e = rw e
 
-pub long_none : (m : Mark) (x : NamedAt) (a b : ℕ) (R : Reading Named) → m ≡ Unmarked → x ≡ named_for R → x ≡ N.Is a b → Unmarked ≡ long_after m R
+pub long_none : (m : Option ℕ) (x : NamedAt) (a b : ℕ) (R : Reading Named) → m ≡ None → x ≡ named_for R → x ≡ Ok (a, b) → None ≡ long_after m R
 long_none m x a b (read n) e h k = sym e
 long_none m x a b (refused w q) e h k = let z : ◌≡◌ {A = ℕ} 0 1 = cc in absurd (omega arith)
 
-pub long_new : (m : Mark) (x : NamedAt) (w : Why) (p : ℕ) (R : Reading Named) → m ≡ Unmarked → x ≡ named_for R → x ≡ N.Refused w p → Marked p ≡ long_after m R
+pub long_new : (m : Option ℕ) (x : NamedAt) (w : Why) (p : ℕ) (R : Reading Named) → m ≡ None → x ≡ named_for R → x ≡ Err (w, p) → Some p ≡ long_after m R
 long_new m x w p (read n) e h k = let z : ◌≡◌ {A = ℕ} 0 1 = cc in absurd (omega arith)
 long_new m x w p (refused v q) e h k = let z : p ≡ q = cc in rw (e, z)
 
@@ -55,33 +53,33 @@ is_labelled s at = D.is_name (token_at mixed s at).token && Tk.is_sign ":" (toke
 abbrev behind_label : List ℕ → ℕ → ℕ
 behind_label s at = (token_at mixed s (token_at mixed s at).to).to
 
-past_holds : (g : Bool) (q e : ℕ) → Marked e ≡ cond g (Marked q) Unmarked → g ≡ true
+past_holds : (g : Bool) (q e : ℕ) → Some e ≡ cond g (Some q) None → g ≡ true
 past_holds true q e h = refl
 past_holds false q e h = let z : ◌≡◌ {A = ℕ} 0 1 = cc in absurd (omega arith)
 
-past_place : (g : Bool) (q e : ℕ) → Marked e ≡ cond g (Marked q) Unmarked → q ≡ e
+past_place : (g : Bool) (q e : ℕ) → Some e ≡ cond g (Some q) None → q ≡ e
 past_place true q e h = cc
 past_place false q e h = let z : ◌≡◌ {A = ℕ} 0 1 = cc in absurd (omega arith)
 
-past_none : (g : Bool) (q : ℕ) → Unmarked ≡ cond g (Marked q) Unmarked → g ≡ false
+past_none : (g : Bool) (q : ℕ) → None ≡ cond g (Some q) None → g ≡ false
 past_none true q h = let z : ◌≡◌ {A = ℕ} 0 1 = cc in absurd (omega arith)
 past_none false q h = refl
 
-module _ (s : List ℕ) (at : ℕ) (m : Mark) (h : m ≡ label_past s at) where
-  label_holds : (e : ℕ) → m ≡ Marked e → is_labelled s at ≡ true
+module _ (s : List ℕ) (at : ℕ) (m : Option ℕ) (h : m ≡ label_past s at) where
+  label_holds : (e : ℕ) → m ≡ Some e → is_labelled s at ≡ true
   unfolding label_past
   label_holds e k = past_holds (is_labelled s at) (behind_label s at) e (sym k ∙ h)
 
-  label_place : (e : ℕ) → m ≡ Marked e → behind_label s at ≡ e
+  label_place : (e : ℕ) → m ≡ Some e → behind_label s at ≡ e
   unfolding label_past
   label_place e k = past_place (is_labelled s at) (behind_label s at) e (sym k ∙ h)
 
-  label_none : m ≡ Unmarked → is_labelled s at ≡ false
+  label_none : m ≡ None → is_labelled s at ≡ false
   unfolding label_past
   label_none k = past_none (is_labelled s at) (behind_label s at) (sym k ∙ h)
 
 -- ---- one label after the other
-pub record Labelling (s : List ℕ) (from at count : ℕ) (long : Mark) : Type 0 where
+pub record Labelling (s : List ℕ) (from at count : ℕ) (long : Option ℕ) : Type 0 where
   pub names : List Named
   pub longs : List ℕ
   pub turns : ℕ
@@ -90,7 +88,7 @@ pub record Labelling (s : List ℕ) (from at count : ℕ) (long : Mark) : Type 0
   pub size : count ≡ length names + length longs
   pub sum : count + turns ≡ length s
 
-pub labelling_start : (s : List ℕ) (from : ℕ) → Labelling s from from 0 Unmarked
+pub labelling_start : (s : List ℕ) (from : ℕ) → Labelling s from from 0 None
 labelling_start s from = record { names = []; longs = []; turns = length s; left = refl; first = refl; size = refl; sum = omega arith }
 
 abbrev read_so_far : List ℕ → List Named → List ℕ → ℕ → D.Labelled
@@ -112,7 +110,7 @@ unfolding D.labels_from
 labels_over s zero ns ls at h = refl
 labels_over s (suc f) ns ls at h = absurd (omega arith)
 
-module _ (s : List ℕ) (from at count : ℕ) (long : Mark) (h : Labelling s from at count long) where
+module _ (s : List ℕ) (from at count : ℕ) (long : Option ℕ) (h : Labelling s from at count long) where
   ended : D.labels_from mixed s h.turns h.names h.longs at ≡ read_so_far s h.names h.longs at → LabelsAt s from (record { count = count; long = long; to = at })
   ended e =
       let z : D.labels mixed s from ≡ read_so_far s h.names h.longs at = sym h.left ∙ e in
@@ -125,11 +123,11 @@ module _ (s : List ℕ) (from at count : ℕ) (long : Mark) (h : Labelling s fro
   pub labelling_over : length s ≤ count → LabelsAt s from (record { count = length s; long = long; to = at })
   labelling_over k = let e : count ≡ length s = omega (arith, h.sum, k) in rw e at (ended (labels_over s h.turns h.names h.longs at (omega (arith, h.sum, k))))
 
-  module _ (m : Mark) (f : m ≡ label_past s at) where
-    pub labelling_none : m ≡ Unmarked → LabelsAt s from (record { count = count; long = long; to = at })
+  module _ (m : Option ℕ) (f : m ≡ label_past s at) where
+    pub labelling_none : m ≡ None → LabelsAt s from (record { count = count; long = long; to = at })
     labelling_none k = ended (labels_none s h.turns h.names h.longs at (label_none s at m f k))
 
-    module _ (k : count < length s) (e : ℕ) (g : m ≡ Marked e) (y : Mark) where
+    module _ (k : count < length s) (e : ℕ) (g : m ≡ Some e) (y : Option ℕ) where
       more_by : (R : Reading Named) → D.add_label R h.names h.longs (λ ms more. D.labels_from mixed s (h.turns - 1) ms more e) ≡ D.labels mixed s from → y ≡ long_after long R → Labelling s from e (count + 1) y
       more_by (read n) l i = record {
         names = h.names ++ n ∷ [];
@@ -145,7 +143,7 @@ module _ (s : List ℕ) (from at count : ℕ) (long : Mark) (h : Labelling s fro
         longs = h.longs ++ p ∷ [];
         turns = h.turns - 1;
         left = l;
-        first = i ∙ ap (λ (z : Mark). first_of z p) h.first ∙ first_more h.longs p;
+        first = i ∙ ap (λ (z : Option ℕ). first_of z p) h.first ∙ first_more h.longs p;
         size = omega (arith, h.size, length-append h.longs (p ∷ []));
         sum = omega (arith, h.sum, k);
       }
@@ -182,14 +180,14 @@ module _ (s : List ℕ) (t : Lexeme) (from to n a : ℕ) (hn : n ≡ to - from) 
       (λ z. e (ha ∙ sym (length_folded mixed (part (t.to - t.from) t.from s) ∙ length_part (t.to - t.from) t.from s) ∙ z ∙ length_folded mixed (part (to - from) from s) ∙ length_part (to - from) from s ∙ sym hn))
 
 module _ (s w : List ℕ) (at : ℕ) (x : NamedAt) (h : x ≡ named_for (name_at mixed s at)) where
-  pub named_so : (from to : ℕ) (b : Bool) → x ≡ N.Is from to → b ≡ same w (folded mixed (part (to - from) from s)) → b ≡ names_as w (name_at mixed s at)
+  pub named_so : (from to : ℕ) (b : Bool) → x ≡ Ok (from, to) → b ≡ same w (folded mixed (part (to - from) from s)) → b ≡ names_as w (name_at mixed s at)
   named_so from to b e f = f ∙ ap (names_as w) (sym (named_is s at x from to h e).is)
 
-  unnamed : (y : Why) (p : ℕ) (R : Reading Named) → x ≡ named_for R → x ≡ N.Refused y p → false ≡ names_as w R
+  unnamed : (y : Why) (p : ℕ) (R : Reading Named) → x ≡ named_for R → x ≡ Err (y, p) → false ≡ names_as w R
   unnamed y p (read n) f e = let z : ◌≡◌ {A = ℕ} 0 1 = cc in absurd (omega arith)
   unnamed y p (refused v q) f e = refl
 
-  pub named_not : (y : Why) (p : ℕ) → x ≡ N.Refused y p → false ≡ names_as w (name_at mixed s at)
+  pub named_not : (y : Why) (p : ℕ) → x ≡ Err (y, p) → false ≡ names_as w (name_at mixed s at)
   named_not y p e = unnamed y p (name_at mixed s at) h e
 
 -- ---- whether one of the labels from a place on is spelled w
@@ -243,14 +241,14 @@ module _ (w s : List ℕ) (from : ℕ) where
     unfolding has_label
     seeking_over k = let z : 0 ≡ turns = omega (arith, k) in ap (λ (n : ℕ). has_label w s n at) z ∙ h.same ∙ labelled_is w s from
 
-    module _ (k : 0 < turns) (m : Mark) (f : m ≡ label_past s at) where
+    module _ (k : 0 < turns) (m : Option ℕ) (f : m ≡ label_past s at) where
       by_test : (g : Bool) → is_labelled s at ≡ g → when g (λ _. names_as w (name_at mixed s at) || has_label w s (turns - 1) (behind_label s at)) (λ _. false) ≡ has_label w s (length s) from
       by_test g e = ap (λ (b : Bool). when b (λ _. names_as w (name_at mixed s at) || has_label w s (turns - 1) (behind_label s at)) (λ _. false)) (sym e) ∙ sym (has_turn w s turns at k) ∙ h.same
 
-      pub seeking_none : m ≡ Unmarked → false ≡ is_one_of w (labelled s from)
+      pub seeking_none : m ≡ None → false ≡ is_one_of w (labelled s from)
       seeking_none e = by_test false (label_none s at m f e) ∙ labelled_is w s from
 
-      module _ (e : ℕ) (g : m ≡ Marked e) (b : Bool) (i : b ≡ names_as w (name_at mixed s at)) where
+      module _ (e : ℕ) (g : m ≡ Some e) (b : Bool) (i : b ≡ names_as w (name_at mixed s at)) where
         onward : (b || has_label w s (turns - 1) e) ≡ has_label w s (length s) from
         onward = ap (λ (c : Bool). c || has_label w s (turns - 1) e) i ∙ ap (λ (q : ℕ). names_as w (name_at mixed s at) || has_label w s (turns - 1) q) (sym (label_place s at m f e g)) ∙ by_test true (label_holds s at m f e g)
 

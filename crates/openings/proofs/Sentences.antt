@@ -1,5 +1,7 @@
 -- The definition's turns at a sentence, by the tests that a reader of bytes makes: one law for each way on.
 -- Assumes nothing.
+use Rattle.expressions.specs.Types.{Expected, NamedAt}
+use Rattle.std.proofs.Common.{Some, None, Ok, Err}
 use mathlib.Core.Path.{◌≡◌, refl, sym, ap, ◌∙◌}
 use mathlib.Core.Bool.{Bool, true, false, cond, not, ◌&&◌, ◌||◌, false≢true}
 use mathlib.Core.List.{List, [], ◌∷◌}
@@ -27,11 +29,6 @@ use Rattle.tokens.specs.declared.Lexeme.{Lexeme}
 use Rattle.tokens.specs.Answer.{Lexed, written, spelling, content, is_word_kind, is_word_in, is_sign_in, token_for}
 use Rattle.tokens.proofs.Lexemes.{token_is, is_word_lem, is_sign_lem}
 use Rattle.expressions.specs.Check.{expect_for, named_for}
-use Rattle.expressions.specs.declared.Expected.{Expected}
-use Rattle.expressions.specs.declared.Expected.TheVariants.{Past, Refused}
-use Rattle.expressions.specs.declared.NamedAt.{NamedAt}
-use Rattle.expressions.specs.declared.NamedAt.TheVariants as N
-use Rattle.entering.specs.declared.Mark.TheVariants.{Unmarked, Marked}
 use Rattle.openings.specs.declared.Where.{Where}
 use Rattle.openings.specs.declared.Where.TheVariants as Wh
 use Rattle.openings.specs.declared.Open.{Open}
@@ -99,15 +96,15 @@ module _ (s : List ℕ) (p : ℕ) (ns : List Named) (st : D.State) where
     token_wrong e f = a_sign e ∙ chosen (is_sign_in s l (59 ∷ [])) false _ _ f ∙ ap (λ (q : ℕ). D.untaken p ns st Syntax q []) (sym lex.from)
 
 -- ---- the first label that is too long
-first_there : (ls : List ℕ) (q : ℕ) (f : ℕ → D.Turn) (on : Unit {0} → D.Turn) → first_long ls ≡ Marked q → D.long_label ls f on ≡ f q
+first_there : (ls : List ℕ) (q : ℕ) (f : ℕ → D.Turn) (on : Unit {0} → D.Turn) → first_long ls ≡ Some q → D.long_label ls f on ≡ f q
 first_there [] q f on e = let z : ◌≡◌ {A = ℕ} 0 1 = cc in absurd (omega arith)
 first_there (x ∷ ls) q f on e = let z : x ≡ q = cc in rw z
 
-first_none : (ls : List ℕ) (f : ℕ → D.Turn) (on : Unit {0} → D.Turn) → first_long ls ≡ Unmarked → D.long_label ls f on ≡ on tt
+first_none : (ls : List ℕ) (f : ℕ → D.Turn) (on : Unit {0} → D.Turn) → first_long ls ≡ None → D.long_label ls f on ≡ on tt
 first_none [] f on e = refl
 first_none (x ∷ ls) f on e = let z : ◌≡◌ {A = ℕ} 0 1 = cc in absurd (omega arith)
 
-pub no_longs : (ls : List ℕ) → first_long ls ≡ Unmarked → ls ≡ []
+pub no_longs : (ls : List ℕ) → first_long ls ≡ None → ls ≡ []
 no_longs [] e = refl
 no_longs (x ∷ ls) e = let z : ◌≡◌ {A = ℕ} 0 1 = cc in absurd (omega arith)
 
@@ -135,10 +132,10 @@ module _ (s : List ℕ) (p : ℕ) (st : D.State) where
       ended : D.clause_at mixed s p at st ≡ D.long_label (D.labels mixed s at).long (λ q. D.stop OverLimit q [] (D.named of_labels st)) (λ _. D.end_at mixed s of_labels (token_at mixed s r.to).to st.opened st)
       ended = clause_is ∙ chosen (D.is_in_group (D.kind_of st.opened) && D.is_end mixed s (token_at mixed s r.to)) true _ _ (sym test_is ∙ e)
 
-      pub clause_end_long : (q : ℕ) → r.long ≡ Marked q → D.clause_at mixed s p at st ≡ D.stop OverLimit q [] (D.named of_labels st)
+      pub clause_end_long : (q : ℕ) → r.long ≡ Some q → D.clause_at mixed s p at st ≡ D.stop OverLimit q [] (D.named of_labels st)
       clause_end_long q f = ended ∙ first_there (D.labels mixed s at).long q _ _ (sym h.long ∙ f)
 
-      pub clause_end : r.long ≡ Unmarked → D.clause_at mixed s p at st ≡ D.end_at mixed s of_labels l.to st.opened st
+      pub clause_end : r.long ≡ None → D.clause_at mixed s p at st ≡ D.end_at mixed s of_labels l.to st.opened st
       clause_end f = ended ∙ first_none (D.labels mixed s at).long _ _ (sym h.long ∙ f) ∙ ap (λ (q : ℕ). D.end_at mixed s of_labels q st.opened st) (sym lex.to)
 
     module _ (e : (D.is_in_group (D.kind_of st.opened) && is_end_in s l) ≡ false) where
@@ -149,10 +146,10 @@ module _ (s : List ℕ) (p : ℕ) (st : D.State) where
       clause_full f = begun ∙ chosen (D.is_full st) true _ _ f
 
       module _ (g : D.is_full st ≡ false) where
-        pub clause_long : (q : ℕ) → r.long ≡ Marked q → D.clause_at mixed s p at st ≡ D.untaken p of_labels st OverLimit q []
+        pub clause_long : (q : ℕ) → r.long ≡ Some q → D.clause_at mixed s p at st ≡ D.untaken p of_labels st OverLimit q []
         clause_long q f = begun ∙ chosen (D.is_full st) false _ _ g ∙ first_there (D.labels mixed s at).long q _ _ (sym h.long ∙ f)
 
-        pub clause_token : r.long ≡ Unmarked → D.clause_at mixed s p at st ≡ D.by_token mixed (token_at mixed s r.to).token s p of_labels (token_at mixed s r.to) st
+        pub clause_token : r.long ≡ None → D.clause_at mixed s p at st ≡ D.by_token mixed (token_at mixed s r.to).token s p of_labels (token_at mixed s r.to) st
         clause_token f = begun ∙ chosen (D.is_full st) false _ _ g ∙ first_none (D.labels mixed s at).long _ _ (sym h.long ∙ f)
 
 -- ---- END in a procedure, behind its `%`
@@ -161,10 +158,10 @@ module _ (s : List ℕ) (st : D.State) where
     abbrev named : List Named
     named = (D.labels mixed s at).labels
 
-    pub procedure_end_long : (q : ℕ) → r.long ≡ Marked q → D.procedure_end mixed s (D.labels mixed s at) st ≡ D.stop OverLimit q [] (D.named named st)
+    pub procedure_end_long : (q : ℕ) → r.long ≡ Some q → D.procedure_end mixed s (D.labels mixed s at) st ≡ D.stop OverLimit q [] (D.named named st)
     procedure_end_long q f = first_there (D.labels mixed s at).long q _ _ (sym h.long ∙ f)
 
-    module _ (f : r.long ≡ Unmarked) where
+    module _ (f : r.long ≡ None) where
       short : D.procedure_end mixed s (D.labels mixed s at) st ≡ when (Tk.is_word "END" (token_at mixed s r.to).token) (λ _. D.end_at mixed s named (token_at mixed s r.to).to st.opened st) (λ _. D.not_end mixed (name_at mixed s r.to) s (D.named named st))
       unfolding name_at
       short =
@@ -178,11 +175,11 @@ module _ (s : List ℕ) (st : D.State) where
       procedure_not_end e = short ∙ chosen (Tk.is_word "END" (token_at mixed s r.to).token) false _ _ (sym (is_word_lem s r.to l lex "END" (69 ∷ 78 ∷ 68 ∷ []) refl) ∙ e)
 
   module _ (x : NamedAt) where
-    pub not_end_name : (R : Reading Named) (from to : ℕ) → x ≡ named_for R → x ≡ N.Is from to → D.not_end mixed R s st ≡ D.stop Syntax (token_at mixed s to).from [] st
+    pub not_end_name : (R : Reading Named) (from to : ℕ) → x ≡ named_for R → x ≡ Ok (from, to) → D.not_end mixed R s st ≡ D.stop Syntax (token_at mixed s to).from [] st
     not_end_name (read n) from to h e = let z : n.to ≡ to = cc in ap (λ (q : ℕ). D.stop Syntax (token_at mixed s q).from [] st) z
     not_end_name (refused w p) from to h e = let z : ◌≡◌ {A = ℕ} 0 1 = cc in absurd (omega arith)
 
-    pub not_end_refused : (R : Reading Named) (w : Why) (p : ℕ) → x ≡ named_for R → x ≡ N.Refused w p → D.not_end mixed R s st ≡ D.stop w p [] st
+    pub not_end_refused : (R : Reading Named) (w : Why) (p : ℕ) → x ≡ named_for R → x ≡ Err (w, p) → D.not_end mixed R s st ≡ D.stop w p [] st
     not_end_refused (read n) w p h e = let z : ◌≡◌ {A = ℕ} 0 1 = cc in absurd (omega arith)
     not_end_refused (refused v q) w p h e = let y : v ≡ w = cc in let z : q ≡ p = cc in rw (y, z)
 
@@ -223,20 +220,20 @@ module _ (s : List ℕ) (ns : List Named) (at : ℕ) (x : Open) (os : List D.Ope
   unfolding open_of
   asked = ap (λ (ls : List (List ℕ)). D.end_read mixed s ns (open_of s x) os st (D.end_name mixed s ls at)) (in_group_lem s x.kind x.labels e)
 
-  past_by : (R : Reading ℕ) (q : ℕ) → r ≡ expect_for R → r ≡ Past q → D.end_read mixed s ns (open_of s x) os st R
+  past_by : (R : Reading ℕ) (q : ℕ) → r ≡ expect_for R → r ≡ Ok q → D.end_read mixed s ns (open_of s x) os st R
       ≡ D.complete mixed s os x.row q (D.with_opened os (D.scope_out (where_of x.kind) st.scope) (D.with_names (St.means st.scope (P.end_label x.row) ns) st))
   unfolding open_of
   past_by (read n) q f g = let z : n ≡ q = cc in ap (λ (i : ℕ). D.complete mixed s os x.row i (D.with_opened os (D.scope_out (where_of x.kind) st.scope) (D.with_names (St.means st.scope (P.end_label x.row) ns) st))) z
   past_by (refused w p) q f g = let z : ◌≡◌ {A = ℕ} 0 1 = cc in absurd (omega arith)
 
-  refused_by : (R : Reading ℕ) (w : Why) (p : ℕ) → r ≡ expect_for R → r ≡ Refused w p → D.end_read mixed s ns (open_of s x) os st R ≡ D.stop w p [] (D.with_names (St.means st.scope (P.end_label x.row) ns) st)
+  refused_by : (R : Reading ℕ) (w : Why) (p : ℕ) → r ≡ expect_for R → r ≡ Err (w, p) → D.end_read mixed s ns (open_of s x) os st R ≡ D.stop w p [] (D.with_names (St.means st.scope (P.end_label x.row) ns) st)
   unfolding open_of
   refused_by (read n) w p f g = let z : ◌≡◌ {A = ℕ} 0 1 = cc in absurd (omega arith)
   refused_by (refused v q) w p f g = let y : v ≡ w = cc in let z : q ≡ p = cc in rw (y, z)
 
-  pub end_past : (q : ℕ) → r ≡ Past q → D.end_at mixed s ns at (open_of s x ∷ os) st
+  pub end_past : (q : ℕ) → r ≡ Ok q → D.end_at mixed s ns at (open_of s x ∷ os) st
       ≡ D.complete mixed s os x.row q (D.with_opened os (D.scope_out (where_of x.kind) st.scope) (D.with_names (St.means st.scope (P.end_label x.row) ns) st))
   end_past q f = asked ∙ past_by (D.end_name mixed s (labelled s x.labels) at) q h f
 
-  pub end_refused : (w : Why) (p : ℕ) → r ≡ Refused w p → D.end_at mixed s ns at (open_of s x ∷ os) st ≡ D.stop w p [] (D.with_names (St.means st.scope (P.end_label x.row) ns) st)
+  pub end_refused : (w : Why) (p : ℕ) → r ≡ Err (w, p) → D.end_at mixed s ns at (open_of s x ∷ os) st ≡ D.stop w p [] (D.with_names (St.means st.scope (P.end_label x.row) ns) st)
   end_refused w p f = asked ∙ refused_by (D.end_name mixed s (labelled s x.labels) at) w p h f

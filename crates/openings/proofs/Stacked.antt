@@ -1,5 +1,6 @@
 -- What is open is the definition's list: one law for each way out, and what a new row has from where it stands.
 -- Assumes nothing.
+use Rattle.std.proofs.Common.{Option, Some, None}
 use mathlib.Core.Path.{◌≡◌, refl, sym, ap, ◌∙◌}
 use mathlib.Core.Bool.{Bool, true, false}
 use mathlib.Core.List.{List, [], ◌∷◌, ◌++◌, map}
@@ -12,8 +13,6 @@ use lib.ListN.{length, length-map, get_or, set, get_or-eq_default}
 use lib.Seq.{get_or-set_same, get_or-set_other}
 use Rattle.definition.specs.Program as P
 use Rattle.definition.specs.Reading as D
-use Rattle.rows.specs.declared.Link.{Link}
-use Rattle.rows.specs.declared.Link.TheVariants as L
 use Rattle.openings.specs.declared.Where.{Where}
 use Rattle.openings.specs.declared.Where.TheVariants as Wh
 use Rattle.openings.specs.declared.Open.{Open}
@@ -21,7 +20,7 @@ use Rattle.openings.specs.declared.Opened.{Opened}
 use Rattle.openings.specs.Open.{link_of, where_of, last_of, labels_of, open_of, no_open, open_from, opened_of, top_in, rest_of, Opening, OpenAt, Pushed, Popped, TopKind, last_by, last_in, WithLast, AtLast, parent_in, role_in, first_in, linked_in, Deep, Sum20, counts_for}
 
 -- ---- one that is open
-fresh : (s : List ℕ) (k : Where) (n at : ℕ) → open_of s (record { kind = k; row = n; last = L.Nowhere; labels = at }) ≡ D.opening (where_of k) n (labels_of s k at)
+fresh : (s : List ℕ) (k : Where) (n at : ℕ) → open_of s (record { kind = k; row = n; last = None; labels = at }) ≡ D.opening (where_of k) n (labels_of s k at)
 unfolding open_of
 fresh s Wh.InProgram n at = refl
 fresh s Wh.InGroup n at = refl
@@ -29,10 +28,10 @@ fresh s Wh.InBody n at = refl
 fresh s Wh.InThen n at = refl
 fresh s Wh.InElse n at = refl
 
-pub opens : (k : Where) (n at : ℕ) → Opening k n at (record { kind = k; row = n; last = L.Nowhere; labels = at })
+pub opens : (k : Where) (n at : ℕ) → Opening k n at (record { kind = k; row = n; last = None; labels = at })
 opens k n at = record { is = λ s. fresh s k n at }
 
-lasting : (s : List ℕ) (k : Where) (i : ℕ) (l : Link) (at n : ℕ) → open_of s (record { kind = k; row = i; last = L.To n; labels = at }) ≡ last_by (where_of k) (open_of s (record { kind = k; row = i; last = l; labels = at })) n
+lasting : (s : List ℕ) (k : Where) (i : ℕ) (l : Option ℕ) (at n : ℕ) → open_of s (record { kind = k; row = i; last = Some n; labels = at }) ≡ last_by (where_of k) (open_of s (record { kind = k; row = i; last = l; labels = at })) n
 unfolding open_of
 lasting s Wh.InProgram i l at n = refl
 lasting s Wh.InGroup i l at n = refl
@@ -40,7 +39,7 @@ lasting s Wh.InBody i l at n = refl
 lasting s Wh.InThen i l at n = refl
 lasting s Wh.InElse i l at n = refl
 
-pub lasts : (x : Open) (n : ℕ) → WithLast x n (record { kind = x.kind; row = x.row; last = L.To n; labels = x.labels })
+pub lasts : (x : Open) (n : ℕ) → WithLast x n (record { kind = x.kind; row = x.row; last = Some n; labels = x.labels })
 lasts x n = record { is = λ s. lasting s x.kind x.row x.last x.labels n }
 
 -- ---- the list
@@ -199,10 +198,10 @@ module _ (o : Opened) (n i : ℕ) (h : Deepening o n i) where
     }
 
 -- ---- what a new row has from where it stands
-pub first_new : (f l : Link) (n : ℕ) → l ≡ L.Nowhere → link_of (L.To n) ≡ D.first_of (link_of f) (link_of l) n
+pub first_new : (f l : Option ℕ) (n : ℕ) → l ≡ None → link_of (Some n) ≡ D.first_of (link_of f) (link_of l) n
 first_new f l n e = rw e
 
-pub first_program : (k : Where) (f l r : Link) (n : ℕ) → k ≡ Wh.InProgram → link_of r ≡ D.first_of (link_of f) (link_of l) n → link_of r ≡ first_in (where_of k) (link_of f) (last_of k l) n
+pub first_program : (k : Where) (f l r : Option ℕ) (n : ℕ) → k ≡ Wh.InProgram → link_of r ≡ D.first_of (link_of f) (link_of l) n → link_of r ≡ first_in (where_of k) (link_of f) (last_of k l) n
 first_program k f l r n e h = rw e h
 
 -- THE DEFINITION'S NEW ROW, in these terms

@@ -1,6 +1,8 @@
 -- Which statement begins with a word: what the code finds is what the definition's tests find in their order, and the definition's
 -- `by_word` is one case of it.
 -- Assumes nothing.
+use Rattle.std.proofs.Common.{Ok, Err}
+use Rattle.statements.specs.Types.{Read}
 use mathlib.Core.Path.{◌≡◌, refl, sym, ap, subst, ◌∙◌}
 use mathlib.Core.Bool.{Bool, true, false, cond, not, ◌&&◌, ◌||◌, false≢true}
 use mathlib.Core.List.{List, [], ◌∷◌}
@@ -30,8 +32,6 @@ use Rattle.rows.specs.declared.Statement.TheVariants as S
 use Rattle.statements.specs.declared.Keyword.{Keyword}
 use Rattle.statements.specs.declared.Keyword.TheVariants as K
 use Rattle.statements.specs.declared.Opens.TheVariants as O
-use Rattle.statements.specs.declared.Read.{Read}
-use Rattle.statements.specs.declared.Read.TheVariants as R
 use Rattle.statements.specs.Clauses.{other_by, keyword_by, clause_of, read_for, go_clause}
 use Rattle.openings.specs.Open.{outer_by, list_by, keyword_here, keyword_at, may_stand, other_at, other_for, null_for, by_keyword, begins_in}
 use Rattle.openings.proofs.Laws.{name_kind}
@@ -144,11 +144,11 @@ module _ (s : List ℕ) (c at : ℕ) (u : Lexeme) (lux : Lexed s at u) (v : Bool
   unfolding other_for other_at
   other_equals e r f = rw (told s at u lux "=" (61 ∷ []) v true refl hv e, ← lux.to) f
 
-  pub other_wrong : v ≡ false → R.Refused Syntax u.from ≡ other_for s c at
+  pub other_wrong : v ≡ false → Err (Syntax, u.from) ≡ other_for s c at
   unfolding other_for other_at read_for
   other_wrong e = rw (told s at u lux "=" (61 ∷ []) v false refl hv e, lux.from)
 
-pub null_is : (from to : ℕ) → R.Is (clause_of S.Null O.Nothing from to FixedType) ≡ null_for from to
+pub null_is : (from to : ℕ) → Ok (clause_of S.Null O.Nothing from to FixedType) ≡ null_for from to
 unfolding null_for read_for
 null_is from to = refl
 

@@ -1,5 +1,6 @@
 -- What is open while a member is read stands for in the definition, and what the answers about labels, ELSE and texts do.
-use Rattle.std.specs.Prelude.{ℕ, zero, suc, ◌+◌, ◌-◌, ◌≤◌, ◌<◌, Bool, true, false, cond, not, ◌&&◌, ◌||◌, List, [], ◌∷◌, ◌≡◌, ltb, length, get_or}
+use Rattle.statements.specs.Types.{Read}
+use Rattle.std.specs.Prelude.{ℕ, zero, suc, ◌+◌, ◌-◌, ◌≤◌, ◌<◌, Bool, true, false, cond, not, ◌&&◌, ◌||◌, List, [], ◌∷◌, ◌≡◌, ltb, length, get_or, Option, Some, None}
 use Rattle.definition.specs.Bytes.{mixed}
 use Rattle.definition.specs.Choice.{when}
 use Rattle.definition.specs.Lists.{same, is_one_of}
@@ -16,18 +17,13 @@ use Rattle.tokens.specs.Answer.{Lexed, spelling, is_word_kind, is_word_in, is_si
 use Rattle.tokens.specs.declared.Lexeme.{Lexeme}
 use Rattle.tokens.specs.declared.Ending.{Ending}
 use Rattle.tokens.specs.declared.Ending.TheVariants as E
-use Rattle.rows.specs.declared.Link.{Link}
-use Rattle.rows.specs.declared.Link.TheVariants as L
 use Rattle.rows.specs.declared.Role.{Role}
 use Rattle.rows.specs.declared.Role.TheVariants as Rl
 use Rattle.rows.specs.declared.Statement.TheVariants as S
 use Rattle.names.specs.declared.Owner.{Owner}
-use Rattle.entering.specs.declared.Mark.{Mark}
-use Rattle.entering.specs.declared.Mark.TheVariants.{Unmarked, Marked}
 use Rattle.entering.specs.Book.{first_of}
 use Rattle.statements.specs.declared.Keyword.{Keyword}
 use Rattle.statements.specs.declared.Keyword.TheVariants as K
-use Rattle.statements.specs.declared.Read.{Read}
 use Rattle.statements.specs.Clauses.{Own, scope_of, go_clause, read_for}
 use Rattle.openings.specs.declared.Where.{Where}
 use Rattle.openings.specs.declared.Where.TheVariants as Wh
@@ -38,9 +34,9 @@ use Rattle.openings.specs.declared.Done.{Done}
 use Rattle.openings.specs.declared.Done.TheVariants as Dn
 
 -- ---- links and roles of rows
-abbrev pub link_of : Link → P.Link
-link_of L.Nowhere = P.nowhere
-link_of (L.To n) = P.row n
+abbrev pub link_of : Option ℕ → P.Link
+link_of None = P.nowhere
+link_of (Some n) = P.row n
 
 abbrev pub role_of : Role → P.Role
 role_of Rl.Listed = P.listed
@@ -56,7 +52,7 @@ where_of Wh.InThen = D.in_then
 where_of Wh.InElse = D.in_else
 
 -- an alternative has one statement, so that its last row is of no matter; END names labels of groups and bodies alone
-abbrev pub last_of : Where → Link → P.Link
+abbrev pub last_of : Where → Option ℕ → P.Link
 last_of Wh.InProgram l = link_of l
 last_of Wh.InGroup l = link_of l
 last_of Wh.InBody l = link_of l
@@ -74,7 +70,7 @@ unfoldable pub open_of : List ℕ → Open → D.Open
 open_of s o = record { kind = where_of o.kind; row = o.row; last = last_of o.kind o.last; labels = labels_of s o.kind o.labels }
 
 abbrev pub no_open : Open
-no_open = record { kind = Wh.InProgram; row = 0; last = L.Nowhere; labels = 0 }
+no_open = record { kind = Wh.InProgram; row = 0; last = None; labels = 0 }
 
 -- the n first of a list of what is open, the last of them on top
 unfoldable pub open_from : List ℕ → List Open → ℕ → List D.Open
@@ -175,9 +171,9 @@ pub record Sum20 (n k r : ℕ) : Type 0 where
 abbrev pub counts_for : Where → ℕ
 counts_for k = D.counts (where_of k)
 
-abbrev pub else_for : D.Else → Mark
-else_for (D.else_to q) = Marked q
-else_for D.no_else = Unmarked
+abbrev pub else_for : D.Else → Option ℕ
+else_for (D.else_to q) = Some q
+else_for D.no_else = None
 
 -- where a text ends
 abbrev pub end_for : List ℕ → Ending → ℕ
@@ -186,22 +182,22 @@ end_for s E.AtEnd = length s
 end_for s (E.OpenAt p) = p
 
 -- the place past a label
-unfoldable pub label_past : List ℕ → ℕ → Mark
-label_past s at = cond (D.is_name (token_at mixed s at).token && Tk.is_sign ":" (token_at mixed s (token_at mixed s at).to).token) (Marked (token_at mixed s (token_at mixed s at).to).to) Unmarked
+unfoldable pub label_past : List ℕ → ℕ → Option ℕ
+label_past s at = cond (D.is_name (token_at mixed s at).token && Tk.is_sign ":" (token_at mixed s (token_at mixed s at).to).token) (Some (token_at mixed s (token_at mixed s at).to).to) None
 
 -- ELSE, as the lexeme t says
-unfoldable pub else_word_in : List ℕ → Lexeme → Mark
-else_word_in s t = cond (is_word_in s t (bytes_of "ELSE") && D.is_decided (token_at mixed s t.to).token) (Marked t.to) Unmarked
+unfoldable pub else_word_in : List ℕ → Lexeme → Option ℕ
+else_word_in s t = cond (is_word_in s t (bytes_of "ELSE") && D.is_decided (token_at mixed s t.to).token) (Some t.to) None
 
 -- ---- labels
 abbrev pub labelled : List ℕ → ℕ → List (List ℕ)
 labelled s at = D.spelled (D.labels mixed s at).labels
 
-abbrev pub first_long : List ℕ → Mark
-first_long [] = Unmarked
-first_long (p ∷ ps) = Marked p
+abbrev pub first_long : List ℕ → Option ℕ
+first_long [] = None
+first_long (p ∷ ps) = Some p
 
-abbrev pub long_after : Mark → Reading Named → Mark
+abbrev pub long_after : Option ℕ → Reading Named → Option ℕ
 long_after m (read n) = m
 long_after m (refused w p) = first_of m p
 
@@ -313,18 +309,18 @@ pub record Completes (s : List ℕ) (o : Open) (k : Owner) (e : ℕ) (r : Done) 
       → D.complete_in mixed (where_of o.kind) s o.row os n e st up ≡ done_turn r os n e st up
 
 -- the statement of an alternative, from a place on
-abbrev pub alternative_turn : Mark → List ℕ → Tk.Lexeme → D.State → D.Turn
-alternative_turn (Marked q) s t st = D.deep_enough t.from st (λ _. D.clause_at mixed s t.from q st)
-alternative_turn Unmarked s t st = D.stop Syntax t.from [] st
+abbrev pub alternative_turn : Option ℕ → List ℕ → Tk.Lexeme → D.State → D.Turn
+alternative_turn (Some q) s t st = D.deep_enough t.from st (λ _. D.clause_at mixed s t.from q st)
+alternative_turn None s t st = D.stop Syntax t.from [] st
 
 -- which begins with the first token, in a procedure, or behind `%`
 pub data Enters (s : List ℕ) (at q : ℕ) : Type 0 where
   first : q ≡ at → D.begins (token_at mixed s at).token ≡ true → Enters s at q
   behind : q ≡ (token_at mixed s at).to → Tk.is_sign "%" (token_at mixed s at).token ≡ true → Enters s at q
 
-pub record AlternativeFrom (s : List ℕ) (k : Owner) (t : Lexeme) (at : ℕ) (r : Mark) : Type 0 where
+pub record AlternativeFrom (s : List ℕ) (k : Owner) (t : Lexeme) (at : ℕ) (r : Option ℕ) : Type 0 where
   pub is : Lexed s at t → (st : D.State) → D.alternative_at mixed (scope_of k) s at (token_at mixed s at) st ≡ alternative_turn r s (token_at mixed s at) st
-  pub enters : Lexed s at t → (q : ℕ) → r ≡ Marked q → Enters s at q
+  pub enters : Lexed s at t → (q : ℕ) → r ≡ Some q → Enters s at q
 
 pub record PlaceAfter (s : List ℕ) (p r : ℕ) : Type 0 where
   pub is : p < length s → r ≡ p + 1

@@ -18,10 +18,10 @@ ghost use Rattle.openings.specs.Open as T;
 
 use chars::is_one_name;
 use definition::Why;
-use entering::{Mark, Meaning};
+use entering::Meaning;
 use expressions::{Expected, NamedAt, name_at};
 use names::Owner;
-use rows::{Link, Role, Statement};
+use rows::{Role, Statement};
 use statements::{Clause, Keyword, Opens, Read, assignment, is_inside, keyword_of};
 use sums::less;
 use tokens::{Ending, Lexeme, is_sign, is_word, is_word_kind, token_at, width};
@@ -42,7 +42,7 @@ pub enum Where {
 pub struct Open {
     pub kind: Where,
     pub row: u16,
-    pub last: Link,
+    pub last: Option<u16>,
     pub labels: usize,
 }
 
@@ -59,7 +59,7 @@ pub fn nothing_open() -> Open
     Open {
         kind: Where::InProgram,
         row: 0,
-        last: Link::Nowhere,
+        last: None,
         labels: 0,
     }
 }
@@ -70,7 +70,7 @@ pub fn opening(kind: Where, row: u16, labels: usize) -> Open
     Open {
         kind,
         row,
-        last: Link::Nowhere,
+        last: None,
         labels,
     }
 }
@@ -128,10 +128,7 @@ pub fn top_kind(o: Opened) -> Where
 fn with_last(x: Open, n: u16) -> Open
     ensures { T.WithLast x n result }
 {
-    Open {
-        last: Link::To(n),
-        ..x
-    }
+    Open { last: Some(n), ..x }
 }
 
 // The top of what is open, whose last row is now n.
@@ -184,12 +181,12 @@ fn is_list(k: Where) -> bool
     matches!(k, Where::InProgram | Where::InGroup | Where::InBody)
 }
 
-pub fn parent_in(o: Open) -> Link
+pub fn parent_in(o: Open) -> Option<u16>
     ensures { T.link_of result ≡ T.parent_in (T.where_of o.kind) o.row }
 {
     match o.kind {
-        Where::InProgram => Link::Nowhere,
-        Where::InGroup | Where::InBody | Where::InThen | Where::InElse => Link::To(o.row),
+        Where::InProgram => None,
+        Where::InGroup | Where::InBody | Where::InThen | Where::InElse => Some(o.row),
     }
 }
 
@@ -204,17 +201,17 @@ pub fn role_in(k: Where) -> Role
 }
 
 // A list whose last row is nowhere is empty: n is its first.
-fn first_behind(first: Link, last: Link, n: u16) -> Link
+fn first_behind(first: Option<u16>, last: Option<u16>, n: u16) -> Option<u16>
     ensures { T.link_of result ≡ D.first_of (T.link_of first) (T.link_of last) n }
 {
     match last {
-        Link::Nowhere => Link::To(n),
-        Link::To(_) => first,
+        None => Some(n),
+        Some(_) => first,
     }
 }
 
 // The first row of the program, where n is new in what is open.
-pub fn first_in(first: Link, o: Open, n: u16) -> Link
+pub fn first_in(first: Option<u16>, o: Open, n: u16) -> Option<u16>
     ensures { T.link_of result ≡ T.first_in (T.where_of o.kind) (T.link_of first) (T.last_of o.kind o.last) n }
 {
     match o.kind {
@@ -238,32 +235,32 @@ pub fn scope_out(k: Where, scope: Owner) -> Owner
 #[derive(Clone, Copy)]
 pub struct Labels {
     pub count: usize,
-    pub long: Mark,
+    pub long: Option<usize>,
     pub to: usize,
 }
 
 // The place past a label at a place, or that none stands there.
-pub fn label_at(s: &[u8], at: usize) -> Mark
+pub fn label_at(s: &[u8], at: usize) -> Option<usize>
     ensures { result ≡ T.label_past s.now at }
 {
     let t = token_at(s, at);
     if is_word_kind(t.kind) {
         let u = token_at(s, t.to);
         if is_sign(s, u, b":") {
-            return Mark::Marked(u.to);
+            return Some(u.to);
         }
     }
-    Mark::Unmarked
+    None
 }
 
-fn long_label(s: &[u8], at: usize, long: Mark) -> Mark
+fn long_label(s: &[u8], at: usize, long: Option<usize>) -> Option<usize>
     ensures { result ≡ T.long_after long (name_at mixed s.now at) }
 {
     match long {
-        Mark::Marked(p) => Mark::Marked(p),
-        Mark::Unmarked => match name_at(s, at) {
-            NamedAt::Is(_, _) => Mark::Unmarked,
-            NamedAt::Refused(_, p) => Mark::Marked(p),
+        Some(p) => Some(p),
+        None => match name_at(s, at) {
+            Ok((_, _)) => None,
+            Err((_, p)) => Some(p),
         },
     }
 }
@@ -273,14 +270,14 @@ pub fn labels_at(s: &[u8], from: usize) -> Labels
     ensures { T.LabelsAt s.now from result }
 {
     let mut at = from;
-    let mut long = Mark::Unmarked;
+    let mut long = None;
     for count in 0..s.len() {
         match label_at(s, at) {
-            Mark::Marked(e) => {
+            Some(e) => {
                 long = long_label(s, at, long);
                 at = e;
             }
-            Mark::Unmarked => {
+            None => {
                 return Labels {
                     count,
                     long,
@@ -308,8 +305,8 @@ fn is_named_alike(s: &[u8], at: usize, t: Lexeme) -> bool
     ensures { result ≡ T.names_as (spelling s.now t) (name_at mixed s.now at) }
 {
     match name_at(s, at) {
-        NamedAt::Is(from, to) => is_spelled_alike(s, t, from, to),
-        NamedAt::Refused(_, _) => false,
+        Ok((from, to)) => is_spelled_alike(s, t, from, to),
+        Err((_, _)) => false,
     }
 }
 
@@ -320,13 +317,13 @@ fn is_label(s: &[u8], from: usize, t: Lexeme) -> bool
     let mut at = from;
     for left in (0..s.len()).rev() {
         match label_at(s, at) {
-            Mark::Marked(e) => {
+            Some(e) => {
                 if is_named_alike(s, at, t) {
                     return true;
                 }
                 at = e;
             }
-            Mark::Unmarked => return false,
+            None => return false,
         }
     }
     false
@@ -390,13 +387,13 @@ pub fn other_clause(s: &[u8], t: Lexeme, from: usize) -> Read
     if is_sign(s, u, b"=") {
         return assignment(s, from, u.to);
     }
-    Read::Refused(Why::Syntax, u.from)
+    Err((Why::Syntax, u.from))
 }
 
 pub fn null_clause(t: Lexeme) -> Read
     ensures { result ≡ T.null_for t.from t.to }
 {
-    Read::Is(Clause {
+    Ok(Clause {
         statement: Statement::Null,
         opens: Opens::Nothing,
         content: t.from,
@@ -422,17 +419,17 @@ fn is_decided(s: &[u8], at: usize) -> bool
     !is_sign(s, t, b"=") && !is_sign(s, t, b":")
 }
 
-fn else_word(s: &[u8], t: Lexeme) -> Mark
+fn else_word(s: &[u8], t: Lexeme) -> Option<usize>
     ensures { result ≡ T.else_word_in s.now t }
 {
     if is_word(s, t, b"ELSE") && is_decided(s, t.to) {
-        return Mark::Marked(t.to);
+        return Some(t.to);
     }
-    Mark::Unmarked
+    None
 }
 
 // ELSE, if it stands next: the place past it.
-fn else_at(s: &[u8], scope: Owner, e: usize) -> Mark
+fn else_at(s: &[u8], scope: Owner, e: usize) -> Option<usize>
     ensures { result ≡ T.else_for (D.else_at mixed (C.is_inside scope) s.now e) }
 {
     let t = token_at(s, e);
@@ -442,7 +439,7 @@ fn else_at(s: &[u8], scope: Owner, e: usize) -> Mark
     if is_sign(s, t, b"%") {
         return else_word(s, token_at(s, t.to));
     }
-    Mark::Unmarked
+    None
 }
 
 // Whether an alternative is done, or an ELSE follows it, or sentences of a list go on.
@@ -459,8 +456,8 @@ pub fn done_in(s: &[u8], o: Open, scope: Owner, e: usize) -> Done
     match o.kind {
         Where::InProgram | Where::InGroup | Where::InBody => Done::On,
         Where::InThen => match else_at(s, scope, e) {
-            Mark::Marked(q) => Done::OnElse(o.row, q),
-            Mark::Unmarked => Done::Up(o.row),
+            Some(q) => Done::OnElse(o.row, q),
+            None => Done::Up(o.row),
         },
         Where::InElse => Done::Up(o.row),
     }
@@ -485,28 +482,28 @@ pub fn end_name(s: &[u8], labels: usize, at: usize) -> Expected
 {
     let t = token_at(s, at);
     if is_sign(s, t, b";") {
-        return Expected::Past(t.to);
+        return Ok(t.to);
     }
     if may_name(s, labels, t) {
         return expressions::expect_sign(s, t.to, b";");
     }
-    Expected::Refused(Why::Syntax, t.from)
+    Err((Why::Syntax, t.from))
 }
 
 // Where the statement of an alternative begins, behind its `%`, or that none can.
-pub fn alternative_from(s: &[u8], scope: Owner, t: Lexeme, at: usize) -> Mark
+pub fn alternative_from(s: &[u8], scope: Owner, t: Lexeme, at: usize) -> Option<usize>
     ensures { T.AlternativeFrom s.now scope t at result }
 {
     if is_inside(scope) {
         if begins(s, t) {
-            return Mark::Marked(at);
+            return Some(at);
         }
-        return Mark::Unmarked;
+        return None;
     }
     if is_sign(s, t, b"%") {
-        return Mark::Marked(t.to);
+        return Some(t.to);
     }
-    Mark::Unmarked
+    None
 }
 
 // ---- texts

@@ -1,5 +1,8 @@
 -- One law for each way out of the small functions on values that were evaluated.
 -- Assumes nothing.
+use Rattle.values.specs.declared.NumberError.{NumberError}
+use Rattle.operands.specs.Types.{Evaluated}
+use Rattle.std.proofs.Common.{Result, Ok, Err}
 use mathlib.Core.Path.{◌≡◌, refl, sym, ap, ◌∙◌}
 use mathlib.Core.Bool.{Bool, true, false, cond}
 use mathlib.Core.List.{List, [], ◌∷◌}
@@ -24,14 +27,10 @@ use Rattle.fixed.specs.declared.Fixed.{Fixed}
 use Rattle.meter.specs.declared.Meter.{Meter}
 use Rattle.tokens.specs.declared.Lexeme.{Lexeme}
 use Rattle.tokens.specs.Answer.{written, content, Unquoted}
-use Rattle.values.specs.declared.NumberAnswer.{NumberAnswer}
-use Rattle.values.specs.declared.NumberAnswer.TheVariants as N
 use Rattle.values.specs.Answers.{answer_of}
 use Rattle.store.specs.Cells.{cell_in}
 use Rattle.operators.specs.declared.Value.{Value}
 use Rattle.operators.specs.declared.Value.TheVariants.{Number, Characters, Bits}
-use Rattle.operators.specs.declared.Given.{Given}
-use Rattle.operators.specs.declared.Given.TheVariants.{Gives, Fails}
 use Rattle.operators.specs.Stands.{size_for, value_in, given_in, stacked, Stood}
 use Rattle.operators.specs.Stands as O
 use Rattle.operators.proofs.Room.{part_written, below_over}
@@ -43,8 +42,6 @@ use Rattle.callees.specs.declared.Meant.TheVariants as M
 use Rattle.callees.specs.Shown.{values_from, world_in}
 use Rattle.callees.specs.Answer.{read_in, VariableIs}
 use Rattle.operands.specs.declared.Scene.{Scene}
-use Rattle.operands.specs.declared.Evaluated.{Evaluated}
-use Rattle.operands.specs.declared.Evaluated.TheVariants.{Is, Failed}
 use Rattle.operands.specs.Answer.{Below, res_in, size_of, meter_of, with_end, run_in, value_of, evaluated_for, ConstantIs, IntegerIs, string_tree, Means, PlainIs, infix_on, Turns, WithInfix}
 use Rattle.definition.specs.declared.Operator.{Operator}
 
@@ -52,13 +49,13 @@ pub true_false : {A : Type 0} → true ≡ false → A
 true_false e = absurd (let z : ◌≡◌ {A = ℕ} 0 1 = cc in omega arith)
 
 -- ---- answers
-pub given_some : (g : Given) (v : Value) (to : ℕ) (m : Meter) → g ≡ Gives v → Is v to m ≡ evaluated_for g to m
+pub given_some : (g : Result Value Why) (v : Value) (to : ℕ) (m : Meter) → g ≡ Ok v → Ok (v, to, m) ≡ evaluated_for g to m
 given_some g v to m e = rw e
 
-pub given_none : (g : Given) (w : Why) (to : ℕ) (m : Meter) → g ≡ Fails w → Failed w m ≡ evaluated_for g to m
+pub given_none : (g : Result Value Why) (w : Why) (to : ℕ) (m : Meter) → g ≡ Err w → Err (w, m) ≡ evaluated_for g to m
 given_none g w to m e = rw e
 
-pub end_is : (v : Value) (q e : ℕ) (m : Meter) → Is v q m ≡ with_end (Is v q m) e → q ≡ e
+pub end_is : (v : Value) (q e : ℕ) (m : Meter) → Ok (v, q, m) ≡ with_end (Ok (v, q, m)) e → q ≡ e
 end_is v q e m h = cc
 
 -- ---- rooms
@@ -75,7 +72,7 @@ pub value_size : (w : List ℕ) (u : ℕ) (v : Value) → Val.size_of (value_in 
 value_size w u v = size_is w u v
 
 -- ---- integers
-module _ (s : List ℕ) (t : Lexeme) (m : Meter) (n : ℕ) (e : n ≡ t.to - t.from) (x : NumberAnswer) (f : answer_of x ≡ Val.constant (part n t.from s)) where
+module _ (s : List ℕ) (t : Lexeme) (m : Meter) (n : ℕ) (e : n ≡ t.to - t.from) (x : Result Fixed NumberError) (f : answer_of x ≡ Val.constant (part n t.from s)) where
   constant_is : Val.constant (written s t) ≡ answer_of x
   unfolding written
   constant_is = rw (← e) (sym f)
@@ -84,14 +81,14 @@ module _ (s : List ℕ) (t : Lexeme) (m : Meter) (n : ℕ) (e : n ≡ t.to - t.f
   unfolding value_of evaluate
   integer_value sc u w = rw constant_is
 
-  pub integer_some : (k : Fixed) → x ≡ N.Is k → IntegerIs (written s t) t.to m (Is (Number k) t.to m)
+  pub integer_some : (k : Fixed) → x ≡ Ok k → IntegerIs (written s t) t.to m (Ok ((Number k), t.to, m))
   unfolding value_in size_for
   integer_some k g = record { is = λ w u. record { is = λ a b sc B c l h. sym (integer_value sc u (world_in B c l h m.used) ∙ rw g); end = refl; below = below_same u w; fits = λ q. omega (arith, q); limit = refl } }
 
-  pub integer_wrong : x ≡ N.NoConversion → IntegerIs (written s t) t.to m (Failed NoConversion m)
+  pub integer_wrong : x ≡ (Err NoConversion) → IntegerIs (written s t) t.to m (Err (NoConversion, m))
   integer_wrong g = record { is = λ w u. record { is = λ a b sc B c l h. sym (integer_value sc u (world_in B c l h m.used) ∙ rw g); end = refl; below = below_same u w; fits = λ q. omega (arith, q); limit = refl } }
 
-  pub integer_large : x ≡ N.OutOfRange → IntegerIs (written s t) t.to m (Failed OutOfRange m)
+  pub integer_large : x ≡ (Err OutOfRange) → IntegerIs (written s t) t.to m (Err (OutOfRange, m))
   integer_large g = record { is = λ w u. record { is = λ a b sc B c l h. sym (integer_value sc u (world_in B c l h m.used) ∙ rw g); end = refl; below = below_same u w; fits = λ q. omega (arith, q); limit = refl } }
 
 -- ---- strings
@@ -121,11 +118,11 @@ unfolding put Val.limited Val.unfinished
 put_some b l u w h k = rw (string_size b l, le-leb (length l) 512 h, string_size b l, k)
 
 module _ (s w : List ℕ) (t : Lexeme) (b : Bool) (u n : ℕ) (m : Meter) (e : n ≡ length (content s t.from)) where
-  pub string_long : 512 < n → ConstantIs (string_tree b (content s t.from)) w u t.to m w (Failed TooLong m)
+  pub string_long : 512 < n → ConstantIs (string_tree b (content s t.from)) w u t.to m w (Err (TooLong, m))
   string_long h = record { is = λ a k sc B c l hh. sym (string_is b (content s t.from) sc u (world_in B c l hh m.used) ∙ put_long b (content s t.from) u (world_in B c l hh m.used) (omega (arith, h, e))); end = refl; below = below_same u w; fits = λ q. omega (arith, q); limit = refl }
 
   module _ (h : n ≤ 512) (v : Bool) (f : v ≡ leb (u + n) 65536) where
-    pub string_full : v ≡ false → ConstantIs (string_tree b (content s t.from)) w u t.to m w (Failed TooLong m)
+    pub string_full : v ≡ false → ConstantIs (string_tree b (content s t.from)) w u t.to m w (Err (TooLong, m))
     string_full g = record { is = λ a k sc B c l hh. sym (string_is b (content s t.from) sc u (world_in B c l hh m.used) ∙ put_full b (content s t.from) u (world_in B c l hh m.used) (omega (arith, h, e)) (rw (← e) (sym f ∙ g))); end = refl; below = below_same u w; fits = λ q. omega (arith, q); limit = refl }
 
     module _ (g : v ≡ true) (w' : List ℕ) (q : ℕ) (uq : Unquoted s t.from w u w' q) where
@@ -138,11 +135,11 @@ module _ (s w : List ℕ) (t : Lexeme) (b : Bool) (u n : ℕ) (m : Meter) (e : n
       value : (sc : Scene) (B : World) (c l h : List ℕ) → value_of sc (string_tree b (content s t.from)) u (world_in B c l h m.used) ≡ good (string_value b (content s t.from)) (world_in B c l h m.used)
       value sc B c l hh = string_is b (content s t.from) sc u (world_in B c l hh m.used) ∙ put_some b (content s t.from) u (world_in B c l hh m.used) (omega (arith, h, e)) (rw (← e) (sym f ∙ g))
 
-      pub string_bits : b ≡ true → ConstantIs (string_tree b (content s t.from)) w u t.to m w' (Is (Bits n) t.to m)
+      pub string_bits : b ≡ true → ConstantIs (string_tree b (content s t.from)) w u t.to m w' (Ok ((Bits n), t.to, m))
       unfolding value_in size_for
       string_bits i = record { is = λ a k sc B c l hh. rw (room a) (sym (value sc B c l hh ∙ rw i)); end = refl; below = below; fits = λ k. leb-true (u + n) 65536 (sym f ∙ g); limit = refl }
 
-      pub string_text : b ≡ false → ConstantIs (string_tree b (content s t.from)) w u t.to m w' (Is (Characters n) t.to m)
+      pub string_text : b ≡ false → ConstantIs (string_tree b (content s t.from)) w u t.to m w' (Ok ((Characters n), t.to, m))
       unfolding value_in size_for
       string_text i = record { is = λ a k sc B c l hh. rw (room a) (sym (value sc B c l hh ∙ rw i)); end = refl; below = below; fits = λ k. leb-true (u + n) 65536 (sym f ∙ g); limit = refl }
 
@@ -175,10 +172,10 @@ pub variable_denotes : (a : ℕ) (t : ValueType) (B : World) → Means (M.AVaria
 unfolding meant
 variable_denotes a t B k = meant_denotes (seen_from k.scope k.spelling B) k.spelling B a t k.is
 
-pub res_given : (B : World) (c l h w : List ℕ) (u : ℕ) (g : Given) (to : ℕ) (m : Meter) → res_in B c l h w u (evaluated_for g to m) ≡ ask (given_in w u g) (world_in B c l h m.used)
+pub res_given : (B : World) (c l h w : List ℕ) (u : ℕ) (g : Result Value Why) (to : ℕ) (m : Meter) → res_in B c l h w u (evaluated_for g to m) ≡ ask (given_in w u g) (world_in B c l h m.used)
 unfolding given_in
-res_given B c l h w u (Gives v) to m = refl
-res_given B c l h w u (Fails e) to m = refl
+res_given B c l h w u (Ok v) to m = refl
+res_given B c l h w u (Err e) to m = refl
 
 read_ask : (x : W.Cell) (u : ℕ) (w : World) → ask (read_in x u) w ≡ read_cell x u w
 unfolding put
@@ -197,25 +194,25 @@ read_size : (x : W.Cell) (u : ℕ) (v : Val.Value) → Val.gives v ≡ read_in x
 read_size W.no_value u v e = absurd (let z : ◌≡◌ {A = ℕ} 0 1 = cc in omega arith)
 read_size (W.holds y) u v e = among_size u y v (sym e)
 
-given_size : (w : List ℕ) (u : ℕ) (g : Given) (to : ℕ) (m : Meter) (x : W.Cell) → u ≤ 65536 → given_in w u g ≡ read_in x u → u + size_of (evaluated_for g to m) ≤ 65536
+given_size : (w : List ℕ) (u : ℕ) (g : Result Value Why) (to : ℕ) (m : Meter) (x : W.Cell) → u ≤ 65536 → given_in w u g ≡ read_in x u → u + size_of (evaluated_for g to m) ≤ 65536
 unfolding given_in
-given_size w u (Gives v) to m x h e = rw (value_size w u v) at (read_size x u (value_in w u v) e)
-given_size w u (Fails e) to m x h f = omega (arith, h)
+given_size w u (Ok v) to m x h e = rw (value_size w u v) at (read_size x u (value_in w u v) e)
+given_size w u (Err e) to m x h f = omega (arith, h)
 
-pub given_end : (g : Given) (to : ℕ) (m : Meter) → evaluated_for g to m ≡ with_end (evaluated_for g to m) to
-given_end (Gives v) to m = refl
-given_end (Fails e) to m = refl
+pub given_end : (g : Result Value Why) (to : ℕ) (m : Meter) → evaluated_for g to m ≡ with_end (evaluated_for g to m) to
+given_end (Ok v) to m = refl
+given_end (Err e) to m = refl
 
-pub given_meter : (g : Given) (to : ℕ) (m : Meter) → meter_of (evaluated_for g to m) ≡ m
-given_meter (Gives v) to m = refl
-given_meter (Fails e) to m = refl
+pub given_meter : (g : Result Value Why) (to : ℕ) (m : Meter) → meter_of (evaluated_for g to m) ≡ m
+given_meter (Ok v) to m = refl
+given_meter (Err e) to m = refl
 
 plain_variable_is : (run : Call) (a : ℕ) (t : ValueType) (u : ℕ) (w : World) → plain_name run (Ev.a_variable a t) u w ≡ read_cell (W.value_at a w) u w
 unfolding plain_name
 plain_variable_is run a t u w = refl
 
 module _ (c l h w : List ℕ) (u to : ℕ) (m : Meter) (y : Meant) where
-  pub plain_variable : (a : ℕ) (t : ValueType) → y ≡ M.AVariable a t → (w' : List ℕ) (g : Given) → VariableIs c l h w a t u w' g → (r : Evaluated) → r ≡ evaluated_for g to m → PlainIs c l h w u m y to w' r
+  pub plain_variable : (a : ℕ) (t : ValueType) → y ≡ M.AVariable a t → (w' : List ℕ) (g : Result Value Why) → VariableIs c l h w a t u w' g → (r : Evaluated) → r ≡ evaluated_for g to m → PlainIs c l h w u m y to w' r
   plain_variable a t e w' g k r f = rw (e, f) record {
     is = λ _ z q x B j.
         let d : W.value_at a (world_in B c l h m.used) ≡ cell_in c l h t a = rw zero-add at (values_at B.denotations 0 a t c l h (variable_denotes a t B j)) in
@@ -226,23 +223,23 @@ module _ (c l h w : List ℕ) (u to : ℕ) (m : Meter) (y : Meant) where
     limit = given_meter g to m;
   }
 
-  pub plain_wrong : ((b : Rattle.names.specs.declared.Body.Body) × (y ≡ M.AnEntry b)) ⊎ (y ≡ M.NoSuch) → PlainIs c l h w u m y to w (Failed WrongName m)
+  pub plain_wrong : ((b : Rattle.names.specs.declared.Body.Body) × (y ≡ M.AnEntry b)) ⊎ (y ≡ M.NoSuch) → PlainIs c l h w u m y to w (Err (WrongName, m))
   unfolding plain_name
   plain_wrong (inl (b, e)) = rw e record { is = λ i z q x B j. true_false i; end = refl; below = below_same u w; fits = λ z q. omega (arith, q); limit = refl }
   plain_wrong (inr e) = rw e record { is = λ i z q x B j. refl; end = refl; below = below_same u w; fits = λ z q. omega (arith, q); limit = refl }
 
-  pub plain_substr : y ≡ M.TheSubstr → PlainIs c l h w u m y to w (Failed WrongArguments m)
+  pub plain_substr : y ≡ M.TheSubstr → PlainIs c l h w u m y to w (Err (WrongArguments, m))
   unfolding plain_name
   plain_substr e = rw e record { is = λ i z q x B j. refl; end = refl; below = below_same u w; fits = λ z q. omega (arith, q); limit = refl }
 
 -- ---- what an operator gave, as an answer
-module _ (w : List ℕ) (u v : ℕ) (x : Value) (to : ℕ) (m : Meter) (F : Res Why Val.Value → Res Why Val.Value) (A : Val.Answer Val.Value) (w' : List ℕ) (g : Given)
+module _ (w : List ℕ) (u v : ℕ) (x : Value) (to : ℕ) (m : Meter) (F : Res Why Val.Value → Res Why Val.Value) (A : Val.Answer Val.Value) (w' : List ℕ) (g : Result Value Why)
     (f : (B : World) (c l h : List ℕ) → F (good (value_in w v x) (world_in B c l h m.used)) ≡ put u A (world_in B c l h m.used)) (k : u ≤ 65536) (s : Stood w u (stacked u A) w' g) where
-  given_fits : (g₁ : Given) → Stood w u (stacked u A) w' g₁ → u + size_of (evaluated_for g₁ to m) ≤ 65536
-  given_fits (Gives y) s₁ = stood_fits w u A w' y s₁
-  given_fits (Fails y) s₁ = omega (arith, k)
+  given_fits : (g₁ : Result Value Why) → Stood w u (stacked u A) w' g₁ → u + size_of (evaluated_for g₁ to m) ≤ 65536
+  given_fits (Ok y) s₁ = stood_fits w u A w' y s₁
+  given_fits (Err y) s₁ = omega (arith, k)
 
-  pub stood_turns : Turns w u v (Is x to m) F w' (evaluated_for g to m)
+  pub stood_turns : Turns w u v (Ok (x, to, m)) F w' (evaluated_for g to m)
   stood_turns = record {
     is = λ B c l h. res_given B c l h w' u g to m ∙ ap (λ (i : Val.Answer Val.Value). ask i (world_in B c l h m.used)) s.is ∙ sym (R.put_is u A (world_in B c l h m.used)) ∙ sym (f B c l h);
     end = λ q j. let d : to ≡ q = end_is x to q m j in rw (← d) (given_end g to m);
@@ -252,18 +249,18 @@ module _ (w : List ℕ) (u v : ℕ) (x : Value) (to : ℕ) (m : Meter) (F : Res 
   }
 
 -- what was refused stays so
-pub failed_turns : (w : List ℕ) (u v : ℕ) (e : Why) (m : Meter) (F : Res Why Val.Value → Res Why Val.Value) → ((n : ℕ) → F (bad e n) ≡ bad e n) → u ≤ 65536 → Turns w u v (Failed e m) F w (Failed e m)
+pub failed_turns : (w : List ℕ) (u v : ℕ) (e : Why) (m : Meter) (F : Res Why Val.Value → Res Why Val.Value) → ((n : ℕ) → F (bad e n) ≡ bad e n) → u ≤ 65536 → Turns w u v (Err (e, m)) F w (Err (e, m))
 failed_turns w u v e m F f k = record { is = λ B c l h. sym (f m.used); end = λ q j. refl; below = refl; fits = omega (arith, k); limit = refl }
 
 -- ---- the operator with its two sides
 module _ (w : List ℕ) (u : ℕ) (o : Operator) (x : Value) (y : Evaluated) where
-  pub infix_none : (f : Why) (m : Meter) → y ≡ Failed f m → WithInfix w u o x y w (Failed f m)
+  pub infix_none : (f : Why) (m : Meter) → y ≡ Err (f, m) → WithInfix w u o x y w (Err (f, m))
   unfolding infix_on
   infix_none f m e = record { is = λ a b. rw e (failed_turns w u (u + size_for x) f m (infix_on u o (value_in w u x)) (λ n. refl) (omega (arith, b))) }
 
-  module _ (v : Value) (to : ℕ) (m : Meter) (e : y ≡ Is v to m) (w' : List ℕ) (g : Given)
+  module _ (v : Value) (to : ℕ) (m : Meter) (e : y ≡ Ok (v, to, m)) (w' : List ℕ) (g : Result Value Why)
       (k : O.Gave w u (size_for x + size_for v) (stacked u (Val.infixed u o (value_in w u x) (value_in w (u + size_for x) v))) w' g) where
-    infix_turns : 65536 ≤ length w → u + size_for x + size_for v ≤ 65536 → Turns w u (u + size_for x) (Is v to m) (infix_on u o (value_in w u x)) w' (evaluated_for g to m)
+    infix_turns : 65536 ≤ length w → u + size_for x + size_for v ≤ 65536 → Turns w u (u + size_for x) (Ok (v, to, m)) (infix_on u o (value_in w u x)) w' (evaluated_for g to m)
     unfolding infix_on
     infix_turns a b = stood_turns w u (u + size_for x) v to m (infix_on u o (value_in w u x)) (Val.infixed u o (value_in w u x) (value_in w (u + size_for x) v)) w' g (λ B c l h. refl) (omega (arith, b)) (k.so (record { room = a; top = omega (arith, b) }))
 

@@ -1,5 +1,7 @@
 -- Prefix operators in blocks: what is left to apply, after what was applied, is all. And how many arguments a list has.
 -- Assumes nothing.
+use Rattle.operands.specs.Types.{Evaluated}
+use Rattle.expressions.specs.Types.{Expected}
 use mathlib.Core.Path.{◌≡◌, refl, sym, ap, ◌∙◌}
 use mathlib.Core.Bool.{Bool, true, false}
 use mathlib.Core.List.{List, [], ◌∷◌, ◌++◌}
@@ -9,7 +11,7 @@ use native.Mathlib.Omega.{arith}
 use borrow.Author.Tests.{ltb-true, ltb-false, leb-true}
 use lib.Dec.{ltb, leb}
 use lib.Seq.{get_or-set_same, get_or-set_other}
-use Rattle.std.proofs.Common.{length-set}
+use Rattle.std.proofs.Common.{length-set, Result, Ok, Err, Option, Some, None}
 use lib.ListN.{length, get_or, set, take}
 use Rattle.definition.specs.Bytes.{mixed}
 use Rattle.definition.specs.Choice.{when}
@@ -25,23 +27,15 @@ use Rattle.definition.specs.declared.Prefix.{Prefix}
 use Rattle.definition.specs.declared.Prefix.TheVariants.{Positive}
 use Rattle.tokens.specs.declared.Lexeme.{Lexeme}
 use Rattle.tokens.specs.Answer.{Lexed, is_sign_in}
-use Rattle.expressions.specs.declared.PrefixAt.{PrefixAt}
-use Rattle.expressions.specs.declared.PrefixAt.TheVariants as P
-use Rattle.expressions.specs.declared.Expected.{Expected}
-use Rattle.expressions.specs.declared.Expected.TheVariants as X
 use Rattle.expressions.specs.Check.{prefix_for, inside_of, end_for}
 use Rattle.expressions.proofs.Laws.{told}
 use Rattle.meter.specs.declared.Meter.{Meter}
 use Rattle.operators.specs.declared.Value.{Value}
-use Rattle.operators.specs.declared.Given.{Given}
-use Rattle.operators.specs.declared.Given.TheVariants.{Gives, Fails}
 use Rattle.operators.specs.Stands.{size_for, value_in, given_in, stacked, Ready, Stood}
 use Rattle.operators.specs.Stands as O
 use Rattle.operators.proofs.Callers.{put_is, stood_fits}
 use Rattle.callees.specs.Shown.{world_in}
 use Rattle.operands.specs.declared.Signs.{Signs}
-use Rattle.operands.specs.declared.Evaluated.{Evaluated}
-use Rattle.operands.specs.declared.Evaluated.TheVariants.{Is, Failed}
 use Rattle.operands.specs.Answer.{size_of, evaluated_for, Turns, signs_at, prefixed_by, PrefixesDone}
 use Rattle.operands.specs.Blocks.{sign_in, signs_in, all_signs, prefixed_all, WithSign, SignsFrom, Applied, BlockDone, AllDone, CountIs}
 use Rattle.operands.proofs.Trees.{never, read_same, IsRead, then_read}
@@ -122,11 +116,11 @@ signs_zero : (s : List ℕ) (at : ℕ) → signs_at 0 s at ≡ []
 unfolding signs_at
 signs_zero s at = refl
 
-prefix_some : (m : Maybe Prefix) (to q : ℕ) (o : Prefix) → P.Is o q ≡ prefix_for m to → (m ≡ is o) × (q ≡ to)
+prefix_some : (m : Maybe Prefix) (to q : ℕ) (o : Prefix) → Some (o, q) ≡ prefix_for m to → (m ≡ is o) × (q ≡ to)
 prefix_some (is p) to q o e = let h : p ≡ o = cc in let k : q ≡ to = cc in (ap is h, k)
 prefix_some no_operator to q o e = absurd (let z : ◌≡◌ {A = ℕ} 0 1 = cc in omega arith)
 
-prefix_other : (m : Maybe Prefix) (to : ℕ) → P.Other ≡ prefix_for m to → m ≡ no_operator
+prefix_other : (m : Maybe Prefix) (to : ℕ) → None ≡ prefix_for m to → m ≡ no_operator
 prefix_other (is p) to e = absurd (let z : ◌≡◌ {A = ℕ} 0 1 = cc in omega arith)
 prefix_other no_operator to e = refl
 
@@ -151,11 +145,11 @@ module _ (s : List ℕ) (from first : ℕ) where
     pub signing_end : length s ≤ i → SignsFrom s from first all
     signing_end h = none_left (let e : length s - i ≡ 0 = omega (arith, h) in rw e (signs_zero s at))
 
-    module _ (o : i < length s) (x : PrefixAt) (e : x ≡ prefix_for (prefix_of (token_at mixed s at).token) (token_at mixed s at).to) where
-      pub signing_stop : x ≡ P.Other → SignsFrom s from first all
+    module _ (o : i < length s) (x : Option (Prefix × ℕ)) (e : x ≡ prefix_for (prefix_of (token_at mixed s at).token) (token_at mixed s at).to) where
+      pub signing_stop : x ≡ None → SignsFrom s from first all
       signing_stop f = none_left (signs_stop (length s - i) s at (prefix_other (prefix_of (token_at mixed s at).token) (token_at mixed s at).to (sym f ∙ e)))
 
-      module _ (p : Prefix) (q : ℕ) (f : x ≡ P.Is p q) (b : Signs) (ws : WithSign all first i p b) where
+      module _ (p : Prefix) (q : ℕ) (f : x ≡ Some (p, q)) (b : Signs) (ws : WithSign all first i p b) where
         found : (prefix_of (token_at mixed s at).token ≡ is p) × (q ≡ (token_at mixed s at).to)
         found = prefix_some (prefix_of (token_at mixed s at).token) (token_at mixed s at).to q p (sym f ∙ e)
 
@@ -195,21 +189,21 @@ module _ (w₀ : List ℕ) (u : ℕ) (all : Signs) (n : ℕ) (v : Value) where
   blocking_start = record { low = omega arith; size = refl; so = λ r. record { is = let e : n - n ≡ 0 = omega arith in rw e; below = refl; fits = r.top } }
 
   module _ (i : ℕ) (x : Value) (w : List ℕ) (b : Blocking i x w) where
-    pub block_done : i ≤ 0 → BlockDone w₀ u all n v w (Gives x)
+    pub block_done : i ≤ 0 → BlockDone w₀ u all n v w (Ok x)
     unfolding given_in
     block_done h = record {
       so = λ r. let k : Blocked i x w = b.so r in let e : i ≡ 0 = omega (arith, h) in let f : n - 0 ≡ n = omega arith in
           record { is = rw (e, f) at k.is; below = k.below; fits = λ y g. let j : x ≡ y = cc in rw (← j) k.fits };
     }
 
-    module _ (h : 0 < i) (o : Prefix) (eo : o ≡ sign_in all (i - 1)) (w' : List ℕ) (g : Given) (ga : O.Gave w u (size_for x) (stacked u (Val.prefixed o (value_in w u x))) w' g) where
+    module _ (h : 0 < i) (o : Prefix) (eo : o ≡ sign_in all (i - 1)) (w' : List ℕ) (g : Result Value Why) (ga : O.Gave w u (size_for x) (stacked u (Val.prefixed o (value_in w u x))) w' g) where
       stood : Ready w₀ u (size_for v) → Stood w u (stacked u (Val.prefixed o (value_in w u x))) w' g
       stood r = ga.so (record { room = omega (arith, r.room, b.size); top = (b.so r).fits })
 
       all_is : Ready w₀ u (size_for v) → given_in w' u g ≡ prefixed_all u (signs_in all (i - 1) (n - (i - 1))) (Val.gives (value_in w₀ u v))
       all_is r = (stood r).is ∙ sym (ap (λ (l : List Prefix). prefixed_all u l (Val.gives (value_in w₀ u v))) (signs_cons all i n h b.low) ∙ ap (λ (p : Prefix). prefixed_all u (p ∷ signs_in all i (n - i)) (Val.gives (value_in w₀ u v))) (sym eo) ∙ all_one u o (signs_in all i (n - i)) (Val.gives (value_in w₀ u v)) (value_in w u x) (b.so r).is)
 
-      pub block_more : (y : Value) → g ≡ Gives y → length w' ≡ length w → Blocking (i - 1) y w'
+      pub block_more : (y : Value) → g ≡ Ok y → length w' ≡ length w → Blocking (i - 1) y w'
       unfolding given_in
       block_more y e l = record {
         low = omega (arith, b.low);
@@ -217,7 +211,7 @@ module _ (w₀ : List ℕ) (u : ℕ) (all : Signs) (n : ℕ) (v : Value) where
         so = λ r. record { is = rw e at (all_is r); below = (stood r).below ∙ (b.so r).below; fits = stood_fits w u (Val.prefixed o (value_in w u x)) w' y (rw e at (stood r)) };
       }
 
-      pub block_fails : (y : Why) → g ≡ Fails y → BlockDone w₀ u all n v w' (Fails y)
+      pub block_fails : (y : Why) → g ≡ Err y → BlockDone w₀ u all n v w' (Err y)
       unfolding given_in
       block_fails y e = record {
         so = λ r.
@@ -250,7 +244,7 @@ module _ (s : List ℕ) (from n : ℕ) (w₀ : List ℕ) (u : ℕ) (v : Value) w
   prefixing_start = record { low = omega arith; size = refl; so = λ r e. record { is = let f : n - n ≡ 0 = omega arith in rw f; below = refl; fits = r.top } }
 
   module _ (i : ℕ) (x : Value) (w : List ℕ) (b : Prefixing i x w) where
-    pub prefixing_done : i ≤ 0 → AllDone s from n w₀ u v w (Gives x)
+    pub prefixing_done : i ≤ 0 → AllDone s from n w₀ u v w (Ok x)
     unfolding given_in
     prefixing_done h = record {
       so = λ r e. let k : Prefixed i x w = b.so r e in let f : i ≡ 0 = omega (arith, h) in let g : n - 0 ≡ n = omega arith in
@@ -261,7 +255,7 @@ module _ (s : List ℕ) (from n : ℕ) (w₀ : List ℕ) (u : ℕ) (v : Value) w
           };
     }
 
-    module _ (h : 0 < i) (z : ℕ) (small : z ≤ 256) (some : z ≤ i) (all : Signs) (sf : SignsFrom s from (i - z) all) (w' : List ℕ) (g : Given) (bd : BlockDone w u all z x w' g) where
+    module _ (h : 0 < i) (z : ℕ) (small : z ≤ 256) (some : z ≤ i) (all : Signs) (sf : SignsFrom s from (i - z) all) (w' : List ℕ) (g : Result Value Why) (bd : BlockDone w u all z x w' g) where
       block : n ≡ length ss → signs_in all 0 z ≡ pick ss (i - z) z
       block e = signs_pick all ss 0 (i - z) z (λ j k. rw zero-add (sf.is j (omega (arith, k, small)) (omega (arith, k, some, e, b.low))))
 
@@ -274,7 +268,7 @@ module _ (s : List ℕ) (from n : ℕ) (w₀ : List ℕ) (u : ℕ) (v : Value) w
       all_by : Ready w₀ u (size_for v) → n ≡ length ss → given_in w' u g ≡ prefixed_all u (pick ss (i - z) (n - (i - z))) (Val.gives (value_in w₀ u v))
       all_by r e = (applied r e).is ∙ ap (prefixed_all u (signs_in all 0 z)) (b.so r e).is ∙ sym (all_append u (signs_in all 0 z) (pick ss i (n - i)) (Val.gives (value_in w₀ u v))) ∙ ap (λ (l : List Prefix). prefixed_all u l (Val.gives (value_in w₀ u v))) (sym (both e))
 
-      pub prefixing_more : (y : Value) → g ≡ Gives y → length w' ≡ length w → Prefixing (i - z) y w'
+      pub prefixing_more : (y : Value) → g ≡ Ok y → length w' ≡ length w → Prefixing (i - z) y w'
       unfolding given_in
       prefixing_more y e l = record {
         low = omega (arith, b.low);
@@ -282,7 +276,7 @@ module _ (s : List ℕ) (from n : ℕ) (w₀ : List ℕ) (u : ℕ) (v : Value) w
         so = λ r f. record { is = rw e at (all_by r f); below = (applied r f).below ∙ (b.so r f).below; fits = (applied r f).fits y e };
       }
 
-      pub prefixing_fails : (y : Why) → g ≡ Fails y → AllDone s from n w₀ u v w' (Fails y)
+      pub prefixing_fails : (y : Why) → g ≡ Err y → AllDone s from n w₀ u v w' (Err y)
       unfolding given_in
       prefixing_fails y e = record {
         so = λ r f.
@@ -305,11 +299,11 @@ module _ (s : List ℕ) (from n : ℕ) (w₀ : List ℕ) (u : ℕ) (v : Value) w
     some : 0 < i → last ≤ i
     some h = omega (arith, h, mod-le (i - 1) 256)
 
-    module _ (h : 0 < i) (all : Signs) (sf : SignsFrom s from (i - last) all) (w' : List ℕ) (g : Given) (bd : BlockDone w u all last x w' g) where
-      pub prefixing_next : (y : Value) → g ≡ Gives y → length w' ≡ length w → Prefixing (i - last) y w'
+    module _ (h : 0 < i) (all : Signs) (sf : SignsFrom s from (i - last) all) (w' : List ℕ) (g : Result Value Why) (bd : BlockDone w u all last x w' g) where
+      pub prefixing_next : (y : Value) → g ≡ Ok y → length w' ≡ length w → Prefixing (i - last) y w'
       prefixing_next y e l = prefixing_more h last small (some h) all sf w' g bd y e l
 
-      pub prefixing_stop : (y : Why) → g ≡ Fails y → AllDone s from n w₀ u v w' (Fails y)
+      pub prefixing_stop : (y : Why) → g ≡ Err y → AllDone s from n w₀ u v w' (Err y)
       prefixing_stop y e = prefixing_fails h last small (some h) all sf w' g bd y e
 
 -- ---- as an answer
@@ -328,11 +322,11 @@ by_bad u [] e n = refl
 by_bad u (o ∷ os) e n = rw (by_bad u os e n)
 
 module _ (s : List ℕ) (from : ℕ) (w : List ℕ) (u n : ℕ) (y : Evaluated) where
-  pub prefixes_none : (f : Why) (m : Meter) → y ≡ Failed f m → PrefixesDone s from w u n y w (Failed f m)
+  pub prefixes_none : (f : Why) (m : Meter) → y ≡ Err (f, m) → PrefixesDone s from w u n y w (Err (f, m))
   prefixes_none f m e = record { is = λ a b c. rw e (failed_turns w u u f m (prefixed_by u (all_signs s from)) (by_bad u (all_signs s from) f) (omega (arith, b))) }
 
-  module _ (v : Value) (to : ℕ) (m : Meter) (e : y ≡ Is v to m) (w' : List ℕ) (g : Given) (ad : AllDone s from n w u v w' g) where
-    turns : 65536 ≤ length w → u + size_for v ≤ 65536 → n ≡ length (all_signs s from) → Turns w u u (Is v to m) (prefixed_by u (all_signs s from)) w' (evaluated_for g to m)
+  module _ (v : Value) (to : ℕ) (m : Meter) (e : y ≡ Ok (v, to, m)) (w' : List ℕ) (g : Result Value Why) (ad : AllDone s from n w u v w' g) where
+    turns : 65536 ≤ length w → u + size_for v ≤ 65536 → n ≡ length (all_signs s from) → Turns w u u (Ok (v, to, m)) (prefixed_by u (all_signs s from)) w' (evaluated_for g to m)
     turns a b c =
         let k : Applied w u (all_signs s from) v w' g = ad.so (record { room = a; top = b }) c in
         record {
@@ -343,9 +337,9 @@ module _ (s : List ℕ) (from : ℕ) (w : List ℕ) (u n : ℕ) (y : Evaluated) 
           limit = ap (λ (i : Meter). i.limit) (given_meter g to m);
         }
       where
-        fits : (g₁ : Given) → ((y : Value) → g₁ ≡ Gives y → u + size_for y ≤ 65536) → u + size_of (evaluated_for g₁ to m) ≤ 65536
-        fits (Gives z) h = h z refl
-        fits (Fails z) h = omega (arith, b)
+        fits : (g₁ : Result Value Why) → ((y : Value) → g₁ ≡ Ok y → u + size_for y ≤ 65536) → u + size_of (evaluated_for g₁ to m) ≤ 65536
+        fits (Ok z) h = h z refl
+        fits (Err z) h = omega (arith, b)
 
     pub prefixes_some : (r : Evaluated) → r ≡ evaluated_for g to m → PrefixesDone s from w u n y w' r
     prefixes_some r f = record { is = λ a b c. rw (e, f) (turns a (rw e at b) c) }
@@ -379,7 +373,7 @@ module _ (s : List ℕ) (from left : ℕ) where
   unfolding E.arguments
   no_turn p at z e = never Syntax at z e
 
-  inside_end : (p q at : ℕ) (z : Parsed) → inside_of left s p at ≡ read z → end_for (inside_of left s q at) ≡ X.Past z.to
+  inside_end : (p q at : ℕ) (z : Parsed) → inside_of left s p at ≡ read z → end_for (inside_of left s q at) ≡ Ok z.to
   unfolding end_for
   inside_end p q at z e = rw (Rattle.operands.proofs.Trees.inside_same left s p q at z e)
 
@@ -399,15 +393,15 @@ module _ (s : List ℕ) (from left : ℕ) where
       first : (p : ℕ) (t : Tree) → (c : Counted p t n at) → IsRead (inside_of left s p at) (next p (length s - (n + 1))) (parsed c.tree c.end)
       first p t c = let z : length s - n ≡ suc (length s - (n + 1)) = omega (arith, o) in turn p (length s - (n + 1)) at (parsed c.tree c.end) (rw z at c.same)
 
-      pub counting_refused : (y : Why) (q : ℕ) → x ≡ X.Refused y q → CountIs s from left (n + 1)
+      pub counting_refused : (y : Why) (q : ℕ) → x ≡ Err (y, q) → CountIs s from left (n + 1)
       counting_refused y q g = record { is = λ p t e r. let c : Counted p t n at = k.is p t e r in let i : IsRead (inside_of left s p at) (next p (length s - (n + 1))) (parsed c.tree c.end) = first p t c in absurd (no p i.first i.is) }
         where
           no : (p : ℕ) (z : Parsed) → inside_of left s p at ≡ read z → ⊥
-          no p z h = let j : X.Refused y q ≡ X.Past z.to = sym g ∙ f ∙ inside_end p 0 at z h in let a : ◌≡◌ {A = ℕ} 0 1 = cc in omega arith
+          no p z h = let j : Err (y, q) ≡ Ok z.to = sym g ∙ f ∙ inside_end p 0 at z h in let a : ◌≡◌ {A = ℕ} 0 1 = cc in omega arith
 
-      module _ (e : ℕ) (g : x ≡ X.Past e) (l : Lexeme) (lex : Lexed s e l) (v : Bool) (c : v ≡ is_sign_in s l (44 ∷ [])) where
+      module _ (e : ℕ) (g : x ≡ Ok e) (l : Lexeme) (lex : Lexed s e l) (v : Bool) (c : v ≡ is_sign_in s l (44 ∷ [])) where
         end_of_lem : (p : ℕ) (z : Parsed) → inside_of left s p at ≡ read z → z.to ≡ e
-        end_of_lem p z h = let j : X.Past z.to ≡ X.Past e = sym (inside_end p 0 at z h) ∙ sym f ∙ g in cc
+        end_of_lem p z h = let j : Ok z.to ≡ Ok e = sym (inside_end p 0 at z h) ∙ sym f ∙ g in cc
 
         comma : (b : Bool) → v ≡ b → is_sign "," (token_at mixed s e).token ≡ b
         comma b d = told s e l lex "," (44 ∷ []) v b refl c d

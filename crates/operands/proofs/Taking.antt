@@ -1,5 +1,7 @@
 -- Arguments that are taken one after the other: what waits, and what is left to take.
 -- Assumes nothing.
+use Rattle.operands.specs.Types.{Evaluated}
+use Rattle.std.proofs.Common.{Option, Some, None, Result, Ok, Err}
 use mathlib.Core.Path.{◌≡◌, refl, sym, ap, subst, ◌∙◌}
 use mathlib.Core.List.{List, [], ◌∷◌, ◌++◌}
 use Prim.Native.Nat.{ℕ, zero, suc, ◌+◌, ◌<◌, ◌≤◌}
@@ -21,22 +23,17 @@ use Rattle.fixed.proofs.Magnitude.{stored_back}
 use Rattle.meter.specs.declared.Meter.{Meter}
 use Rattle.operators.specs.declared.Value.{Value}
 use Rattle.operators.specs.declared.Value.TheVariants.{Number, Characters, Bits}
-use Rattle.operators.specs.declared.Given.{Given}
 use Rattle.operators.specs.Stands.{size_for, value_in, stacked, as_subject}
 use Rattle.operators.specs.Stands as O
 use Rattle.operators.proofs.Room.{part_below}
 use Rattle.operators.proofs.Callers as R
 use Rattle.callees.specs.declared.Held.{Held}
 use Rattle.callees.specs.declared.Callee.{Callee}
-use Rattle.callees.specs.declared.ParameterAt.{ParameterAt}
-use Rattle.callees.specs.declared.ParameterAt.TheVariants as P
 use Rattle.callees.specs.declared.Parameter.{Parameter}
 use Rattle.callees.specs.Shown.{names_world, world_in, Typed}
 use Rattle.callees.specs.Answer.{owner_at, spelled_at, parameter_for, parameter_of, ParameterIs, Names, held_number, HeldWith, held_at, fixed_in, held_in, held_size}
 use Rattle.callees.proofs.Listing.{First, first_of}
 use Rattle.deck.specs.Answer.{body_in}
-use Rattle.operands.specs.declared.Evaluated.{Evaluated}
-use Rattle.operands.specs.declared.Evaluated.TheVariants.{Is, Failed}
 use Rattle.operands.specs.declared.Wish.{Wish}
 use Rattle.operands.specs.declared.Wish.TheVariants as Wi
 use Rattle.operands.specs.declared.Wished.{Wished}
@@ -49,12 +46,12 @@ use Rattle.operands.proofs.Leaves.{stood_turns, failed_turns}
 
 -- ---- a wish
 module _ (w : List ℕ) (u : ℕ) (g : Wish) (y : Evaluated) where
-  pub wish_none : (f : Why) (m : Meter) → y ≡ Failed f m → WithWish w u g y w (Failed f m)
+  pub wish_none : (f : Why) (m : Meter) → y ≡ Err (f, m) → WithWish w u g y w (Err (f, m))
   unfolding wished_on
   wish_none f m e = record { is = λ a b. rw e (failed_turns w u u f m (wished_on u (wish_for g)) (λ n. refl) (omega (arith, b))) }
 
-  module _ (v : Value) (to : ℕ) (m : Meter) (e : y ≡ Is v to m) (w' : List ℕ) (x : Given) (r : Evaluated) (f : r ≡ evaluated_for x to m) where
-    turns : (A : Val.Answer Val.Value) → ((a : Val.Value) → a ≡ value_in w u v → Ev.wished (wish_for g) a ≡ A) → O.Gave w u (size_for v) (stacked u A) w' x → 65536 ≤ length w → u + size_for v ≤ 65536 → Turns w u u (Is v to m) (wished_on u (wish_for g)) w' (evaluated_for x to m)
+  module _ (v : Value) (to : ℕ) (m : Meter) (e : y ≡ Ok (v, to, m)) (w' : List ℕ) (x : Result Value Why) (r : Evaluated) (f : r ≡ evaluated_for x to m) where
+    turns : (A : Val.Answer Val.Value) → ((a : Val.Value) → a ≡ value_in w u v → Ev.wished (wish_for g) a ≡ A) → O.Gave w u (size_for v) (stacked u A) w' x → 65536 ≤ length w → u + size_for v ≤ 65536 → Turns w u u (Ok (v, to, m)) (wished_on u (wish_for g)) w' (evaluated_for x to m)
     unfolding wished_on
     turns A i k a b = stood_turns w u u v to m (wished_on u (wish_for g)) A w' x (λ B c l h. ap (λ (j : Val.Answer Val.Value). put u j (world_in B c l h m.used)) (i (value_in w u v) refl)) (omega (arith, b)) (k.so (record { room = a; top = b }))
 
@@ -86,14 +83,14 @@ module _ (deck names : List ℕ) (n : ℕ) (t : Target) (i at : ℕ) where
       by (suc (suc zero)) h g gs q = let a : Ev.as_type FixedType ≡ g = cc in let b : gs ≡ [] = cc in (a, b)
       by (suc (suc (suc j))) h g gs q = clash (cc)
 
-  module _ (c : Callee) (e : t ≡ T.Entry c) (s : List ℕ) (es : s ≡ body_in deck c.place.member) (x : ParameterAt) (pi : ParameterIs deck s names n c.place at x) where
+  module _ (c : Callee) (e : t ≡ T.Entry c) (s : List ℕ) (es : s ≡ body_in deck c.place.member) (x : Option Parameter) (pi : ParameterIs deck s names n c.place at x) where
     abbrev asking : List (List ℕ) → Val.Answer (List Ev.Parameter)
     asking ns = Ev.parameters (owner_at c.place) ns (names_world deck names n)
 
     first_asked : (l : List ℕ) → l ≡ spelled_at s at → parameter_of deck names n c.place l ≡ parameter_for x
     first_asked l q = rw q (sym pi.is)
 
-    wrong_by : x ≡ P.Wrong → (g : Ev.Wish) (gs : List Ev.Wish) (ps : List Ev.Parameter) (ns : List (List ℕ)) → Names s ns at → asking ns ≡ Val.gives ps → g ∷ gs ≡ Ev.wishes ps → ⊥
+    wrong_by : x ≡ None → (g : Ev.Wish) (gs : List Ev.Wish) (ps : List Ev.Parameter) (ns : List (List ℕ)) → Names s ns at → asking ns ≡ Val.gives ps → g ∷ gs ≡ Ev.wishes ps → ⊥
     unfolding Ev.parameters
     wrong_by f g gs [] ns nm ak q = clash (cc)
     wrong_by f g gs (p ∷ ps) [] nm ak q = clash (cc)
@@ -101,16 +98,16 @@ module _ (deck names : List ℕ) (n : ℕ) (t : Target) (i at : ℕ) where
         let a : parameter_of deck names n c.place m ≡ Val.fails WrongName = first_asked m (first_of s m ns at nm).spelled ∙ rw f in
         let j : ◌≡◌ {A = Val.Answer (List Ev.Parameter)} (Val.fails WrongName) (Val.gives (p ∷ ps)) = rw a at ak in clash (cc)
 
-    pub wish_wrong : x ≡ P.Wrong → WishIs deck names n t i at (record { wish = Wi.AsSubject; to = at })
+    pub wish_wrong : x ≡ None → WishIs deck names n t i at (record { wish = Wi.AsSubject; to = at })
     wish_wrong f = rw e record { is = λ g gs k. absurd (wrong_by f g gs k.0 k.1 (rw es k.2) k.3 k.4) }
 
-    module _ (z : Parameter) (f : x ≡ P.Is z) where
+    module _ (z : Parameter) (f : x ≡ Some z) where
       abbrev q₀ : Ev.Parameter
       q₀ = record { at = z.address; type = z.value_type }
 
       z_to : z.to ≡ (token_at mixed s (token_at mixed s at).to).to
       z_to =
-          let g : P.Is z ≡ P.Is (record { address = z.address; value_type = z.value_type; to = (token_at mixed s (token_at mixed s at).to).to }) = rw f at pi.to in
+          let g : Some z ≡ Some (record { address = z.address; value_type = z.value_type; to = (token_at mixed s (token_at mixed s at).to).to }) = rw f at pi.to in
           let j : z ≡ record { address = z.address; value_type = z.value_type; to = (token_at mixed s (token_at mixed s at).to).to } = cc in
           ap (λ (a : Parameter). a.to) j
 

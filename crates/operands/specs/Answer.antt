@@ -1,5 +1,6 @@
 -- What the answers stand for, and the contracts of what makes or changes one.
-use Rattle.std.specs.Prelude.{ℕ, zero, suc, ◌+◌, ◌≤◌, Bool, true, false, ◌≡◌, List, [], ◌∷◌, length, take}
+use Rattle.operands.specs.Types.{Evaluated}
+use Rattle.std.specs.Prelude.{ℕ, zero, suc, ◌+◌, ◌≤◌, Bool, true, false, ◌≡◌, List, [], ◌∷◌, length, take, Result, Ok, Err}
 use Rattle.definition.specs.Bytes.{mixed}
 use Rattle.definition.specs.Expressions as E
 use Rattle.definition.specs.Expressions.{Tree, Maybe, is, no_operator, prefix_of}
@@ -16,15 +17,11 @@ use Rattle.meter.specs.declared.Meter.{Meter}
 use Rattle.names.specs.Table.{owner_of}
 use Rattle.operators.specs.declared.Value.{Value}
 use Rattle.operators.specs.Stands.{size_for, value_in}
-use Rattle.operators.specs.declared.Given.{Given}
-use Rattle.operators.specs.declared.Given.TheVariants.{Gives, Fails}
 use Rattle.callees.specs.declared.Meant.{Meant}
 use Rattle.callees.specs.declared.Meant.TheVariants as M
 use Rattle.callees.specs.Shown.{world_in, Slots}
 use Rattle.callees.specs.Answer.{meant_for, on_of}
 use Rattle.operands.specs.declared.Scene.{Scene}
-use Rattle.operands.specs.declared.Evaluated.{Evaluated}
-use Rattle.operands.specs.declared.Evaluated.TheVariants.{Is, Failed}
 
 -- below u bytes the work room is as it was
 abbrev pub Below : ℕ → List ℕ → List ℕ → Type 0
@@ -32,20 +29,20 @@ Below u w w' = take u w' ≡ take u w
 
 -- ---- an answer, with the rooms, stands for what the definition gives
 abbrev pub res_in : World → List ℕ → List ℕ → List ℕ → List ℕ → ℕ → Evaluated → Res Why Val.Value
-res_in B c l h w u (Is v e m) = good (value_in w u v) (world_in B c l h m.used)
-res_in B c l h w u (Failed e m) = bad e m.used
+res_in B c l h w u (Ok (v, e, m)) = good (value_in w u v) (world_in B c l h m.used)
+res_in B c l h w u (Err (e, m)) = bad e m.used
 
 abbrev pub size_of : Evaluated → ℕ
-size_of (Is v e m) = size_for v
-size_of (Failed e m) = 0
+size_of (Ok (v, e, m)) = size_for v
+size_of (Err (e, m)) = 0
 
 abbrev pub meter_of : Evaluated → Meter
-meter_of (Is v e m) = m
-meter_of (Failed e m) = m
+meter_of (Ok (v, e, m)) = m
+meter_of (Err (e, m)) = m
 
 abbrev pub with_end : Evaluated → ℕ → Evaluated
-with_end (Is v e m) q = Is v q m
-with_end (Failed e m) q = Failed e m
+with_end (Ok (v, e, m)) q = Ok (v, q, m)
+with_end (Err (e, m)) q = Err (e, m)
 
 -- THE ENSURES: r and the rooms at exit stand for R, and the place is e; below u the work room is as it was
 pub record Gave (B : World) (u : ℕ) (w c' l' h' w' : List ℕ) (r : Evaluated) (e : ℕ) (R : Res Why Val.Value) : Type 0 where
@@ -65,9 +62,9 @@ unfoldable pub value_of : Scene → Tree → ℕ → World → Res Why Val.Value
 value_of x t u w = evaluate (run_in x) (owner_of x.owner) t u w
 
 -- ---- leaves
-abbrev pub evaluated_for : Given → ℕ → Meter → Evaluated
-evaluated_for (Gives v) e m = Is v e m
-evaluated_for (Fails w) e m = Failed w m
+abbrev pub evaluated_for : Result Value Why → ℕ → Meter → Evaluated
+evaluated_for (Ok v) e m = Ok (v, e, m)
+evaluated_for (Err w) e m = Err (w, m)
 
 -- an operator with its two sides, of which the second is R
 unfoldable pub infix_on : ℕ → Operator → Val.Value → Res Why Val.Value → Res Why Val.Value

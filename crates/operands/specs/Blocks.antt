@@ -1,5 +1,6 @@
 -- Prefix operators, a block at a time; and how many arguments a list has.
-use Rattle.std.specs.Prelude.{ℕ, zero, suc, ◌+◌, ◌<◌, ◌≤◌, ◌≡◌, List, [], ◌∷◌, length, get_or, take}
+use Rattle.definition.specs.declared.Why.{Why}
+use Rattle.std.specs.Prelude.{ℕ, zero, suc, ◌+◌, ◌<◌, ◌≤◌, ◌≡◌, List, [], ◌∷◌, length, get_or, take, Result, Ok}
 use Rattle.definition.specs.declared.Prefix.{Prefix}
 use Rattle.definition.specs.declared.Prefix.TheVariants.{Positive}
 use Rattle.definition.specs.Bytes.{mixed}
@@ -9,8 +10,6 @@ use Rattle.definition.specs.Evaluate.{count}
 use Rattle.definition.specs.Values as Val
 use Rattle.expressions.specs.Check.{inside_of}
 use Rattle.operators.specs.declared.Value.{Value}
-use Rattle.operators.specs.declared.Given.{Given}
-use Rattle.operators.specs.declared.Given.TheVariants.{Gives}
 use Rattle.operators.specs.Stands.{size_for, value_in, given_in, stacked, Ready}
 use Rattle.operands.specs.declared.Signs.{Signs}
 use Rattle.operands.specs.Answer.{signs_at}
@@ -42,15 +41,15 @@ pub record WithSign (all : Signs) (first i : ℕ) (o : Prefix) (r : Signs) : Typ
 pub record SignsFrom (s : List ℕ) (from first : ℕ) (r : Signs) : Type 0 where
   pub is : (j : ℕ) → j < 256 → first + j < length (all_signs s from) → sign_in r j ≡ get_or (all_signs s from) (first + j) Positive
 
-pub record Applied (w : List ℕ) (u : ℕ) (os : List Prefix) (v : Value) (w' : List ℕ) (g : Given) : Type 0 where
+pub record Applied (w : List ℕ) (u : ℕ) (os : List Prefix) (v : Value) (w' : List ℕ) (g : Result Value Why) : Type 0 where
   pub is : given_in w' u g ≡ prefixed_all u os (Val.gives (value_in w u v))
   pub below : take u w' ≡ take u w
-  pub fits : (y : Value) → g ≡ Gives y → u + size_for y ≤ 65536
+  pub fits : (y : Value) → g ≡ Ok y → u + size_for y ≤ 65536
 
-pub record BlockDone (w : List ℕ) (u : ℕ) (all : Signs) (n : ℕ) (v : Value) (w' : List ℕ) (g : Given) : Type 0 where
+pub record BlockDone (w : List ℕ) (u : ℕ) (all : Signs) (n : ℕ) (v : Value) (w' : List ℕ) (g : Result Value Why) : Type 0 where
   pub so : Ready w u (size_for v) → Applied w u (signs_in all 0 n) v w' g
 
-pub record AllDone (s : List ℕ) (from n : ℕ) (w : List ℕ) (u : ℕ) (v : Value) (w' : List ℕ) (g : Given) : Type 0 where
+pub record AllDone (s : List ℕ) (from n : ℕ) (w : List ℕ) (u : ℕ) (v : Value) (w' : List ℕ) (g : Result Value Why) : Type 0 where
   pub so : Ready w u (size_for v) → n ≡ length (all_signs s from) → Applied w u (all_signs s from) v w' g
 
 -- ---- a list of arguments that the definition reads has n

@@ -3,3 +3,4 @@ pub mod Shown
 pub mod Answer
 pub mod Blocks
 pub mod Takes
+pub mod Types

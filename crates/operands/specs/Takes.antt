@@ -1,5 +1,7 @@
 -- Arguments: what is wished for, what waits, and whose they are.
-use Rattle.std.specs.Prelude.{ℕ, zero, suc, ◌+◌, ◌≤◌, cond, ◌||◌, ◌≡◌, List, [], ◌∷◌, ltb, eqb, length}
+use Rattle.operands.specs.Types.{Evaluated}
+use Rattle.callees.specs.declared.Callee.{Callee}
+use Rattle.std.specs.Prelude.{ℕ, zero, suc, ◌+◌, ◌≤◌, cond, ◌||◌, ◌≡◌, List, [], ◌∷◌, ltb, eqb, length, Result, Ok, Err}
 use Rattle.definition.specs.Values as Val
 use Rattle.definition.specs.World.{World, Res, bind}
 use Rattle.definition.specs.Evaluate as Ev
@@ -14,19 +16,14 @@ use Rattle.operators.specs.declared.Value.{Value}
 use Rattle.operators.specs.Stands.{size_for, value_in}
 use Rattle.callees.specs.declared.Meant.{Meant}
 use Rattle.callees.specs.declared.Meant.TheVariants as M
-use Rattle.callees.specs.declared.Called.{Called}
-use Rattle.callees.specs.declared.Called.TheVariants as K
 use Rattle.callees.specs.declared.Held.{Held}
 use Rattle.callees.specs.Shown.{names_world, world_in}
 use Rattle.callees.specs.Answer.{owner_at, Names, CalleeOf, held_in, held_size, fixed_in}
-use Rattle.operands.specs.declared.Evaluated.{Evaluated}
 use Rattle.operands.specs.declared.Wish.{Wish}
 use Rattle.operands.specs.declared.Wish.TheVariants as Wi
 use Rattle.operands.specs.declared.Wished.{Wished}
 use Rattle.operands.specs.declared.Target.{Target}
 use Rattle.operands.specs.declared.Target.TheVariants as T
-use Rattle.operands.specs.declared.Aim.{Aim}
-use Rattle.operands.specs.declared.Aim.TheVariants as A
 use Rattle.operands.specs.Answer.{Below, res_in, size_of, meter_of, with_end, Turns}
 
 -- ---- wishes
@@ -82,15 +79,15 @@ pub record SubstrDone (w : List ℕ) (u n : ℕ) (k : Held) (f : Value) (to : �
   pub limit : meter_of r ≡ m
 
 -- ---- whose arguments a list of n takes
-abbrev pub aim_for : Called → ℕ → Aim
-aim_for (K.Is y) n = cond (eqb y.count n) (A.At (T.Entry y)) (A.Fails WrongArguments)
-aim_for (K.Fails w) n = A.Fails w
+abbrev pub aim_for : Result Callee Why → ℕ → Result Target Why
+aim_for (Ok y) n = cond (eqb y.count n) (Ok (T.Entry y)) (Err WrongArguments)
+aim_for (Err w) n = Err w
 
-abbrev pub AimAs : List ℕ → List ℕ → Starts → List ℕ → ℕ → Meant → ℕ → Aim → Type 0
-AimAs deck rows starts names k (M.AVariable a t) n r = r ≡ A.Fails WrongName
-AimAs deck rows starts names k (M.AnEntry b) n r = (y : Called) × CalleeOf deck rows starts names k b y × (r ≡ aim_for y n)
-AimAs deck rows starts names k M.TheSubstr n r = r ≡ cond (eqb n 2 || eqb n 3) (A.At (T.Substr n)) (A.Fails WrongArguments)
-AimAs deck rows starts names k M.NoSuch n r = r ≡ A.Fails WrongName
+abbrev pub AimAs : List ℕ → List ℕ → Starts → List ℕ → ℕ → Meant → ℕ → Result Target Why → Type 0
+AimAs deck rows starts names k (M.AVariable a t) n r = r ≡ Err WrongName
+AimAs deck rows starts names k (M.AnEntry b) n r = (y : Result Callee Why) × CalleeOf deck rows starts names k b y × (r ≡ aim_for y n)
+AimAs deck rows starts names k M.TheSubstr n r = r ≡ cond (eqb n 2 || eqb n 3) (Ok (T.Substr n)) (Err WrongArguments)
+AimAs deck rows starts names k M.NoSuch n r = r ≡ Err WrongName
 
-pub record AimIs (deck rows : List ℕ) (starts : Starts) (names : List ℕ) (k : ℕ) (x : Meant) (n : ℕ) (r : Aim) : Type 0 where
+pub record AimIs (deck rows : List ℕ) (starts : Starts) (names : List ℕ) (k : ℕ) (x : Meant) (n : ℕ) (r : Result Target Why) : Type 0 where
   pub is : AimAs deck rows starts names k x n r

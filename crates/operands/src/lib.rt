@@ -9,19 +9,16 @@ ghost use Rattle.operands.specs.Answer.{evaluated_for, with_end, WithInfix, Pref
 ghost use Rattle.operands.specs.Blocks.{sign_in, WithSign, SignsFrom, BlockDone, AllDone, CountIs};
 ghost use Rattle.operands.specs.Takes.{WishIs, first_listed, wanted_by, WithWish, SubstrDone, AimIs};
 
-use callees::{
-    Called, Callee, Held, Meant, ParameterAt, Running, callee_of, fixed_held, parameter_at,
-    variable_value,
-};
+use callees::{Callee, Held, Meant, Running, callee_of, fixed_held, parameter_at, variable_value};
 use deck::body;
 use definition::{Operator, Prefix, ValueType, Why};
-use expressions::{Expected, PrefixAt, prefix_at};
-use meter::Meter;
+use expressions::{Expected, prefix_at};
+use meter::{Meter, Refused};
 use names::Owner;
-use operators::{Given, Value, convert, infixed, prefixed, subject, substr_part, substr_rest};
+use operators::{Value, convert, infixed, prefixed, subject, substr_part, substr_rest};
 use rows::Starts;
 use tokens::{Lexeme, content_size, is_sign, token_at, unquote, width};
-use values::{NumberAnswer, constant_number};
+use values::{NumberError, constant_number};
 
 // Who sees names: how many there are, where the rows of each member start, from which scope names are seen, and which procedures are
 // running.
@@ -34,18 +31,14 @@ pub struct Scene {
 }
 
 // A value at u and the place past its expression, or why there is none; and the steps.
-#[derive(Clone, Copy)]
-pub enum Evaluated {
-    Is(Value, usize, Meter),
-    Failed(Why, Meter),
-}
+pub type Evaluated = Result<(Value, usize, Meter), Refused>;
 
-pub fn given_up_to(g: Given, to: usize, m: Meter) -> Evaluated
+pub fn given_up_to(g: Result<Value, Why>, to: usize, m: Meter) -> Evaluated
     ensures { result ≡ evaluated_for g to m }
 {
     match g {
-        Given::Gives(v) => Evaluated::Is(v, to, m),
-        Given::Fails(w) => Evaluated::Failed(w, m),
+        Ok(v) => Ok((v, to, m)),
+        Err(w) => Err((w, m)),
     }
 }
 
@@ -55,9 +48,9 @@ pub fn integer_value(s: &[u8], t: Lexeme, m: Meter) -> Evaluated
     ensures { IntegerIs (written s.now t) t.to m result }
 {
     match constant_number(s, t.from, width(t)) {
-        NumberAnswer::Is(n) => Evaluated::Is(Value::Number(n), t.to, m),
-        NumberAnswer::NoConversion => Evaluated::Failed(Why::NoConversion, m),
-        NumberAnswer::OutOfRange => Evaluated::Failed(Why::OutOfRange, m),
+        Ok(n) => Ok((Value::Number(n), t.to, m)),
+        Err(NumberError::NoConversion) => Err((Why::NoConversion, m)),
+        Err(NumberError::OutOfRange) => Err((Why::OutOfRange, m)),
     }
 }
 
@@ -73,7 +66,7 @@ pub fn string_value(
 {
     let n = content_size(s, t.from);
     if limits::Value::LONGEST < n || !operators::fits(u, n) {
-        return Evaluated::Failed(Why::TooLong, m);
+        return Err((Why::TooLong, m));
     }
     unquote(s, t.from, work, u);
     let v = if is_bits {
@@ -81,7 +74,7 @@ pub fn string_value(
     } else {
         Value::Characters(n)
     };
-    Evaluated::Is(v, t.to, m)
+    Ok((v, t.to, m))
 }
 
 // ---- operators
@@ -91,8 +84,8 @@ pub fn with_infix(work: &mut [u8], u: usize, o: Operator, x: Value, y: Evaluated
     ensures { WithInfix work.old u o x y work.new result }
 {
     match y {
-        Evaluated::Is(v, to, m) => given_up_to(infixed(work, u, o, x, v), to, m),
-        Evaluated::Failed(w, m) => Evaluated::Failed(w, m),
+        Ok((v, to, m)) => given_up_to(infixed(work, u, o, x, v), to, m),
+        Err((w, m)) => Err((w, m)),
     }
 }
 
@@ -135,7 +128,7 @@ fn signs_from(s: &[u8], from: usize, first: usize) -> Signs
         if is_behind(first, i) {
             return all;
         }
-        let PrefixAt::Is(o, q) = prefix_at(s, at) else {
+        let Some((o, q)) = prefix_at(s, at) else {
             return all;
         };
         all = with_sign(all, first, i, o);
@@ -151,21 +144,28 @@ fn sign_at(all: Signs, i: usize) -> Prefix
 }
 
 // Applies the first n operators of a block, the last first.
-fn with_block(work: &mut [u8], u: usize, all: Signs, n: usize, v: Value) -> Given
+fn with_block(work: &mut [u8], u: usize, all: Signs, n: usize, v: Value) -> Result<Value, Why>
     ensures { BlockDone work.old u all n v work.new result }
 {
     let mut x = v;
     for i in (0..n).rev() {
         match prefixed(work, u, sign_at(all, i), x) {
-            Given::Gives(y) => x = y,
-            Given::Fails(w) => return Given::Fails(w),
+            Ok(y) => x = y,
+            Err(w) => return Err(w),
         }
     }
-    Given::Gives(x)
+    Ok(x)
 }
 
 // Applies n prefix operators that begin at a place, the last first, a block at a time: each block is read again from the start.
-fn with_prefixes(s: &[u8], from: usize, n: usize, work: &mut [u8], u: usize, v: Value) -> Given
+fn with_prefixes(
+    s: &[u8],
+    from: usize,
+    n: usize,
+    work: &mut [u8],
+    u: usize,
+    v: Value,
+) -> Result<Value, Why>
     ensures { AllDone s.now from n work.old u v work.new result }
 {
     let mut x = v;
@@ -175,11 +175,11 @@ fn with_prefixes(s: &[u8], from: usize, n: usize, work: &mut [u8], u: usize, v: 
         let size = (rest - 1) % BLOCK + 1;
         rest -= size;
         match with_block(work, u, signs_from(s, from, rest), size, x) {
-            Given::Gives(y) => x = y,
-            Given::Fails(w) => return Given::Fails(w),
+            Ok(y) => x = y,
+            Err(w) => return Err(w),
         }
     }
-    Given::Gives(x)
+    Ok(x)
 }
 
 pub fn prefixes_done(
@@ -193,8 +193,8 @@ pub fn prefixes_done(
     ensures { PrefixesDone s.now from work.old u n x work.new result }
 {
     match x {
-        Evaluated::Is(v, to, m) => given_up_to(with_prefixes(s, from, n, work, u, v), to, m),
-        Evaluated::Failed(w, m) => Evaluated::Failed(w, m),
+        Ok((v, to, m)) => given_up_to(with_prefixes(s, from, n, work, u, v), to, m),
+        Err((w, m)) => Err((w, m)),
     }
 }
 
@@ -206,7 +206,7 @@ pub fn count_arguments(s: &[u8], from: usize, left: usize) -> usize
 {
     let mut at = from;
     for n in 0..s.len() {
-        let Expected::Past(e) = expressions::inside(s, 0, at, left) else {
+        let Ok(e) = expressions::inside(s, 0, at, left) else {
             return n + 1;
         };
         let t = token_at(s, e);
@@ -246,11 +246,11 @@ pub fn wish_for(deck: &[u8], names: &[u16], count: u16, t: Target, i: usize, at:
         Target::Entry(c) => {
             let p = c.place;
             match parameter_at(deck, body(deck, p.member), names, count, p, at) {
-                ParameterAt::Is(y) => Wished {
+                Some(y) => Wished {
                     wish: Wish::As(y.value_type),
                     to: y.to,
                 },
-                ParameterAt::Wrong => Wished {
+                None => Wished {
                     wish: Wish::AsSubject,
                     to: at,
                 },
@@ -294,11 +294,11 @@ pub fn with_wish(work: &mut [u8], u: usize, w: Wish, x: Evaluated) -> Evaluated
     ensures { WithWish work.old u w x work.new result }
 {
     match x {
-        Evaluated::Is(v, to, m) => match w {
+        Ok((v, to, m)) => match w {
             Wish::As(t) => given_up_to(convert(work, u, t, v), to, m),
             Wish::AsSubject => given_up_to(subject(work, u, v), to, m),
         },
-        Evaluated::Failed(y, m) => Evaluated::Failed(y, m),
+        Err((y, m)) => Err((y, m)),
     }
 }
 
@@ -316,8 +316,8 @@ pub fn up_to(x: Evaluated, to: usize) -> Evaluated
     ensures { result ≡ with_end x to }
 {
     match x {
-        Evaluated::Is(v, _, m) => Evaluated::Is(v, to, m),
-        Evaluated::Failed(w, m) => Evaluated::Failed(w, m),
+        Ok((v, _, m)) => Ok((v, to, m)),
+        Err((w, m)) => Err((w, m)),
     }
 }
 
@@ -363,16 +363,9 @@ pub fn plain_value(
             to,
             m,
         ),
-        Meant::AnEntry(_) | Meant::NoSuch => Evaluated::Failed(Why::WrongName, m),
-        Meant::TheSubstr => Evaluated::Failed(Why::WrongArguments, m),
+        Meant::AnEntry(_) | Meant::NoSuch => Err((Why::WrongName, m)),
+        Meant::TheSubstr => Err((Why::WrongArguments, m)),
     }
-}
-
-// Whose arguments a list of n takes, or why none does: 6, then 11.
-#[derive(Clone, Copy)]
-pub enum Aim {
-    At(Target),
-    Fails(Why),
 }
 
 pub fn aim_of(
@@ -383,18 +376,18 @@ pub fn aim_of(
     count: u16,
     x: Meant,
     n: usize,
-) -> Aim
+) -> Result<Target, Why>
     ensures { AimIs deck.now rows.now starts names.now count x n result }
 {
     match x {
         Meant::AnEntry(b) => match callee_of(deck, rows, starts, names, count, b) {
-            Called::Is(y) if y.count == n => Aim::At(Target::Entry(y)),
-            Called::Is(_) => Aim::Fails(Why::WrongArguments),
-            Called::Fails(w) => Aim::Fails(w),
+            Ok(y) if y.count == n => Ok(Target::Entry(y)),
+            Ok(_) => Err(Why::WrongArguments),
+            Err(w) => Err(w),
         },
-        Meant::TheSubstr if n == 2 || n == 3 => Aim::At(Target::Substr(n)),
-        Meant::TheSubstr => Aim::Fails(Why::WrongArguments),
-        Meant::AVariable(_, _) | Meant::NoSuch => Aim::Fails(Why::WrongName),
+        Meant::TheSubstr if n == 2 || n == 3 => Ok(Target::Substr(n)),
+        Meant::TheSubstr => Err(Why::WrongArguments),
+        Meant::AVariable(_, _) | Meant::NoSuch => Err(Why::WrongName),
     }
 }
 
@@ -403,7 +396,7 @@ pub fn closed(s: &[u8], x: Evaluated) -> Evaluated
     ensures { ClosedIs s.now x result }
 {
     match x {
-        Evaluated::Is(v, e, m) => Evaluated::Is(v, token_at(s, e).to, m),
-        Evaluated::Failed(w, m) => Evaluated::Failed(w, m),
+        Ok((v, e, m)) => Ok((v, token_at(s, e).to, m)),
+        Err((w, m)) => Err((w, m)),
     }
 }

@@ -1,5 +1,6 @@
 -- The operators on two sides: bits.
 -- Assumes nothing.
+use Rattle.std.proofs.Common.{Result, Ok, Err}
 use mathlib.Core.Path.{◌≡◌, refl, sym, ap, ◌∙◌}
 use mathlib.Core.Bool.{Bool, true, false, cond}
 use mathlib.Core.Logic.{◌⊎◌, inl, inr}
@@ -26,8 +27,6 @@ use Rattle.values.specs.Digits.{Wrote}
 use Rattle.values.proofs.Bits.{length_bitwise}
 use Rattle.operators.specs.declared.Value.{Value}
 use Rattle.operators.specs.declared.Value.TheVariants.{Number, Characters, Bits}
-use Rattle.operators.specs.declared.Given.{Given}
-use Rattle.operators.specs.declared.Given.TheVariants.{Gives, Fails}
 use Rattle.operators.specs.Stands.{value_in, given_in, size_for, stacked, Ready, Gave, Made, top_of, as_bit, bits_put}
 use Rattle.operators.specs.Sides.{Raised, First}
 use Rattle.operators.proofs.Room.{part_written, below_over, part_below, part_above, top_in_lem}
@@ -103,7 +102,7 @@ module _ (w : List ℕ) (u : ℕ) (x : Value) (m : ℕ) (z : Fixed) (e : x ≡ N
   place : Ready w u (size_for x + m) → k ≡ u + m
   place h = p ∙ top_in_lem u m (omega (arith, h.top))
 
-  pub first_out : t ≡ false → First w u x m w (Fails too_long)
+  pub first_out : t ≡ false → First w u x m w (Err too_long)
   unfolding given_in
   first_out f = record {
     is = λ h.
@@ -116,7 +115,7 @@ module _ (w : List ℕ) (u : ℕ) (x : Value) (m : ℕ) (z : Fixed) (e : x ≡ N
     second = λ h v f. never _ (cc);
   }
 
-  pub first_number : (w₁ w₂ : List ℕ) (g : Given) → t ≡ true → Raised w u m 17 w₁ → Made w₁ u (bits_put u x) (stacked u (as_bit (value_in w₁ u x))) w₂ g → First w u x m w₂ g
+  pub first_number : (w₁ w₂ : List ℕ) (g : Result Value Why) → t ≡ true → Raised w u m 17 w₁ → Made w₁ u (bits_put u x) (stacked u (as_bit (value_in w₁ u x))) w₂ g → First w u x m w₂ g
   unfolding given_in
   first_number w₁ w₂ g f r d = record {
     is = λ h. given h;
@@ -151,7 +150,7 @@ module _ (w : List ℕ) (u : ℕ) (x : Value) (m : ℕ) (z : Fixed) (e : x ≡ N
           (omega (arith, room h), omega (arith, room h))))
 
 -- a first side that has its bytes
-module _ (w : List ℕ) (u : ℕ) (x : Value) (m : ℕ) (w' : List ℕ) (g : Given) (d : Made w u (bits_put u x) (stacked u (as_bit (value_in w u x))) w' g) where
+module _ (w : List ℕ) (u : ℕ) (x : Value) (m : ℕ) (w' : List ℕ) (g : Result Value Why) (d : Made w u (bits_put u x) (stacked u (as_bit (value_in w u x))) w' g) where
   first_bytes : bit_size x ≡ size_for x → bits_put u x ≡ [] → First w u x m w' g
   unfolding given_in
   first_bytes e f = record {
@@ -225,11 +224,11 @@ logical_first u f x y r k = go (D.to_bits x) k
     go (D.gives a) e = go2 (leb (u + D.size_of y + length a) 65536) a e
     go (D.fails q) e = cc
 
-module _ (w : List ℕ) (u : ℕ) (o : Logic) (x y : Value) (m : ℕ) (em : m ≡ size_for y) (w₁ : List ℕ) (ga : Given) (fs : First w u x m w₁ ga) where
+module _ (w : List ℕ) (u : ℕ) (o : Logic) (x y : Value) (m : ℕ) (em : m ≡ size_for y) (w₁ : List ℕ) (ga : Result Value Why) (fs : First w u x m w₁ ga) where
   ready : Ready w u (size_for x + size_for y) → Ready w u (size_for x + m)
   ready h = rw em h
 
-  pub logical_none : (r : Why) → ga ≡ Fails r → Gave w u (size_for x + size_for y) (stacked u (D.logical u (logic_of o) (value_in w u x) (value_in w (u + size_for x) y))) w₁ (Fails r)
+  pub logical_none : (r : Why) → ga ≡ Err r → Gave w u (size_for x + size_for y) (stacked u (D.logical u (logic_of o) (value_in w u x) (value_in w (u + size_for x) y))) w₁ (Err r)
   unfolding given_in stacked
   logical_none r e = record {
     so = λ h.
@@ -239,7 +238,7 @@ module _ (w : List ℕ) (u : ℕ) (o : Logic) (x y : Value) (m : ℕ) (em : m �
         record { is = rw (logical_first u (logic_of o) (value_in w u x) Y r k); below = fs.below (ready h) };
   }
 
-  module _ (first : Value) (e : ga ≡ Gives first) (n : ℕ) (en : n ≡ size_for first) (t : ℕ) (et : t ≡ top_of u n) (w₂ : List ℕ) (gb : Given)
+  module _ (first : Value) (e : ga ≡ Ok first) (n : ℕ) (en : n ≡ size_for first) (t : ℕ) (et : t ≡ top_of u n) (w₂ : List ℕ) (gb : Result Value Why)
       (d : Made w₁ t (bits_put t y) (stacked t (as_bit (value_in w₁ t y))) w₂ gb) where
     module _ (h : Ready w u (size_for x + size_for y)) where
       first_bits : BitsAt (value_in w u x) (u + m) u w₁ first
@@ -267,7 +266,7 @@ module _ (w : List ℕ) (u : ℕ) (o : Logic) (x y : Value) (m : ℕ) (em : m �
       given : given_in w₂ t gb ≡ stacked (u + n) (as_bit (value_in w (u + size_for x) y))
       given = rw (← moved, ← seat) (d.is (omega (arith, fs.size (ready h), h.room)))
 
-    pub logical_half : (r : Why) → gb ≡ Fails r → Gave w u (size_for x + size_for y) (stacked u (D.logical u (logic_of o) (value_in w u x) (value_in w (u + size_for x) y))) w₂ (Fails r)
+    pub logical_half : (r : Why) → gb ≡ Err r → Gave w u (size_for x + size_for y) (stacked u (D.logical u (logic_of o) (value_in w u x) (value_in w (u + size_for x) y))) w₂ (Err r)
     unfolding given_in stacked
     logical_half r eb = record {
       so = λ h.
@@ -277,9 +276,9 @@ module _ (w : List ℕ) (u : ℕ) (o : Logic) (x y : Value) (m : ℕ) (em : m �
           record { is = rw (logical_second u (logic_of o) (value_in w u x) Y (part n u w₁) r (a_bits h) s k); below = low h };
     }
 
-    pub logical_is : (second : Value) (k : ℕ) (w₃ : List ℕ) (r : ℕ) → gb ≡ Gives second → k ≡ size_for second
+    pub logical_is : (second : Value) (k : ℕ) (w₃ : List ℕ) (r : ℕ) → gb ≡ Ok second → k ≡ size_for second
         → Wrote (D.bitwise (logic_of o) (part n u w₂) (part k (u + n) w₂)) w₂ u w₃ r
-        → Gave w u (size_for x + size_for y) (stacked u (D.logical u (logic_of o) (value_in w u x) (value_in w (u + size_for x) y))) w₃ (Gives (Bits r))
+        → Gave w u (size_for x + size_for y) (stacked u (D.logical u (logic_of o) (value_in w u x) (value_in w (u + size_for x) y))) w₃ (Ok (Bits r))
     unfolding given_in value_in stacked D.unfinished
     logical_is second k w₃ r eb ek d₃ = record {
       so = λ h.

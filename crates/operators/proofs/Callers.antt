@@ -1,5 +1,6 @@
 -- What a caller makes of the contracts: the next premise, what still stands below, and one node of an expression.
 -- Assumes nothing.
+use Rattle.std.proofs.Common.{Ok}
 use mathlib.Core.Path.{◌≡◌, refl, sym, ap, ◌∙◌}
 use mathlib.Core.Bool.{Bool, true, false, cond}
 use mathlib.Core.List.{List}
@@ -14,7 +15,6 @@ use Rattle.definition.specs.World.{World, ask}
 use Rattle.definition.specs.Evaluate.{put}
 use Rattle.operators.specs.declared.Value.{Value}
 use Rattle.operators.specs.declared.Value.TheVariants.{Number, Characters, Bits}
-use Rattle.operators.specs.declared.Given.TheVariants.{Gives}
 use Rattle.operators.specs.Stands.{value_in, given_in, size_for, stacked, Stood}
 use Rattle.operators.proofs.Room.{part_below}
 use Rattle.operators.proofs.Answers.{size_is}
@@ -35,7 +35,7 @@ stacked_fits u (D.gives x) v e = go (leb (u + D.size_of x) 65536) refl e
     go true f g = let h : v ≡ x = cc in rw h (leb-true (u + D.size_of x) 65536 f)
     go false f g = never _ (cc)
 
-module _ (w : List ℕ) (u : ℕ) (a : D.Answer D.Value) (w' : List ℕ) (v : Value) (s : Stood w u (stacked u a) w' (Gives v)) where
+module _ (w : List ℕ) (u : ℕ) (a : D.Answer D.Value) (w' : List ℕ) (v : Value) (s : Stood w u (stacked u a) w' (Ok v)) where
   pub stood_fits : u + size_for v ≤ 65536
   unfolding given_in
   stood_fits = rw size_is at (stacked_fits u a (value_in w' u v) s.is)

@@ -1,5 +1,6 @@
 -- The operators on two sides: `||`, and all of them.
 -- Assumes nothing.
+use Rattle.std.proofs.Common.{Result, Ok, Err}
 use mathlib.Core.Path.{◌≡◌, refl, sym, ap, ◌∙◌}
 use mathlib.Core.Bool.{Bool, true, false, cond}
 use mathlib.Core.List.{List, [], ◌++◌, append-nil}
@@ -21,8 +22,6 @@ use Rattle.definition.proofs.Rooms.{over_nil, over_next, over_under}
 use Rattle.fixed.specs.declared.Fixed.{Fixed}
 use Rattle.operators.specs.declared.Value.{Value}
 use Rattle.operators.specs.declared.Value.TheVariants.{Number, Characters, Bits}
-use Rattle.operators.specs.declared.Given.{Given}
-use Rattle.operators.specs.declared.Given.TheVariants.{Gives, Fails}
 use Rattle.operators.specs.Stands.{value_in, given_in, size_for, stacked, Ready, Stood, Gave, top_of, among_for, limited_for}
 use Rattle.operators.specs.Sides.{Raised, text_size, number_text, first_text, WroteFirst, both_bits, joined_value}
 use Rattle.operators.proofs.Room.{part_written, below_over, over_self, over_behind, top_in_lem, top_out}
@@ -96,13 +95,13 @@ joined_as w u t (Bits n) (Bits m) = refl
 
 -- the two tests, in the code and in the definition
 limited_code : (u n m s : ℕ) (x y : Value) → s ≡ top_of n m
-    → limited_for u (joined_value x y s) ≡ cond (leb (n + m) 512) (cond (leb (u + (n + m)) 65536) (Gives (joined_value x y (n + m))) (Fails too_long)) (Fails too_long)
+    → limited_for u (joined_value x y s) ≡ cond (leb (n + m) 512) (cond (leb (u + (n + m)) 65536) (Ok (joined_value x y (n + m))) (Err too_long)) (Err too_long)
 unfolding limited_for among_for joined_value
 limited_code u n m s x y e = rw value_size (go (leb (n + m) 512) refl (leb (n + m) 65536) refl)
   where
     go : (a : Bool) → leb (n + m) 512 ≡ a → (b : Bool) → leb (n + m) 65536 ≡ b
-        → cond (leb s 512) (cond (leb (u + s) 65536) (Gives (cond (both_bits x y) (Bits s) (Characters s))) (Fails too_long)) (Fails too_long)
-        ≡ cond a (cond (leb (u + (n + m)) 65536) (Gives (cond (both_bits x y) (Bits (n + m)) (Characters (n + m)))) (Fails too_long)) (Fails too_long)
+        → cond (leb s 512) (cond (leb (u + s) 65536) (Ok (cond (both_bits x y) (Bits s) (Characters s))) (Err too_long)) (Err too_long)
+        ≡ cond a (cond (leb (u + (n + m)) 65536) (Ok (cond (both_bits x y) (Bits (n + m)) (Characters (n + m)))) (Err too_long)) (Err too_long)
     go true p b q = let t : s ≡ n + m = e ∙ top_in_lem n m (omega (arith, leb-true (n + m) 512 p)) in rw (t, p)
     go false p true q = let t : s ≡ n + m = e ∙ top_in_lem n m (leb-true (n + m) 65536 q) in rw (t, p)
     go false p false q = let t : s ≡ 65536 = e ∙ top_out n m (leb-false (n + m) 65536 q) in rw t
@@ -135,38 +134,38 @@ joined_room w u (Bits n) (Characters m) = both w u n m
 joined_room w u (Bits n) (Bits m) = both w u n m
 
 module _ (w : List ℕ) (u : ℕ) (x y : Value) (n m s : ℕ) (en : n ≡ text_size x) (em : m ≡ text_size y) (es : s ≡ top_of n m) (j : Value) (ej : j ≡ joined_value x y s)
-    (g : Given) (eg : g ≡ limited_for u j) where
+    (g : Result Value Why) (eg : g ≡ limited_for u j) where
   abbrev whole : List ℕ
   whole = D.to_characters (value_in w u x) ++ D.to_characters (value_in w (u + size_for x) y)
 
   size : length whole ≡ n + m
   size = length-append (D.to_characters (value_in w u x)) (D.to_characters (value_in w (u + size_for x) y)) ∙ rw (text_length, text_length, en, em)
 
-  code : g ≡ cond (leb (n + m) 512) (cond (leb (u + (n + m)) 65536) (Gives (joined_value x y (n + m))) (Fails too_long)) (Fails too_long)
+  code : g ≡ cond (leb (n + m) 512) (cond (leb (u + (n + m)) 65536) (Ok (joined_value x y (n + m))) (Err too_long)) (Err too_long)
   code = eg ∙ rw ej (limited_code u n m s x y es)
 
   defined : stacked u (D.joined (value_in w u x) (value_in w (u + size_for x) y))
       ≡ cond (leb (n + m) 512) (cond (leb (u + (n + m)) 65536) (D.gives (kind_of (both_bits x y) whole)) (D.fails too_long)) (D.fails too_long)
   defined = ap (stacked u) (joined_as w u (u + size_for x) x y) ∙ limited_defined u (n + m) (both_bits x y) whole size
 
-  pub joined_none : (e : Why) → g ≡ Fails e → Gave w u (size_for x + size_for y) (stacked u (D.joined (value_in w u x) (value_in w (u + size_for x) y))) w (Fails e)
+  pub joined_none : (e : Why) → g ≡ Err e → Gave w u (size_for x + size_for y) (stacked u (D.joined (value_in w u x) (value_in w (u + size_for x) y))) w (Err e)
   unfolding given_in
   joined_none e f = record { so = λ h. record { is = rw defined (go (leb (n + m) 512) (leb (u + (n + m)) 65536) (sym f ∙ code)); below = refl } }
     where
-      go : (a b : Bool) → Fails e ≡ cond a (cond b (Gives (joined_value x y (n + m))) (Fails too_long)) (Fails too_long)
+      go : (a b : Bool) → Err e ≡ cond a (cond b (Ok (joined_value x y (n + m))) (Err too_long)) (Err too_long)
           → D.fails e ≡ cond a (cond b (D.gives (kind_of (both_bits x y) whole)) (D.fails too_long)) (D.fails too_long)
       go true true c = never _ (cc)
       go true false c = let d : e ≡ too_long = cc in rw d
       go false b c = let d : e ≡ too_long = cc in rw d
 
-  pub joined_is : (v : Value) (k : ℕ) (w₁ : List ℕ) (t : ℕ) (w₂ : List ℕ) → g ≡ Gives v → k ≡ size_for y → WroteFirst w u k x w₁ → t ≡ top_of u n
-      → w₂ ≡ over w₁ t (number_text y) → Gave w u (size_for x + size_for y) (stacked u (D.joined (value_in w u x) (value_in w (u + size_for x) y))) w₂ (Gives v)
+  pub joined_is : (v : Value) (k : ℕ) (w₁ : List ℕ) (t : ℕ) (w₂ : List ℕ) → g ≡ Ok v → k ≡ size_for y → WroteFirst w u k x w₁ → t ≡ top_of u n
+      → w₂ ≡ over w₁ t (number_text y) → Gave w u (size_for x + size_for y) (stacked u (D.joined (value_in w u x) (value_in w (u + size_for x) y))) w₂ (Ok v)
   unfolding given_in joined_value
   joined_is v k w₁ t w₂ f ek d et ew = record { so = λ h. rw defined (go (leb (n + m) 512) refl (leb (u + (n + m)) 65536) refl (sym f ∙ code) h) }
     where
-      go : (a : Bool) → leb (n + m) 512 ≡ a → (b : Bool) → leb (u + (n + m)) 65536 ≡ b → Gives v ≡ cond a (cond b (Gives (joined_value x y (n + m))) (Fails too_long)) (Fails too_long)
+      go : (a : Bool) → leb (n + m) 512 ≡ a → (b : Bool) → leb (u + (n + m)) 65536 ≡ b → Ok v ≡ cond a (cond b (Ok (joined_value x y (n + m))) (Err too_long)) (Err too_long)
           → Ready w u (size_for x + size_for y)
-          → Stood w u (cond a (cond b (D.gives (kind_of (both_bits x y) whole)) (D.fails too_long)) (D.fails too_long)) w₂ (Gives v)
+          → Stood w u (cond a (cond b (D.gives (kind_of (both_bits x y) whole)) (D.fails too_long)) (D.fails too_long)) w₂ (Ok v)
       go true p true q c h =
           let top : u + (n + m) ≤ 65536 = leb-true (u + (n + m)) 65536 q in
           let is : v ≡ joined_value x y (n + m) = cc in

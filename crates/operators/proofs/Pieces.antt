@@ -1,5 +1,7 @@
 -- SUBSTR of a value where it stands.
 -- Assumes nothing.
+use Rattle.std.proofs.Common.{Result, Err, Option, Some, None}
+use Rattle.definition.specs.declared.Why.{Why}
 use mathlib.Core.Path.{◌≡◌, refl, sym, ap, ◌∙◌}
 use mathlib.Core.Bool.{Bool, true, false, cond}
 use mathlib.Core.List.{List, [], ◌∷◌}
@@ -14,14 +16,10 @@ use Rattle.definition.specs.Room.{over}
 use Rattle.definition.specs.declared.Why.TheVariants.{SubstrOutside as substr_outside}
 use Rattle.definition.specs.Values as D
 use Rattle.definition.proofs.Parts.{length_part}
-use Rattle.values.specs.declared.Cut.{Cut}
-use Rattle.values.specs.declared.Cut.TheVariants.{Stretch, Outside}
 use Rattle.values.specs.Substr.{stretch, cut_at, cut_part, cut_rest}
 use Rattle.values.proofs.Substr.{substr_rest, substr_part, piece_part}
 use Rattle.operators.specs.declared.Value.{Value}
 use Rattle.operators.specs.declared.Value.TheVariants.{Number, Characters, Bits}
-use Rattle.operators.specs.declared.Given.{Given}
-use Rattle.operators.specs.declared.Given.TheVariants.{Fails}
 use Rattle.operators.specs.Stands.{value_in, given_in, size_for, stacked, Gave, top_of, among_for, MovedDown}
 use Rattle.operators.specs.Sides.{same_kind, Within, piece_of, Took}
 use Rattle.operators.proofs.Room.{part_written, below_over, top_in_lem}
@@ -37,7 +35,7 @@ piece_is w w' u (Number x) i n h e =
 piece_is w w' u (Characters k) i n h e = ap D.characters (e ∙ sym (piece_part k i n u w h))
 piece_is w w' u (Bits k) i n h e = ap D.bit_value (e ∙ sym (piece_part k i n u w h))
 
-pub took_piece : (w : List ℕ) (u : ℕ) (v : Value) (c : Cut) (i n t : ℕ) (w' : List ℕ) (k : Value) (g : Given) → c ≡ Stretch i n → t ≡ top_of u i
+pub took_piece : (w : List ℕ) (u : ℕ) (v : Value) (c : Option (ℕ × ℕ)) (i n t : ℕ) (w' : List ℕ) (k : Value) (g : Result Value Why) → c ≡ Some (i, n) → t ≡ top_of u i
     → MovedDown w t n u w' → k ≡ same_kind v n → g ≡ among_for u k → Took w u v c w' g
 unfolding Within piece_of stacked
 took_piece w u v c i n t w' k g e et d ek eg = rw e (record {
@@ -52,7 +50,7 @@ took_piece w u v c i n t w' k g e et d ek eg = rw e (record {
       };
 })
 
-pub took_none : (w : List ℕ) (u : ℕ) (v : Value) (c : Cut) → c ≡ Outside → Took w u v c w (Fails substr_outside)
+pub took_none : (w : List ℕ) (u : ℕ) (v : Value) (c : Option (ℕ × ℕ)) → c ≡ None → Took w u v c w (Err substr_outside)
 unfolding piece_of stacked given_in
 took_none w u v c e = rw e (record { so = λ h r. record { is = refl; below = refl } })
 
@@ -61,7 +59,7 @@ within_stretch : (size i n : ℕ) → Within size (stretch size i n)
 unfolding Within stretch
 within_stretch size i n = go (leb (i + n) size) refl
   where
-    go : (t : Bool) → leb (i + n) size ≡ t → Within size (cond t (Stretch i n) Outside)
+    go : (t : Bool) → leb (i + n) size ≡ t → Within size (cond t (Some (i, n)) None)
     go true e = leb-true (i + n) size e
     go false e = tt
 
@@ -81,7 +79,7 @@ unfolding Within cut_rest
 within_rest size (pos i) = within_at size i (size - (i - 1))
 within_rest size (negsuc i) = tt
 
-module _ (w : List ℕ) (u : ℕ) (v : Value) (size : ℕ) (es : size ≡ size_for v) (c : Cut) (w' : List ℕ) (g : Given) (d : Took w u v c w' g) where
+module _ (w : List ℕ) (u : ℕ) (v : Value) (size : ℕ) (es : size ≡ size_for v) (c : Option (ℕ × ℕ)) (w' : List ℕ) (g : Result Value Why) (d : Took w u v c w' g) where
   pub rest_took : (z : ℤ) → c ≡ cut_rest size z → Gave w u (size_for v) (stacked u (D.substr (value_in w u v ∷ D.fixed z ∷ []))) w' g
   unfolding piece_of
   rest_took z e = record {

@@ -1,5 +1,6 @@
 -- The operators on two sides: numbers and comparison.
 -- Assumes nothing.
+use Rattle.fixed.specs.declared.FixedError.{FixedError}
 use mathlib.Core.Path.{◌≡◌, refl, sym, ap, ◌∙◌}
 use mathlib.Core.Bool.{Bool, true, false}
 use mathlib.Core.Logic.{◌⊎◌, inl, inr}
@@ -19,7 +20,6 @@ use Rattle.definition.specs.declared.Operator.{Operator}
 use Rattle.definition.specs.Values as D
 use Rattle.definition.proofs.Rooms.{over_nil}
 use Rattle.fixed.specs.declared.Fixed.{Fixed}
-use Rattle.fixed.specs.declared.Answer.{Answer}
 use Rattle.fixed.specs.Answer.{result_of}
 use Rattle.values.specs.declared.Order.{Order}
 use Rattle.values.specs.declared.Comparison.{Comparison}
@@ -27,9 +27,6 @@ use Rattle.values.specs.declared.Comparison.TheVariants.{Greater, GreaterEqual, 
 use Rattle.values.specs.Answers.{order_for, order_in, is_wanted}
 use Rattle.operators.specs.declared.Value.{Value}
 use Rattle.operators.specs.declared.Value.TheVariants.{Number, Characters, Bits}
-use Rattle.operators.specs.declared.Given.{Given}
-use Rattle.operators.specs.declared.Given.TheVariants.{Gives, Fails}
-use Rattle.operators.specs.declared.NumberGiven.{NumberGiven}
 use Rattle.operators.specs.Stands.{value_in, given_in, number_for, size_for, stacked, Ready, Gave, top_of, number_value}
 use Rattle.operators.specs.Sides.{calc_of, numbers, numbers_in, pair_for, order_answer, numeric_of, wanted_by, bits_given, Judged}
 use Rattle.operators.proofs.Room.{part_written, below_over, top_in_lem}
@@ -66,7 +63,7 @@ top_of_lem w u x y h = top_in_lem u (size_for x) (omega (arith, h.top))
 
 -- ---- arithmetic
 module _ (w : List ℕ) (u : ℕ) (o : Operator) (x y : Value) (p : Result (Fixed × Fixed) Why) (h : pair_for p ≡ numbers_in (value_in w u x) (value_in w (top_of u (size_for x)) y)) where
-  pub calculated_is : (a b : Fixed) (r : Answer) (k : NumberGiven) (g : Given) → p ≡ Ok (a, b) → result_of r ≡ calc_of o a.value b.value
+  pub calculated_is : (a b : Fixed) (r : Result Fixed FixedError) (k : Result Fixed Why) (g : Result Value Why) → p ≡ Ok (a, b) → result_of r ≡ calc_of o a.value b.value
       → number_for k ≡ D.from_fixed (result_of r) → g ≡ number_value k
       → Gave w u (size_for x + size_for y) (stacked u (D.arithmetic (calc_of o) (value_in w u x) (value_in w (u + size_for x) y))) w g
   unfolding D.arithmetic pair_for
@@ -82,7 +79,7 @@ module _ (w : List ℕ) (u : ℕ) (o : Operator) (x y : Value) (p : Result (Fixe
   }
 
   pub calculated_not : (e : Why) → p ≡ Err e
-      → Gave w u (size_for x + size_for y) (stacked u (D.arithmetic (calc_of o) (value_in w u x) (value_in w (u + size_for x) y))) w (Fails e)
+      → Gave w u (size_for x + size_for y) (stacked u (D.arithmetic (calc_of o) (value_in w u x) (value_in w (u + size_for x) y))) w (Err e)
   unfolding D.arithmetic pair_for given_in stacked
   calculated_not r e = record {
     so = λ d.
@@ -157,7 +154,7 @@ wanted_is NotEqual o = refl
 wanted_is NotLess o = refl
 
 module _ (w : List ℕ) (u : ℕ) (c : Comparison) (x y : Value) (q : Result Order Why) (h : order_answer q ≡ D.compared (value_in w u x) (value_in w (top_of u (size_for x)) y)) where
-  pub comparing_not : (e : Why) → q ≡ Err e → Judged w u (size_for x + size_for y) (stacked u (D.comparing (wanted_by c) (value_in w u x) (value_in w (u + size_for x) y))) w (Fails e)
+  pub comparing_not : (e : Why) → q ≡ Err e → Judged w u (size_for x + size_for y) (stacked u (D.comparing (wanted_by c) (value_in w u x) (value_in w (u + size_for x) y))) w (Err e)
   unfolding order_answer D.comparing given_in stacked bits_given
   comparing_not r e = record { so = λ d. record { is = rw (← k d); below = refl }; only = λ d. rw (← k d) (sym (over_nil w u)) }
     where
@@ -169,7 +166,7 @@ module _ (w : List ℕ) (u : ℕ) (c : Comparison) (x y : Value) (q : Result Ord
     unfolding order_answer
     order_is d = rw (e, top_of_lem w u x y d) at h
 
-    pub comparing_out : t ≡ false → Judged w u (size_for x + size_for y) (stacked u (D.comparing (wanted_by c) (value_in w u x) (value_in w (u + size_for x) y))) w (Fails too_long)
+    pub comparing_out : t ≡ false → Judged w u (size_for x + size_for y) (stacked u (D.comparing (wanted_by c) (value_in w u x) (value_in w (u + size_for x) y))) w (Err too_long)
     unfolding D.comparing given_in stacked D.unfinished bits_given
     comparing_out g =
         let b : leb (u + 1) 65536 ≡ false = sym f ∙ g in
@@ -179,7 +176,7 @@ module _ (w : List ℕ) (u : ℕ) (c : Comparison) (x y : Value) (q : Result Ord
         }
 
     pub comparing_is : (s : Bool) (b : ℕ) (w' : List ℕ) → t ≡ true → s ≡ is_wanted c o → b ≡ D.bit_of s → w' ≡ over w (u + 0) (b ∷ [])
-        → Judged w u (size_for x + size_for y) (stacked u (D.comparing (wanted_by c) (value_in w u x) (value_in w (u + size_for x) y))) w' (Gives (Bits 1))
+        → Judged w u (size_for x + size_for y) (stacked u (D.comparing (wanted_by c) (value_in w u x) (value_in w (u + size_for x) y))) w' (Ok (Bits 1))
     unfolding D.comparing given_in value_in stacked D.unfinished bits_given
     comparing_is s b w' g i j m =
         let z : leb (u + 1) 65536 ≡ true = sym f ∙ g in
@@ -192,5 +189,5 @@ module _ (w : List ℕ) (u : ℕ) (c : Comparison) (x y : Value) (q : Result Ord
           only = λ d. rw (← order_is d, z) (rw a at l);
         }
 
-pub judged_gave : {w w' : List ℕ} {u n : ℕ} {a : D.Answer D.Value} {g : Given} → Judged w u n a w' g → Gave w u n a w' g
+pub judged_gave : {w w' : List ℕ} {u n : ℕ} {a : D.Answer D.Value} {g : (Result Value Why)} → Judged w u n a w' g → Gave w u n a w' g
 judged_gave h = record { so = h.so }

@@ -1,5 +1,6 @@
 -- The conversions where a value stands, and what goes on with bits.
 -- Assumes nothing.
+use Rattle.std.proofs.Common.{Result, Ok, Err}
 use mathlib.Core.Path.{◌≡◌, refl, sym, ap, ◌∙◌}
 use mathlib.Core.Bool.{Bool, true, false, cond}
 use mathlib.Core.Logic.{◌⊎◌, inl, inr}
@@ -28,10 +29,6 @@ use Rattle.fixed.specs.declared.Fixed.{Fixed}
 use Rattle.values.proofs.Bits.{length_inverted}
 use Rattle.operators.specs.declared.Value.{Value}
 use Rattle.operators.specs.declared.Value.TheVariants.{Number, Characters, Bits}
-use Rattle.operators.specs.declared.Given.{Given}
-use Rattle.operators.specs.declared.Given.TheVariants.{Gives, Fails}
-use Rattle.operators.specs.declared.NumberGiven.{NumberGiven}
-use Rattle.operators.specs.declared.Truth.TheVariants.{Is as is_truth, Fails as no_truth}
 use Rattle.operators.specs.Stands.{value_in, given_in, number_for, truth_for, size_for, stacked, Ready, Gave, Told, Made, among_for, number_value, as_bit, as_subject, text_put, bits_put}
 use Rattle.operators.specs.Sides.{negated_for}
 use Rattle.operators.proofs.Room.{part_written, below_over}
@@ -48,7 +45,7 @@ module _ (w : List ℕ) (u : ℕ) (v : Value) (x : Fixed) (e : v ≡ Number x) (
   test = rw (text_wide x.value) (sym g)
 
   pub text_in_lem : (w' : List ℕ) → t ≡ true → w' ≡ over w u (D.fixed_text x.value)
-      → Made w u (text_put u v) (stacked u (D.convert CharacterType (value_in w u v))) w' (Gives (Characters fixed_width))
+      → Made w u (text_put u v) (stacked u (D.convert CharacterType (value_in w u v))) w' (Ok (Characters fixed_width))
   unfolding text_put value_in given_in stacked D.convert D.to_characters D.unfinished
   text_in_lem w' h m =
       let b : leb (u + length text) 65536 ≡ true = test ∙ h in
@@ -57,13 +54,13 @@ module _ (w : List ℕ) (u : ℕ) (v : Value) (x : Fixed) (e : v ≡ Number x) (
         is = λ room. rw (b, part_written fixed_width u w w' text (sym (text_wide x.value)) m (omega (arith, leb-true (u + length text) 65536 b)));
       })
 
-  pub text_out_lem : t ≡ false → Made w u (text_put u v) (stacked u (D.convert CharacterType (value_in w u v))) w (Fails too_long)
+  pub text_out_lem : t ≡ false → Made w u (text_put u v) (stacked u (D.convert CharacterType (value_in w u v))) w (Err too_long)
   unfolding text_put value_in given_in stacked D.convert D.to_characters D.unfinished
   text_out_lem h =
       let b : leb (u + length text) 65536 ≡ false = test ∙ h in
       rw e (record { wrote = rw b (sym (over_nil w u)); is = λ room. rw b })
 
-module _ (w : List ℕ) (u : ℕ) (v : Value) (n : ℕ) (g : Given) where
+module _ (w : List ℕ) (u : ℕ) (v : Value) (n : ℕ) (g : Result Value Why) where
   pub text_bytes : (v ≡ Characters n) ⊎ (v ≡ Bits n) → g ≡ among_for u (Characters n) → Made w u (text_put u v) (stacked u (D.convert CharacterType (value_in w u v))) w g
   unfolding text_put value_in stacked D.convert D.to_characters
   text_bytes (inl e) f = rw (e, f) (record { wrote = sym (over_nil w u); is = λ room. among_is w u (Characters n) })
@@ -77,7 +74,7 @@ length_binary (suc k) n = ap suc (length_binary k n)
 
 module _ (w : List ℕ) (u : ℕ) (v : Value) (x : Fixed) (e : v ≡ Number x) (t : Bool) (g : t ≡ leb (u + 17) 65536) where
   pub bits_in : (w' : List ℕ) → t ≡ true → w' ≡ over w u (D.binary 17 (nat_abs x.value))
-      → Made w u (bits_put u v) (stacked u (as_bit (value_in w u v))) w' (Gives (Bits 17))
+      → Made w u (bits_put u v) (stacked u (as_bit (value_in w u v))) w' (Ok (Bits 17))
   unfolding bits_put value_in given_in stacked as_bit D.to_bits D.unfinished
   bits_in w' h m =
       let l = D.binary 17 (nat_abs x.value) in
@@ -88,7 +85,7 @@ module _ (w : List ℕ) (u : ℕ) (v : Value) (x : Fixed) (e : v ≡ Number x) (
         is = λ room. rw (b, part_written 17 u w w' l (sym z) m (omega (arith, leb-true (u + length l) 65536 b)));
       })
 
-  pub bits_out : t ≡ false → Made w u (bits_put u v) (stacked u (as_bit (value_in w u v))) w (Fails too_long)
+  pub bits_out : t ≡ false → Made w u (bits_put u v) (stacked u (as_bit (value_in w u v))) w (Err too_long)
   unfolding bits_put value_in given_in stacked as_bit D.to_bits D.unfinished
   bits_out h =
       let l = D.binary 17 (nat_abs x.value) in
@@ -96,7 +93,7 @@ module _ (w : List ℕ) (u : ℕ) (v : Value) (x : Fixed) (e : v ≡ Number x) (
       rw e (record { wrote = rw b (sym (over_nil w u)); is = λ room. rw b })
 
 module _ (w : List ℕ) (u : ℕ) (v : Value) (n : ℕ) where
-  pub bits_characters : (t : Bool) (g : Given) → v ≡ Characters n → t ≡ all is_bit (part n u w) → t ≡ true → g ≡ among_for u (Bits n)
+  pub bits_characters : (t : Bool) (g : Result Value Why) → v ≡ Characters n → t ≡ all is_bit (part n u w) → t ≡ true → g ≡ among_for u (Bits n)
       → Made w u (bits_put u v) (stacked u (as_bit (value_in w u v))) w g
   unfolding bits_put value_in stacked as_bit D.to_bits
   bits_characters t g e f h k =
@@ -104,13 +101,13 @@ module _ (w : List ℕ) (u : ℕ) (v : Value) (n : ℕ) where
       rw (e, k) (record { wrote = sym (over_nil w u); is = λ room. rw b (among_is w u (Bits n)) })
 
   pub bits_wrong : (t : Bool) → v ≡ Characters n → t ≡ all is_bit (part n u w) → t ≡ false
-      → Made w u (bits_put u v) (stacked u (as_bit (value_in w u v))) w (Fails no_conversion)
+      → Made w u (bits_put u v) (stacked u (as_bit (value_in w u v))) w (Err no_conversion)
   unfolding bits_put value_in given_in stacked as_bit D.to_bits
   bits_wrong t e f h =
       let b : all is_bit (part n u w) ≡ false = sym f ∙ h in
       rw e (record { wrote = sym (over_nil w u); is = λ room. rw b })
 
-  pub bits_bits : (g : Given) → v ≡ Bits n → g ≡ among_for u (Bits n) → Made w u (bits_put u v) (stacked u (as_bit (value_in w u v))) w g
+  pub bits_bits : (g : Result Value Why) → v ≡ Bits n → g ≡ among_for u (Bits n) → Made w u (bits_put u v) (stacked u (as_bit (value_in w u v))) w g
   unfolding bits_put value_in stacked as_bit D.to_bits
   bits_bits g e k = rw (e, k) (record { wrote = sym (over_nil w u); is = λ room. among_is w u (Bits n) })
 
@@ -150,12 +147,12 @@ bits_at a k u w x e = go (D.to_bits a) refl e
     go (D.fails y) f g = never _ (cc)
 
 -- ---- SUBSTR's subject
-pub subject_number : (w : List ℕ) (u n : ℕ) (v : Value) (x : Fixed) (l w' : List ℕ) (g : Given) → v ≡ Number x
+pub subject_number : (w : List ℕ) (u n : ℕ) (v : Value) (x : Fixed) (l w' : List ℕ) (g : Result Value Why) → v ≡ Number x
     → Made w u l (stacked u (D.convert CharacterType (value_in w u v))) w' g → Gave w u n (stacked u (as_subject (value_in w u v))) w' g
 unfolding as_subject value_in D.convert D.to_characters
 subject_number w u n v x l w' g e m = rw e (made_gave w u n l _ w' g (rw e at m))
 
-pub subject_bytes : (w : List ℕ) (u n : ℕ) (v : Value) (g : Given) → ((k : ℕ) × (v ≡ Characters k)) ⊎ ((k : ℕ) × (v ≡ Bits k)) → g ≡ among_for u v
+pub subject_bytes : (w : List ℕ) (u n : ℕ) (v : Value) (g : Result Value Why) → ((k : ℕ) × (v ≡ Characters k)) ⊎ ((k : ℕ) × (v ≡ Bits k)) → g ≡ among_for u v
     → Gave w u n (stacked u (as_subject (value_in w u v))) w g
 unfolding as_subject value_in stacked
 subject_bytes w u n v g (inl (k, e)) f = rw (e, f, e) (record { so = λ h. record { is = among_is w u (Characters k); below = refl } })
@@ -180,19 +177,19 @@ holds_stacked u a = made (D.to_bits a)
     made (D.fails e) = refl
 
 -- ---- what follows a value that was made BIT
-module _ (w : List ℕ) (u n : ℕ) (l : List ℕ) (a : D.Value) (w₁ : List ℕ) (b : Given) (m : Made w u l (stacked u (as_bit a)) w₁ b) where
-  found : (x : Value) → b ≡ Gives x → Ready w u n → D.gives (value_in w₁ u x) ≡ stacked u (as_bit a)
+module _ (w : List ℕ) (u n : ℕ) (l : List ℕ) (a : D.Value) (w₁ : List ℕ) (b : Result Value Why) (m : Made w u l (stacked u (as_bit a)) w₁ b) where
+  found : (x : Value) → b ≡ Ok x → Ready w u n → D.gives (value_in w₁ u x) ≡ stacked u (as_bit a)
   unfolding given_in
   found x e h = rw e at (m.is h.room)
 
-  lost : (y : Why) → b ≡ Fails y → Ready w u n → D.fails y ≡ stacked u (as_bit a)
+  lost : (y : Why) → b ≡ Err y → Ready w u n → D.fails y ≡ stacked u (as_bit a)
   unfolding given_in
   lost y e h = rw e at (m.is h.room)
 
   under : take u w₁ ≡ take u w
   under = below_over u u w w₁ l (omega arith) m.wrote
 
-  pub holds_is : (x : Value) (k : ℕ) (t : Bool) → b ≡ Gives x → k ≡ size_for x → t ≡ D.any_one (part k u w₁) → Told w u n (D.holds u a) w₁ (is_truth t)
+  pub holds_is : (x : Value) (k : ℕ) (t : Bool) → b ≡ Ok x → k ≡ size_for x → t ≡ D.any_one (part k u w₁) → Told w u n (D.holds u a) w₁ (Ok t)
   unfolding truth_for value_in
   holds_is x k t e f g = record {
     is = λ h.
@@ -204,12 +201,12 @@ module _ (w : List ℕ) (u n : ℕ) (l : List ℕ) (a : D.Value) (w₁ : List �
       held : (x : Value) (k : ℕ) (t : Bool) → BitsAt a u u w₁ x → k ≡ size_for x → t ≡ D.any_one (part k u w₁) → D.gives t ≡ bits_hold (value_in w₁ u x)
       held x k t q f g = rw (q.kind, ← f, g)
 
-  pub holds_not : (y : Why) → b ≡ Fails y → Told w u n (D.holds u a) w₁ (no_truth y)
+  pub holds_not : (y : Why) → b ≡ Err y → Told w u n (D.holds u a) w₁ (Err y)
   unfolding truth_for
   holds_not y e = record { is = λ h. ap (λ z. D.and_then z bits_hold) (lost y e h) ∙ holds_stacked u a; below = λ h. under }
 
-  pub complement_is : (o : Prefix) (x : Value) (k : ℕ) (w₂ : List ℕ) → o ≡ Complement → b ≡ Gives x → k ≡ size_for x → w₂ ≡ over w₁ u (D.inverted (part k u w₁))
-      → Gave w u n (stacked u (D.prefixed o a)) w₂ (Gives x)
+  pub complement_is : (o : Prefix) (x : Value) (k : ℕ) (w₂ : List ℕ) → o ≡ Complement → b ≡ Ok x → k ≡ size_for x → w₂ ≡ over w₁ u (D.inverted (part k u w₁))
+      → Gave w u n (stacked u (D.prefixed o a)) w₂ (Ok x)
   unfolding D.prefixed stacked D.unfinished given_in value_in
   complement_is o x k w₂ c e f g = record {
     so = λ h.
@@ -221,7 +218,7 @@ module _ (w : List ℕ) (u n : ℕ) (l : List ℕ) (a : D.Value) (w₁ : List �
         record { is = rw (c, q.kind, q.bits, ← f, z, y); below = below_over u u w₁ w₂ (D.inverted (part k u w₁)) (omega arith) g ∙ under };
   }
 
-  pub complement_not : (o : Prefix) (y : Why) → o ≡ Complement → b ≡ Fails y → Gave w u n (stacked u (D.prefixed o a)) w₁ (Fails y)
+  pub complement_not : (o : Prefix) (y : Why) → o ≡ Complement → b ≡ Err y → Gave w u n (stacked u (D.prefixed o a)) w₁ (Err y)
   unfolding D.prefixed stacked as_bit given_in D.unfinished
   complement_not o y c e = record { so = λ h. record { is = rw c (go (D.to_bits a) (lost y e h)); below = under } }
     where
@@ -234,12 +231,12 @@ module _ (w : List ℕ) (u n : ℕ) (l : List ℕ) (a : D.Value) (w₁ : List �
       go (D.fails q) f = f
 
 -- ---- signs
-pub prefix_positive : (w : List ℕ) (u n : ℕ) (o : Prefix) (a : D.Value) (x : NumberGiven) (g : Given) → o ≡ Positive
+pub prefix_positive : (w : List ℕ) (u n : ℕ) (o : Prefix) (a : D.Value) (x : Result Fixed Why) (g : Result Value Why) → o ≡ Positive
     → number_for x ≡ D.to_fixed a → g ≡ number_value x → Gave w u n (stacked u (D.prefixed o a)) w g
 unfolding D.prefixed
 prefix_positive w u n o a x g e f k = rw e (gave_number w u n x g _ k (rw f))
 
-pub prefix_negative : (w : List ℕ) (u n : ℕ) (o : Prefix) (a : D.Value) (x y : NumberGiven) (g : Given) → o ≡ Negative
+pub prefix_negative : (w : List ℕ) (u n : ℕ) (o : Prefix) (a : D.Value) (x y : Result Fixed Why) (g : Result Value Why) → o ≡ Negative
     → number_for x ≡ D.to_fixed a → number_for y ≡ negated_for (number_for x) → g ≡ number_value y → Gave w u n (stacked u (D.prefixed o a)) w g
 unfolding D.prefixed negated_for
 prefix_negative w u n o a x y g e f h k = rw e (gave_number w u n y g _ k (rw (h, f) (go (D.to_fixed a))))

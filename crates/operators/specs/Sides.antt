@@ -1,5 +1,5 @@
 -- The operators: x at u, and y directly above it.
-use Rattle.std.specs.Prelude.{ℕ, ◌+◌, ◌≤◌, ◌≡◌, Bool, true, false, not, cond, List, [], ◌++◌, ℤ, length, take, Result, Ok, Err}
+use Rattle.std.specs.Prelude.{ℕ, ◌+◌, ◌≤◌, ◌≡◌, Bool, true, false, not, cond, List, [], ◌++◌, ℤ, length, take, Result, Ok, Err, Option, Some, None}
 use Rattle.definition.specs.declared.Why.{Why}
 use Rattle.definition.specs.Lists.{part}
 use Rattle.definition.specs.Room.{over}
@@ -12,14 +12,10 @@ use Rattle.values.specs.declared.Comparison.{Comparison}
 use Rattle.values.specs.declared.Comparison.TheVariants.{Greater, GreaterEqual, Equal, Less, LessEqual, NotGreater, NotEqual, NotLess}
 use Rattle.fixed.specs.declared.Fixed.{Fixed}
 use Rattle.values.specs.declared.Order.{Order}
-use Rattle.values.specs.declared.Cut.{Cut}
-use Rattle.values.specs.declared.Cut.TheVariants.{Stretch, Outside}
 use Rattle.values.specs.Answers.{order_in}
 use Rattle.values.specs.Substr.{piece_for}
 use Rattle.operators.specs.declared.Value.{Value}
 use Rattle.operators.specs.declared.Value.TheVariants.{Number, Characters, Bits}
-use Rattle.operators.specs.declared.Given.{Given}
-use Rattle.operators.specs.declared.Given.TheVariants.{Gives}
 use Rattle.operators.specs.Stands.{value_in, given_in, size_for, stacked, as_bit, Ready, Stood}
 
 -- ---- numbers
@@ -79,7 +75,7 @@ bits_given (D.gives (D.characters l)) = []
 bits_given (D.gives (D.bit_value l)) = l
 bits_given (D.fails y) = []
 
-pub record Judged (w : List ℕ) (u n : ℕ) (a : D.Answer D.Value) (w' : List ℕ) (g : Given) : Type 0 where
+pub record Judged (w : List ℕ) (u n : ℕ) (a : D.Answer D.Value) (w' : List ℕ) (g : Result Value Why) : Type 0 where
   pub so : Ready w u n → Stood w u a w' g
   pub only : Ready w u n → w' ≡ over w u (bits_given a)
 
@@ -88,11 +84,11 @@ pub record Raised (w : List ℕ) (u m k : ℕ) (w' : List ℕ) : Type 0 where
   pub is : u + k ≤ unfinished_bytes → w' ≡ over w (u + k) (part m u w)
 
 -- the first side as BIT at u, with the m bytes of the second directly above it
-pub record First (w : List ℕ) (u : ℕ) (x : Value) (m : ℕ) (w' : List ℕ) (g : Given) : Type 0 where
+pub record First (w : List ℕ) (u : ℕ) (x : Value) (m : ℕ) (w' : List ℕ) (g : Result Value Why) : Type 0 where
   pub is : Ready w u (size_for x + m) → given_in w' u g ≡ stacked (u + m) (as_bit (value_in w u x))
   pub below : Ready w u (size_for x + m) → take u w' ≡ take u w
   pub size : Ready w u (size_for x + m) → length w' ≡ length w
-  pub second : Ready w u (size_for x + m) → (v : Value) → g ≡ Gives v → part m (u + size_for v) w' ≡ part m (u + size_for x) w
+  pub second : Ready w u (size_for x + m) → (v : Value) → g ≡ Ok v → part m (u + size_for v) w' ≡ part m (u + size_for x) w
 
 -- ---- `||`
 unfoldable pub text_size : Value → ℕ
@@ -131,12 +127,12 @@ same_kind (Characters k) n = Characters n
 same_kind (Bits k) n = Bits n
 
 -- a cut that lies within so many places
-unfoldable pub Within : ℕ → Cut → Type 0
-Within size (Stretch i n) = i + n ≤ size
-Within size Outside = Unit {0}
+unfoldable pub Within : ℕ → Option (ℕ × ℕ) → Type 0
+Within size (Some (i, n)) = i + n ≤ size
+Within size None = Unit {0}
 
-unfoldable pub piece_of : D.Value → Cut → D.Answer D.Value
+unfoldable pub piece_of : D.Value → Option (ℕ × ℕ) → D.Answer D.Value
 piece_of v c = piece_for v c
 
-pub record Took (w : List ℕ) (u : ℕ) (v : Value) (c : Cut) (w' : List ℕ) (g : Given) : Type 0 where
+pub record Took (w : List ℕ) (u : ℕ) (v : Value) (c : Option (ℕ × ℕ)) (w' : List ℕ) (g : Result Value Why) : Type 0 where
   pub so : Within (size_for v) c → Ready w u (size_for v) → Stood w u (stacked u (piece_of (value_in w u v) c)) w' g

@@ -1,5 +1,7 @@
 -- What the values of the code stand for, and what a function that gives one does with the work room.
-use Rattle.std.specs.Prelude.{ℕ, ◌+◌, ◌≤◌, ◌≡◌, Bool, cond, List, [], leb, ℤ, nat_abs, length, take}
+use Rattle.fixed.specs.declared.Fixed.{Fixed}
+use Rattle.definition.specs.declared.Why.{Why}
+use Rattle.std.specs.Prelude.{ℕ, ◌+◌, ◌≤◌, ◌≡◌, Bool, cond, List, [], leb, ℤ, nat_abs, length, take, Result, Ok, Err}
 use Rattle.definition.specs.Lists.{part}
 use Rattle.definition.specs.Room.{over}
 use Rattle.definition.specs.Limits.{value_length, unfinished_bytes}
@@ -7,12 +9,6 @@ use Rattle.definition.specs.declared.Why.TheVariants.{TooLong as too_long}
 use Rattle.definition.specs.Values as D
 use Rattle.operators.specs.declared.Value.{Value}
 use Rattle.operators.specs.declared.Value.TheVariants.{Number, Characters, Bits}
-use Rattle.operators.specs.declared.Given.{Given}
-use Rattle.operators.specs.declared.Given.TheVariants.{Gives, Fails}
-use Rattle.operators.specs.declared.NumberGiven.{NumberGiven}
-use Rattle.operators.specs.declared.NumberGiven.TheVariants.{Is as is_number, Fails as no_number}
-use Rattle.operators.specs.declared.Truth.{Truth}
-use Rattle.operators.specs.declared.Truth.TheVariants.{Is as is_truth, Fails as no_truth}
 
 -- ---- THE RELATION. A value stands for a number, or for the bytes from place u of the work room on
 unfoldable pub value_in : List ℕ → ℕ → Value → D.Value
@@ -20,17 +16,17 @@ value_in w u (Number x) = D.fixed x.value
 value_in w u (Characters n) = D.characters (part n u w)
 value_in w u (Bits n) = D.bit_value (part n u w)
 
-unfoldable pub given_in : List ℕ → ℕ → Given → D.Answer D.Value
-given_in w u (Gives v) = D.gives (value_in w u v)
-given_in w u (Fails y) = D.fails y
+unfoldable pub given_in : List ℕ → ℕ → Result Value Why → D.Answer D.Value
+given_in w u (Ok v) = D.gives (value_in w u v)
+given_in w u (Err y) = D.fails y
 
-unfoldable pub number_for : NumberGiven → D.Answer ℤ
-number_for (is_number x) = D.gives x.value
-number_for (no_number y) = D.fails y
+unfoldable pub number_for : Result Fixed Why → D.Answer ℤ
+number_for (Ok x) = D.gives x.value
+number_for (Err y) = D.fails y
 
-unfoldable pub truth_for : Truth → D.Answer Bool
-truth_for (is_truth b) = D.gives b
-truth_for (no_truth y) = D.fails y
+unfoldable pub truth_for : Result Bool Why → D.Answer Bool
+truth_for (Ok b) = D.gives b
+truth_for (Err y) = D.fails y
 
 -- the bytes that a value takes while it waits
 unfoldable pub size_for : Value → ℕ
@@ -48,21 +44,21 @@ pub record Ready (w : List ℕ) (u n : ℕ) : Type 0 where
   pub top : u + n ≤ unfinished_bytes
 
 -- answer and work room stand for what the definition gives, and the bytes below u are as they were
-pub record Stood (w : List ℕ) (u : ℕ) (a : D.Answer D.Value) (w' : List ℕ) (g : Given) : Type 0 where
+pub record Stood (w : List ℕ) (u : ℕ) (a : D.Answer D.Value) (w' : List ℕ) (g : Result Value Why) : Type 0 where
   pub is : given_in w' u g ≡ a
   pub below : take u w' ≡ take u w
 
 -- THE CONTRACT of what works on the n bytes at u
-pub record Gave (w : List ℕ) (u n : ℕ) (a : D.Answer D.Value) (w' : List ℕ) (g : Given) : Type 0 where
+pub record Gave (w : List ℕ) (u n : ℕ) (a : D.Answer D.Value) (w' : List ℕ) (g : Result Value Why) : Type 0 where
   pub so : Ready w u n → Stood w u a w' g
 
 -- the same of a truth
-pub record Told (w : List ℕ) (u n : ℕ) (a : D.Answer Bool) (w' : List ℕ) (t : Truth) : Type 0 where
+pub record Told (w : List ℕ) (u n : ℕ) (a : D.Answer Bool) (w' : List ℕ) (t : Result Bool Why) : Type 0 where
   pub is : Ready w u n → truth_for t ≡ a
   pub below : Ready w u n → take u w' ≡ take u w
 
 -- of what writes a list at u and nothing else, wherever u lies
-pub record Made (w : List ℕ) (u : ℕ) (l : List ℕ) (a : D.Answer D.Value) (w' : List ℕ) (g : Given) : Type 0 where
+pub record Made (w : List ℕ) (u : ℕ) (l : List ℕ) (a : D.Answer D.Value) (w' : List ℕ) (g : Result Value Why) : Type 0 where
   pub wrote : w' ≡ over w u l
   pub is : unfinished_bytes ≤ length w → given_in w' u g ≡ a
 
@@ -71,11 +67,11 @@ pub record Made (w : List ℕ) (u : ℕ) (l : List ℕ) (a : D.Answer D.Value) (
 unfoldable pub top_of : ℕ → ℕ → ℕ
 top_of u n = cond (leb (u + n) unfinished_bytes) (u + n) unfinished_bytes
 
-unfoldable pub among_for : ℕ → Value → Given
-among_for u v = cond (leb (u + size_for v) unfinished_bytes) (Gives v) (Fails too_long)
+unfoldable pub among_for : ℕ → Value → Result Value Why
+among_for u v = cond (leb (u + size_for v) unfinished_bytes) (Ok v) (Err too_long)
 
-unfoldable pub limited_for : ℕ → Value → Given
-limited_for u v = cond (leb (size_for v) value_length) (among_for u v) (Fails too_long)
+unfoldable pub limited_for : ℕ → Value → Result Value Why
+limited_for u v = cond (leb (size_for v) value_length) (among_for u v) (Err too_long)
 
 -- n bytes come down, or go up, to a place
 pub record MovedDown (r : List ℕ) (from n to : ℕ) (r' : List ℕ) : Type 0 where
@@ -85,9 +81,9 @@ pub record MovedUp (r : List ℕ) (from n to : ℕ) (r' : List ℕ) : Type 0 whe
   pub is : from ≤ to → r' ≡ over r to (part n from r)
 
 -- ---- conversions
-unfoldable pub number_value : NumberGiven → Given
-number_value (is_number x) = Gives (Number x)
-number_value (no_number y) = Fails y
+unfoldable pub number_value : Result Fixed Why → Result Value Why
+number_value (Ok x) = Ok (Number x)
+number_value (Err y) = Err y
 
 unfoldable pub as_bit : D.Value → D.Answer D.Value
 as_bit v = D.and_then (D.to_bits v) λ l. D.gives (D.bit_value l)

@@ -15,13 +15,12 @@ ghost use Rattle.operators.specs.Stands.{value_in, number_for, size_for, stacked
 ghost use Rattle.operators.specs.Sides.{negated_for, calc_of, numbers_in, pair_for, order_answer, numeric_of, wanted_by, Judged, Raised, First, text_size, number_text, WroteFirst, both_bits, joined_value, same_kind, Took};
 
 use definition::{Operator, Prefix, ValueType, Why};
-use fixed::{Answer, Fixed};
+use fixed::{Fixed, FixedError};
 use limits::Filling;
 use rooms::{byte, put_byte};
 use values::{
-    Comparison, Cut, Logic, NumberAnswer, Order, any_one, are_bits, bit_of, bits_number,
-    bytes_order, combine, cut_part, cut_rest, invert, is_wanted, number_in, numbers_order,
-    put_bits, put_fixed,
+    Comparison, Logic, NumberError, Order, any_one, are_bits, bit_of, bits_number, bytes_order,
+    combine, cut_part, cut_rest, invert, is_wanted, number_in, numbers_order, put_bits, put_fixed,
 };
 
 // A number, or so many bytes of the work room.
@@ -30,18 +29,6 @@ pub enum Value {
     Number(Fixed),
     Characters(usize),
     Bits(usize),
-}
-
-#[derive(Clone, Copy)]
-pub enum Given {
-    Gives(Value),
-    Fails(Why),
-}
-
-#[derive(Clone, Copy)]
-pub enum NumberGiven {
-    Is(Fixed),
-    Fails(Why),
 }
 
 // How many bits a FIXED has as BIT.
@@ -80,23 +67,23 @@ pub fn above(u: usize, n: usize) -> usize
 
 // A value put above u bytes.
 #[tactic(auto, unfolding(crate::specs::Stands::among_for))]
-pub fn among(u: usize, v: Value) -> Given
+pub fn among(u: usize, v: Value) -> Result<Value, Why>
     ensures { result ≡ among_for u v }
 {
     if fits(u, size_of(v)) {
-        return Given::Gives(v);
+        return Ok(v);
     }
-    Given::Fails(Why::TooLong)
+    Err(Why::TooLong)
 }
 
 #[tactic(auto, unfolding(crate::specs::Stands::limited_for))]
-fn limited(u: usize, v: Value) -> Given
+fn limited(u: usize, v: Value) -> Result<Value, Why>
     ensures { result ≡ limited_for u v }
 {
     if size_of(v) <= limits::Value::LONGEST {
         return among(u, v);
     }
-    Given::Fails(Why::TooLong)
+    Err(Why::TooLong)
 }
 
 // Moves the n bytes at `from` down to `to`.
@@ -123,40 +110,40 @@ pub fn move_up(room: &mut [u8], from: usize, n: usize, to: usize)
 // ---- conversions
 
 #[tactic(auto, unfolding(crate::specs::Stands::number_for))]
-fn number_given(x: NumberAnswer) -> NumberGiven
+fn number_given(x: Result<Fixed, NumberError>) -> Result<Fixed, Why>
     ensures { number_for result ≡ answer_of x }
 {
     match x {
-        NumberAnswer::Is(n) => NumberGiven::Is(n),
-        NumberAnswer::NoConversion => NumberGiven::Fails(Why::NoConversion),
-        NumberAnswer::OutOfRange => NumberGiven::Fails(Why::OutOfRange),
+        Ok(n) => Ok(n),
+        Err(NumberError::NoConversion) => Err(Why::NoConversion),
+        Err(NumberError::OutOfRange) => Err(Why::OutOfRange),
     }
 }
 
 #[tactic(auto, unfolding(crate::specs::Stands::number_for))]
-fn answer_given(x: Answer) -> NumberGiven
+fn answer_given(x: Result<Fixed, FixedError>) -> Result<Fixed, Why>
     ensures { number_for result ≡ D.from_fixed (result_of x) }
 {
     match x {
-        Answer::Is(n) => NumberGiven::Is(n),
-        Answer::OutOfRange => NumberGiven::Fails(Why::OutOfRange),
-        Answer::ZeroDivisor => NumberGiven::Fails(Why::ZeroDivisor),
+        Ok(n) => Ok(n),
+        Err(FixedError::OutOfRange) => Err(Why::OutOfRange),
+        Err(FixedError::ZeroDivisor) => Err(Why::ZeroDivisor),
     }
 }
 
 #[tactic(auto, unfolding(crate::specs::Stands::number_for, crate::specs::Stands::value_in, definition::specs::Values::to_fixed))]
-pub fn to_fixed(work: &[u8], u: usize, v: Value) -> NumberGiven
+pub fn to_fixed(work: &[u8], u: usize, v: Value) -> Result<Fixed, Why>
     ensures { number_for result ≡ D.to_fixed (value_in work.now u v) }
 {
     match v {
-        Value::Number(x) => NumberGiven::Is(x),
+        Value::Number(x) => Ok(x),
         Value::Characters(n) => number_given(number_in(work, u, n)),
         Value::Bits(n) => number_given(bits_number(work, u, n)),
     }
 }
 
 // The value as CHARACTER, where it stands.
-pub fn to_characters(work: &mut [u8], u: usize, v: Value) -> Given
+pub fn to_characters(work: &mut [u8], u: usize, v: Value) -> Result<Value, Why>
     ensures { Made work.old u (text_put u v) (stacked u (D.convert ValueType.CharacterType (value_in work.old u v))) work.new result }
 {
     match v {
@@ -164,48 +151,48 @@ pub fn to_characters(work: &mut [u8], u: usize, v: Value) -> Given
         Value::Number(x) => {
             if fits(u, Fixed::WIDTH) {
                 put_fixed(x, work, u);
-                return Given::Gives(Value::Characters(Fixed::WIDTH));
+                return Ok(Value::Characters(Fixed::WIDTH));
             }
-            Given::Fails(Why::TooLong)
+            Err(Why::TooLong)
         }
         Value::Characters(n) | Value::Bits(n) => among(u, Value::Characters(n)),
     }
 }
 
 // The value as BIT, where it stands.
-pub fn to_bits(work: &mut [u8], u: usize, v: Value) -> Given
+pub fn to_bits(work: &mut [u8], u: usize, v: Value) -> Result<Value, Why>
     ensures { Made work.old u (bits_put u v) (stacked u (as_bit (value_in work.old u v))) work.new result }
 {
     match v {
         Value::Number(x) => {
             if fits(u, BITS) {
                 put_bits(x, work, u);
-                return Given::Gives(Value::Bits(BITS));
+                return Ok(Value::Bits(BITS));
             }
-            Given::Fails(Why::TooLong)
+            Err(Why::TooLong)
         }
         Value::Characters(n) => {
             if are_bits(work, u, n) {
                 return among(u, Value::Bits(n));
             }
-            Given::Fails(Why::NoConversion)
+            Err(Why::NoConversion)
         }
         Value::Bits(n) => among(u, Value::Bits(n)),
     }
 }
 
 #[tactic(auto, unfolding(crate::specs::Stands::number_value))]
-fn number_value(x: NumberGiven) -> Given
+fn number_value(x: Result<Fixed, Why>) -> Result<Value, Why>
     ensures { result ≡ number_value x }
 {
     match x {
-        NumberGiven::Is(n) => Given::Gives(Value::Number(n)),
-        NumberGiven::Fails(w) => Given::Fails(w),
+        Ok(n) => Ok(Value::Number(n)),
+        Err(w) => Err(w),
     }
 }
 
 // "Assignment, argument and RETURN convert to the declared type."
-pub fn convert(work: &mut [u8], u: usize, t: ValueType, v: Value) -> Given
+pub fn convert(work: &mut [u8], u: usize, t: ValueType, v: Value) -> Result<Value, Why>
     ensures { Gave work.old u (size_for v) (stacked u (D.convert t (value_in work.old u v))) work.new result }
 {
     match t {
@@ -215,7 +202,7 @@ pub fn convert(work: &mut [u8], u: usize, t: ValueType, v: Value) -> Given
 }
 
 // What SUBSTR is taken of: a FIXED is first made CHARACTER.
-pub fn subject(work: &mut [u8], u: usize, v: Value) -> Given
+pub fn subject(work: &mut [u8], u: usize, v: Value) -> Result<Value, Why>
     ensures { Gave work.old u (size_for v) (stacked u (as_subject (value_in work.old u v))) work.new result }
 {
     match v {
@@ -224,54 +211,48 @@ pub fn subject(work: &mut [u8], u: usize, v: Value) -> Given
     }
 }
 
-#[derive(Clone, Copy)]
-pub enum Truth {
-    Is(bool),
-    Fails(Why),
-}
-
 // "IF holds when any bit is 1."
-pub fn holds(work: &mut [u8], u: usize, v: Value) -> Truth
+pub fn holds(work: &mut [u8], u: usize, v: Value) -> Result<bool, Why>
     ensures { Told work.old u (size_for v) (D.holds u (value_in work.old u v)) work.new result }
 {
     match to_bits(work, u, v) {
-        Given::Gives(x) => Truth::Is(any_one(work, u, size_of(x))),
-        Given::Fails(w) => Truth::Fails(w),
+        Ok(x) => Ok(any_one(work, u, size_of(x))),
+        Err(w) => Err(w),
     }
 }
 
 // ---- prefix operators
 
-pub fn prefixed(work: &mut [u8], u: usize, o: Prefix, v: Value) -> Given
+pub fn prefixed(work: &mut [u8], u: usize, o: Prefix, v: Value) -> Result<Value, Why>
     ensures { Gave work.old u (size_for v) (stacked u (D.prefixed o (value_in work.old u v))) work.new result }
 {
     match o {
         Prefix::Positive => number_value(to_fixed(work, u, v)),
         Prefix::Negative => number_value(negated(to_fixed(work, u, v))),
         Prefix::Complement => match to_bits(work, u, v) {
-            Given::Gives(x) => {
+            Ok(x) => {
                 invert(work, u, size_of(x));
-                Given::Gives(x)
+                Ok(x)
             }
-            Given::Fails(w) => Given::Fails(w),
+            Err(w) => Err(w),
         },
     }
 }
 
 #[tactic(auto, unfolding(crate::specs::Stands::number_for, crate::specs::Sides::negated_for))]
-fn negated(x: NumberGiven) -> NumberGiven
+fn negated(x: Result<Fixed, Why>) -> Result<Fixed, Why>
     ensures { number_for result ≡ negated_for (number_for x) }
 {
     match x {
-        NumberGiven::Is(n) => answer_given(n.negate()),
-        NumberGiven::Fails(w) => NumberGiven::Fails(w),
+        Ok(n) => answer_given(n.negate()),
+        Err(w) => Err(w),
     }
 }
 
 // ---- infix operators: x at u, y directly above it
 
 #[tactic(auto, unfolding(crate::specs::Sides::calc_of))]
-fn arithmetic(o: Operator, a: Fixed, b: Fixed) -> Answer
+fn arithmetic(o: Operator, a: Fixed, b: Fixed) -> Result<Fixed, FixedError>
     ensures { result_of result ≡ calc_of o a.value b.value }
 {
     match o {
@@ -289,7 +270,7 @@ fn arithmetic(o: Operator, a: Fixed, b: Fixed) -> Answer
         | Operator::NotGreater
         | Operator::NotEqual
         | Operator::NotLess
-        | Operator::CatOp => Answer::OutOfRange,
+        | Operator::CatOp => Err(FixedError::OutOfRange),
     }
 }
 
@@ -299,20 +280,20 @@ fn numbers_of(work: &[u8], u: usize, x: Value, y: Value) -> Result<(Fixed, Fixed
     ensures { pair_for result ≡ numbers_in (value_in work.now u x) (value_in work.now (top_of u (size_for x)) y) }
 {
     match to_fixed(work, u, x) {
-        NumberGiven::Is(n) => match to_fixed(work, above(u, size_of(x)), y) {
-            NumberGiven::Is(m) => Ok((n, m)),
-            NumberGiven::Fails(w) => Err(w),
+        Ok(n) => match to_fixed(work, above(u, size_of(x)), y) {
+            Ok(m) => Ok((n, m)),
+            Err(w) => Err(w),
         },
-        NumberGiven::Fails(w) => Err(w),
+        Err(w) => Err(w),
     }
 }
 
-fn calculated(work: &[u8], u: usize, o: Operator, x: Value, y: Value) -> Given
+fn calculated(work: &[u8], u: usize, o: Operator, x: Value, y: Value) -> Result<Value, Why>
     ensures { Gave work.now u (size_for x + size_for y) (stacked u (D.arithmetic (calc_of o) (value_in work.now u x) (value_in work.now (u + size_for x) y))) work.now result }
 {
     match numbers_of(work, u, x, y) {
         Ok((a, b)) => number_value(answer_given(arithmetic(o, a, b))),
-        Err(w) => Given::Fails(w),
+        Err(w) => Err(w),
     }
 }
 
@@ -350,18 +331,18 @@ fn compared(work: &[u8], u: usize, x: Value, y: Value) -> Result<Order, Why>
 }
 
 // The outcome of a comparison is one bit, and nothing else is written.
-fn comparing(work: &mut [u8], u: usize, c: Comparison, x: Value, y: Value) -> Given
+fn comparing(work: &mut [u8], u: usize, c: Comparison, x: Value, y: Value) -> Result<Value, Why>
     ensures { Judged work.old u (size_for x + size_for y) (stacked u (D.comparing (wanted_by c) (value_in work.old u x) (value_in work.old (u + size_for x) y))) work.new result }
 {
     match compared(work, u, x, y) {
         Ok(order) => {
             if fits(u, 1) {
                 put_byte(work, u, 0, bit_of(is_wanted(c, order)));
-                return Given::Gives(Value::Bits(1));
+                return Ok(Value::Bits(1));
             }
-            Given::Fails(Why::TooLong)
+            Err(Why::TooLong)
         }
-        Err(w) => Given::Fails(w),
+        Err(w) => Err(w),
     }
 }
 
@@ -373,7 +354,7 @@ fn raise(work: &mut [u8], u: usize, m: usize, k: usize)
 }
 
 // The first side as BIT, below the second of m bytes.
-fn first_bits(work: &mut [u8], u: usize, x: Value, m: usize) -> Given
+fn first_bits(work: &mut [u8], u: usize, x: Value, m: usize) -> Result<Value, Why>
     ensures { First work.old u x m work.new result }
 {
     match x {
@@ -382,26 +363,24 @@ fn first_bits(work: &mut [u8], u: usize, x: Value, m: usize) -> Given
                 raise(work, u, m, BITS);
                 return to_bits(work, u, x);
             }
-            Given::Fails(Why::TooLong)
+            Err(Why::TooLong)
         }
         Value::Characters(_) | Value::Bits(_) => to_bits(work, u, x),
     }
 }
 
-fn logical(work: &mut [u8], u: usize, o: Logic, x: Value, y: Value) -> Given
+fn logical(work: &mut [u8], u: usize, o: Logic, x: Value, y: Value) -> Result<Value, Why>
     ensures { Gave work.old u (size_for x + size_for y) (stacked u (D.logical u (logic_of o) (value_in work.old u x) (value_in work.old (u + size_for x) y))) work.new result }
 {
     match first_bits(work, u, x, size_of(y)) {
-        Given::Gives(first) => {
+        Ok(first) => {
             let n = size_of(first);
             match to_bits(work, above(u, n), y) {
-                Given::Gives(second) => {
-                    Given::Gives(Value::Bits(combine(o, work, u, n, size_of(second))))
-                }
-                Given::Fails(w) => Given::Fails(w),
+                Ok(second) => { Ok(Value::Bits(combine(o, work, u, n, size_of(second)))) }
+                Err(w) => Err(w),
             }
         }
-        Given::Fails(w) => Given::Fails(w),
+        Err(w) => Err(w),
     }
 }
 
@@ -453,24 +432,24 @@ fn joined_value(x: Value, y: Value, n: usize) -> Value
     Value::Characters(n)
 }
 
-fn joined(work: &mut [u8], u: usize, x: Value, y: Value) -> Given
+fn joined(work: &mut [u8], u: usize, x: Value, y: Value) -> Result<Value, Why>
     ensures { Gave work.old u (size_for x + size_for y) (stacked u (D.joined (value_in work.old u x) (value_in work.old (u + size_for x) y))) work.new result }
 {
     let n = text_size(x);
     let m = text_size(y);
     match limited(u, joined_value(x, y, above(n, m))) {
-        Given::Gives(v) => {
+        Ok(v) => {
             write_first(work, u, x, size_of(y));
             write_number(work, above(u, n), y);
-            Given::Gives(v)
+            Ok(v)
         }
-        Given::Fails(w) => Given::Fails(w),
+        Err(w) => Err(w),
     }
 }
 
 // THE INFIX OPERATORS.
 #[tactic(auto, using(crate::proofs::Sides::judged_gave), unfolding(definition::specs::Values::infixed, crate::specs::Sides::wanted_by, crate::specs::Sides::calc_of))]
-pub fn infixed(work: &mut [u8], u: usize, o: Operator, x: Value, y: Value) -> Given
+pub fn infixed(work: &mut [u8], u: usize, o: Operator, x: Value, y: Value) -> Result<Value, Why>
     ensures { Gave work.old u (size_for x + size_for y) (stacked u (D.infixed u o (value_in work.old u x) (value_in work.old (u + size_for x) y))) work.new result }
 {
     match o {
@@ -504,25 +483,31 @@ fn same_kind(v: Value, n: usize) -> Value
 }
 
 // What a cut takes of the value at u, moved down to u.
-fn taken(work: &mut [u8], u: usize, v: Value, c: Cut) -> Given
+fn taken(work: &mut [u8], u: usize, v: Value, c: Option<(usize, usize)>) -> Result<Value, Why>
     ensures { Took work.old u v c work.new result }
 {
     match c {
-        Cut::Stretch(from, n) => {
+        Some((from, n)) => {
             move_down(work, above(u, from), n, u);
             among(u, same_kind(v, n))
         }
-        Cut::Outside => Given::Fails(Why::SubstrOutside),
+        None => Err(Why::SubstrOutside),
     }
 }
 
-pub fn substr_rest(work: &mut [u8], u: usize, v: Value, from: Fixed) -> Given
+pub fn substr_rest(work: &mut [u8], u: usize, v: Value, from: Fixed) -> Result<Value, Why>
     ensures { Gave work.old u (size_for v) (stacked u (D.substr ((value_in work.old u v) ∷ D.fixed from.value ∷ []))) work.new result }
 {
     taken(work, u, v, cut_rest(size_of(v), from))
 }
 
-pub fn substr_part(work: &mut [u8], u: usize, v: Value, from: Fixed, count: Fixed) -> Given
+pub fn substr_part(
+    work: &mut [u8],
+    u: usize,
+    v: Value,
+    from: Fixed,
+    count: Fixed,
+) -> Result<Value, Why>
     ensures { Gave work.old u (size_for v) (stacked u (D.substr ((value_in work.old u v) ∷ D.fixed from.value ∷ D.fixed count.value ∷ []))) work.new result }
 {
     taken(work, u, v, cut_part(size_of(v), from, count))

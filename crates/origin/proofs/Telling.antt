@@ -1,5 +1,6 @@
 -- An event of the definition is told: what the two rooms and the cursor then show.
 -- Assumes nothing.
+use Rattle.std.proofs.Common.{Option}
 use mathlib.Core.Path.{◌≡◌, refl, sym, ap, subst, ◌∙◌}
 use mathlib.Core.Bool.{Bool, true, false, cond, ◌&&◌, not}
 use mathlib.Core.List.{List, ◌∷◌, ◌++◌}
@@ -15,7 +16,6 @@ use Rattle.definition.specs.Cards.{is_first, column, given, lines_as, pieces, ta
 use Rattle.definition.specs.World.{World}
 use Rattle.definition.proofs.Parts.{length_part}
 use Rattle.output.specs.declared.Out.{Out}
-use Rattle.output.specs.declared.Put.{Put}
 use Rattle.output.specs.Shows as Output
 use Rattle.output.specs.Shows.{top, grows_from, Fine, More, PutsFine, EndsFine}
 use Rattle.output.proofs.Laws.{joins_line}
@@ -52,18 +52,18 @@ module _ (sizes : ℕ → ℕ) (y : Layout) (t ls : List ℕ) (o : Out) (B : Wor
     };
   }
 
-  answers_by : (r : Put) → bytes_in e' ≡ bytes_in e → Output.taken e' w.events ≡ taking y e B.events → lines_of (e' ∷ w.events) ≡ lines_as y sizes (lines_of (e ∷ B.events)) → Filled (lines_of (e ∷ B.events)) → (b : Bool) → Output.Answers b e' w.events o r t' ls' → Answers b sizes y e B r t' ls'
+  answers_by : (r : Option Out) → bytes_in e' ≡ bytes_in e → Output.taken e' w.events ≡ taking y e B.events → lines_of (e' ∷ w.events) ≡ lines_as y sizes (lines_of (e ∷ B.events)) → Filled (lines_of (e ∷ B.events)) → (b : Bool) → Output.Answers b e' w.events o r t' ls' → Answers b sizes y e B r t' ls'
   answers_by r i k l f true a = (a.0, a.1, gone_by a.0 i k l f a.2)
   answers_by r i k l f false a = a
 
   fits_same : bytes_in e' ≡ bytes_in e → Output.taken e' w.events ≡ taking y e B.events → Output.fits e' w.events o ≡ fits y e B.events o
   fits_same b k = ap (λ (n : ℕ). leb n o.free && leb (length (bytes_in e')) o.room) k ∙ ap (λ (c : List ℕ). leb (taking y e B.events) o.free && leb (length c) o.room) b
 
-  told_by : (r : Put) → bytes_in e' ≡ bytes_in e → Output.taken e' w.events ≡ taking y e B.events → lines_of (e' ∷ w.events) ≡ lines_as y sizes (lines_of (e ∷ B.events)) → Filled (lines_of (e ∷ B.events)) → PutsFine e' o t ls r t' ls' → Answers (fits y e B.events o) sizes y e B r t' ls'
+  told_by : (r : Option Out) → bytes_in e' ≡ bytes_in e → Output.taken e' w.events ≡ taking y e B.events → lines_of (e' ∷ w.events) ≡ lines_as y sizes (lines_of (e ∷ B.events)) → Filled (lines_of (e ∷ B.events)) → PutsFine e' o t ls r t' ls' → Answers (fits y e B.events o) sizes y e B r t' ls'
   told_by r i k l f p = answers_by r i k l f (fits y e B.events o) (subst (λ (b : Bool). Output.Answers b e' w.events o r t' ls') (fits_same i k) ((p.is w.fine).is w.events w.out))
 
 -- ---- a blank
-pub blank_told : (y : Layout) (size m p q : ℕ) (o : Out) (t ls : List ℕ) (r : Put) (t' ls' : List ℕ) → q ≡ place_as y size (p % 65536) → PutsFine (blank m q) o t ls r t' ls' → Tells y size (blank m p) m p o t ls r t' ls'
+pub blank_told : (y : Layout) (size m p q : ℕ) (o : Out) (t ls : List ℕ) (r : Option Out) (t' ls' : List ℕ) → q ≡ place_as y size (p % 65536) → PutsFine (blank m q) o t ls r t' ls' → Tells y size (blank m p) m p o t ls r t' ls'
 unfolding lines_of
 blank_told y size m p q o t ls r t' ls' e k = record {
   is = λ sizes B s w lp _ _.
@@ -87,7 +87,7 @@ replaced_told y size m p q n o T ls r ls' e k = record {
 joins_same : (es fs : List Event) (m p : ℕ) → lines_of es ≡ lines_of fs → joins es m p ≡ joins fs m p
 joins_same es fs m p e = joins_line es m p ∙ ap (λ (z : List Line). grows_from (top z) m p) e ∙ sym (joins_line fs m p)
 
-pub plain_told : (y : Layout) (s : List ℕ) (from to m q k n : ℕ) (o : Out) (t ls : List ℕ) (r : Put) (t' ls' : List ℕ) → y ≡ Plain → q ≡ from % 65536 → k ≡ to - from → n ≡ k % 65536 → PutsFine (copied m q (part n from s)) o t ls r t' ls'
+pub plain_told : (y : Layout) (s : List ℕ) (from to m q k n : ℕ) (o : Out) (t ls : List ℕ) (r : Option Out) (t' ls' : List ℕ) → y ≡ Plain → q ≡ from % 65536 → k ≡ to - from → n ≡ k % 65536 → PutsFine (copied m q (part n from s)) o t ls r t' ls'
     → Tells y (length s) (copied m from (part (to - from) from s)) m to o t ls r t' ls'
 unfolding lines_of takes
 plain_told y s from to m q k n o t ls r t' ls' e f g h p = rw e (record {
@@ -103,7 +103,7 @@ plain_told y s from to m q k n o t ls r t' ls' e f g h p = rw e (record {
 })
 
 -- ---- and from cards
-pub cards_told : (y : Layout) (s : List ℕ) (from to m : ℕ) (o : Out) (t ls : List ℕ) (r : Put) (t' ls' : List ℕ) → y ≡ Cards → PiecesFine s from to m o t ls r t' ls'
+pub cards_told : (y : Layout) (s : List ℕ) (from to m : ℕ) (o : Out) (t ls : List ℕ) (r : Option Out) (t' ls' : List ℕ) → y ≡ Cards → PiecesFine s from to m o t ls r t' ls'
     → Tells y (length s) (copied m from (part (to - from) from s)) m to o t ls r t' ls'
 unfolding lines_of text_of takes
 cards_told y s from to m o t ls r t' ls' e p = rw e (record {

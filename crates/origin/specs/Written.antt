@@ -1,6 +1,6 @@
 -- How the two rooms and the cursor show what a world has put out: its text, and its lines as they are told. And what an event of
 -- the definition leaves there.
-use Rattle.std.specs.Prelude.{ℕ, ◌<◌, ◌≤◌, ◌≡◌, Bool, true, false, ◌&&◌, List, [], ◌∷◌, leb, length}
+use Rattle.std.specs.Prelude.{ℕ, ◌<◌, ◌≤◌, ◌≡◌, Bool, true, false, ◌&&◌, List, [], ◌∷◌, leb, length, Option, Some, None}
 use Rattle.definition.specs.declared.Layout.{Layout}
 use Rattle.definition.specs.declared.Layout.TheVariants.{Plain, Cards}
 use Rattle.definition.specs.Room.{over}
@@ -8,8 +8,6 @@ use Rattle.definition.specs.Events.{Event, replaced, bytes_in, text_of, Line, li
 use Rattle.definition.specs.Cards.{given, lines_as, taking}
 use Rattle.definition.specs.World.{Pass, World, with_event}
 use Rattle.output.specs.declared.Out.{Out}
-use Rattle.output.specs.declared.Put.{Put}
-use Rattle.output.specs.declared.Put.TheVariants.{Done, Full}
 use Rattle.output.specs.Shows as Output
 
 -- a place as it is told, in a body of so many bytes
@@ -43,12 +41,12 @@ fits y e es o = leb (taking y e es) o.free && leb (length (bytes_in e)) o.room
 pub record Gone (sizes : ℕ → ℕ) (y : Layout) (e : Event) (B : World) (t ls : List ℕ) (x : Out) : Type 0 where
   pub written : (z : Pass) → Written sizes y t ls x (with_event e z (taking y e B.events) B)
 
-abbrev pub Answers : Bool → (ℕ → ℕ) → Layout → Event → World → Put → List ℕ → List ℕ → Type 0
-Answers true sizes y e B r t ls = (x : Out) × (r ≡ Done x) × Gone sizes y e B t ls x
-Answers false sizes y e B r t ls = r ≡ Full
+abbrev pub Answers : Bool → (ℕ → ℕ) → Layout → Event → World → Option Out → List ℕ → List ℕ → Type 0
+Answers true sizes y e B r t ls = (x : Out) × (r ≡ Some x) × Gone sizes y e B t ls x
+Answers false sizes y e B r t ls = r ≡ None
 
 -- THE ENSURES: an event of member m, whose body has so many bytes, up to a place of it
-pub record Tells (y : Layout) (size : ℕ) (e : Event) (m p : ℕ) (o : Out) (t ls : List ℕ) (r : Put) (t' ls' : List ℕ) : Type 0 where
+pub record Tells (y : Layout) (size : ℕ) (e : Event) (m p : ℕ) (o : Out) (t ls : List ℕ) (r : Option Out) (t' ls' : List ℕ) : Type 0 where
   pub is : (sizes : ℕ → ℕ) (B : World) → sizes m ≡ size → Written sizes y t ls o B → p < 65536 → 1 ≤ length (bytes_in e) → length (bytes_in e) < 65536 → Answers (fits y e B.events o) sizes y e B r t' ls'
 
 -- the outcome of a replacement stands in a text room of T bytes already; its line is put behind the others

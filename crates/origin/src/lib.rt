@@ -9,7 +9,7 @@ ghost use Rattle.origin.specs.Written.{place_as, Tells, Ends};
 
 use definition::Layout;
 use edges::{given, put_pieces};
-use output::{Out, Put, put_blank, put_copied, put_replaced};
+use output::{Out, put_blank, put_copied, put_replaced};
 use sums::less;
 
 fn place32(p: usize) -> u32
@@ -37,7 +37,7 @@ pub fn tell_blank(
     o: Out,
     member: u8,
     p: usize,
-) -> Put
+) -> Option<Out>
     ensures { Tells layout size (blank member p) member p o text.old list.old result text.new list.new }
 {
     put_blank(text, list, o, member, told_place(layout, size, p))
@@ -53,7 +53,7 @@ pub fn tell_copied(
     list: &mut [u8],
     o: Out,
     member: u8,
-) -> Put
+) -> Option<Out>
     ensures { Tells layout (length s.now) (copied member from (part (to - from) from s.now)) member to o text.old list.old result text.new list.new }
 {
     match layout {

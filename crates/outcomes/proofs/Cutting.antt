@@ -1,5 +1,7 @@
 -- Argument lists.
 -- Assumes nothing.
+use Rattle.std.proofs.Common.{Some, None}
+use Rattle.outcomes.specs.Types.{Listing}
 use mathlib.Core.Path.{◌≡◌, refl, sym, ap, ◌∙◌}
 use mathlib.Core.Bool.{Bool, true, false, ◌&&◌}
 use mathlib.Core.List.{List, [], ◌∷◌, ◌++◌}
@@ -24,8 +26,6 @@ use Rattle.sums.specs.Numbers.{greatest, sum_to}
 use Rattle.sums.proofs.Laws.{sum_fits}
 use Rattle.outcomes.specs.declared.Ending.{Ending}
 use Rattle.outcomes.specs.declared.Ending.TheVariants as E
-use Rattle.outcomes.specs.declared.Listing.{Listing}
-use Rattle.outcomes.specs.declared.Listing.TheVariants as L
 use Rattle.outcomes.specs.Texts.{stretch_of, Within}
 use Rattle.outcomes.specs.Arguments.{cut_from, argument, before, EndWithin, EndIs, end_place, listing_for, ListingIs, past_blanks, ListIn, Ends, EndIn}
 use Rattle.outcomes.proofs.Sources.{stretch_length}
@@ -225,7 +225,7 @@ pub counting_start : (t : List ℕ) (first : ℕ) → Counting t first 0 first
 counting_start t first = record { low = omega arith; so = λ _. record { cut = []; size = refl; is = sym (before_nil (cut_from t first)); far = omega arith } }
 
 module _ (t : List ℕ) (first n from : ℕ) (k : Counting t first n from) where
-  pub counting_end : length t ≤ n → ListingIs t first (cut_from t first) L.NoList
+  pub counting_end : length t ≤ n → ListingIs t first (cut_from t first) None
   unfolding cut_from
   counting_end h = record {
     is = λ l.
@@ -235,10 +235,10 @@ module _ (t : List ℕ) (first n from : ℕ) (k : Counting t first n from) where
   }
 
   module _ (e : Ending) (g : EndIs t from e) where
-    pub counting_open : e ≡ E.Open → ListingIs t first (cut_from t first) L.NoList
+    pub counting_open : e ≡ E.Open → ListingIs t first (cut_from t first) None
     counting_open f = record { is = λ l. let c = k.so l in sym (ap (listing_for first) (c.is ∙ ap (before c.cut) (rw f at (g.is l)))) }
 
-    pub counting_close : (p q m : ℕ) → e ≡ E.Close p → q ≡ sum_to greatest p 1 → m ≡ n + 1 → ListingIs t first (cut_from t first) (L.Upto m first q)
+    pub counting_close : (p q m : ℕ) → e ≡ E.Close p → q ≡ sum_to greatest p 1 → m ≡ n + 1 → ListingIs t first (cut_from t first) (Some (m, first, q))
     counting_close p q m f j i = record {
       is = λ l.
           let c = k.so l in
@@ -280,7 +280,7 @@ list_some t p q b z r e f g i h = record {
       h.is l ∙ v₂ ∙ ap (listing_for (q + 1)) w ∙ ap (λ (n : ℕ). listing_for (n + 1) (list_at mixed t p)) e;
 }
 
-pub list_none : (t : List ℕ) (p q b : ℕ) → q ≡ past_blanks t p → b ≡ get_or t (q + 0) 0 → (b ≡ 40 → ⊥) → ListingIs t (past_blanks t p + 1) (list_at mixed t p) L.NoList
+pub list_none : (t : List ℕ) (p q b : ℕ) → q ≡ past_blanks t p → b ≡ get_or t (q + 0) 0 → (b ≡ 40 → ⊥) → ListingIs t (past_blanks t p + 1) (list_at mixed t p) None
 unfolding past_blanks list_at
 list_none t p q b e f g = record {
   is = λ l.

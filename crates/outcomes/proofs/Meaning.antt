@@ -1,5 +1,7 @@
 -- What is copied is the definition's outcome, read from the rooms where it went.
 -- Assumes nothing.
+use Rattle.std.proofs.Common.{Ok, Err}
+use Rattle.outcomes.specs.Types.{Scanned}
 use mathlib.Core.Path.{◌≡◌, refl, ap, ◌∙◌}
 use mathlib.Core.Bool.{Bool, true, false, ◌&&◌}
 use mathlib.Core.List.{List}
@@ -16,8 +18,6 @@ use Rattle.definition.specs.declared.Why.{Why}
 use Rattle.meter.specs.declared.Meter.{Meter}
 use Rattle.operators.proofs.Room.{part_over}
 use Rattle.outcomes.specs.declared.Dest.{Dest}
-use Rattle.outcomes.specs.declared.Scanned.{Scanned}
-use Rattle.outcomes.specs.declared.Scanned.TheVariants as S
 use Rattle.outcomes.specs.Places.{into_of, out_in}
 use Rattle.outcomes.specs.Copies.{copied_value, work_copied, text_copied, CopiedValue}
 use Rattle.outcomes.proofs.Naming.{never}
@@ -27,8 +27,8 @@ gave B l = good l B
 
 -- an answer in the world B, its outcome in the rooms w and t
 abbrev pub scanned_for : World → Dest → ℕ → List ℕ → List ℕ → Scanned → Res Why (List ℕ)
-scanned_for B d u w t (S.Good k m) = gave B (out_in d t w u k)
-scanned_for B d u w t (S.Bad e m) = bad e m.used
+scanned_for B d u w t (Ok (k, m)) = gave B (out_in d t w u k)
+scanned_for B d u w t (Err (e, m)) = bad e m.used
 
 both_second : (a b : Bool) → (a && b) ≡ true → b ≡ true
 both_second true b e = e
@@ -65,9 +65,9 @@ module _ (w t bs : List ℕ) (d : Dest) (u : ℕ) (m : Meter) (w' t' : List ℕ)
     copied_by : (b : Bool) → D.fits (into_of d) u 0 (length bs) ≡ b → scanned_for B d u w' t' r ≡ D.outcome copied_only scan (into_of d) u bs B
     unfolding copied_value
     copied_by true e =
-        let k : r ≡ S.Good (length bs) m = h.is ∙ rw e in
+        let k : r ≡ Ok ((length bs), m) = h.is ∙ rw e in
         rw (k, e) (ap (gave B) (copied_out e))
-    copied_by false e = let k : r ≡ S.Bad (D.full (into_of d)) m = h.is ∙ rw e in rw (k, e, g)
+    copied_by false e = let k : r ≡ Err ((D.full (into_of d)), m) = h.is ∙ rw e in rw (k, e, g)
 
     -- THE OUTCOME is the definition's
     pub copied_is : scanned_for B d u w' t' r ≡ D.outcome copied_only scan (into_of d) u bs B

@@ -1,5 +1,7 @@
 -- Names that are active.
 -- Assumes nothing.
+use Rattle.names.specs.declared.Activity.{Activity}
+use Rattle.std.proofs.Common.{Option, Some, None}
 use mathlib.Core.Path.{◌≡◌, refl, sym, ap, ◌∙◌}
 use mathlib.Core.Bool.{Bool, true, false}
 use mathlib.Core.Logic.{◌⊎◌, inl, inr}
@@ -23,14 +25,10 @@ use Rattle.tokens.specs.Answer.{piece_kind, piece_of}
 use Rattle.tokens.proofs.Pieces.{piece_is}
 use Rattle.names.specs.declared.Address.{Address}
 use Rattle.names.specs.declared.Name.{Name}
-use Rattle.names.specs.declared.Found.{Found}
-use Rattle.names.specs.declared.Found.TheVariants.{Known, Unknown}
 use Rattle.names.specs.Table.{name_in, activity_of, identifiers_from, found_for}
 use Rattle.sums.specs.Numbers.{greatest, sum_to}
 use Rattle.sums.proofs.Laws.{sum_fits}
 use Rattle.outcomes.specs.declared.Src.{Src}
-use Rattle.outcomes.specs.declared.Active.{Active}
-use Rattle.outcomes.specs.declared.Active.TheVariants.{NotActive}
 use Rattle.outcomes.specs.Texts.{stretch_of, active_for, activities_from, ActiveIs, ActiveHere}
 use Rattle.outcomes.proofs.Sources.{stretch_length}
 
@@ -58,20 +56,20 @@ activities_at t b zero i h = absurd (omega arith)
 activities_at t b (suc n) zero h = rw add-zero
 activities_at t b (suc n) (suc i) h = let e : b + suc i ≡ suc b + i = omega arith in rw e (activities_at t (suc b) n i (omega arith))
 
-found_known : (x : W.Address) (a : Address) → Known a ≡ found_for x → x ≡ W.address a.0
+found_known : (x : W.Address) (a : Address) → Some a ≡ found_for x → x ≡ W.address a.0
 found_known (W.address b) a e = let h : a ≡ record { 0 = b } = cc in ap W.address (sym (ap (λ (y : Address). y.0) h))
 found_known W.unknown a e = never _ (cc)
 
-found_unknown : (x : W.Address) → Unknown ≡ found_for x → x ≡ W.unknown
+found_unknown : (x : W.Address) → None ≡ found_for x → x ≡ W.unknown
 found_unknown (W.address b) e = never _ (cc)
 found_unknown W.unknown e = refl
 
-module _ (d t : List ℕ) (n : ℕ) (l : List ℕ) (f : Found) (g : f ≡ found_for (address_in l W.everyone 0 (identifiers_from d t 0 n))) where
-  pub name_unknown : f ≡ Unknown → ActiveIs d t n l NotActive
+module _ (d t : List ℕ) (n : ℕ) (l : List ℕ) (f : Option Address) (g : f ≡ found_for (address_in l W.everyone 0 (identifiers_from d t 0 n))) where
+  pub name_unknown : f ≡ None → ActiveIs d t n l None
   unfolding D.active_name
   name_unknown e = record { is = λ B k. rw (k.identifiers, found_unknown (address_in l W.everyone 0 (identifiers_from d t 0 n)) (sym e ∙ g)) }
 
-  pub name_known : (a : Address) (x : Name) (r : Active) → f ≡ Known a → x ≡ name_in t a.0 → active_for r ≡ D.active_as (activity_of x.activity) a.0 → ActiveIs d t n l r
+  pub name_known : (a : Address) (x : Name) (r : Option (Address × Activity)) → f ≡ Some a → x ≡ name_in t a.0 → active_for r ≡ D.active_as (activity_of x.activity) a.0 → ActiveIs d t n l r
   unfolding D.active_name
   name_known a x r e h q = record {
     is = λ B k.
@@ -93,10 +91,10 @@ module _ (d names : List ℕ) (n : ℕ) (t : List ℕ) (x : Src) (p : ℕ) (y : 
   abbrev here : List ℕ
   here = stretch_of t x.from x.to
 
-  pub here_plain : (y.kind ≡ K.Plain) ⊎ (y.kind ≡ K.Unclosed) → ActiveHere d names n t x p y NotActive
+  pub here_plain : (y.kind ≡ K.Plain) ⊎ (y.kind ≡ K.Unclosed) → ActiveHere d names n t x p y None
   here_plain e = record { is = λ B k w h g. sym (not_active_lem (T.piece_at mixed here p).piece B (rw g at e)) }
 
-  pub here_name : (l : List ℕ) (from m : ℕ) (r : Active) → y.kind ≡ K.Name → l ≡ t → from ≡ sum_to greatest x.from p → m ≡ y.to - p → ActiveIs d names n (folded mixed (part m from l)) r → ActiveHere d names n t x p y r
+  pub here_name : (l : List ℕ) (from m : ℕ) (r : Option (Address × Activity)) → y.kind ≡ K.Name → l ≡ t → from ≡ sum_to greatest x.from p → m ≡ y.to - p → ActiveIs d names n (folded mixed (part m from l)) r → ActiveHere d names n t x p y r
   unfolding stretch_of
   here_name l from m r e f i j a = record {
     is = λ B k w h g.

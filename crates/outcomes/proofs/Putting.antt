@@ -1,5 +1,7 @@
 -- Where outcomes go: what may be put, and what was.
 -- Assumes nothing.
+use Rattle.outcomes.specs.Types.{Scanned}
+use Rattle.std.proofs.Common.{Result, Ok, Err}
 use mathlib.Core.Path.{◌≡◌, refl, sym, ap, ◌∙◌}
 use mathlib.Core.Bool.{Bool, true, false, cond, ◌&&◌}
 use mathlib.Core.List.{List}
@@ -18,8 +20,6 @@ use Rattle.definition.specs.declared.ValueType.TheVariants.{CharacterType}
 use Rattle.meter.specs.declared.Meter.{Meter}
 use Rattle.operators.specs.declared.Value.{Value}
 use Rattle.operators.specs.declared.Value.TheVariants.{Number, Characters, Bits}
-use Rattle.operators.specs.declared.Given.{Given}
-use Rattle.operators.specs.declared.Given.TheVariants.{Gives, Fails}
 use Rattle.operators.specs.Stands as O
 use Rattle.operators.specs.Stands.{top_of, value_in, given_in, size_for, stacked, Made, MovedDown, MovedUp}
 use Rattle.operators.proofs.Room.{top_in_lem, below_over}
@@ -27,9 +27,6 @@ use Rattle.sums.specs.Numbers.{greatest, sum_to}
 use Rattle.sums.proofs.Laws.{sum_fits, sum_out}
 use Rattle.outcomes.specs.declared.Src.{Src}
 use Rattle.outcomes.specs.declared.Dest.{Dest}
-use Rattle.outcomes.specs.declared.Scanned.{Scanned}
-use Rattle.outcomes.specs.declared.Scanned.TheVariants as S
-use Rattle.outcomes.specs.declared.Replaced.TheVariants as R
 use Rattle.outcomes.specs.Places.{into_of, after_of, waiting_of, bytes_at, work_put, text_put, Puts, up_to_of, copied_for, Copied, characters_at, characters_of, TextIs, settled_in, Settled}
 use Rattle.outcomes.proofs.Sources.{room_work, room_body}
 use Rattle.outcomes.proofs.Naming.{never}
@@ -115,17 +112,17 @@ module _ (s w t : List ℕ) (x : Src) (p n : ℕ) (d : Dest) (u k from : ℕ) (f
   unfolding work_put text_put
   put_across t' at e g h m = record { work = λ l. rw e; text = m ∙ rw (e, h, bytes_body g) }
 
-pub up_good : (x : Scanned) (n to : ℕ) (m : Meter) → x ≡ S.Good n m → R.Good n to m ≡ up_to_of x to
+pub up_good : (x : Scanned) (n to : ℕ) (m : Meter) → x ≡ Ok (n, m) → Ok (n, to, m) ≡ up_to_of x to
 up_good x n to m e = rw e
 
-pub up_bad : (x : Scanned) (to : ℕ) (y : Why) (m : Meter) → x ≡ S.Bad y m → R.Bad y m ≡ up_to_of x to
+pub up_bad : (x : Scanned) (to : ℕ) (y : Why) (m : Meter) → x ≡ Err (y, m) → Err (y, m) ≡ up_to_of x to
 up_bad x to y m e = rw e
 
 module _ (s w t : List ℕ) (x : Src) (p q : ℕ) (d : Dest) (u k : ℕ) (m : Meter) (n : ℕ) (f : n ≡ q - p) (b : Bool) (g : b ≡ D.fits (into_of d) u k n) where
   fits_is : (c : Bool) → b ≡ c → D.fits (into_of d) u k (q - p) ≡ c
   fits_is c e = rw (← f, ← g) e
 
-  pub token_copied : (w' t' : List ℕ) → b ≡ true → Puts s w t x p n d u k w' t' → Copied s w t x p q d u k m w' t' (R.Good n q m)
+  pub token_copied : (w' t' : List ℕ) → b ≡ true → Puts s w t x p n d u k w' t' → Copied s w t x p q d u k m w' t' (Ok (n, q, m))
   unfolding copied_for
   token_copied w' t' e h = record {
     is = rw (fits_is true e, f);
@@ -134,7 +131,7 @@ module _ (s w t : List ℕ) (x : Src) (p q : ℕ) (d : Dest) (u k : ℕ) (m : Me
     text = λ c. never _ (let z : true ≡ false = sym (fits_is true e) ∙ c in cc);
   }
 
-  pub token_full : (y : Why) → b ≡ false → y ≡ D.full (into_of d) → Copied s w t x p q d u k m w t (R.Bad y m)
+  pub token_full : (y : Why) → b ≡ false → y ≡ D.full (into_of d) → Copied s w t x p q d u k m w t (Err (y, m))
   unfolding copied_for
   token_full y e h = record {
     is = rw (fits_is false e, h);
@@ -156,17 +153,17 @@ given_none : (y : Why) (l : List ℕ) (b : Bool) → Val.fails y ≡ cond b (Val
 given_none y l true e = never _ (cc)
 given_none y l false e = let h : y ≡ TooLong = cc in ap Val.fails h
 
-module _ (w : List ℕ) (u : ℕ) (g : Given) (m : Meter) where
-  pub text_none : (y : Why) → g ≡ Fails y → TextIs w u g m w (S.Bad y m)
+module _ (w : List ℕ) (u : ℕ) (g : Result Value Why) (m : Meter) where
+  pub text_none : (y : Why) → g ≡ Err y → TextIs w u g m w (Err (y, m))
   unfolding characters_of given_in
   text_none y e = record { is = λ _. rw e; meter = refl; below = refl }
 
-  module _ (v : Value) (e : g ≡ Gives v) (w' : List ℕ) (c : Given) (h : Made w u (O.text_put u v) (stacked u (Val.convert CharacterType (value_in w u v))) w' c) where
+  module _ (v : Value) (e : g ≡ Ok v) (w' : List ℕ) (c : Result Value Why) (h : Made w u (O.text_put u v) (stacked u (Val.convert CharacterType (value_in w u v))) w' c) where
     made : 65536 ≤ length w → given_in w' u c ≡ cond (leb (u + length (Val.to_characters (value_in w u v))) 65536) (Val.gives (Val.characters (Val.to_characters (value_in w u v)))) (Val.fails TooLong)
     unfolding stacked Val.convert Val.unfinished
     made l = h.is l
 
-    pub text_made : (x : Value) (n : ℕ) → c ≡ Gives x → n ≡ size_for x → TextIs w u g m w' (S.Good n m)
+    pub text_made : (x : Value) (n : ℕ) → c ≡ Ok x → n ≡ size_for x → TextIs w u g m w' (Ok (n, m))
     unfolding characters_of characters_at given_in
     text_made x n f k = record {
       is = λ l. rw (k, e) (given_text w' u x (Val.to_characters (value_in w u v)) (leb (u + length (Val.to_characters (value_in w u v))) 65536) (rw f at (made l)));
@@ -174,7 +171,7 @@ module _ (w : List ℕ) (u : ℕ) (g : Given) (m : Meter) where
       below = below_over u u w w' (O.text_put u v) (omega arith) h.wrote;
     }
 
-    pub text_long : (y : Why) → c ≡ Fails y → TextIs w u g m w' (S.Bad y m)
+    pub text_long : (y : Why) → c ≡ Err y → TextIs w u g m w' (Err (y, m))
     unfolding characters_of characters_at given_in
     text_long y f = record {
       is = λ l. rw e (given_none y (Val.to_characters (value_in w u v)) (leb (u + length (Val.to_characters (value_in w u v))) 65536) (rw f at (made l)));
@@ -184,7 +181,7 @@ module _ (w : List ℕ) (u : ℕ) (g : Given) (m : Meter) where
 
 -- ---- outcomes settled
 module _ (w : List ℕ) (d : Dest) (u n : ℕ) (x : Scanned) where
-  pub settled_down : (k : ℕ) (m : Meter) (top : ℕ) (w' : List ℕ) → x ≡ S.Good k m → d.to_work ≡ true → top ≡ top_of u n → MovedDown w top k u w' → Settled w d u n x w' (S.Good k m)
+  pub settled_down : (k : ℕ) (m : Meter) (top : ℕ) (w' : List ℕ) → x ≡ Ok (k, m) → d.to_work ≡ true → top ≡ top_of u n → MovedDown w top k u w' → Settled w d u n x w' (Ok (k, m))
   settled_down k m top w' e f g h = record {
     is = sym e;
     work = λ l.
@@ -192,12 +189,12 @@ module _ (w : List ℕ) (d : Dest) (u n : ℕ) (x : Scanned) where
         rw (e, f) (rw q at (h.is (rw q (omega arith))));
   }
 
-  pub settled_there : (k : ℕ) (m : Meter) → x ≡ S.Good k m → d.to_work ≡ false → Settled w d u n x w (S.Good k m)
+  pub settled_there : (k : ℕ) (m : Meter) → x ≡ Ok (k, m) → d.to_work ≡ false → Settled w d u n x w (Ok (k, m))
   settled_there k m e f = record { is = sym e; work = λ l. rw (e, f) }
 
-  bad_same : (b : Bool) (y : Why) (m : Meter) → w ≡ settled_in b w u n (S.Bad y m)
+  bad_same : (b : Bool) (y : Why) (m : Meter) → w ≡ settled_in b w u n (Err (y, m))
   bad_same true y m = refl
   bad_same false y m = refl
 
-  pub settled_bad : (y : Why) (m : Meter) → x ≡ S.Bad y m → Settled w d u n x w (S.Bad y m)
+  pub settled_bad : (y : Why) (m : Meter) → x ≡ Err (y, m) → Settled w d u n x w (Err (y, m))
   settled_bad y m e = record { is = sym e; work = λ l. rw e (bad_same d.to_work y m) }

@@ -1,5 +1,6 @@
 -- ARGUMENT LISTS: where an argument ends, and how many there are.
-use Rattle.std.specs.Prelude.{ℕ, suc, ◌+◌, ◌<◌, ◌≤◌, ◌≡◌, List, [], ◌∷◌, ◌++◌, length, drop}
+use Rattle.outcomes.specs.Types.{Listing}
+use Rattle.std.specs.Prelude.{ℕ, suc, ◌+◌, ◌<◌, ◌≤◌, ◌≡◌, List, [], ◌∷◌, ◌++◌, length, drop, Some, None}
 use Rattle.definition.specs.Limits.{text_bytes}
 use Rattle.definition.specs.Lists.{leading}
 use Rattle.definition.specs.Bytes.{mixed, is_blank}
@@ -7,8 +8,6 @@ use Rattle.definition.specs.Scan as D
 use Rattle.definition.specs.Scan.{Argument, list_up_to, no_list, cut_on, list_at}
 use Rattle.outcomes.specs.declared.Ending.{Ending}
 use Rattle.outcomes.specs.declared.Ending.TheVariants as E
-use Rattle.outcomes.specs.declared.Listing.{Listing}
-use Rattle.outcomes.specs.declared.Listing.TheVariants as L
 use Rattle.outcomes.specs.Texts.{stretch_of, Within}
 
 -- the arguments from a place on, with turns enough
@@ -45,8 +44,8 @@ end_place E.Open p = p
 
 -- how many there are, where the first begins, and the place past the list
 abbrev pub listing_for : ℕ → D.Arguments → Listing
-listing_for first (list_up_to xs q) = L.Upto (length xs) first q
-listing_for first no_list = L.NoList
+listing_for first (list_up_to xs q) = Some ((length xs), first, q)
+listing_for first no_list = None
 
 pub record ListingIs (t : List ℕ) (first : ℕ) (a : D.Arguments) (r : Listing) : Type 0 where
   pub is : length t ≤ text_bytes → r ≡ listing_for first a

@@ -1,6 +1,7 @@
 -- NORESCAN: a value is copied from where it lies to where its outcome goes. It is not scanned, so it is never one of the
 -- unfinished values, and only the room that it goes to can be full.
-use Rattle.std.specs.Prelude.{ℕ, Bool, true, false, cond, ◌≡◌, List, length}
+use Rattle.outcomes.specs.Types.{Scanned}
+use Rattle.std.specs.Prelude.{ℕ, Bool, true, false, cond, ◌≡◌, List, length, Ok, Err}
 use Rattle.definition.specs.Room.{over}
 use Rattle.definition.specs.Values as Val
 use Rattle.definition.specs.World as W
@@ -10,8 +11,6 @@ use Rattle.meter.specs.declared.Meter.{Meter}
 use Rattle.names.specs.declared.Activity.{Activity}
 use Rattle.names.specs.declared.Activity.TheVariants as A
 use Rattle.outcomes.specs.declared.Dest.{Dest}
-use Rattle.outcomes.specs.declared.Scanned.{Scanned}
-use Rattle.outcomes.specs.declared.Scanned.TheVariants as S
 use Rattle.outcomes.specs.Places.{into_of}
 
 abbrev pub is_rescanned : Activity → Bool
@@ -21,7 +20,7 @@ is_rescanned A.CopiedOnly = false
 
 -- the answer for n bytes
 unfoldable pub copied_value : Dest → ℕ → ℕ → Meter → Scanned
-copied_value d u n m = cond (D.fits (into_of d) u 0 n) (S.Good n m) (S.Bad (D.full (into_of d)) m)
+copied_value d u n m = cond (D.fits (into_of d) u 0 n) (Ok (n, m)) (Err ((D.full (into_of d)), m))
 
 -- the work room and the text room with the bytes bs, if they fit: above u, or from the place on
 unfoldable pub work_copied : Dest → ℕ → List ℕ → List ℕ → List ℕ
@@ -44,7 +43,7 @@ held_by (W.holds v) = Val.gives v
 -- the characters of a value went to d; or there is none, and nothing changed
 abbrev pub CopiedAs : Val.Answer Val.Value → List ℕ → List ℕ → Dest → ℕ → Meter → List ℕ → List ℕ → Scanned → Type 0
 CopiedAs (Val.gives v) w t d u m w' t' r = CopiedValue w t (Val.to_characters v) d u m w' t' r
-CopiedAs (Val.fails y) w t d u m w' t' r = (r ≡ S.Bad y m) × (w' ≡ w) × (t' ≡ t)
+CopiedAs (Val.fails y) w t d u m w' t' r = (r ≡ Err (y, m)) × (w' ≡ w) × (t' ≡ t)
 
 pub record CopiedFrom (a : Val.Answer Val.Value) (w t : List ℕ) (d : Dest) (u : ℕ) (m : Meter) (w' t' : List ℕ) (r : Scanned) : Type 0 where
   pub is : CopiedAs a w t d u m w' t' r

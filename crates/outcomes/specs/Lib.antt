@@ -3,3 +3,4 @@ pub mod Texts
 pub mod Places
 pub mod Copies
 pub mod Arguments
+pub mod Types

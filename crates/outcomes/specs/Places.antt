@@ -1,5 +1,8 @@
 -- WHERE OUTCOMES GO: into the text room from a place on, or into the work room above what waits.
-use Rattle.std.specs.Prelude.{ℕ, ◌+◌, ◌-◌, ◌≤◌, Bool, true, false, cond, ◌≡◌, List, leb, length, take}
+use Rattle.outcomes.specs.Types.{Scanned, Replaced}
+use Rattle.definition.specs.declared.Why.{Why}
+use Rattle.operators.specs.declared.Value.{Value}
+use Rattle.std.specs.Prelude.{ℕ, ◌+◌, ◌-◌, ◌≤◌, Bool, true, false, cond, ◌≡◌, List, leb, length, take, Result, Ok, Err}
 use Rattle.definition.specs.Limits.{unfinished_bytes}
 use Rattle.definition.specs.Lists.{part}
 use Rattle.definition.specs.Room.{over}
@@ -7,15 +10,10 @@ use Rattle.definition.specs.Values as Val
 use Rattle.definition.specs.Scan as D
 use Rattle.definition.specs.declared.Why.TheVariants.{TooLong}
 use Rattle.meter.specs.declared.Meter.{Meter}
-use Rattle.operators.specs.declared.Given.{Given}
 use Rattle.operators.specs.Stands.{top_of, given_in}
 use Rattle.sums.specs.Numbers.{greatest, sum_to}
 use Rattle.outcomes.specs.declared.Src.{Src}
 use Rattle.outcomes.specs.declared.Dest.{Dest}
-use Rattle.outcomes.specs.declared.Scanned.{Scanned}
-use Rattle.outcomes.specs.declared.Scanned.TheVariants as S
-use Rattle.outcomes.specs.declared.Replaced.{Replaced}
-use Rattle.outcomes.specs.declared.Replaced.TheVariants as R
 use Rattle.outcomes.specs.Texts.{room_of}
 
 unfoldable pub into_of : Dest → D.Into
@@ -52,11 +50,11 @@ pub record Puts (s w t : List ℕ) (x : Src) (p n : ℕ) (d : Dest) (u k : ℕ) 
   pub text : t' ≡ text_put d k (bytes_at s w x p n) t
 
 abbrev pub up_to_of : Scanned → ℕ → Replaced
-up_to_of (S.Good n m) to = R.Good n to m
-up_to_of (S.Bad e m) to = R.Bad e m
+up_to_of (Ok (n, m)) to = Ok (n, to, m)
+up_to_of (Err (e, m)) to = Err (e, m)
 
 unfoldable pub copied_for : Dest → ℕ → ℕ → ℕ → ℕ → Meter → Replaced
-copied_for d u k n q m = cond (D.fits (into_of d) u k n) (R.Good n q m) (R.Bad (D.full (into_of d)) m)
+copied_for d u k n q m = cond (D.fits (into_of d) u k n) (Ok (n, q, m)) (Err ((D.full (into_of d)), m))
 
 -- a token from p to q behind an outcome of k bytes
 pub record Copied (s w t : List ℕ) (x : Src) (p q : ℕ) (d : Dest) (u k : ℕ) (m : Meter) (w' t' : List ℕ) (r : Replaced) : Type 0 where
@@ -67,13 +65,13 @@ pub record Copied (s w t : List ℕ) (x : Src) (p q : ℕ) (d : Dest) (u k : ℕ
 
 -- ---- values
 abbrev pub meter_of : Scanned → Meter
-meter_of (S.Good n m) = m
-meter_of (S.Bad e m) = m
+meter_of (Ok (n, m)) = m
+meter_of (Err (e, m)) = m
 
 -- bytes that lie at u
 abbrev pub got_in : List ℕ → ℕ → Scanned → Val.Answer (List ℕ)
-got_in w u (S.Good n m) = Val.gives (part n u w)
-got_in w u (S.Bad e m) = Val.fails e
+got_in w u (Ok (n, m)) = Val.gives (part n u w)
+got_in w u (Err (e, m)) = Val.fails e
 
 -- the characters of a value, where they may wait above u bytes
 unfoldable pub characters_at : ℕ → Val.Value → Val.Answer (List ℕ)
@@ -82,15 +80,15 @@ characters_at u v = cond (leb (u + length (Val.to_characters v)) unfinished_byte
 unfoldable pub characters_of : ℕ → Val.Answer Val.Value → Val.Answer (List ℕ)
 characters_of u a = Val.and_then a (characters_at u)
 
-pub record TextIs (w : List ℕ) (u : ℕ) (g : Given) (m : Meter) (w' : List ℕ) (r : Scanned) : Type 0 where
+pub record TextIs (w : List ℕ) (u : ℕ) (g : Result Value Why) (m : Meter) (w' : List ℕ) (r : Scanned) : Type 0 where
   pub is : unfinished_bytes ≤ length w → got_in w' u r ≡ characters_of u (given_in w u g)
   pub meter : meter_of r ≡ m
   pub below : take u w' ≡ take u w
 
 -- an outcome above n bytes at u comes down to u
 abbrev pub settled_in : Bool → List ℕ → ℕ → ℕ → Scanned → List ℕ
-settled_in true w u n (S.Good k m) = over w u (part k (u + n) w)
-settled_in true w u n (S.Bad e m) = w
+settled_in true w u n (Ok (k, m)) = over w u (part k (u + n) w)
+settled_in true w u n (Err (e, m)) = w
 settled_in false w u n x = w
 
 pub record Settled (w : List ℕ) (d : Dest) (u n : ℕ) (x : Scanned) (w' : List ℕ) (r : Scanned) : Type 0 where

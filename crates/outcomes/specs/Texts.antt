@@ -1,5 +1,7 @@
 -- THE TEXT THAT IS SCANNED: a stretch of a body or of the work room. And the names in it that are active.
-use Rattle.std.specs.Prelude.{ℕ, zero, suc, ◌-◌, ◌<◌, ◌≤◌, cond, ◌≡◌, List, [], ◌∷◌, length}
+use Rattle.names.specs.declared.Activity.{Activity}
+use Rattle.names.specs.declared.Address.{Address}
+use Rattle.std.specs.Prelude.{ℕ, zero, suc, ◌-◌, ◌<◌, ◌≤◌, cond, ◌≡◌, List, [], ◌∷◌, length, Option, Some, None}
 use Rattle.definition.specs.Bytes.{mixed}
 use Rattle.definition.specs.Limits.{text_bytes}
 use Rattle.definition.specs.Lists.{part}
@@ -12,8 +14,6 @@ use Rattle.tokens.specs.Answer.{piece_for}
 use Rattle.names.specs.Table.{name_in, activity_of, identifiers_from}
 use Rattle.sums.specs.Numbers.{greatest, sum_to}
 use Rattle.outcomes.specs.declared.Src.{Src}
-use Rattle.outcomes.specs.declared.Active.{Active}
-use Rattle.outcomes.specs.declared.Active.TheVariants.{NotActive, IsActive}
 
 -- the room that a source lies in: s is a body, w the work room
 unfoldable pub room_of : List ℕ → List ℕ → Src → List ℕ
@@ -40,9 +40,9 @@ abbrev pub part_of : Src → ℕ → ℕ → Src
 part_of x from to = record { in_work = x.in_work; from = sum_to greatest x.from from; to = sum_to greatest x.from to }
 
 -- ---- active names
-abbrev pub active_for : Active → D.Active
-active_for NotActive = D.not_active
-active_for (IsActive a y) = D.active a.0 (activity_of y)
+abbrev pub active_for : Option (Address × Activity) → D.Active
+active_for None = D.not_active
+active_for (Some (a, y)) = D.active a.0 (activity_of y)
 
 unfoldable pub activities_from : List ℕ → ℕ → ℕ → List W.Activity
 activities_from t a zero = []
@@ -54,11 +54,11 @@ pub record Awake (d t : List ℕ) (n : ℕ) (B : World) : Type 0 where
   pub activities : B.activities ≡ activities_from t 0 n
 
 -- whether the bytes l are a name that is active
-pub record ActiveIs (d t : List ℕ) (n : ℕ) (l : List ℕ) (r : Active) : Type 0 where
+pub record ActiveIs (d t : List ℕ) (n : ℕ) (l : List ℕ) (r : Option (Address × Activity)) : Type 0 where
   pub is : (B : World) → Awake d t n B → active_for r ≡ D.active_name l B
 
 -- the same of the token y that stands at p of a source in the room t
-pub record ActiveHere (d names : List ℕ) (n : ℕ) (t : List ℕ) (x : Src) (p : ℕ) (y : Piece) (r : Active) : Type 0 where
+pub record ActiveHere (d names : List ℕ) (n : ℕ) (t : List ℕ) (x : Src) (p : ℕ) (y : Piece) (r : Option (Address × Activity)) : Type 0 where
   pub is : (B : World) → Awake d names n B → Within t x.from x.to → p < x.to - x.from
       → y ≡ piece_for (T.piece_at mixed (stretch_of t x.from x.to) p)
       → active_for r ≡ D.active_in (T.piece_at mixed (stretch_of t x.from x.to) p).piece B

@@ -20,11 +20,11 @@ ghost use Rattle.outcomes.specs.Arguments.{past_blanks, cut_from, EndIs, Listing
 use chars::is_blank;
 use definition::{ValueType, Why};
 use fixed::Fixed;
-use meter::Meter;
-use names::{Activity, Address, Found, Owner, find, name_at};
-use operators::{Given, Value, above, fits, move_down, move_up, size_of, to_characters};
+use meter::{Meter, Refused};
+use names::{Activity, Address, Owner, find, name_at};
+use operators::{Value, above, fits, move_down, move_up, size_of, to_characters};
 use rooms::{byte, copy};
-use store::{Length, Number, characters_at, copy_characters, number_at};
+use store::{characters_at, copy_characters, number_at};
 use sums::{less, sum};
 use tokens::{Piece, PieceKind, piece_at};
 use values::put_fixed;
@@ -75,29 +75,29 @@ pub fn piece_of(s: &[u8], work: &[u8], x: Src, p: usize) -> Piece
     }
 }
 
-// A name that is active, by its address.
-#[derive(Clone, Copy)]
-pub enum Active {
-    NotActive,
-    IsActive(Address, Activity),
-}
-
-fn active_as(a: Address, y: Activity) -> Active
+fn active_as(a: Address, y: Activity) -> Option<(Address, Activity)>
     ensures { active_for result ≡ D.active_as (activity_of y) a.0 }
 {
     match y {
-        Activity::Inactive => Active::NotActive,
-        Activity::CopiedOnly | Activity::Rescanned => Active::IsActive(a, y),
+        Activity::Inactive => None,
+        Activity::CopiedOnly | Activity::Rescanned => Some((a, y)),
     }
 }
 
 // Whether the n bytes at a place are a name that is active.
-fn active_name(deck: &[u8], t: &[u8], names: &[u16], count: u16, from: usize, n: usize) -> Active
+fn active_name(
+    deck: &[u8],
+    t: &[u8],
+    names: &[u16],
+    count: u16,
+    from: usize,
+    n: usize,
+) -> Option<(Address, Activity)>
     ensures { ActiveIs deck.now names.now count (folded mixed (part n from t.now)) result }
 {
     match find(deck, names, count, t, from, n, Owner::Everyone) {
-        Found::Known(a) => active_as(a, name_at(names, a).activity),
-        Found::Unknown => Active::NotActive,
+        Some(a) => active_as(a, name_at(names, a).activity),
+        None => None,
     }
 }
 
@@ -111,7 +111,7 @@ pub fn active_in(
     x: Src,
     p: usize,
     y: Piece,
-) -> Active
+) -> Option<(Address, Activity)>
     ensures { ActiveHere deck.now names.now count (room_of s.now work.now x) x p y result }
 {
     match y.kind {
@@ -119,7 +119,7 @@ pub fn active_in(
             let n = less(y.to, p);
             active_name(deck, room_of(s, work, x), names, count, sum(x.from, p), n)
         }
-        PieceKind::Plain | PieceKind::Unclosed => Active::NotActive,
+        PieceKind::Plain | PieceKind::Unclosed => None,
     }
 }
 
@@ -187,25 +187,17 @@ fn put_bytes(
 }
 
 // An outcome so far, or a refusal; and the steps.
-#[derive(Clone, Copy)]
-pub enum Scanned {
-    Good(usize, Meter),
-    Bad(Why, Meter),
-}
+pub type Scanned = Result<(usize, Meter), Refused>;
 
 // The outcome of one replacement and the place behind it.
-#[derive(Clone, Copy)]
-pub enum Replaced {
-    Good(usize, usize, Meter),
-    Bad(Why, Meter),
-}
+pub type Replaced = Result<(usize, usize, Meter), Refused>;
 
 pub fn up_to(x: Scanned, to: usize) -> Replaced
     ensures { result ≡ up_to_of x to }
 {
     match x {
-        Scanned::Good(n, m) => Replaced::Good(n, to, m),
-        Scanned::Bad(w, m) => Replaced::Bad(w, m),
+        Ok((n, m)) => Ok((n, to, m)),
+        Err((w, m)) => Err((w, m)),
     }
 }
 
@@ -227,9 +219,9 @@ pub fn copy_token(
     let n = less(q, p);
     if may_put(d, u, k, n) {
         put_bytes(s, work, text, x, p, n, d, u, k);
-        return Replaced::Good(n, q, m);
+        return Ok((n, q, m));
     }
-    Replaced::Bad(full(d), m)
+    Err((full(d), m))
 }
 
 // ---- argument lists
@@ -276,11 +268,7 @@ fn argument_end(t: &[u8], from: usize) -> Ending
 }
 
 // A list: how many arguments it has, where the first begins, and the place past it.
-#[derive(Clone, Copy)]
-pub enum Listing {
-    Upto(usize, usize, usize),
-    NoList,
-}
+pub type Listing = Option<(usize, usize, usize)>;
 
 fn arguments_from(t: &[u8], first: usize) -> Listing
     ensures { ListingIs t.now first (cut_from t.now first) result }
@@ -289,11 +277,11 @@ fn arguments_from(t: &[u8], first: usize) -> Listing
     for n in 0..t.len() {
         match argument_end(t, from) {
             Ending::Comma(p) => from = place_after(p),
-            Ending::Close(p) => return Listing::Upto(n + 1, first, place_after(p)),
-            Ending::Open => return Listing::NoList,
+            Ending::Close(p) => return Some((n + 1, first, place_after(p))),
+            Ending::Open => return None,
         }
     }
-    Listing::NoList
+    None
 }
 
 fn past_blanks(t: &[u8], p: usize) -> usize
@@ -315,7 +303,7 @@ fn list_at(t: &[u8], p: usize) -> Listing
     if byte(t, q, 0) == b'(' {
         return arguments_from(t, place_after(q));
     }
-    Listing::NoList
+    None
 }
 
 pub fn list_of(s: &[u8], work: &[u8], x: Src, p: usize) -> Listing
@@ -323,7 +311,7 @@ pub fn list_of(s: &[u8], work: &[u8], x: Src, p: usize) -> Listing
 {
     match bytes_of(s, work, x) {
         Some(t) => list_at(t, p),
-        None => Listing::NoList,
+        None => None,
     }
 }
 
@@ -370,17 +358,17 @@ pub fn into_work() -> Dest
 }
 
 // A value as CHARACTER at u: how long it is.
-pub fn as_text(work: &mut [u8], u: usize, g: Given, m: Meter) -> Scanned
+pub fn as_text(work: &mut [u8], u: usize, g: Result<Value, Why>, m: Meter) -> Scanned
     ensures { TextIs work.old u g m work.new result }
 {
     match g {
-        Given::Gives(v) => {
+        Ok(v) => {
             match to_characters(work, u, v) {
-                Given::Gives(x) => Scanned::Good(size_of(x), m),
-                Given::Fails(w) => Scanned::Bad(w, m),
+                Ok(x) => Ok((size_of(x), m)),
+                Err(w) => Err((w, m)),
             }
         }
-        Given::Fails(w) => Scanned::Bad(w, m),
+        Err(w) => Err((w, m)),
     }
 }
 
@@ -396,13 +384,13 @@ pub fn settled(work: &mut [u8], d: Dest, u: usize, n: usize, x: Scanned) -> Scan
     ensures { Settled work.old d u n x work.new result }
 {
     match x {
-        Scanned::Good(k, m) => {
+        Ok((k, m)) => {
             if d.to_work {
                 move_down(work, above(u, n), k, u);
             }
-            Scanned::Good(k, m)
+            Ok((k, m))
         }
-        Scanned::Bad(w, m) => Scanned::Bad(w, m),
+        Err((w, m)) => Err((w, m)),
     }
 }
 
@@ -416,12 +404,12 @@ fn copied_value(work: &[u8], text: &mut [u8], n: usize, d: Dest, u: usize, m: Me
 {
     if may_put(d, u, 0, n) {
         if d.to_work {
-            return Scanned::Good(n, m);
+            return Ok((n, m));
         }
         copy(work, u, n, text, d.at);
-        return Scanned::Good(n, m);
+        return Ok((n, m));
     }
-    Scanned::Bad(full(d), m)
+    Err((full(d), m))
 }
 
 // A number, as its eight places.
@@ -431,12 +419,12 @@ fn copied_number(work: &mut [u8], text: &mut [u8], x: Fixed, d: Dest, u: usize, 
     if may_put(d, u, 0, Fixed::WIDTH) {
         if d.to_work {
             put_fixed(x, work, u);
-            return Scanned::Good(Fixed::WIDTH, m);
+            return Ok((Fixed::WIDTH, m));
         }
         put_fixed(x, text, d.at);
-        return Scanned::Good(Fixed::WIDTH, m);
+        return Ok((Fixed::WIDTH, m));
     }
-    Scanned::Bad(full(d), m)
+    Err((full(d), m))
 }
 
 // The n bytes of the CHARACTER variable at the address a.
@@ -456,12 +444,12 @@ fn copied_characters(
     if may_put(d, u, 0, n) {
         if d.to_work {
             copy_characters(low, high, a, n, work, u);
-            return Scanned::Good(n, m);
+            return Ok((n, m));
         }
         copy_characters(low, high, a, n, text, d.at);
-        return Scanned::Good(n, m);
+        return Ok((n, m));
     }
-    Scanned::Bad(full(d), m)
+    Err((full(d), m))
 }
 
 // The value of the variable at the address a, of type t.
@@ -481,12 +469,12 @@ pub fn copied_variable(
 {
     match t {
         ValueType::FixedType => match number_at(cells, a) {
-            Number::Holds(n) => copied_number(work, text, n, d, u, m),
-            Number::NoNumber => Scanned::Bad(Why::NoValue, m),
+            Some(n) => copied_number(work, text, n, d, u, m),
+            None => Err((Why::NoValue, m)),
         },
         ValueType::CharacterType => match characters_at(cells, a) {
-            Length::Bytes(n) => { copied_characters(low, high, work, text, a, n as usize, d, u, m) }
-            Length::NoCharacters => Scanned::Bad(Why::NoValue, m),
+            Some(n) => { copied_characters(low, high, work, text, a, n as usize, d, u, m) }
+            None => Err((Why::NoValue, m)),
         },
     }
 }
@@ -495,7 +483,7 @@ pub fn copied_variable(
 pub fn copied_result(
     work: &mut [u8],
     text: &mut [u8],
-    g: Given,
+    g: Result<Value, Why>,
     d: Dest,
     u: usize,
     m: Meter,
@@ -503,10 +491,10 @@ pub fn copied_result(
     ensures { CopiedFrom (given_in work.old u g) work.old text.old d u m work.new text.new result }
 {
     match g {
-        Given::Gives(v) => match v {
+        Ok(v) => match v {
             Value::Number(x) => copied_number(work, text, x, d, u, m),
             Value::Characters(n) | Value::Bits(n) => copied_value(work, text, n, d, u, m),
         },
-        Given::Fails(w) => Scanned::Bad(w, m),
+        Err(w) => Err((w, m)),
     }
 }

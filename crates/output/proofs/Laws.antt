@@ -1,5 +1,6 @@
 -- What the two rooms and the cursor show after one more event: a new line, or the newest line made longer.
 -- Assumes nothing.
+use Rattle.std.proofs.Common.{Some, None}
 use mathlib.Core.Path.{◌≡◌, refl, sym, ap, ◌∙◌}
 use mathlib.Core.Bool.{Bool, true, false, cond, ◌&&◌, false≢true}
 use mathlib.Core.List.{List, [], ◌∷◌}
@@ -17,7 +18,6 @@ use Rattle.sums.specs.Numbers.{greatest, sum_to}
 use Rattle.sums.proofs.Laws.{sum_in}
 use Rattle.output.specs.declared.Newest.{Newest}
 use Rattle.output.specs.declared.Out.{Out}
-use Rattle.output.specs.declared.Put.TheVariants.{Done, Full}
 use Rattle.output.specs.Shows.{top, line_in, grows_from, Fine, Shows, taken, More, Puts, PutsFine, EndsFine, Begins}
 use Rattle.output.specs.Line.{line_at, PutsLine, At, Wrote, Writes}
 
@@ -193,14 +193,14 @@ module _ (e : Event) (es : List Event) (o : Out) (t l t' l' : List ℕ) (k : ℕ
 
 -- ---- the ways out
 module _ (o : Out) (m p : ℕ) (t l : List ℕ) where
-  pub blank_no_line : o.free < 1 → PutsFine (blank m p) o t l Full t l
+  pub blank_no_line : o.free < 1 → PutsFine (blank m p) o t l None t l
   blank_no_line h = record { is = λ _. record { is = λ es s. rw (lt-leb 1 o.free h) refl } }
 
-  pub blank_no_room : 1 ≤ o.free → o.room < 1 → PutsFine (blank m p) o t l Full t l
+  pub blank_no_room : 1 ≤ o.free → o.room < 1 → PutsFine (blank m p) o t l None t l
   blank_no_room h g = record { is = λ _. record { is = λ es s. rw (le-leb 1 o.free h, lt-leb 1 o.room g) refl } }
 
   pub blank_done : (t' l' : List ℕ) (r : Out) (x : Newest) → x ≡ record { kind = 1; member = m; offset = p; size = 1 } → 1 ≤ o.free → 1 ≤ o.room
-      → t' ≡ over t (o.text + 0) (32 ∷ []) → Writes l o o.lines x 1 r l' → PutsFine (blank m p) o t l (Done r) t' l'
+      → t' ≡ over t (o.text + 0) (32 ∷ []) → Writes l o o.lines x 1 r l' → PutsFine (blank m p) o t l (Some r) t' l'
   unfolding lines_of
   blank_done t' l' r x y h g text w = record {
     is = λ f. record {
@@ -214,18 +214,18 @@ module _ (o : Out) (m p : ℕ) (t l : List ℕ) where
     joined : (es : List Event) → Shows es o t l → joins es m p ≡ g
     joined es s = joins_line es m p ∙ rw (← s.newest) (sym is)
 
-    pub longer_no_room : g ≡ true → o.room < n → PutsFine (copied m p b) o t l Full t l
+    pub longer_no_room : g ≡ true → o.room < n → PutsFine (copied m p b) o t l None t l
     longer_no_room y h = record { is = λ _. record { is = λ es s. rw (joined es s, y, size, le-leb 0 o.free (omega arith), lt-leb n o.room h) refl } }
 
-    pub copied_no_line : g ≡ false → o.free < 1 → PutsFine (copied m p b) o t l Full t l
+    pub copied_no_line : g ≡ false → o.free < 1 → PutsFine (copied m p b) o t l None t l
     copied_no_line y h = record { is = λ _. record { is = λ es s. rw (joined es s, y, lt-leb 1 o.free h) refl } }
 
-    pub copied_no_room : g ≡ false → 1 ≤ o.free → o.room < n → PutsFine (copied m p b) o t l Full t l
+    pub copied_no_room : g ≡ false → 1 ≤ o.free → o.room < n → PutsFine (copied m p b) o t l None t l
     copied_no_room y h i = record { is = λ _. record { is = λ es s. rw (joined es s, y, size, le-leb 1 o.free h, lt-leb n o.room i) refl } }
 
     module _ (t' l' : List ℕ) (r : Out) (room : n ≤ o.room) (text : t' ≡ over t o.text b) where
       longer_fine : Fine o (length t) (length l) → (k : ℕ) (x : Newest) → x ≡ record { kind = 2; member = m; offset = o.newest.offset; size = o.newest.size + n } → k ≡ o.lines - 1 → 1 ≤ o.lines
-          → g ≡ true → Wrote l o k x n r l' → Puts (copied m p b) o t l (Done r) t' l'
+          → g ≡ true → Wrote l o k x n r l' → Puts (copied m p b) o t l (Some r) t' l'
       unfolding lines_of
       longer_fine f k x y c some q w = record {
         is = λ es s.
@@ -235,7 +235,7 @@ module _ (o : Out) (m p : ℕ) (t l : List ℕ) where
       }
 
       pub longer_done : (k z : ℕ) (x : Newest) → x ≡ record { kind = 2; member = m; offset = o.newest.offset; size = z } → z ≡ sum_to 4294967295 o.newest.size n → k ≡ o.lines - 1
-          → g ≡ true → Writes l o k x n r l' → PutsFine (copied m p b) o t l (Done r) t' l'
+          → g ≡ true → Writes l o k x n r l' → PutsFine (copied m p b) o t l (Some r) t' l'
       longer_done k z x y i c q w = record {
         is = λ f.
             let some : 1 ≤ o.lines = lines_some o m p (length t) (length l) g f is q in
@@ -244,7 +244,7 @@ module _ (o : Out) (m p : ℕ) (t l : List ℕ) where
       }
 
       pub copied_done : (x : Newest) → x ≡ record { kind = 2; member = m; offset = p; size = n } → g ≡ false → 1 ≤ o.free
-          → Writes l o o.lines x n r l' → PutsFine (copied m p b) o t l (Done r) t' l'
+          → Writes l o o.lines x n r l' → PutsFine (copied m p b) o t l (Some r) t' l'
       unfolding lines_of
       copied_done x y q h w = record {
         is = λ f. record {

@@ -1,12 +1,10 @@
 -- How the cursor and the two rooms show the events of the definition: the text room and the list room hold the two views of
 -- them, over zeros. And what putting out one more event is.
-use Rattle.std.specs.Prelude.{ℕ, ◌+◌, ◌*◌, ◌-◌, ◌/◌, ◌≤◌, ◌≡◌, Bool, true, false, cond, ◌&&◌, List, [], ◌∷◌, leb, eqb, length}
+use Rattle.std.specs.Prelude.{ℕ, ◌+◌, ◌*◌, ◌-◌, ◌/◌, ◌≤◌, ◌≡◌, Bool, true, false, cond, ◌&&◌, List, [], ◌∷◌, leb, eqb, length, Option, Some, None}
 use Rattle.definition.specs.Room.{over, zeros}
 use Rattle.definition.specs.Events.{Event, blank, copied, replaced, bytes_in, joins, text_of, Line, line, lines_of, list_bytes}
 use Rattle.output.specs.declared.Newest.{Newest}
 use Rattle.output.specs.declared.Out.{Out}
-use Rattle.output.specs.declared.Put.{Put}
-use Rattle.output.specs.declared.Put.TheVariants.{Done, Full}
 
 -- the newest line, or one of kind 0
 abbrev pub top : List Line → Line
@@ -52,16 +50,16 @@ pub record More (e : Event) (es : List Event) (o : Out) (r : Out) (t l : List �
   pub room : r.room ≡ o.room - length (bytes_in e)
   pub free : r.free ≡ o.free - taken e es
 
-abbrev pub Answers : Bool → Event → List Event → Out → Put → List ℕ → List ℕ → Type 0
-Answers true e es o r t l = (x : Out) × (r ≡ Done x) × More e es o x t l
-Answers false e es o r t l = r ≡ Full
+abbrev pub Answers : Bool → Event → List Event → Out → Option Out → List ℕ → List ℕ → Type 0
+Answers true e es o r t l = (x : Out) × (r ≡ Some x) × More e es o x t l
+Answers false e es o r t l = r ≡ None
 
 -- whatever events the entry shows, the exit shows one more, or the answer is that a room is full
-pub record Puts (e : Event) (o : Out) (t l : List ℕ) (r : Put) (t' l' : List ℕ) : Type 0 where
+pub record Puts (e : Event) (o : Out) (t l : List ℕ) (r : Option Out) (t' l' : List ℕ) : Type 0 where
   pub is : (es : List Event) → Shows es o t l → Answers (fits e es o) e es o r t' l'
 
 -- THE ENSURES, for a cursor that fits the rooms
-pub record PutsFine (e : Event) (o : Out) (t l : List ℕ) (r : Put) (t' l' : List ℕ) : Type 0 where
+pub record PutsFine (e : Event) (o : Out) (t l : List ℕ) (r : Option Out) (t' l' : List ℕ) : Type 0 where
   pub is : Fine o (length t) (length l) → Puts e o t l r t' l'
 
 -- the outcome of a replacement stands in a text room of T bytes already; its line is put behind the others

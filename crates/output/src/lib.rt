@@ -30,12 +30,6 @@ pub struct Out {
     pub newest: Newest,
 }
 
-#[derive(Clone, Copy)]
-pub enum Put {
-    Done(Out),
-    Full,
-}
-
 // The text room counts at 4,294,967,295 bytes at most.
 fn capped(text: usize) -> usize
     ensures { result ≡ cond (leb text text_bytes) text text_bytes }
@@ -111,11 +105,11 @@ fn with_line(list: &mut [u8], o: Out, k: usize, x: Newest, n: usize) -> Out
 }
 
 // A blank, at the start of a text.
-pub fn put_blank(text: &mut [u8], list: &mut [u8], o: Out, member: u8, place: u32) -> Put
+pub fn put_blank(text: &mut [u8], list: &mut [u8], o: Out, member: u8, place: u32) -> Option<Out>
     ensures { PutsFine (blank member place) o text.old list.old result text.new list.new }
 {
     if o.free < 1 || o.room < 1 {
-        return Put::Full;
+        return None;
     }
     put_byte(text, o.text, 0, 32);
     let x = Newest {
@@ -124,7 +118,7 @@ pub fn put_blank(text: &mut [u8], list: &mut [u8], o: Out, member: u8, place: u3
         offset: place,
         size: 1,
     };
-    Put::Done(with_line(list, o, o.lines, x, 1))
+    Some(with_line(list, o, o.lines, x, 1))
 }
 
 // The n bytes of src from a place on, copied from that place of a member.
@@ -137,13 +131,13 @@ pub fn put_copied(
     o: Out,
     member: u8,
     place: u32,
-) -> Put
+) -> Option<Out>
     ensures { PutsFine (copied member place (part n from src.now)) o text.old list.old result text.new list.new }
 {
     let size = n as usize;
     if grows_from(o.newest, member, place) {
         if o.room < size {
-            return Put::Full;
+            return None;
         }
         copy(src, from, size, text, o.text);
         let x = Newest {
@@ -152,10 +146,10 @@ pub fn put_copied(
             offset: o.newest.offset,
             size: sum32(o.newest.size, n),
         };
-        return Put::Done(with_line(list, o, less(o.lines, 1), x, size));
+        return Some(with_line(list, o, less(o.lines, 1), x, size));
     }
     if o.free < 1 || o.room < size {
-        return Put::Full;
+        return None;
     }
     copy(src, from, size, text, o.text);
     let x = Newest {
@@ -164,7 +158,7 @@ pub fn put_copied(
         offset: place,
         size: n,
     };
-    Put::Done(with_line(list, o, o.lines, x, size))
+    Some(with_line(list, o, o.lines, x, size))
 }
 
 // The line of a replacement, whose outcome of n bytes stands in the text room already.

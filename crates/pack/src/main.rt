@@ -9,7 +9,7 @@
 #![tactic(auto)]
 
 use chars::{is_alphameric, is_letter};
-use deck::{Contents, Deck, Found, Sought, Spelled, has_libraries, line_place, name_place};
+use deck::{Deck, Sought, Spelled, has_libraries, line_place, name_place};
 use rooms::{copy, is_same, put_byte, put_u16, put_u32};
 use std::env::FillError;
 use std::fs::File;
@@ -211,8 +211,8 @@ fn check_new(log: &impl Print, deck: &mut [u8], k: u16, arg: &[u8]) -> Result<()
     let names = names_of(deck, k);
     put_first(deck, k, has_libraries(deck));
     match deck::find(deck, names) {
-        Found::Line(j) => Err(refuse_repeated(log, deck, j, k, arg)),
-        Found::Nothing => Ok(()),
+        Some(j) => Err(refuse_repeated(log, deck, j, k, arg)),
+        None => Ok(()),
     }
 }
 
@@ -360,7 +360,7 @@ fn pack(
 // Writes the deck, once the proved reader of decks calls it sound.
 fn write_deck(out: &impl Print, log: &impl Print, room: &[u8], size: u32) -> Result<(), Refused> {
     match room.get(..size as usize) {
-        Some(made) if matches!(Deck::of(made), Contents::Sound(_)) => out
+        Some(made) if matches!(Deck::of(made), Some(_)) => out
             .write_all(made)
             .map_err(|error| refuse_for_system(log, b"standard output", error)),
         _ => Err(refuse(log, b"the deck", b"it came out malformed")),

@@ -1,5 +1,6 @@
 -- A new row: its links, and the state that it makes; and the state under a text. One law for each way out.
 -- Assumes nothing.
+use Rattle.std.proofs.Common.{Option, Some, None}
 use mathlib.Core.Path.{◌≡◌, refl, sym, ap, subst, ◌∙◌}
 use mathlib.Core.Logic.{◌⊎◌, inl, inr}
 use mathlib.Core.List.{List, [], ◌∷◌, ◌++◌}
@@ -11,8 +12,6 @@ use Rattle.definition.specs.Room.{over}
 use Rattle.definition.proofs.Rooms.{length_over}
 use Rattle.definition.specs.Program as P
 use Rattle.definition.specs.Reading as D
-use Rattle.rows.specs.declared.Link.{Link}
-use Rattle.rows.specs.declared.Link.TheVariants as L
 use Rattle.rows.specs.declared.Role.{Role}
 use Rattle.rows.specs.declared.Stretch.{Stretch}
 use Rattle.rows.specs.declared.Row.{Row}
@@ -43,13 +42,13 @@ behind_everyone k n e = rw e
 
 -- ---- the link to a new row
 module _ (o : Open) (t u : List ℕ) (n : ℕ) where
-  pub listed_first : o.last ≡ L.Nowhere → u ≡ over t (16 * o.row + 8) (link_number (L.To n) ∷ []) → u ≡ link_last o.last t n (link_at t o.row 8 n)
+  pub listed_first : o.last ≡ None → u ≡ over t (16 * o.row + 8) (link_number (Some n) ∷ []) → u ≡ link_last o.last t n (link_at t o.row 8 n)
   listed_first e f = rw e f
 
-  pub listed_next : (l : ℕ) → o.last ≡ L.To l → u ≡ over t (16 * l + 7) (link_number (L.To n) ∷ []) → u ≡ link_last o.last t n (link_at t o.row 8 n)
+  pub listed_next : (l : ℕ) → o.last ≡ Some l → u ≡ over t (16 * l + 7) (link_number (Some n) ∷ []) → u ≡ link_last o.last t n (link_at t o.row 8 n)
   listed_next l e f = rw e f
 
-  pub program_next : (l : ℕ) → o.last ≡ L.To l → u ≡ over t (16 * l + 7) (link_number (L.To n) ∷ []) → u ≡ link_last o.last t n t
+  pub program_next : (l : ℕ) → o.last ≡ Some l → u ≡ over t (16 * l + 7) (link_number (Some n) ∷ []) → u ≡ link_last o.last t n t
   program_next l e f = rw e f
 
   pub link_program : o.kind ≡ Wh.InProgram → u ≡ link_last o.last t n t → u ≡ link_in o.kind t o n
@@ -59,10 +58,10 @@ module _ (o : Open) (t u : List ℕ) (n : ℕ) where
   link_list (inl e) f = rw e f
   link_list (inr e) f = rw e f
 
-  pub link_then : o.kind ≡ Wh.InThen → u ≡ over t (16 * o.row + 8) (link_number (L.To n) ∷ []) → u ≡ link_in o.kind t o n
+  pub link_then : o.kind ≡ Wh.InThen → u ≡ over t (16 * o.row + 8) (link_number (Some n) ∷ []) → u ≡ link_in o.kind t o n
   link_then e f = rw e f
 
-  pub link_else : o.kind ≡ Wh.InElse → u ≡ over t (16 * o.row + 9) (link_number (L.To n) ∷ []) → u ≡ link_in o.kind t o n
+  pub link_else : o.kind ≡ Wh.InElse → u ≡ over t (16 * o.row + 9) (link_number (Some n) ∷ []) → u ≡ link_in o.kind t o n
   link_else e f = rw e f
 
 -- ---- the rows: one more, to which a link leads
@@ -78,40 +77,40 @@ module _ (s t u : List ℕ) (n : ℕ) (x : Row) (hu : u ≡ over t (16 * n) (num
 
   by_next : (v : List ℕ) (l : ℕ) → l < n → v ≡ link_at u l 7 n → rows_from s v 0 (suc n) ≡ D.change l (D.set_next n) (rows_from s t 0 n) ++ row_of s x ∷ []
   by_next v l h e =
-      row_linked s t u n x hu ls room v (link_number (L.To n) ∷ []) 7 l (D.set_next n) h (omega arith) e
+      row_linked s t u n x hu ls room v (link_number (Some n) ∷ []) 7 l (D.set_next n) h (omega arith) e
       (rw e (next_set u l s n h after_room n (omega arith)))
 
   by_child : (v : List ℕ) (r : ℕ) → r < n → v ≡ link_at u r 8 n → rows_from s v 0 (suc n) ≡ D.change r (D.set_child n) (rows_from s t 0 n) ++ row_of s x ∷ []
   by_child v r h e =
-      row_linked s t u n x hu ls room v (link_number (L.To n) ∷ []) 8 r (D.set_child n) h (omega arith) e
+      row_linked s t u n x hu ls room v (link_number (Some n) ∷ []) 8 r (D.set_child n) h (omega arith) e
       (rw e (child_set u r s n h after_room n (omega arith)))
 
   by_other : (v : List ℕ) (r : ℕ) → r < n → v ≡ link_at u r 9 n → rows_from s v 0 (suc n) ≡ D.change r (D.set_other n) (rows_from s t 0 n) ++ row_of s x ∷ []
   by_other v r h e =
-      row_linked s t u n x hu ls room v (link_number (L.To n) ∷ []) 9 r (D.set_other n) h (omega arith) e
+      row_linked s t u n x hu ls room v (link_number (Some n) ∷ []) 9 r (D.set_other n) h (omega arith) e
       (rw e (other_set u r s n h after_room n (omega arith)))
 
-  rows_by : (v : List ℕ) (k : Where) (r : ℕ) (l : Link) (at : ℕ) → v ≡ link_in k u (record { kind = k; row = r; last = l; labels = at }) n
+  rows_by : (v : List ℕ) (k : Where) (r : ℕ) (l : Option ℕ) (at : ℕ) → v ≡ link_in k u (record { kind = k; row = r; last = l; labels = at }) n
       → Inside (where_of k) r n → Within (last_of k l) n
       → rows_from s v 0 (suc n) ≡ linked_in (where_of k) (open_of s (record { kind = k; row = r; last = l; labels = at })) n (rows_from s t 0 n) ++ row_of s x ∷ []
   unfolding open_of
-  rows_by v Wh.InProgram r L.Nowhere at e h q = first_row v e
-  rows_by v Wh.InProgram r (L.To l) at e h q = by_next v l q e
-  rows_by v Wh.InGroup r L.Nowhere at e h q = by_child v r h e
-  rows_by v Wh.InGroup r (L.To l) at e h q = by_next v l q e
-  rows_by v Wh.InBody r L.Nowhere at e h q = by_child v r h e
-  rows_by v Wh.InBody r (L.To l) at e h q = by_next v l q e
+  rows_by v Wh.InProgram r None at e h q = first_row v e
+  rows_by v Wh.InProgram r (Some l) at e h q = by_next v l q e
+  rows_by v Wh.InGroup r None at e h q = by_child v r h e
+  rows_by v Wh.InGroup r (Some l) at e h q = by_next v l q e
+  rows_by v Wh.InBody r None at e h q = by_child v r h e
+  rows_by v Wh.InBody r (Some l) at e h q = by_next v l q e
   rows_by v Wh.InThen r l at e h q = by_child v r h e
   rows_by v Wh.InElse r l at e h q = by_other v r h e
 
 -- a parent's number is kept
-parent_kept : (k : Where) (r n : ℕ) (l : Link) → link_of l ≡ parent_in (where_of k) r → Inside (where_of k) r n → n < 1024 → Kept l
-parent_kept k r n L.Nowhere e h q = refl
-parent_kept Wh.InProgram r n (L.To m) e h q = let z : ◌≡◌ {A = ℕ} 0 1 = cc in absurd (omega arith)
-parent_kept Wh.InGroup r n (L.To m) e h q = let z : m ≡ r = cc in kept m (omega arith)
-parent_kept Wh.InBody r n (L.To m) e h q = let z : m ≡ r = cc in kept m (omega arith)
-parent_kept Wh.InThen r n (L.To m) e h q = let z : m ≡ r = cc in kept m (omega arith)
-parent_kept Wh.InElse r n (L.To m) e h q = let z : m ≡ r = cc in kept m (omega arith)
+parent_kept : (k : Where) (r n : ℕ) (l : Option ℕ) → link_of l ≡ parent_in (where_of k) r → Inside (where_of k) r n → n < 1024 → Kept l
+parent_kept k r n None e h q = refl
+parent_kept Wh.InProgram r n (Some m) e h q = let z : ◌≡◌ {A = ℕ} 0 1 = cc in absurd (omega arith)
+parent_kept Wh.InGroup r n (Some m) e h q = let z : m ≡ r = cc in kept m (omega arith)
+parent_kept Wh.InBody r n (Some m) e h q = let z : m ≡ r = cc in kept m (omega arith)
+parent_kept Wh.InThen r n (Some m) e h q = let z : m ≡ r = cc in kept m (omega arith)
+parent_kept Wh.InElse r n (Some m) e h q = let z : m ≡ r = cc in kept m (omega arith)
 
 -- ---- the state: what the definition adds, by what is open
 pub add_in_lem : (w : D.Where) (o : D.Open) (os : List D.Open) (y : P.Statement) (p n : ℕ) (st : D.State) → length st.rows ≡ n
@@ -173,10 +172,10 @@ stand_last D.in_then k l bs os n h = stand_more n (record { kind = D.in_then; ro
 stand_last D.in_else k l bs os n h = stand_more n (record { kind = D.in_else; row = k; last = l; labels = bs } ∷ os) h
 
 -- ---- THE NEW ROW
-abbrev row_from : Clause → ℕ → ℕ → ℕ → Link → Role → Stretch → Stretch → Row
-row_from c p e d par ro a b = record { statement = c.statement; place = p; content = e; value_type = c.value_type; depth = d; parent = par; role = ro; next = L.Nowhere; child = L.Nowhere; other = L.Nowhere; lead = a; text = b }
+abbrev row_from : Clause → ℕ → ℕ → ℕ → Option ℕ → Role → Stretch → Stretch → Row
+row_from c p e d par ro a b = record { statement = c.statement; place = p; content = e; value_type = c.value_type; depth = d; parent = par; role = ro; next = None; child = None; other = None; lead = a; text = b }
 
-new_row_lem : (s : List ℕ) (c : Clause) (p q e d : ℕ) (par : Link) (ro : Role) (a b : Stretch) (w : D.Where) (r : ℕ) → q ≡ p % 65536 → e ≡ c.content % 65536 → p < 65536 → c.content < 65536
+new_row_lem : (s : List ℕ) (c : Clause) (p q e d : ℕ) (par : Option ℕ) (ro : Role) (a b : Stretch) (w : D.Where) (r : ℕ) → q ≡ p % 65536 → e ≡ c.content % 65536 → p < 65536 → c.content < 65536
     → link_of par ≡ parent_in w r → role_of ro ≡ role_in w → a ≡ stretch_at 0 0 → b ≡ stretch_at 0 0
     → row_of s (row_from c q e d par ro a b) ≡ D.new_row (statement_at s c.statement c.content) p (parent_in w r) (role_in w)
 unfolding row_of
@@ -185,22 +184,22 @@ new_row_lem s c p q e d par ro a b w r hq he lp lc hp hr ha hb =
     let j : e ≡ c.content = he ∙ mod-eq_of_lt lc in
     rw (i, j, hp, hr, ha, hb)
 
-link_size : (k : Where) (t : List ℕ) (r : ℕ) (l : Link) (at n : ℕ) → length (link_in k t (record { kind = k; row = r; last = l; labels = at }) n) ≡ length t
-link_size Wh.InProgram t r L.Nowhere at n = refl
-link_size Wh.InProgram t r (L.To l) at n = length_over t (16 * l + 7) (link_number (L.To n) ∷ [])
-link_size Wh.InGroup t r L.Nowhere at n = length_over t (16 * r + 8) (link_number (L.To n) ∷ [])
-link_size Wh.InGroup t r (L.To l) at n = length_over t (16 * l + 7) (link_number (L.To n) ∷ [])
-link_size Wh.InBody t r L.Nowhere at n = length_over t (16 * r + 8) (link_number (L.To n) ∷ [])
-link_size Wh.InBody t r (L.To l) at n = length_over t (16 * l + 7) (link_number (L.To n) ∷ [])
-link_size Wh.InThen t r l at n = length_over t (16 * r + 8) (link_number (L.To n) ∷ [])
-link_size Wh.InElse t r l at n = length_over t (16 * r + 9) (link_number (L.To n) ∷ [])
+link_size : (k : Where) (t : List ℕ) (r : ℕ) (l : Option ℕ) (at n : ℕ) → length (link_in k t (record { kind = k; row = r; last = l; labels = at }) n) ≡ length t
+link_size Wh.InProgram t r None at n = refl
+link_size Wh.InProgram t r (Some l) at n = length_over t (16 * l + 7) (link_number (Some n) ∷ [])
+link_size Wh.InGroup t r None at n = length_over t (16 * r + 8) (link_number (Some n) ∷ [])
+link_size Wh.InGroup t r (Some l) at n = length_over t (16 * l + 7) (link_number (Some n) ∷ [])
+link_size Wh.InBody t r None at n = length_over t (16 * r + 8) (link_number (Some n) ∷ [])
+link_size Wh.InBody t r (Some l) at n = length_over t (16 * l + 7) (link_number (Some n) ∷ [])
+link_size Wh.InThen t r l at n = length_over t (16 * r + 8) (link_number (Some n) ∷ [])
+link_size Wh.InElse t r l at n = length_over t (16 * r + 9) (link_number (Some n) ∷ [])
 
-parent_low : (s : List ℕ) (o : Open) (par : Link) (n : ℕ) → link_of par ≡ parent_in (where_of o.kind) o.row → Low n (open_of s o) → n < 1024 → Kept par
+parent_low : (s : List ℕ) (o : Open) (par : Option ℕ) (n : ℕ) → link_of par ≡ parent_in (where_of o.kind) o.row → Low n (open_of s o) → n < 1024 → Kept par
 unfolding open_of
 parent_low s o par n e h q = parent_kept o.kind o.row n par e h.row q
 
 -- the rows with it
-added_rows : (s t u v : List ℕ) (n m : ℕ) (x : Row) (o : Open) (y : P.Row) → n < 1024 → 16 * suc n ≤ length t → m ≡ suc n → u ≡ over t (16 * n) (numbers_of x) → Kept x.parent → x.next ≡ L.Nowhere → x.child ≡ L.Nowhere → x.other ≡ L.Nowhere
+added_rows : (s t u v : List ℕ) (n m : ℕ) (x : Row) (o : Open) (y : P.Row) → n < 1024 → 16 * suc n ≤ length t → m ≡ suc n → u ≡ over t (16 * n) (numbers_of x) → Kept x.parent → x.next ≡ None → x.child ≡ None → x.other ≡ None
     → v ≡ link_in o.kind u o n → Low n (open_of s o) → row_of s x ≡ y
     → rows_from s v 0 m ≡ linked_in (where_of o.kind) (open_of s o) n (rows_from s t 0 n) ++ y ∷ []
 unfolding open_of
@@ -211,7 +210,7 @@ added_rows s t u v n m x o y small w hm hu hp hn hc ho hv low hy =
     ∙ ap (λ (z : P.Row). linked_in (where_of o.kind) (open_of s o) n (rows_from s t 0 n) ++ z ∷ []) hy
 
 -- the state with it
-added_state : (s t v : List ℕ) (ds : List P.Declared) (x : State) (m : ℕ) (f : Link) (q : Opened) (o : Open) (y : P.Statement) (p : ℕ)
+added_state : (s t v : List ℕ) (ds : List P.Declared) (x : State) (m : ℕ) (f : Option ℕ) (q : Opened) (o : Open) (y : P.Statement) (p : ℕ)
     → opened_of s x.opened ≡ open_of s o ∷ rest_of (opened_of s x.opened)
     → link_of f ≡ first_in (where_of o.kind) (link_of x.first) (last_of o.kind o.last) x.rows
     → rows_from s v 0 m ≡ linked_in (where_of o.kind) (open_of s o) x.rows (rows_from s t 0 x.rows) ++ D.new_row y p (parent_in (where_of o.kind) o.row) (role_in (where_of o.kind)) ∷ []
@@ -242,15 +241,15 @@ unfolding D.depth
 depth_low [] = omega arith
 depth_low (o ∷ os) = omega (arith, counts_low o.kind, depth_low os)
 
-link_alike : (k : Where) (t : List ℕ) (r : ℕ) (l : Link) (at n i : ℕ) → Alike (row_in (link_in k t (record { kind = k; row = r; last = l; labels = at }) n) i) (row_in t i)
-link_alike Wh.InProgram t r L.Nowhere at n i = alike_self (row_in t i)
-link_alike Wh.InProgram t r (L.To l) at n i = alike_over t (link_number (L.To n) ∷ []) l 7 i (omega arith) (omega arith)
-link_alike Wh.InGroup t r L.Nowhere at n i = alike_over t (link_number (L.To n) ∷ []) r 8 i (omega arith) (omega arith)
-link_alike Wh.InGroup t r (L.To l) at n i = alike_over t (link_number (L.To n) ∷ []) l 7 i (omega arith) (omega arith)
-link_alike Wh.InBody t r L.Nowhere at n i = alike_over t (link_number (L.To n) ∷ []) r 8 i (omega arith) (omega arith)
-link_alike Wh.InBody t r (L.To l) at n i = alike_over t (link_number (L.To n) ∷ []) l 7 i (omega arith) (omega arith)
-link_alike Wh.InThen t r l at n i = alike_over t (link_number (L.To n) ∷ []) r 8 i (omega arith) (omega arith)
-link_alike Wh.InElse t r l at n i = alike_over t (link_number (L.To n) ∷ []) r 9 i (omega arith) (omega arith)
+link_alike : (k : Where) (t : List ℕ) (r : ℕ) (l : Option ℕ) (at n i : ℕ) → Alike (row_in (link_in k t (record { kind = k; row = r; last = l; labels = at }) n) i) (row_in t i)
+link_alike Wh.InProgram t r None at n i = alike_self (row_in t i)
+link_alike Wh.InProgram t r (Some l) at n i = alike_over t (link_number (Some n) ∷ []) l 7 i (omega arith) (omega arith)
+link_alike Wh.InGroup t r None at n i = alike_over t (link_number (Some n) ∷ []) r 8 i (omega arith) (omega arith)
+link_alike Wh.InGroup t r (Some l) at n i = alike_over t (link_number (Some n) ∷ []) l 7 i (omega arith) (omega arith)
+link_alike Wh.InBody t r None at n i = alike_over t (link_number (Some n) ∷ []) r 8 i (omega arith) (omega arith)
+link_alike Wh.InBody t r (Some l) at n i = alike_over t (link_number (Some n) ∷ []) l 7 i (omega arith) (omega arith)
+link_alike Wh.InThen t r l at n i = alike_over t (link_number (Some n) ∷ []) r 8 i (omega arith) (omega arith)
+link_alike Wh.InElse t r l at n i = alike_over t (link_number (Some n) ∷ []) r 9 i (omega arith) (omega arith)
 
 -- the row x is written as row n of t, and then a link to it
 marks_added : (s t u v : List ℕ) (n m : ℕ) (x : Row) (o : Open) (b : Opened) → n < 1024 → 16 * suc n ≤ length t → m ≡ suc n → u ≡ over t (16 * n) (numbers_of x) → Links x → v ≡ link_in o.kind u o n
@@ -267,8 +266,8 @@ marks_added s t u v n m x o b small w hm hu ls hv hd ht =
       type = λ i h q. let e : n ≡ i = omega (arith, hm) in subst (λ (z : ℕ). Typed s (row_in v z)) e (typed_alike s (row_in v n) x here ht);
     }
 
-pub adds : (t u v : List ℕ) (x : State) (c : Clause) (p q e d : ℕ) (o : Open) (par : Link) (ro : Role) (a b : Stretch) (m : ℕ) (f : Link) (z : Opened) (k : ℕ)
-    → u ≡ over t (16 * x.rows) (numbers_of (record { statement = c.statement; place = q; content = e; value_type = c.value_type; depth = d; parent = par; role = ro; next = L.Nowhere; child = L.Nowhere; other = L.Nowhere; lead = a; text = b }))
+pub adds : (t u v : List ℕ) (x : State) (c : Clause) (p q e d : ℕ) (o : Open) (par : Option ℕ) (ro : Role) (a b : Stretch) (m : ℕ) (f : Option ℕ) (z : Opened) (k : ℕ)
+    → u ≡ over t (16 * x.rows) (numbers_of (record { statement = c.statement; place = q; content = e; value_type = c.value_type; depth = d; parent = par; role = ro; next = None; child = None; other = None; lead = a; text = b }))
     → v ≡ link_in o.kind u o x.rows
     → o ≡ top_in x.opened.items x.opened.count
     → q ≡ p % 65536 → e ≡ c.content % 65536 → d ≡ k % 65536 → Deep x.opened k

@@ -1,5 +1,6 @@
 -- A clause: its labels are entered, and then its statement, or END. One law for each way out.
 -- Assumes nothing.
+use Rattle.std.proofs.Common.{Option, Some, None}
 use mathlib.Core.Path.{◌≡◌, refl, sym, ap, subst, ◌∙◌}
 use mathlib.Core.Bool.{Bool, true, false, cond, ◌&&◌, ◌||◌, false≢true}
 use mathlib.Core.List.{List, [], ◌∷◌, ◌++◌}
@@ -22,8 +23,6 @@ use Rattle.definition.specs.Reading as D
 use Rattle.definition.specs.World as W
 use Rattle.definition.specs.Names as N
 use Rattle.definition.proofs.Keeping.{and_left}
-use Rattle.entering.specs.declared.Mark.{Mark}
-use Rattle.entering.specs.declared.Mark.TheVariants.{Unmarked, Marked}
 use Rattle.entering.specs.declared.Meaning.{Meaning}
 use Rattle.entering.specs.Book.{Book, first_of, book_past, book_more, book_add, book_joint, book_join, book_at, book_one, book_new, book_all, book_whole, book_of, Entered, meaning_of}
 use Rattle.statements.specs.declared.Keyword.{Keyword}
@@ -59,7 +58,7 @@ joint_same N.twice (N.joint e) a p b c h = record { identifiers = h.identifiers;
 joint_same N.twice N.twice a p b c h = record { identifiers = h.identifiers; past = h.past }
 
 add_same : (g : Bool) (i : W.Identifier) (d e : W.Denotation) (p : ℕ) (b c : Book) → SameNames b c → SameNames (cond g (book_past p b) (book_more i d b)) (cond g (book_past p c) (book_more i e c))
-add_same true i d e p b c h = record { identifiers = h.identifiers; past = ap (λ (z : Mark). first_of z p) h.past }
+add_same true i d e p b c h = record { identifiers = h.identifiers; past = ap (λ (z : Option ℕ). first_of z p) h.past }
 add_same false i d e p b c h = record { identifiers = ap (λ (z : List W.Identifier). z ++ i ∷ []) h.identifiers; past = h.past }
 
 at_same : (x : W.Address) (i : W.Identifier) (d e : W.Denotation) (p : ℕ) (b c : Book) → SameNames b c → SameNames (book_at x i d p b) (book_at x i e p c)
@@ -172,11 +171,11 @@ module _ (d s t n : List ℕ) (x : State) (p at : ℕ) (l : Labels) (hl : Labels
   test : (b : Bool) → e ≡ b → (D.is_in_group (D.kind_of (opened_of s x.opened)) && is_end_in s u) ≡ b
   test b f = ap (λ (z : D.Where). D.is_in_group z && is_end_in s u) (sym (hw.is s)) ∙ sym he ∙ f
 
-  pub clause_ends_long : (n' : List ℕ) (q : ℕ) → e ≡ true → l.long ≡ Marked q → EndsLong d s n x at q n' r → Clauses d s t n x p at t n' r
+  pub clause_ends_long : (n' : List ℕ) (q : ℕ) → e ≡ true → l.long ≡ Some q → EndsLong d s n x at q n' r → Clauses d s t n x p at t n' r
   unfolding state_of
   clause_ends_long n' q f g h = record { so = λ i lp la st. subst (λ (X : D.Turn). Takes d s t n x X t n' r) (sym (clause_end_long s p (from_state s t x) at l hl u lex (test true f) q g)) (h.so t i) }
 
-  pub clause_ends : (n' : List ℕ) → e ≡ true → l.long ≡ Unmarked → EndsAt d s n x at u.to n' r → Clauses d s t n x p at t n' r
+  pub clause_ends : (n' : List ℕ) → e ≡ true → l.long ≡ None → EndsAt d s n x at u.to n' r → Clauses d s t n x p at t n' r
   unfolding state_of
   clause_ends n' f g h = record {
     so = λ i lp la st. subst (λ (X : D.Turn). Takes d s t n x X t n' r) (sym (clause_end s p (from_state s t x) at l hl u lex (test true f) g))
@@ -245,7 +244,7 @@ module _ (d s t n : List ℕ) (x : State) (p at : ℕ) (l : Labels) (hl : Labels
       labels_in : Sits d s t n x → Entered d n x.tally (book_all x.tally.member (St.means (scope_of x.scope) (D.label_meaning (opens_by k) x.rows) (D.labels mixed s at).labels)) n₁ y.tally
       labels_in i = subst (λ (m : P.Meaning). Entered d n x.tally (book_all x.tally.member (St.means (scope_of x.scope) m (D.labels mixed s at).labels)) n₁ y.tally) ha (hy.names.is i.ready)
 
-      pub clause_too_long : (q : ℕ) → l.long ≡ Marked q → r ≡ turned y (Nx.Stop OverLimit q) → Clauses d s t n x p at t n₁ r
+      pub clause_too_long : (q : ℕ) → l.long ≡ Some q → r ≡ turned y (Nx.Stop OverLimit q) → Clauses d s t n x p at t n₁ r
       unfolding state_of book_all
       clause_too_long q c h = record {
         so = λ i lp la st.
@@ -261,7 +260,7 @@ module _ (d s t n : List ℕ) (x : State) (p at : ℕ) (l : Labels) (hl : Labels
             }));
       }
 
-      pub clause_statement : (t' n' : List ℕ) → l.long ≡ Unmarked → k ≡ keyword_at s (where_of w) (is_inside x.scope) u l.count → ByToken d s t n₁ y k u l.to p at t' n' r → Clauses d s t n x p at t' n' r
+      pub clause_statement : (t' n' : List ℕ) → l.long ≡ None → k ≡ keyword_at s (where_of w) (is_inside x.scope) u l.count → ByToken d s t n₁ y k u l.to p at t' n' r → Clauses d s t n x p at t' n' r
       unfolding state_of
       clause_statement t' n' c hk h = record {
         so = λ i lp la st.

@@ -1,5 +1,7 @@
 -- END: its labels are entered, and what it ends is left, or the reading stops. One law for each way out.
 -- Assumes nothing.
+use Rattle.expressions.specs.Types.{Expected, NamedAt}
+use Rattle.std.proofs.Common.{Some, None, Ok, Err}
 use mathlib.Core.Path.{◌≡◌, refl, sym, ap, subst, ◌∙◌}
 use mathlib.Core.Bool.{Bool, true, false, ◌||◌, false≢true}
 use mathlib.Core.List.{List, [], ◌∷◌}
@@ -16,15 +18,10 @@ use Rattle.definition.specs.declared.Why.TheVariants.{Syntax, OverLimit}
 use Rattle.tokens.specs.declared.Lexeme.{Lexeme}
 use Rattle.tokens.specs.Answer.{Lexed, is_word_in}
 use Rattle.expressions.specs.Check.{expect_for, named_for}
-use Rattle.expressions.specs.declared.Expected.{Expected}
-use Rattle.expressions.specs.declared.Expected.TheVariants.{Past, Refused}
-use Rattle.expressions.specs.declared.NamedAt.{NamedAt}
-use Rattle.expressions.specs.declared.NamedAt.TheVariants as N
 use Rattle.names.specs.declared.Owner.{Owner}
 use Rattle.entering.specs.declared.Tally.{Tally}
 use Rattle.entering.specs.declared.Meaning.{Meaning}
 use Rattle.entering.specs.declared.Meaning.TheVariants as M
-use Rattle.entering.specs.declared.Mark.TheVariants.{Unmarked, Marked}
 use Rattle.entering.specs.Book.{Book, Entered, book_all, book_whole, book_of, meaning_of}
 use Rattle.statements.specs.Clauses.{scope_of, Own}
 use Rattle.openings.specs.declared.Open.{Open}
@@ -124,18 +121,18 @@ ends_long d s n x labels q n' y r h e = record { so = λ t i. stops_named d s n 
 
 -- ---- a word that is not END
 module _ (s : List ℕ) (x : State) (at : ℕ) (a : NamedAt) (h : a ≡ named_for (name_at mixed s at)) (r : Turned) where
-  next_name_lem : (R : Reading Named) (from to : ℕ) → a ≡ named_for R → a ≡ N.Is from to → Nx.Stop Syntax (token_at mixed s to).from ≡ not_end_next s R
+  next_name_lem : (R : Reading Named) (from to : ℕ) → a ≡ named_for R → a ≡ Ok (from, to) → Nx.Stop Syntax (token_at mixed s to).from ≡ not_end_next s R
   next_name_lem (read n) from to f e = let z : to ≡ n.to = cc in ap (λ (q : ℕ). Nx.Stop Syntax (token_at mixed s q).from) z
   next_name_lem (refused w p) from to f e = let z : ◌≡◌ {A = ℕ} 0 1 = cc in absurd (omega arith)
 
-  next_refused : (R : Reading Named) (w : Why) (p : ℕ) → a ≡ named_for R → a ≡ N.Refused w p → Nx.Stop w p ≡ not_end_next s R
+  next_refused : (R : Reading Named) (w : Why) (p : ℕ) → a ≡ named_for R → a ≡ Err (w, p) → Nx.Stop w p ≡ not_end_next s R
   next_refused (read n) w p f e = let z : ◌≡◌ {A = ℕ} 0 1 = cc in absurd (omega arith)
   next_refused (refused v q) w p f e = let y : w ≡ v = cc in let z : p ≡ q = cc in rw (y, z)
 
-  pub not_end_word : (from to : ℕ) (u : Lexeme) → a ≡ N.Is from to → Lexed s to u → r ≡ turned x (Nx.Stop Syntax u.from) → r ≡ turned x (not_end_next s (name_at mixed s at))
+  pub not_end_word : (from to : ℕ) (u : Lexeme) → a ≡ Ok (from, to) → Lexed s to u → r ≡ turned x (Nx.Stop Syntax u.from) → r ≡ turned x (not_end_next s (name_at mixed s at))
   not_end_word from to u e l f = f ∙ ap (λ (q : ℕ). turned x (Nx.Stop Syntax q)) l.from ∙ ap (λ (z : Next). turned x z) (next_name_lem (name_at mixed s at) from to h e)
 
-  pub not_end_no_name : (w : Why) (p : ℕ) → a ≡ N.Refused w p → r ≡ turned x (Nx.Stop w p) → r ≡ turned x (not_end_next s (name_at mixed s at))
+  pub not_end_no_name : (w : Why) (p : ℕ) → a ≡ Err (w, p) → r ≡ turned x (Nx.Stop w p) → r ≡ turned x (not_end_next s (name_at mixed s at))
   not_end_no_name w p e f = f ∙ ap (λ (z : Next). turned x z) (next_refused (name_at mixed s at) w p h e)
 
 -- what the definition does then
@@ -156,7 +153,7 @@ module _ (d s n : List ℕ) (x : State) (labels at : ℕ) (n' : List ℕ) (o : O
   closed t i e = subst (λ (L : List D.Open). (D.is_in_group (D.kind_of L) || D.is_in_body (D.kind_of L)) ≡ true) (split t i) e
 
   module _ (y : State) (h : LabelsIf d s n x labels (M.EndLabelAt o.row) n' y) where
-    pub end_stops : (w : Why) (q : ℕ) → a ≡ Refused w q → r ≡ turned y (Nx.Stop w q) → EndsAt d s n x labels at n' r
+    pub end_stops : (w : Why) (q : ℕ) → a ≡ Err (w, q) → r ≡ turned y (Nx.Stop w q) → EndsAt d s n x labels at n' r
     unfolding state_of
     end_stops w q e hr = record {
       so = λ t i c.
@@ -171,7 +168,7 @@ module _ (d s n : List ℕ) (x : State) (labels at : ℕ) (n' : List ℕ) (o : O
     abbrev left : Tally → Owner → Opened → State
     left z k c = with_opened (with_scope (with_tally x z) k) c
 
-    module _ (e : ℕ) (he : a ≡ Past e) (z : Tally) (k : Owner) (hk : ScopeOut o.kind x.scope k) (c : Opened) (hc : Popped x.opened c) (f : Ends s (left z k c) o.row e r) where
+    module _ (e : ℕ) (he : a ≡ Ok e) (z : Tally) (k : Owner) (hk : ScopeOut o.kind x.scope k) (c : Opened) (hc : Popped x.opened c) (f : Ends s (left z k c) o.row e r) where
       module _ (t : List ℕ) (i : Sits d s t n x) (b : (D.is_in_group (D.kind_of (opened_of s x.opened)) || D.is_in_body (D.kind_of (opened_of s x.opened))) ≡ true) where
         abbrev os : List D.Open
         os = rest_of (opened_of s x.opened)
@@ -201,7 +198,7 @@ module _ (d s n : List ℕ) (x : State) (labels at : ℕ) (n' : List ℕ) (o : O
           marks = marks_none s t x.rows x.opened r.state.rows (omega (arith, f.rows));
         }
 
-    leaves : (e : ℕ) → a ≡ Past e → (k : Owner) → ScopeOut o.kind y.scope k → (z : State) → z ≡ with_scope y k → (c : Opened) → Popped z.opened c → (v : State) → v ≡ with_opened z c → Ends s v o.row e r → EndsAt d s n x labels at n' r
+    leaves : (e : ℕ) → a ≡ Ok e → (k : Owner) → ScopeOut o.kind y.scope k → (z : State) → z ≡ with_scope y k → (c : Opened) → Popped z.opened c → (v : State) → v ≡ with_opened z c → Ends s v o.row e r → EndsAt d s n x labels at n' r
     leaves e he k hk z hz c hc v hv f =
         let o₁ : z.opened ≡ x.opened = ap (λ (u : State). u.opened) (hz ∙ ap (λ (u : State). with_scope u k) h.rest) in
         let k₁ : y.scope ≡ x.scope = ap (λ (u : State). u.scope) h.rest in
@@ -210,7 +207,7 @@ module _ (d s n : List ℕ) (x : State) (labels at : ℕ) (n' : List ℕ) (o : O
 
 pub end_goes : (d s n : List ℕ) (x : State) (labels at : ℕ) (n' : List ℕ) (r : Turned) (o : Open) → o ≡ top_in x.opened.items x.opened.count → (y : State) → LabelsIf d s n x labels (M.EndLabelAt o.row) n' y
     → (v : State) (e : ℕ) → Ends s v o.row e r → (z : State) (c : Opened) → v ≡ with_opened z c → (k : Owner) → z ≡ with_scope y k → Popped z.opened c → ScopeOut o.kind y.scope k
-    → (a : Expected) → a ≡ expect_for (D.end_name mixed s (labelled s o.labels) at) → a ≡ Past e → EndsAt d s n x labels at n' r
+    → (a : Expected) → a ≡ expect_for (D.end_name mixed s (labelled s o.labels) at) → a ≡ Ok e → EndsAt d s n x labels at n' r
 end_goes d s n x labels at n' r o ho y h v e f z c hv k hz hc hk a ha he = leaves d s n x labels at n' o ho a ha r y h e he k hk z hz c hc v hv f
 
 -- ---- END of a procedure
@@ -219,10 +216,10 @@ or_right true b e = refl
 or_right false b e = e
 
 module _ (d s n : List ℕ) (x : State) (at : ℕ) (n' : List ℕ) (l : Labels) (hl : LabelsAt s at l) (u : Lexeme) (lex : Lexed s l.to u) (r : Turned) where
-  pub body_long : (q : ℕ) → l.long ≡ Marked q → EndsLong d s n x at q n' r → EndsBody d s n x at n' r
+  pub body_long : (q : ℕ) → l.long ≡ Some q → EndsLong d s n x at q n' r → EndsBody d s n x at n' r
   body_long q e h = record { so = λ t i b. subst (λ (X : D.Turn). Takes d s t n x X t n' r) (sym (procedure_end_long s (from_state s t x) at l hl u lex q e)) (h.so t i) }
 
-  module _ (e : l.long ≡ Unmarked) (v : Bool) (hv : v ≡ is_word_in s u (69 ∷ 78 ∷ 68 ∷ [])) where
+  module _ (e : l.long ≡ None) (v : Bool) (hv : v ≡ is_word_in s u (69 ∷ 78 ∷ 68 ∷ [])) where
     pub body_end : v ≡ true → EndsAt d s n x at u.to n' r → EndsBody d s n x at n' r
     unfolding state_of
     body_end f h = record {

@@ -1,5 +1,6 @@
 -- HOW MANY SENTENCES there may be in those entered: what comes of a member with one too many, and of one with none too many.
 -- Assumes nothing.
+use Rattle.std.proofs.Common.{Option, Some, None, Err}
 use Prim.Native.Nat.{ℕ, zero, suc, ◌+◌, ◌-◌, ◌≤◌}
 use native.Mathlib.Omega.{arith}
 use mathlib.Core.Bool.{Bool, true, false, cond, ◌||◌}
@@ -19,9 +20,6 @@ use Rattle.definition.specs.Reading.{State, clause_at, places, read_on}
 use Rattle.definition.specs.World as W
 use Rattle.definition.specs.Names as N
 use Rattle.definition.proofs.Choices.{when_has}
-use Rattle.entering.specs.declared.Mark.{Mark}
-use Rattle.entering.specs.declared.Mark.TheVariants.{Unmarked, Marked}
-use Rattle.entering.specs.declared.Fault.TheVariants.{Faulty}
 use Rattle.entering.specs.Book.{Book, mark_of, twice_or, fault_in}
 use Rattle.entering.specs.Entry.{Entry, stays_out}
 use Rattle.reading.proofs.Frame.{with_declared, prepend_source, clause_at_frame, read_frame}
@@ -85,24 +83,24 @@ unfolding N.fault_of
 one_too_many m w s p e st h k f = sentence_past m w.identifiers (entered_sentences - w.sentences) s p e st h k f
 
 -- so the member stays out, as the names that were entered before that sentence decide
-past_by : (m : ℕ) (x : Source) (w : W.World) (c : Book) (p q : ℕ) (b : Bool) (second : Mark)
-    → Entry m x c (N.entered_as (cond b (faulty OverLimit q) (faulty OverLimit p)) m x w) (cond b (Faulty OverLimit q) (Faulty OverLimit p))
+past_by : (m : ℕ) (x : Source) (w : W.World) (c : Book) (p q : ℕ) (b : Bool) (second : Option ℕ)
+    → Entry m x c (N.entered_as (cond b (faulty OverLimit q) (faulty OverLimit p)) m x w) (cond b (Err (OverLimit, q)) (Err (OverLimit, p)))
 past_by m x w c p q true second = stays_out OverLimit q refl refl
 past_by m x w c p q false second = stays_out OverLimit p refl refl
 
-faulty_twice : (k : Mark) (e : Why) (p : ℕ) → twice_or k (Faulty e p) ≡ Faulty e p
-faulty_twice Unmarked e p = refl
-faulty_twice (Marked q) e p = refl
+faulty_twice : (k : Option ℕ) (e : Why) (p : ℕ) → twice_or k (Err (e, p)) ≡ Err (e, p)
+faulty_twice None e p = refl
+faulty_twice (Some q) e p = refl
 
-past_out : (m : ℕ) (x : Source) (w : W.World) (c : Book) (p : ℕ) (second : Mark) (y : N.Past)
-    → Entry m x c (N.entered_as (N.sooner y (faulty OverLimit p)) m x w) (fault_in (mark_of y) second (Faulty OverLimit p))
+past_out : (m : ℕ) (x : Source) (w : W.World) (c : Book) (p : ℕ) (second : Option ℕ) (y : N.Past)
+    → Entry m x c (N.entered_as (N.sooner y (faulty OverLimit p)) m x w) (fault_in (mark_of y) second (Err (OverLimit, p)))
 unfolding fault_in
 past_out m x w c p second N.within = stays_out OverLimit p refl (faulty_twice second OverLimit p)
 past_out m x w c p second (N.past_at q) = past_by m x w c p q (ltb q p) second
 
-pub decides_past : (m : ℕ) (w : W.World) (s : List ℕ) (p e : ℕ) (st : State) → Sentence s p e st → entered_sentences - w.sentences ≡ length st.rows → (f : ℕ) (c : Book) (past second : Mark)
+pub decides_past : (m : ℕ) (w : W.World) (s : List ℕ) (p e : ℕ) (st : State) → Sentence s p e st → entered_sentences - w.sentences ≡ length st.rows → (f : ℕ) (c : Book) (past second : Option ℕ)
     → past ≡ mark_of (N.names_past m w.identifiers st.declared)
-    → Entry m (read_on mixed s f (clause_at mixed s p e st)) c (N.enter m (read_on mixed s f (clause_at mixed s p e st)) w) (fault_in past second (Faulty OverLimit p))
+    → Entry m (read_on mixed s f (clause_at mixed s p e st)) c (N.enter m (read_on mixed s f (clause_at mixed s p e st)) w) (fault_in past second (Err (OverLimit, p)))
 unfolding N.enter
 decides_past m w s p e st h k f c past second l =
     let x : Source = read_on mixed s f (clause_at mixed s p e st) in

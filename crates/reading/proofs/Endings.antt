@@ -1,5 +1,7 @@
 -- Behind a statement: what is open is left, and what a statement opens. One law for each way out.
 -- Assumes nothing.
+use Rattle.std.proofs.Common.{Ok, Err}
+use Rattle.statements.specs.Types.{Read}
 use mathlib.Core.Path.{◌≡◌, refl, sym, ap, subst, ◌∙◌}
 use mathlib.Core.Bool.{Bool, true, false, cond}
 use mathlib.Core.List.{List, [], ◌∷◌, ◌++◌}
@@ -17,8 +19,6 @@ use Rattle.entering.specs.declared.Tally.{Tally}
 use Rattle.statements.specs.declared.Clause.{Clause}
 use Rattle.statements.specs.declared.Opens.{Opens}
 use Rattle.statements.specs.declared.Opens.TheVariants as O
-use Rattle.statements.specs.declared.Read.{Read}
-use Rattle.statements.specs.declared.Read.TheVariants as Rd
 use Rattle.rows.specs.Tabled.{kind_of}
 use Rattle.statements.specs.Clauses.{scope_of, is_inside, opens_for, Own, type_in}
 use Rattle.openings.specs.declared.Where.TheVariants as Wh
@@ -286,7 +286,7 @@ module _ (s t : List ℕ) (x : State) (p labels : ℕ) (t' : List ℕ) (r : Turn
       ∙ ap (λ (e : ℕ). D.opened mixed z.opens s x.rows ns e (D.with_names ms (D.add_row z.statement p (state_of s t ds x)))) g.to
       ∙ ap (λ (k : ℕ). D.opened mixed z.opens s k ns z.to (D.with_names (St.means (scope_of x.scope) (D.label_meaning z.opens k) ns ++ es) (D.add_row z.statement p (state_of s t ds x)))) (sym (rows_length s t 0 x.rows))
 
-  pub takes_read : (y : Read) (c : Clause) (a : State) → y ≡ Rd.Is c → Adds t x c p t' a → OpensAs s a c.opens x.rows labels c.to r → TakesAs s t x y p labels t' r
+  pub takes_read : (y : Read) (c : Clause) (a : State) → y ≡ Ok c → Adds t x c p t' a → OpensAs s a c.opens x.rows labels c.to r → TakesAs s t x y p labels t' r
   takes_read y c a hy h o = rw hy (record {
     is = by;
     rows = λ small. omega (arith, some.rows, h.count small);
@@ -307,18 +307,18 @@ module _ (s t : List ℕ) (x : State) (p labels : ℕ) (t' : List ℕ) (r : Turn
       later : Own x.tally.member a.scope → Own x.tally.member r.state.scope
       later w = subst (λ (m : ℕ). Own m r.state.scope) (ap (λ (b : Tally). b.member) h.keeps.tally) (some.keeps.own (subst (λ (m : ℕ). Own m a.scope) (sym (ap (λ (b : Tally). b.member) h.keeps.tally)) w))
 
-      marked : (R : Reading St.Clause) → Stood s (Rd.Is c) R → Placed s t x → Spare x → Marks s t x.rows x.opened t' r.state.rows
+      marked : (R : Reading St.Clause) → Stood s (Ok c) R → Placed s t x → Spare x → Marks s t x.rows x.opened t' r.state.rows
       marked (read z) g q small =
           subst (λ (m : ℕ). Marks s t x.rows x.opened t' m) (sym some.rows) (h.marks s q small g.content
           (record { kind = g.kind ∙ ap kind_of (sym g.statement); type = g.type ∙ ap type_in (sym g.statement) }))
       marked (refused w e) g q small = absurd g
 
-      by : (R : Reading St.Clause) (ns : List Named) (ds es : List P.Declared) → Stood s (Rd.Is c) R → Placed s t x → Spare x → x.opened.count < 20 → p < 65536
+      by : (R : Reading St.Clause) (ns : List Named) (ds es : List P.Declared) → Stood s (Ok c) R → Placed s t x → Spare x → x.opened.count < 20 → p < 65536
           → D.spelled ns ≡ labelled s labels → Taken s t x p t' r ns ds es R
       by (read z) ns ds es g q small few lp sp = taken_is c a z ns ds es g h (o.so z.opens g.opens) q small few lp sp
       by (refused w e) ns ds es g q small few lp sp = absurd g
 
-pub takes_refused : (s t : List ℕ) (x : State) (p labels : ℕ) (r : Turned) (y : Read) (w : Why) (q : ℕ) → y ≡ Rd.Refused w q → r ≡ turned x (Nx.Stop w q) → TakesAs s t x y p labels t r
+pub takes_refused : (s t : List ℕ) (x : State) (p labels : ℕ) (r : Turned) (y : Read) (w : Why) (q : ℕ) → y ≡ Err (w, q) → r ≡ turned x (Nx.Stop w q) → TakesAs s t x y p labels t r
 takes_refused s t x p labels r y w q hy hr = rw (hy, hr) (record {
   is = by;
   rows = λ small. omega arith;
@@ -327,7 +327,7 @@ takes_refused s t x p labels r y w q hy hr = rw (hy, hr) (record {
   marks = λ R g h small. marks_none s t x.rows x.opened x.rows (omega arith);
 })
   where
-    by : (R : Reading St.Clause) (ns : List Named) (ds es : List P.Declared) → Stood s (Rd.Refused w q) R → Placed s t x → Spare x → x.opened.count < 20 → p < 65536
+    by : (R : Reading St.Clause) (ns : List Named) (ds es : List P.Declared) → Stood s (Err (w, q)) R → Placed s t x → Spare x → x.opened.count < 20 → p < 65536
         → D.spelled ns ≡ labelled s labels → Taken s t x p t (turned x (Nx.Stop w q)) ns ds es R
     by (read z) ns ds es g a b c d e = absurd g
     by (refused v k) ns ds es g a b c d e = (rw (g.0, g.1), refl)

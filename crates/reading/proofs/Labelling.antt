@@ -1,5 +1,7 @@
 -- Labels are declared one after the other: those that were and those that are left are the definition's.
 -- Assumes nothing.
+use Rattle.expressions.specs.Types.{NamedAt}
+use Rattle.std.proofs.Common.{Option, Some, None, Ok, Err}
 use Prim.Native.Nat.{ℕ, zero, suc, ◌-◌, ◌≤◌, ◌<◌}
 use native.Mathlib.Omega.{arith}
 use native.Mathlib.Numerals.{sub-one}
@@ -16,15 +18,11 @@ use Rattle.definition.specs.Statements.{means}
 use Rattle.definition.specs.Names as Nm
 use Rattle.definition.specs.Reading as D
 use Rattle.expressions.specs.Check.{named_for}
-use Rattle.expressions.specs.declared.NamedAt.{NamedAt}
-use Rattle.expressions.specs.declared.NamedAt.TheVariants as N
 use Rattle.names.specs.Table.{owner_of, denotation_of}
 use Rattle.names.specs.declared.Owner.{Owner}
 use Rattle.names.specs.declared.Owner.TheVariants.{Everyone, Procedure}
 use Rattle.entering.specs.declared.Meaning.{Meaning}
 use Rattle.entering.specs.declared.Meaning.TheVariants as M
-use Rattle.entering.specs.declared.Mark.{Mark}
-use Rattle.entering.specs.declared.Mark.TheVariants.{Unmarked, Marked}
 use Rattle.entering.specs.declared.Tally.{Tally}
 use Rattle.entering.specs.Book.{book_one, book_all, Entered, EnteredIf, Declarable, identifier_at, new_denotation, meaning_of}
 use Rattle.statements.specs.Clauses.{scope_of, Own, Ready}
@@ -47,15 +45,15 @@ owner_is : (m : ℕ) (o : Owner) → Own m o → Nm.owner_of m (scope_of o) ≡ 
 owner_is m Everyone h = refl
 owner_is m (Procedure p) h = rw h
 
-no_name : (n : NamedAt) (w : Why) (p : ℕ) (R : Reading Named) → n ≡ named_for R → n ≡ N.Refused w p → label_name R ≡ []
+no_name : (n : NamedAt) (w : Why) (p : ℕ) (R : Reading Named) → n ≡ named_for R → n ≡ Err (w, p) → label_name R ≡ []
 no_name n w p (read v) e f = let z : ◌≡◌ {A = ℕ} 0 1 = cc in absurd (omega arith)
 no_name n w p (refused v q) e f = refl
 
 module _ (d s t : List ℕ) (x : Tally) (at : ℕ) (o : Owner) (g : Meaning) (n : NamedAt) (hn : n ≡ named_for (name_at mixed s at)) where
-  pub label_none : (w : Why) (p : ℕ) → n ≡ N.Refused w p → LabelIf d s t x at o g t x
+  pub label_none : (w : Why) (p : ℕ) → n ≡ Err (w, p) → LabelIf d s t x at o g t x
   label_none w p e = record { is = λ r. rw (no_name n w p (name_at mixed s at) hn e) (entered_none d t x r.roomy) }
 
-  module _ (from to : ℕ) (e : n ≡ N.Is from to) (u : List ℕ) (y : Tally)
+  module _ (from to : ℕ) (e : n ≡ Ok (from, to)) (u : List ℕ) (y : Tally)
       (b : EnteredIf d s t x (record { from = from; to = to }) (book_one (identifier_at s (record { from = from; to = to }) o) (denotation_of (new_denotation x.member g)) from) u y) where
     name : Names s at from to
     name = named_is s at n from to hn e
@@ -90,11 +88,11 @@ pub record LabellingIf (d s t₀ : List ℕ) (o : Owner) (g : Meaning) (x₀ : T
 abbrev is_label : List ℕ → ℕ → Bool
 is_label s at = D.is_name (token_at mixed s at).token && is_sign ":" (token_at mixed s (token_at mixed s at).to).token
 
-mark_label : (b : Bool) (q e : ℕ) → Marked e ≡ cond b (Marked q) Unmarked → (b ≡ true) × (e ≡ q)
+mark_label : (b : Bool) (q e : ℕ) → Some e ≡ cond b (Some q) None → (b ≡ true) × (e ≡ q)
 mark_label true q e h = (refl, cc)
 mark_label false q e h = let z : ◌≡◌ {A = ℕ} 0 1 = cc in absurd (omega arith)
 
-no_mark : (b : Bool) (q : ℕ) → Unmarked ≡ cond b (Marked q) Unmarked → b ≡ false
+no_mark : (b : Bool) (q : ℕ) → None ≡ cond b (Some q) None → b ≡ false
 no_mark true q h = let z : ◌≡◌ {A = ℕ} 0 1 = cc in absurd (omega arith)
 no_mark false q h = refl
 
@@ -107,7 +105,7 @@ add_label_lem (read n) ns qs f = refl
 add_label_lem (refused w p) ns qs f = ap (λ (z : List Named). f z (qs ++ p ∷ [])) (sym (append-nil ns))
 
 module _ (s : List ℕ) (at : ℕ) (ns : List Named) (qs : List ℕ) where
-  label_turn : (n e : ℕ) → 0 < n → Marked e ≡ label_past s at → D.labels_from mixed s n ns qs at ≡ D.labels_from mixed s (n - 1) (ns ++ label_name (name_at mixed s at)) (longer (name_at mixed s at) qs) e
+  label_turn : (n e : ℕ) → 0 < n → Some e ≡ label_past s at → D.labels_from mixed s n ns qs at ≡ D.labels_from mixed s (n - 1) (ns ++ label_name (name_at mixed s at)) (longer (name_at mixed s at) qs) e
   unfolding D.labels_from label_past name_at
   label_turn zero e k h = absurd (omega arith)
   label_turn (suc n) e k h =
@@ -115,7 +113,7 @@ module _ (s : List ℕ) (at : ℕ) (ns : List Named) (qs : List ℕ) where
       let b : (is_label s at ≡ true) × (e ≡ q) = mark_label (is_label s at) q e h in
       rw (sub-one, b.1, b.0) (add_label_lem (name_of (token_at mixed s at).token (token_at mixed s at).from (token_at mixed s at).to) ns qs (λ ms more. D.labels_from mixed s n ms more q))
 
-  label_end : (n : ℕ) → Unmarked ≡ label_past s at → (D.labels_from mixed s n ns qs at).labels ≡ ns
+  label_end : (n : ℕ) → None ≡ label_past s at → (D.labels_from mixed s n ns qs at).labels ≡ ns
   unfolding D.labels_from label_past
   label_end zero h = refl
   label_end (suc n) h = rw (no_mark (is_label s at) (token_at mixed s (token_at mixed s at).to).to h)
@@ -130,7 +128,7 @@ module _ (d s t₀ : List ℕ) (o : Owner) (g : Meaning) (x₀ : Tally) where
   labels_start at = record { is = λ r. record { done = []; long = []; entered = entered_none d t₀ x₀ r.roomy; left = refl }; size = refl }
 
   module _ (at₀ : ℕ) (t : List ℕ) (x : Tally) (at turns : ℕ) (h : LabellingIf d s t₀ o g x₀ at₀ t x at turns) where
-    pub labels_more : 0 < turns → (found : Mark) → found ≡ label_past s at → (e : ℕ) → found ≡ Marked e → (u : List ℕ) (y : Tally) → length u ≡ length t → LabelIf d s t x at o g u y → LabellingIf d s t₀ o g x₀ at₀ u y e (turns - 1)
+    pub labels_more : 0 < turns → (found : Option ℕ) → found ≡ label_past s at → (e : ℕ) → found ≡ Some e → (u : List ℕ) (y : Tally) → length u ≡ length t → LabelIf d s t x at o g u y → LabellingIf d s t₀ o g x₀ at₀ u y e (turns - 1)
     labels_more k found hf e f u y size b = record { is = more; size = size ∙ h.size }
       where
         more : Ready d s t₀ x₀ o → Labelling d s t₀ o g x₀ at₀ u y e (turns - 1)
@@ -152,7 +150,7 @@ module _ (d s t₀ : List ℕ) (g : Meaning) (x : State) (at₀ : ℕ) (t : List
   stated : NamesIf d s t₀ x.tally x.scope g (D.labels mixed s at₀).labels t z → LabelsIf d s t₀ x at₀ g t y
   stated k = record { names = rw hy k; rest = rw hy }
 
-  pub labels_end : (found : Mark) → found ≡ label_past s at → found ≡ Unmarked → LabelsIf d s t₀ x at₀ g t y
+  pub labels_end : (found : Option ℕ) → found ≡ label_past s at → found ≡ None → LabelsIf d s t₀ x at₀ g t y
   labels_end found hf e = stated (labels_by d s t₀ x.scope g x.tally at₀ t z at turns h (λ r. label_end s at (h.is r).done (h.is r).long turns (sym e ∙ hf)))
 
   pub labels_last : turns ≤ 0 → LabelsIf d s t₀ x at₀ g t y

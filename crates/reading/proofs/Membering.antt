@@ -1,5 +1,6 @@
 -- A MEMBER, turn by turn: what the loop of `read_member` knows, and what it leaves by each way out.
 -- Assumes nothing.
+use Rattle.std.proofs.Common.{Option, Some, None, Result, Ok, Err}
 use Prim.Native.Nat.{ℕ, zero, suc, ◌+◌, ◌-◌, ◌%◌, ◌≤◌, ◌<◌}
 use native.Mathlib.Omega.{arith}
 use mathlib.Core.Bool.{Bool, true, false, cond}
@@ -19,11 +20,7 @@ use Rattle.definition.specs.declared.Why.TheVariants.{Syntax, OverLimit}
 use Rattle.deck.specs.Answer.{body_in}
 use Rattle.rows.specs.Table.{row_in}
 use Rattle.rows.specs.Tabled.{Tabled}
-use Rattle.entering.specs.declared.Mark.{Mark}
-use Rattle.entering.specs.declared.Mark.TheVariants.{Unmarked, Marked}
 use Rattle.entering.specs.declared.Tally.{Tally}
-use Rattle.entering.specs.declared.Fault.{Fault}
-use Rattle.entering.specs.declared.Fault.TheVariants.{Sound, Faulty}
 use Rattle.entering.specs.Book.{Book, Roomy, tally_of, book_of, book_all, book_whole, fault_for, fault_in}
 use Rattle.entering.specs.Entry.{Shows, Entry, goes_in, stays_out}
 use Rattle.entering.proofs.Order.{decides, past_is}
@@ -80,7 +77,7 @@ unfolding book_of book_whole D.read_member
 loop_start d t n m entered names s hs p base hp hb x h f e = record {
   body = hs;
   so = λ k.
-      let y : x.tally ≡ tally_of m base names Unmarked Unmarked = h.tally in
+      let y : x.tally ≡ tally_of m base names None None = h.tally in
       let turns : f ≡ suc (suc (length s)) = omega (arith, e.is k.short) in
       record {
         sits = record {
@@ -215,58 +212,58 @@ loop_again d t₀ n₀ m entered names s t n x mode at (suc f) h l t' n' r k m' 
 }
 
 -- ---- THE DECISION
-faulty_in : (p q : Mark) (e : Why) (r : ℕ) → fault_in p q (Faulty e r) ≡ Sound → ⊥
+faulty_in : (p q : Option ℕ) (e : Why) (r : ℕ) → fault_in p q (Err (e, r)) ≡ (Ok tt) → ⊥
 unfolding fault_in
-faulty_in Unmarked Unmarked e r z = let y : ◌≡◌ {A = ℕ} 0 1 = cc in omega arith
-faulty_in Unmarked (Marked q) e r z = let y : ◌≡◌ {A = ℕ} 0 1 = cc in omega arith
-faulty_in (Marked p) q e r z = either (ltb p r) z
+faulty_in None None e r z = let y : ◌≡◌ {A = ℕ} 0 1 = cc in omega arith
+faulty_in None (Some q) e r z = let y : ◌≡◌ {A = ℕ} 0 1 = cc in omega arith
+faulty_in (Some p) q e r z = either (ltb p r) z
   where
-    either : (g : Bool) → cond g (Faulty OverLimit p) (Faulty e r) ≡ Sound → ⊥
+    either : (g : Bool) → cond g (Err (OverLimit, p)) (Err (e, r)) ≡ (Ok tt) → ⊥
     either true z = let y : ◌≡◌ {A = ℕ} 0 1 = cc in omega arith
     either false z = let y : ◌≡◌ {A = ℕ} 0 1 = cc in omega arith
 
-record Clean (p q : Mark) : Type 0 where
-  past : p ≡ Unmarked
-  second : q ≡ Unmarked
+record Clean (p q : Option ℕ) : Type 0 where
+  past : p ≡ None
+  second : q ≡ None
 
-sound_clean : (p q : Mark) → fault_in p q Sound ≡ Sound → Clean p q
+sound_clean : (p q : Option ℕ) → fault_in p q (Ok tt) ≡ (Ok tt) → Clean p q
 unfolding fault_in
-sound_clean Unmarked Unmarked z = record { past = refl; second = refl }
-sound_clean Unmarked (Marked q) z = let y : ◌≡◌ {A = ℕ} 0 1 = cc in absurd (omega arith)
-sound_clean (Marked p) Unmarked z = let y : ◌≡◌ {A = ℕ} 0 1 = cc in absurd (omega arith)
-sound_clean (Marked p) (Marked q) z = let y : ◌≡◌ {A = ℕ} 0 1 = cc in absurd (omega arith)
+sound_clean None None z = record { past = refl; second = refl }
+sound_clean None (Some q) z = let y : ◌≡◌ {A = ℕ} 0 1 = cc in absurd (omega arith)
+sound_clean (Some p) None z = let y : ◌≡◌ {A = ℕ} 0 1 = cc in absurd (omega arith)
+sound_clean (Some p) (Some q) z = let y : ◌≡◌ {A = ℕ} 0 1 = cc in absurd (omega arith)
 
 -- what a mark is does not matter to who has the names
-enters_so : (m : ℕ) (x : P.Source) (d n : List ℕ) (k : Tally) (y : N.Entering) (f : Fault) → Entry m x (book_of d n k) y f → Entry m x (names_of d n k.names) y f
+enters_so : (m : ℕ) (x : P.Source) (d n : List ℕ) (k : Tally) (y : N.Entering) (f : Result (Unit {0}) (Why × ℕ)) → Entry m x (book_of d n k) y f → Entry m x (names_of d n k.names) y f
 unfolding book_of
 enters_so m x d n k y f (goes_in v e h g) = goes_in v e (record { identifiers = h.identifiers; denotations = h.denotations; activities = h.activities }) g
 enters_so m x d n k y f (stays_out e p h g) = stays_out e p h g
 
-stays_so : (m : ℕ) (x : P.Source) (c d : Book) (y : N.Entering) (e : Why) (i : ℕ) → c.past ≡ d.past → Entry m x c y (fault_in c.past c.second (Faulty e i)) → Entry m x d y (fault_in d.past d.second (Faulty e i))
+stays_so : (m : ℕ) (x : P.Source) (c d : Book) (y : N.Entering) (e : Why) (i : ℕ) → c.past ≡ d.past → Entry m x c y (fault_in c.past c.second (Err (e, i))) → Entry m x d y (fault_in d.past d.second (Err (e, i)))
 stays_so m x c d y e i g (goes_in v f j o) = absurd (faulty_in c.past c.second e i o)
-stays_so m x c d y e i g (stays_out v j f o) = stays_out v j f (fault_either d.past d.second c.second e i ∙ ap (λ (z : Mark). fault_in z c.second (Faulty e i)) (sym g) ∙ o)
+stays_so m x c d y e i g (stays_out v j f o) = stays_out v j f (fault_either d.past d.second c.second e i ∙ ap (λ (z : Option ℕ). fault_in z c.second (Err (e, i))) (sym g) ∙ o)
 
-abbrev Decided : ℕ → List ℕ → W.World → Book → Fault → Type 0
+abbrev Decided : ℕ → List ℕ → W.World → Book → Result (Unit {0}) (Why × ℕ) → Type 0
 Decided m s w c g = Entry m (D.read_member mixed s) c (N.enter m (D.read_member mixed s) w) (fault_in c.past c.second g)
 
-module _ (m : ℕ) (s : List ℕ) (w : W.World) (b : Book) (h : Shows w b) (u : b.past ≡ Unmarked) (v : b.second ≡ Unmarked) where
+module _ (m : ℕ) (s : List ℕ) (w : W.World) (b : Book) (h : Shows w b) (u : b.past ≡ None) (v : b.second ≡ None) where
   -- the reading ended with the state st
-  ended : (st : D.State) (begun : List ℕ) (g : Fault) → D.read_member mixed s ≡ D.source st begun (fault_for g)
+  ended : (st : D.State) (begun : List ℕ) (g : Result (Unit {0}) (Why × ℕ)) → D.read_member mixed s ≡ D.source st begun (fault_for g)
       → N.sooner (N.sentences_past (entered_sentences - w.sentences) (D.source st begun (fault_for g)).begun) (fault_for g) ≡ fault_for g → Decided m s w (book_whole m [] st.declared b) g
   ended st begun g e k =
       let x : P.Source = D.source st begun (fault_for g) in
       let c : Book = book_whole m [] st.declared b in
       subst (λ (z : P.Source). Entry m z c (N.enter m z w) (fault_in c.past c.second g)) (sym e) (decides m x w b g h u v (sym k))
 
-  pub ended_early : (st : D.State) (begun : List ℕ) (g : Fault) → D.read_member mixed s ≡ D.source st begun (fault_for g) → w.sentences + length st.rows + length begun ≤ 2048 → Decided m s w (book_whole m [] st.declared b) g
+  pub ended_early : (st : D.State) (begun : List ℕ) (g : Result (Unit {0}) (Why × ℕ)) → D.read_member mixed s ≡ D.source st begun (fault_for g) → w.sentences + length st.rows + length begun ≤ 2048 → Decided m s w (book_whole m [] st.declared b) g
   ended_early st begun g e k = ended st begun g e (all_entered (entered_sentences - w.sentences) st begun (fault_for g) (omega (arith, k)))
 
-  pub ended_last : (st : D.State) (p : ℕ) → D.read_member mixed s ≡ D.source st (p ∷ []) (P.faulty OverLimit p) → w.sentences + length st.rows ≤ 2048 → Decided m s w (book_whole m [] st.declared b) (Faulty OverLimit p)
-  ended_last st p e k = ended st (p ∷ []) (Faulty OverLimit p) e (last_entered (entered_sentences - w.sentences) st p (omega (arith, k)))
+  pub ended_last : (st : D.State) (p : ℕ) → D.read_member mixed s ≡ D.source st (p ∷ []) (P.faulty OverLimit p) → w.sentences + length st.rows ≤ 2048 → Decided m s w (book_whole m [] st.declared b) (Err (OverLimit, p))
+  ended_last st p e k = ended st (p ∷ []) (Err (OverLimit, p)) e (last_entered (entered_sentences - w.sentences) st p (omega (arith, k)))
 
-  pub ended_past : (p e : ℕ) (st : D.State) (f : ℕ) (c : Book) → D.read_member mixed s ≡ D.read_on mixed s f (D.clause_at mixed s p e st) → Sentence s p e st → w.sentences + length st.rows ≡ 2048 → c ≡ book_whole m [] st.declared b → Decided m s w c (Faulty OverLimit p)
+  pub ended_past : (p e : ℕ) (st : D.State) (f : ℕ) (c : Book) → D.read_member mixed s ≡ D.read_on mixed s f (D.clause_at mixed s p e st) → Sentence s p e st → w.sentences + length st.rows ≡ 2048 → c ≡ book_whole m [] st.declared b → Decided m s w c (Err (OverLimit, p))
   ended_past p e st f c k i j l =
-      subst (λ (z : P.Source). Entry m z c (N.enter m z w) (fault_in c.past c.second (Faulty OverLimit p))) (sym k)
+      subst (λ (z : P.Source). Entry m z c (N.enter m z w) (fault_in c.past c.second (Err (OverLimit, p)))) (sym k)
       (decides_past m w s p e st i (omega (arith, j)) f c c.past c.second
       (ap (λ (z : Book). z.past) l ∙ past_is m [] st.declared b w.identifiers (record { past = u; size = rw h.identifiers; listed = λ i. rw h.identifiers })))
 
@@ -281,23 +278,23 @@ finish_on s zero st = refl
 finish_on s (suc f) st = refl
 
 -- ---- what is left where it is refused
-out : (d s n₀ : List ℕ) (m entered names : ℕ) (t' n' : List ℕ) (x : State) (e : Why) (p : ℕ) (r : Source) → r ≡ source_of x (Faulty e p)
-    → ((w : W.World) → Shows w (names_of d n₀ names) → w.sentences ≡ entered → Decided m s w (book_of d n' x.tally) (Faulty e p)) → Membered d s n₀ m entered names t' n' r
+out : (d s n₀ : List ℕ) (m entered names : ℕ) (t' n' : List ℕ) (x : State) (e : Why) (p : ℕ) (r : Source) → r ≡ source_of x (Err (e, p))
+    → ((w : W.World) → Shows w (names_of d n₀ names) → w.sentences ≡ entered → Decided m s w (book_of d n' x.tally) (Err (e, p))) → Membered d s n₀ m entered names t' n' r
 unfolding book_of
 out d s n₀ m entered names t' n' x e p r hr h = rw hr (record {
   whole = λ z. absurd (faulty_in x.tally.past x.tally.second e p z);
-  enters = λ w k l. enters_so m (D.read_member mixed s) d n' x.tally (N.enter m (D.read_member mixed s) w) (fault_in x.tally.past x.tally.second (Faulty e p)) (h w k l);
+  enters = λ w k l. enters_so m (D.read_member mixed s) d n' x.tally (N.enter m (D.read_member mixed s) w) (fault_in x.tally.past x.tally.second (Err (e, p))) (h w k l);
 })
 
 -- ---- NO TURN IS LEFT
 module _ (d s n₀ : List ℕ) (m entered names : ℕ) (t n : List ℕ) (x : State) (mode : Mode) (at : ℕ) (h : Going d s m entered (names_of d n₀ names) t n x mode at 0) where
-  turns_out : (r : Source) → r ≡ source_of x (Faulty Syntax at) → Membered d s n₀ m entered names t n r
+  turns_out : (r : Source) → r ≡ source_of x (Err (Syntax, at)) → Membered d s n₀ m entered names t n r
   unfolding D.read_on book_of state_of
   turns_out r hr = out d s n₀ m entered names t n x Syntax at r hr λ w k l.
       let st : D.State = with_declared h.done (from_state s t x) in
       let b : Book = names_of d n₀ names in
-      subst (λ (c : Book). Decided m s w c (Faulty Syntax at)) (sym h.names)
-      (ended_early m s w b k refl refl st [] (Faulty Syntax at) (sym h.left) (omega (arith, l, rows_length s t 0 x.rows, h.before, h.sits.few)))
+      subst (λ (c : Book). Decided m s w c (Err (Syntax, at))) (sym h.names)
+      (ended_early m s w b k refl refl st [] (Err (Syntax, at)) (sym h.left) (omega (arith, l, rows_length s t 0 x.rows, h.before, h.sits.few)))
 
 -- ---- A TURN REFUSES, OR ENDS THE MEMBER
 module _ (d s n₀ : List ℕ) (m entered names : ℕ) (t n : List ℕ) (x : State) (mode : Mode) (at f : ℕ) (h : Going d s m entered (names_of d n₀ names) t n x mode at (suc f)) (t' n' : List ℕ) (r : Turned)
@@ -319,17 +316,17 @@ module _ (d s n₀ : List ℕ) (m entered names : ℕ) (t n : List ℕ) (x : Sta
         ∙ (whole_almost m [] u.declared (book_of d n x.tally) (book_of d n x.tally) (almost_self (book_of d n x.tally))).past
         ∙ ap (λ (i : ℕ). (book_all i u.declared (book_of d n x.tally)).past) (sym h.member) ∙ sym g.past
 
-    refusal : (u : D.State) (begun : List ℕ) → Y ≡ D.stop e p begun u → Counts x.entered e p begun u → Decided m s w (book_whole m [] (h.done ++ u.declared) b) (Faulty e p)
+    refusal : (u : D.State) (begun : List ℕ) → Y ≡ D.stop e p begun u → Counts x.entered e p begun u → Decided m s w (book_whole m [] (h.done ++ u.declared) b) (Err (e, p))
     unfolding book_of
     refusal u begun hx (early c) =
-        ended_early m s w b hw refl refl (behind h.done u) begun (Faulty e p) (ends (D.stop e p begun u) hx ∙ stop_on s f e p begun (behind h.done u)) (omega (arith, l, h.before, c))
+        ended_early m s w b hw refl refl (behind h.done u) begun (Err (e, p)) (ends (D.stop e p begun u) hx ∙ stop_on s f e p begun (behind h.done u)) (omega (arith, l, h.before, c))
     refusal u begun hx (last a g c) =
-        subst (λ (i : Why). Decided m s w (book_whole m [] (h.done ++ u.declared) b) (Faulty i p)) (sym a)
+        subst (λ (i : Why). Decided m s w (book_whole m [] (h.done ++ u.declared) b) (Err (i, p))) (sym a)
         (ended_last m s w b hw refl refl (behind h.done u) p
         (ends (D.stop e p begun u) hx ∙ stop_on s f e p begun (behind h.done u) ∙ ap (λ (i : Why). D.source (behind h.done u) begun (P.faulty i p)) a ∙ ap (λ (z : List ℕ). D.source (behind h.done u) z (P.faulty OverLimit p)) g)
         (omega (arith, l, h.before, c)))
 
-    does_stop : (Z : D.Turn) → Y ≡ Z → Fits x.entered Z → Does d s n x.tally Z t' n' r → Decided m s w (book_of d n' r.state.tally) (Faulty e p)
+    does_stop : (Z : D.Turn) → Y ≡ Z → Fits x.entered Z → Does d s n x.tally Z t' n' r → Decided m s w (book_of d n' r.state.tally) (Err (e, p))
     unfolding turn_of
     does_stop (D.go y q u) hx c g =
         let z : D.stop e p [] (state_of s t' u.declared r.state) ≡ D.go y q u = ap (λ (i : Next). next_of i (state_of s t' u.declared r.state)) (sym hn) ∙ g.turn in
@@ -347,7 +344,7 @@ module _ (d s n₀ : List ℕ) (m entered names : ℕ) (t n : List ℕ) (x : Sta
         let o : ◌≡◌ {A = ℕ} 0 1 = cc in absurd (omega arith)
 
     -- the sentence that is one too many
-    over_stop : Over s x.entered Y r → book_of d n' r.state.tally ≡ book_of d n x.tally → Decided m s w (book_of d n' r.state.tally) (Faulty e p)
+    over_stop : Over s x.entered Y r → book_of d n' r.state.tally ≡ book_of d n x.tally → Decided m s w (book_of d n' r.state.tally) (Err (e, p))
     unfolding book_of
     over_stop o c =
         let z : Nx.Stop e p ≡ Nx.Stop OverLimit o.place = sym hn ∙ o.next in
@@ -358,16 +355,16 @@ module _ (d s n₀ : List ℕ) (m entered names : ℕ) (t n : List ℕ) (x : Sta
         let src : D.read_member mixed s ≡ D.read_on mixed s f (D.clause_at mixed s o.place o.at st) =
         ends (D.clause_at mixed s o.place o.at o.state) o.is ∙ ap (λ (v : D.State). D.read_on mixed s f (prepend h.done (D.clause_at mixed s o.place o.at v))) (sym none)
         ∙ ap (D.read_on mixed s f) (sym (clause_at_frame s h.done o.place o.at o.state)) in
-        subst (λ (v : Why). Decided m s w (book_of d n' r.state.tally) (Faulty v p)) a
-        (subst (λ (v : ℕ). Decided m s w (book_of d n' r.state.tally) (Faulty OverLimit v)) i
+        subst (λ (v : Why). Decided m s w (book_of d n' r.state.tally) (Err (v, p))) a
+        (subst (λ (v : ℕ). Decided m s w (book_of d n' r.state.tally) (Err (OverLimit, v))) i
         (ended_past m s w b hw refl refl o.place o.at st f (book_of d n' r.state.tally) src
         (record { low = o.low; starts = o.starts; some = o.some; sentence = o.sentence }) (omega (arith, l, h.before, o.full)) (c ∙ h.names)))
 
-    by_stop : Way d s n x.entered x.tally Y t' n' r → Decided m s w (book_of d n' r.state.tally) (Faulty e p)
+    by_stop : Way d s n x.entered x.tally Y t' n' r → Decided m s w (book_of d n' r.state.tally) (Err (e, p))
     by_stop (does c g) = does_stop Y refl c g
     by_stop (stops o c) = over_stop o c
 
-    pub stop_decides : Decided m s w (book_of d n' r.state.tally) (Faulty e p)
+    pub stop_decides : Decided m s w (book_of d n' r.state.tally) (Err (e, p))
     stop_decides = by_stop k.way
 
   module _ (hn : r.next ≡ Nx.Finish) where
@@ -378,9 +375,9 @@ module _ (d s n₀ : List ℕ) (m entered names : ℕ) (t n : List ℕ) (x : Sta
 
     unmarked : (q : Tally) → Clean q.past q.second → names_of d n' q.names ≡ book_of d n' q
     unfolding book_of
-    unmarked q c = ap (λ (z : Mark). book_of d n' (tally_of 0 0 q.names z Unmarked)) (sym c.past) ∙ ap (λ (z : Mark). book_of d n' (tally_of 0 0 q.names q.past z)) (sym c.second)
+    unmarked q c = ap (λ (z : Option ℕ). book_of d n' (tally_of 0 0 q.names z None)) (sym c.past) ∙ ap (λ (z : Option ℕ). book_of d n' (tally_of 0 0 q.names q.past z)) (sym c.second)
 
-    finished : (u : D.State) → Y ≡ D.finish u → u ≡ state_of s t' u.declared r.state → Goes d s n x.tally (D.finish u) t' n' r → (y : Source) → y ≡ source_of r.state Sound → Membered d s n₀ m entered names t' n' y
+    finished : (u : D.State) → Y ≡ D.finish u → u ≡ state_of s t' u.declared r.state → Goes d s n x.tally (D.finish u) t' n' r → (y : Source) → y ≡ source_of r.state (Ok tt) → Membered d s n₀ m entered names t' n' y
     unfolding state_of book_of
     finished u hx hu g y hy =
         let src : D.read_member mixed s ≡ D.source (behind h.done u) [] P.sound = ends (D.finish u) hx ∙ finish_on s f (behind h.done u) in
@@ -404,12 +401,12 @@ module _ (d s n₀ : List ℕ) (m entered names : ℕ) (t n : List ℕ) (x : Sta
             sentences = omega (arith, k.before, h.before, k.few);
           };
           enters = λ w hw l.
-              enters_so m (D.read_member mixed s) d n' q (N.enter m (D.read_member mixed s) w) (fault_in q.past q.second Sound)
-              (subst (λ (c : Book). Decided m s w c Sound) (sym (whole_names u hx g))
-              (ended_early m s w b hw refl refl (behind h.done u) [] Sound src (omega (arith, l, rows, k.before, h.before, k.few))));
+              enters_so m (D.read_member mixed s) d n' q (N.enter m (D.read_member mixed s) w) (fault_in q.past q.second (Ok tt))
+              (subst (λ (c : Book). Decided m s w c (Ok tt)) (sym (whole_names u hx g))
+              (ended_early m s w b hw refl refl (behind h.done u) [] (Ok tt) src (omega (arith, l, rows, k.before, h.before, k.few))));
         })
 
-    does_finish : (Z : D.Turn) → Y ≡ Z → Does d s n x.tally Z t' n' r → (y : Source) → y ≡ source_of r.state Sound → Membered d s n₀ m entered names t' n' y
+    does_finish : (Z : D.Turn) → Y ≡ Z → Does d s n x.tally Z t' n' r → (y : Source) → y ≡ source_of r.state (Ok tt) → Membered d s n₀ m entered names t' n' y
     unfolding turn_of
     does_finish (D.go i q u) hx g y hy =
         let z : D.finish (state_of s t' u.declared r.state) ≡ D.go i q u = ap (λ (v : Next). next_of v (state_of s t' u.declared r.state)) (sym hn) ∙ g.turn in
@@ -420,7 +417,7 @@ module _ (d s n₀ : List ℕ) (m entered names : ℕ) (t n : List ℕ) (x : Sta
         let hu : state_of s t' u.declared r.state ≡ u = cc in
         finished u hx (sym hu) g y hy
 
-    by_finish : Way d s n x.entered x.tally Y t' n' r → (y : Source) → y ≡ source_of r.state Sound → Membered d s n₀ m entered names t' n' y
+    by_finish : Way d s n x.entered x.tally Y t' n' r → (y : Source) → y ≡ source_of r.state (Ok tt) → Membered d s n₀ m entered names t' n' y
     by_finish (does c g) y hy = does_finish Y refl g y hy
     by_finish (stops o c) y hy = let z : Nx.Finish ≡ Nx.Stop OverLimit o.place = sym hn ∙ o.next in let i : ◌≡◌ {A = ℕ} 0 1 = cc in absurd (omega arith)
 
@@ -429,7 +426,7 @@ module _ (d t₀ n₀ : List ℕ) (m entered names : ℕ) (s t n : List ℕ) (x 
   members : (t' n' : List ℕ) (y : Source) → (Fresh d s t₀ n₀ (base_of d m) entered names → Membered d s n₀ m entered names t' n' y) → Members d t₀ n₀ m entered names t' n' y
   members t' n' y k = record { so = λ z. subst (λ (i : List ℕ). Membered d i n₀ m entered names t' n' y) h.body (k (subst (λ (i : List ℕ). Fresh d i t₀ n₀ (base_of d m) entered names) (sym h.body) z)) }
 
-  pub loop_out : f ≤ 0 → (y : Source) → y ≡ source_of x (Faulty Syntax at) → Members d t₀ n₀ m entered names t n y
+  pub loop_out : f ≤ 0 → (y : Source) → y ≡ source_of x (Err (Syntax, at)) → Members d t₀ n₀ m entered names t n y
   loop_out l y hy =
       let none : f ≡ 0 = omega arith in
       members t n y λ z. turns_out d s n₀ m entered names t n x mode at (subst (Going d s m entered (names_of d n₀ names) t n x mode at) none (h.so z)) y hy
@@ -438,13 +435,13 @@ module _ (d t₀ n₀ : List ℕ) (m entered names : ℕ) (s t n : List ℕ) (x 
     more : Fresh d s t₀ n₀ (base_of d m) entered names → Going d s m entered (names_of d n₀ names) t n x mode at (suc (f - 1))
     more z = let one : f ≡ suc (f - 1) = omega (arith, l) in subst (Going d s m entered (names_of d n₀ names) t n x mode at) one (h.so z)
 
-    pub loop_stop : (w : Why) (p : ℕ) → r.next ≡ Nx.Stop w p → (y : Source) → y ≡ source_of r.state (Faulty w p) → Members d t₀ n₀ m entered names t' n' y
+    pub loop_stop : (w : Why) (p : ℕ) → r.next ≡ Nx.Stop w p → (y : Source) → y ≡ source_of r.state (Err (w, p)) → Members d t₀ n₀ m entered names t' n' y
     loop_stop w p hn y hy = members t' n' y λ z.
         let g : Going d s m entered (names_of d n₀ names) t n x mode at (suc (f - 1)) = more z in
         out d s n₀ m entered names t' n' r.state w p y hy
         (stop_decides d s n₀ m entered names t n x mode at (f - 1) g t' n' r (k.so g.sits g.within g.follows) w p hn)
 
-    pub loop_finish : r.next ≡ Nx.Finish → (y : Source) → y ≡ source_of r.state Sound → Members d t₀ n₀ m entered names t' n' y
+    pub loop_finish : r.next ≡ Nx.Finish → (y : Source) → y ≡ source_of r.state (Ok tt) → Members d t₀ n₀ m entered names t' n' y
     loop_finish hn y hy = members t' n' y λ z.
         let g : Going d s m entered (names_of d n₀ names) t n x mode at (suc (f - 1)) = more z in
         let T : Takes d s t n x (D.turn mixed s (mode_of mode) at (from_state s t x)) t' n' r = k.so g.sits g.within g.follows in

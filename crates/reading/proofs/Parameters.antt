@@ -1,6 +1,9 @@
 -- Parameters that are listed twice. A turn lists those of one procedure, whose row number is new: so what the turns do to the names,
 -- each by itself, is what the definition does to them all at once; and the tokens that are spelled alike are the names that are.
 -- Assumes nothing.
+use Rattle.statements.specs.Types.{Read}
+use Rattle.expressions.specs.Types.{Expected}
+use Rattle.std.proofs.Common.{Option, Some, None, Err, Ok}
 use Prim.Native.Nat.{ℕ, zero, suc, ◌+◌, ◌-◌, ◌≤◌, ◌<◌}
 use native.Mathlib.Omega.{arith}
 use mathlib.Core.Bool.{Bool, true, false, cond, ◌&&◌, ◌||◌, and-false, false≢true}
@@ -24,17 +27,11 @@ use Rattle.definition.proofs.Choices.{when_has}
 use Rattle.definition.proofs.Folded.{length_folded}
 use Rattle.definition.proofs.Parts.{length_part, same_length}
 use Rattle.expressions.specs.Check.{is_spelled, named_for}
-use Rattle.expressions.specs.declared.Expected.{Expected}
-use Rattle.expressions.specs.declared.Expected.TheVariants.{Past, Refused}
 use Rattle.definition.specs.declared.Why.{Why}
 use Rattle.definition.specs.declared.Why.TheVariants.{OverLimit}
-use Rattle.entering.specs.declared.Mark.{Mark}
-use Rattle.entering.specs.declared.Mark.TheVariants.{Unmarked, Marked}
 use Rattle.entering.specs.declared.Tally.{Tally}
-use Rattle.entering.specs.declared.Fault.TheVariants.{Faulty}
 use Rattle.entering.specs.Book.{Book, first_of, book_past, book_second, book_more, book_add, book_joint, book_join, book_at, book_one, book_new, book_all, listed_one, book_listed, book_whole, twice_or, fault_in, book_of}
 use Rattle.statements.specs.Clauses.{list_next, list_end, names_end, item_past, name_end, names_next, names_read, spelled_as, names_in, listed_before, parameter_twice, tally_twice, read_procedure, is_read, procedure_tally}
-use Rattle.statements.specs.declared.Read.{Read}
 use Rattle.statements.proofs.Items.{after_names, names_at_lem}
 use Rattle.statements.proofs.Laws.{sign_spelled}
 use Rattle.statements.proofs.Listed.{Names, named_is}
@@ -177,7 +174,7 @@ pub almost_self : (b : Book) → Almost b b
 almost_self b = record { identifiers = refl; denotations = refl; activities = refl; past = refl }
 
 almost_add : (g : Bool) (i : W.Identifier) (d : W.Denotation) (p : ℕ) (b c : Book) → Almost b c → Almost (cond g (book_past p b) (book_more i d b)) (cond g (book_past p c) (book_more i d c))
-almost_add true i d p b c h = record { identifiers = h.identifiers; denotations = h.denotations; activities = h.activities; past = ap (λ (z : Mark). first_of z p) h.past }
+almost_add true i d p b c h = record { identifiers = h.identifiers; denotations = h.denotations; activities = h.activities; past = ap (λ (z : Option ℕ). first_of z p) h.past }
 almost_add false i d p b c h = record {
   identifiers = ap (λ (z : List W.Identifier). z ++ i ∷ []) h.identifiers;
   denotations = ap (λ (z : List W.Denotation). z ++ d ∷ []) h.denotations;
@@ -218,25 +215,25 @@ whole_almost m ps [] b c h = h
 whole_almost m ps (d ∷ ds) b c h = whole_almost m (listed_one (N.new_of m d.meaning) (N.identifier_of m d) ps) ds _ _ (almost_listed (N.new_of m d.meaning) (N.identifier_of m d) ps d.place b c h)
 
 -- where the reading stops, which does not matter
-faulty_either : (x y : Mark) (w : Why) (q : ℕ) → twice_or x (Faulty w q) ≡ twice_or y (Faulty w q)
-faulty_either Unmarked Unmarked w q = refl
-faulty_either Unmarked (Marked p) w q = refl
-faulty_either (Marked p) Unmarked w q = refl
-faulty_either (Marked p) (Marked r) w q = refl
+faulty_either : (x y : Option ℕ) (w : Why) (q : ℕ) → twice_or x (Err (w, q)) ≡ twice_or y (Err (w, q))
+faulty_either None None w q = refl
+faulty_either None (Some p) w q = refl
+faulty_either (Some p) None w q = refl
+faulty_either (Some p) (Some r) w q = refl
 
-pub fault_either : (past x y : Mark) (w : Why) (q : ℕ) → fault_in past x (Faulty w q) ≡ fault_in past y (Faulty w q)
+pub fault_either : (past x y : Option ℕ) (w : Why) (q : ℕ) → fault_in past x (Err (w, q)) ≡ fault_in past y (Err (w, q))
 unfolding fault_in
-fault_either Unmarked x y w q = faulty_either x y w q
-fault_either (Marked p) x y w q = refl
+fault_either None x y w q = faulty_either x y w q
+fault_either (Some p) x y w q = refl
 
 -- ---- THE TOKENS of a list of parameters, and its names
-abbrev pub book_twice : Mark → Book → Book
-book_twice Unmarked b = b
-book_twice (Marked p) b = book_second p b
+abbrev pub book_twice : Option ℕ → Book → Book
+book_twice None b = b
+book_twice (Some p) b = book_second p b
 
 abbrev is_past : Expected → Bool
-is_past (Past e) = true
-is_past (Refused w p) = false
+is_past (Ok e) = true
+is_past (Err (w, p)) = false
 
 abbrev place_or : ℕ → Reading Named → ℕ
 place_or a (read n) = n.place
@@ -358,10 +355,10 @@ holds_more m r ps ns n h = record { same = λ w. rw (eq-eqb m m refl, eq-eqb r r
     and_true false = refl
 
 -- a name that is declared twice stays the first
-second_stays : (b : Book) (p q : ℕ) → b.second ≡ Marked q → book_second p b ≡ b
-second_stays b p q h = ap (λ (z : Mark). record { identifiers = b.identifiers; denotations = b.denotations; activities = b.activities; past = b.past; second = z }) (rw h)
+second_stays : (b : Book) (p q : ℕ) → b.second ≡ Some q → book_second p b ≡ b
+second_stays b p q h = ap (λ (z : Option ℕ). record { identifiers = b.identifiers; denotations = b.denotations; activities = b.activities; past = b.past; second = z }) (rw h)
 
-marked_stays : (m r : ℕ) (ps : List W.Identifier) (ns : List Named) (b : Book) (q : ℕ) → b.second ≡ Marked q → book_whole m ps (means (inside r) parameter ns) b ≡ b
+marked_stays : (m r : ℕ) (ps : List W.Identifier) (ns : List Named) (b : Book) (q : ℕ) → b.second ≡ Some q → book_whole m ps (means (inside r) parameter ns) b ≡ b
 unfolding book_whole
 marked_stays m r ps [] b q h = refl
 marked_stays m r ps (n ∷ ns) b q h = ap (book_whole m (own n.spelling m r ∷ ps) (means (inside r) parameter ns)) (either (N.is_listed (own n.spelling m r) ps)) ∙ marked_stays m r (own n.spelling m r ∷ ps) ns b q h
@@ -370,15 +367,15 @@ marked_stays m r ps (n ∷ ns) b q h = ap (book_whole m (own n.spelling m r ∷ 
     either true = second_stays b n.place q h
     either false = refl
 
-second_more : (m r : ℕ) (ps : List W.Identifier) (ns : List Named) (b : Book) (p : ℕ) (k : Mark) → b.second ≡ k → book_whole m ps (means (inside r) parameter ns) (book_second p b) ≡ book_second p b
-second_more m r ps ns b p Unmarked h = marked_stays m r ps ns (book_second p b) p (rw h)
-second_more m r ps ns b p (Marked q) h = marked_stays m r ps ns (book_second p b) q (rw h)
+second_more : (m r : ℕ) (ps : List W.Identifier) (ns : List Named) (b : Book) (p : ℕ) (k : Option ℕ) → b.second ≡ k → book_whole m ps (means (inside r) parameter ns) (book_second p b) ≡ book_second p b
+second_more m r ps ns b p None h = marked_stays m r ps ns (book_second p b) p (rw h)
+second_more m r ps ns b p (Some q) h = marked_stays m r ps ns (book_second p b) q (rw h)
 
 -- ---- THE FIRST PARAMETER that is listed twice, by tokens and by names
 module _ (s : List ℕ) (list m r : ℕ) where
   twice_turn : (f : ℕ) (x : Named) (ps : List W.Identifier) (b : Book) (g c : Bool)
       → (c ≡ true → book_twice (parameter_twice s list f (token_at mixed s x.to).to) b ≡ book_whole m (own x.spelling m r ∷ ps) (means (inside r) parameter (names_read s f (token_at mixed s x.to).to)) b)
-      → book_twice (when g (λ _. Marked x.place) (λ _. when c (λ _. parameter_twice s list f (token_at mixed s x.to).to) (λ _. Unmarked))) b
+      → book_twice (when g (λ _. Some x.place) (λ _. when c (λ _. parameter_twice s list f (token_at mixed s x.to).to) (λ _. None))) b
       ≡ book_whole m (own x.spelling m r ∷ ps) (means (inside r) parameter (when c (λ _. names_read s f (token_at mixed s x.to).to) (λ _. []))) (cond g (book_second x.place b) b)
   unfolding book_whole
   twice_turn f x ps b true c h = sym (second_more m r (own x.spelling m r ∷ ps) (when c (λ _. names_read s f (token_at mixed s x.to).to) (λ _. [])) b x.place b.second refl)
@@ -387,7 +384,7 @@ module _ (s : List ℕ) (list m r : ℕ) where
 
   twice_name : (f z : ℕ) (ns : List Named) (ps : List W.Identifier) (b : Book) (R : Reading Named) → name_at mixed s z ≡ R → Walk s list ns z → Holds m r ps ns → is_past (list_next (41 ∷ []) s (name_end R) (names_end (41 ∷ []) s f)) ≡ true
       → ((e : ℕ) (ms : List Named) (qs : List W.Identifier) → Walk s list ms e → Holds m r qs ms → is_past (names_end (41 ∷ []) s f e) ≡ true → book_twice (parameter_twice s list f e) b ≡ book_whole m qs (means (inside r) parameter (names_read s f e)) b)
-      → book_twice (when (listed_before s (token_at mixed s z).from (token_at mixed s z).to (length s) list) (λ _. Marked (token_at mixed s z).from) (λ _. when (is_comma s (token_at mixed s z).to) (λ _. parameter_twice s list f (token_at mixed s (token_at mixed s z).to).to) (λ _. Unmarked))) b
+      → book_twice (when (listed_before s (token_at mixed s z).from (token_at mixed s z).to (length s) list) (λ _. Some (token_at mixed s z).from) (λ _. when (is_comma s (token_at mixed s z).to) (λ _. parameter_twice s list f (token_at mixed s (token_at mixed s z).to).to) (λ _. None))) b
       ≡ book_whole m ps (means (inside r) parameter (names_next s R (names_read s f))) b
   unfolding name_end book_whole
   twice_name f z ns ps b (refused w p) e h k l again = absurd (false≢true l)
@@ -424,13 +421,13 @@ module _ (s : List ℕ) (k : Scope) where
       then_names ds (expect_word mixed "FIXED" s z) _ λ u. then_names ds (expect_sign mixed ")" s u) _ λ y. then_names ds (expect_sign mixed ";" s y) _ λ v. refl
 
   after_names_lem : (x : Expected) (all : List Named) → names_in (after_names k parameter s [] (D.procedure_head mixed k s) x all) ≡ means k parameter all
-  after_names_lem (Past e) all = head_names all e
-  after_names_lem (Refused w p) all = refl
+  after_names_lem (Ok e) all = head_names all e
+  after_names_lem (Err (w, p)) all = refl
 
   after_read : (c : ℕ) (x : Expected) (all : List Named) → is_read (read_procedure c (after_names k parameter s [] (D.procedure_head mixed k s) x all)) ≡ true → is_past x ≡ true
   unfolding read_procedure
-  after_read c (Past e) all h = refl
-  after_read c (Refused w p) all h = h
+  after_read c (Ok e) all h = refl
+  after_read c (Err (w, p)) all h = h
 
   listed_names : (e : ℕ) → D.names_at mixed k parameter s [] (length s) [] e (D.procedure_head mixed k s) ≡ after_names k parameter s [] (D.procedure_head mixed k s) (names_end (41 ∷ []) s (length s) e) (names_read s (length s) e)
   listed_names e = names_at_lem k parameter s [] (D.procedure_head mixed k s) (length s) [] e (omega arith) (λ z. absurd (omega arith))
@@ -445,10 +442,10 @@ module _ (s : List ℕ) (k : Scope) where
   pub clause_names : (e : ℕ) → names_in (D.procedure_clause mixed k s e) ≡ means k parameter (when (is_sign "(" (token_at mixed s e).token) (λ _. names_read s (length s) (token_at mixed s e).to) (λ _. []))
   clause_names e = names_by e (is_sign "(" (token_at mixed s e).token) refl
 
-book_twice_lem : (d t : List ℕ) (k : Mark) (x : Tally) → book_of d t (tally_twice k x) ≡ book_twice k (book_of d t x)
+book_twice_lem : (d t : List ℕ) (k : Option ℕ) (x : Tally) → book_of d t (tally_twice k x) ≡ book_twice k (book_of d t x)
 unfolding book_of
-book_twice_lem d t Unmarked x = refl
-book_twice_lem d t (Marked p) x = refl
+book_twice_lem d t None x = refl
+book_twice_lem d t (Some p) x = refl
 
 -- what the code has of a PROCEDURE statement that is read is what the definition does to the names
 module _ (d t : List ℕ) (x : Tally) (m n : ℕ) (s : List ℕ) (from : ℕ) where

@@ -1,5 +1,6 @@
 -- The rows that the room stands for, under each write of the table.
 -- Assumes nothing.
+use Rattle.std.proofs.Common.{Some}
 use mathlib.Core.Path.{◌≡◌, refl, sym, ap, ◌∙◌}
 use mathlib.Core.Bool.{Bool, true, false}
 use mathlib.Core.List.{List, [], ◌∷◌, ◌++◌}
@@ -13,7 +14,6 @@ use Rattle.definition.specs.Room.{over}
 use Rattle.definition.proofs.Rooms.{length_over, get_d_over_at, get_d_over_low, get_d_over_high}
 use Rattle.definition.specs.Program as P
 use Rattle.definition.specs.Reading as D
-use Rattle.rows.specs.declared.Link.TheVariants.{To}
 use Rattle.rows.specs.declared.Stretch.{Stretch}
 use Rattle.rows.specs.declared.Statement.{Statement}
 use Rattle.rows.specs.declared.Row.{Row}
@@ -97,66 +97,66 @@ module _ (t : List ℕ) (k : ℕ) where
         (λ i z. row_other t xs k i j (λ y. z (omega arith)) q)
         (let o : 0 + k ≡ k = omega arith in rw o e)
 
-    pub next_set : (m : ℕ) → m < 65535 → rows_from s (over t (16 * k + 7) (link_number (To m) ∷ [])) 0 n ≡ D.change k (D.set_next m) (rows_from s t 0 n)
+    pub next_set : (m : ℕ) → m < 65535 → rows_from s (over t (16 * k + 7) (link_number (Some m) ∷ [])) 0 n ≡ D.change k (D.set_next m) (rows_from s t 0 n)
     unfolding row_of row_in
-    next_set m h = changed 7 (link_number (To m) ∷ []) (D.set_next m) (omega arith) there
+    next_set m h = changed 7 (link_number (Some m) ∷ []) (D.set_next m) (omega arith) there
       where
-        there : row_of s (row_in (over t (16 * k + 7) (link_number (To m) ∷ [])) k) ≡ D.set_next m (row_of s (row_in t k))
+        there : row_of s (row_in (over t (16 * k + 7) (link_number (Some m) ∷ [])) k) ≡ D.set_next m (row_of s (row_in t k))
         there = rw (
-          before 7 (link_number (To m) ∷ []) 0 (lit< tt),
-          before 7 (link_number (To m) ∷ []) 1 (lit< tt),
-          before 7 (link_number (To m) ∷ []) 2 (lit< tt),
-          before 7 (link_number (To m) ∷ []) 5 (lit< tt),
-          before 7 (link_number (To m) ∷ []) 6 (lit< tt),
-          here 7 (link_number (To m)) [] (omega arith),
-          after 7 (link_number (To m) ∷ []) 8 (omega arith),
-          after 7 (link_number (To m) ∷ []) 9 (omega arith),
-          after 7 (link_number (To m) ∷ []) 10 (omega arith),
-          after 7 (link_number (To m) ∷ []) 11 (omega arith),
-          after 7 (link_number (To m) ∷ []) 12 (omega arith),
-          after 7 (link_number (To m) ∷ []) 13 (omega arith),
+          before 7 (link_number (Some m) ∷ []) 0 (lit< tt),
+          before 7 (link_number (Some m) ∷ []) 1 (lit< tt),
+          before 7 (link_number (Some m) ∷ []) 2 (lit< tt),
+          before 7 (link_number (Some m) ∷ []) 5 (lit< tt),
+          before 7 (link_number (Some m) ∷ []) 6 (lit< tt),
+          here 7 (link_number (Some m)) [] (omega arith),
+          after 7 (link_number (Some m) ∷ []) 8 (omega arith),
+          after 7 (link_number (Some m) ∷ []) 9 (omega arith),
+          after 7 (link_number (Some m) ∷ []) 10 (omega arith),
+          after 7 (link_number (Some m) ∷ []) 11 (omega arith),
+          after 7 (link_number (Some m) ∷ []) 12 (omega arith),
+          after 7 (link_number (Some m) ∷ []) 13 (omega arith),
           kept m h,
         )
 
-    pub child_set : (m : ℕ) → m < 65535 → rows_from s (over t (16 * k + 8) (link_number (To m) ∷ [])) 0 n ≡ D.change k (D.set_child m) (rows_from s t 0 n)
+    pub child_set : (m : ℕ) → m < 65535 → rows_from s (over t (16 * k + 8) (link_number (Some m) ∷ [])) 0 n ≡ D.change k (D.set_child m) (rows_from s t 0 n)
     unfolding row_of row_in
-    child_set m h = changed 8 (link_number (To m) ∷ []) (D.set_child m) (omega arith) there
+    child_set m h = changed 8 (link_number (Some m) ∷ []) (D.set_child m) (omega arith) there
       where
-        there : row_of s (row_in (over t (16 * k + 8) (link_number (To m) ∷ [])) k) ≡ D.set_child m (row_of s (row_in t k))
+        there : row_of s (row_in (over t (16 * k + 8) (link_number (Some m) ∷ [])) k) ≡ D.set_child m (row_of s (row_in t k))
         there = rw (
-          before 8 (link_number (To m) ∷ []) 0 (lit< tt),
-          before 8 (link_number (To m) ∷ []) 1 (lit< tt),
-          before 8 (link_number (To m) ∷ []) 2 (lit< tt),
-          before 8 (link_number (To m) ∷ []) 5 (lit< tt),
-          before 8 (link_number (To m) ∷ []) 6 (lit< tt),
-          before 8 (link_number (To m) ∷ []) 7 (lit< tt),
-          here 8 (link_number (To m)) [] (omega arith),
-          after 8 (link_number (To m) ∷ []) 9 (omega arith),
-          after 8 (link_number (To m) ∷ []) 10 (omega arith),
-          after 8 (link_number (To m) ∷ []) 11 (omega arith),
-          after 8 (link_number (To m) ∷ []) 12 (omega arith),
-          after 8 (link_number (To m) ∷ []) 13 (omega arith),
+          before 8 (link_number (Some m) ∷ []) 0 (lit< tt),
+          before 8 (link_number (Some m) ∷ []) 1 (lit< tt),
+          before 8 (link_number (Some m) ∷ []) 2 (lit< tt),
+          before 8 (link_number (Some m) ∷ []) 5 (lit< tt),
+          before 8 (link_number (Some m) ∷ []) 6 (lit< tt),
+          before 8 (link_number (Some m) ∷ []) 7 (lit< tt),
+          here 8 (link_number (Some m)) [] (omega arith),
+          after 8 (link_number (Some m) ∷ []) 9 (omega arith),
+          after 8 (link_number (Some m) ∷ []) 10 (omega arith),
+          after 8 (link_number (Some m) ∷ []) 11 (omega arith),
+          after 8 (link_number (Some m) ∷ []) 12 (omega arith),
+          after 8 (link_number (Some m) ∷ []) 13 (omega arith),
           kept m h,
         )
 
-    pub other_set : (m : ℕ) → m < 65535 → rows_from s (over t (16 * k + 9) (link_number (To m) ∷ [])) 0 n ≡ D.change k (D.set_other m) (rows_from s t 0 n)
+    pub other_set : (m : ℕ) → m < 65535 → rows_from s (over t (16 * k + 9) (link_number (Some m) ∷ [])) 0 n ≡ D.change k (D.set_other m) (rows_from s t 0 n)
     unfolding row_of row_in
-    other_set m h = changed 9 (link_number (To m) ∷ []) (D.set_other m) (omega arith) there
+    other_set m h = changed 9 (link_number (Some m) ∷ []) (D.set_other m) (omega arith) there
       where
-        there : row_of s (row_in (over t (16 * k + 9) (link_number (To m) ∷ [])) k) ≡ D.set_other m (row_of s (row_in t k))
+        there : row_of s (row_in (over t (16 * k + 9) (link_number (Some m) ∷ [])) k) ≡ D.set_other m (row_of s (row_in t k))
         there = rw (
-          before 9 (link_number (To m) ∷ []) 0 (lit< tt),
-          before 9 (link_number (To m) ∷ []) 1 (lit< tt),
-          before 9 (link_number (To m) ∷ []) 2 (lit< tt),
-          before 9 (link_number (To m) ∷ []) 5 (lit< tt),
-          before 9 (link_number (To m) ∷ []) 6 (lit< tt),
-          before 9 (link_number (To m) ∷ []) 7 (lit< tt),
-          before 9 (link_number (To m) ∷ []) 8 (lit< tt),
-          here 9 (link_number (To m)) [] (omega arith),
-          after 9 (link_number (To m) ∷ []) 10 (omega arith),
-          after 9 (link_number (To m) ∷ []) 11 (omega arith),
-          after 9 (link_number (To m) ∷ []) 12 (omega arith),
-          after 9 (link_number (To m) ∷ []) 13 (omega arith),
+          before 9 (link_number (Some m) ∷ []) 0 (lit< tt),
+          before 9 (link_number (Some m) ∷ []) 1 (lit< tt),
+          before 9 (link_number (Some m) ∷ []) 2 (lit< tt),
+          before 9 (link_number (Some m) ∷ []) 5 (lit< tt),
+          before 9 (link_number (Some m) ∷ []) 6 (lit< tt),
+          before 9 (link_number (Some m) ∷ []) 7 (lit< tt),
+          before 9 (link_number (Some m) ∷ []) 8 (lit< tt),
+          here 9 (link_number (Some m)) [] (omega arith),
+          after 9 (link_number (Some m) ∷ []) 10 (omega arith),
+          after 9 (link_number (Some m) ∷ []) 11 (omega arith),
+          after 9 (link_number (Some m) ∷ []) 12 (omega arith),
+          after 9 (link_number (Some m) ∷ []) 13 (omega arith),
           kept m h,
         )
 

@@ -1,5 +1,7 @@
 -- A statement by its first token: one law for each way out.
 -- Assumes nothing.
+use Rattle.std.proofs.Common.{Err}
+use Rattle.statements.specs.Types.{Read}
 use mathlib.Core.Path.{◌≡◌, refl, sym, ap, subst, ◌∙◌}
 use mathlib.Core.Bool.{Bool, true, false, ◌&&◌}
 use mathlib.Core.List.{List, [], ◌∷◌}
@@ -23,8 +25,6 @@ use Rattle.tokens.proofs.Lexemes.{is_sign_lem}
 use Rattle.rows.specs.declared.Statement.TheVariants as S
 use Rattle.statements.specs.declared.Keyword.{Keyword}
 use Rattle.statements.specs.declared.Keyword.TheVariants as K
-use Rattle.statements.specs.declared.Read.{Read}
-use Rattle.statements.specs.declared.Read.TheVariants as Rd
 use Rattle.statements.specs.Clauses.{scope_of, read_for}
 use Rattle.statements.specs.Again.{statement_at}
 use Rattle.openings.specs.Open.{opened_of, opens_by, keyword_here, keyword_at, null_for, by_keyword}
@@ -69,7 +69,7 @@ module _ (d s t n : List ℕ) (x : State) (k : Keyword) (l : Lexeme) (from p lab
   wrong : (w : Why) → r ≡ turned x (Nx.Stop w l.from) → ((ns : List Named) → Lexed s from l → D.by_token mixed (token_at mixed s from).token s p ns (token_at mixed s from) (from_state s t x) ≡ D.untaken p ns (from_state s t x) w l.from []) → ByToken d s t n x k l from p labels t n r
   wrong w hr f = record {
     so = λ ns c i hk hc. subst (λ (X : D.Turn). Clausal d s t n x (D.label_meaning (opens_by k) x.rows) ns X t n r) (sym (f ns i.lexed))
-        (clausal_read d s t n x l from p labels ns i S.Null (opens_by k) t r (Rd.Refused w l.from) (takes_refused s t x p labels r (Rd.Refused w l.from) w l.from refl hr) (refused w l.from) (refl, refl) tt);
+        (clausal_read d s t n x l from p labels ns i S.Null (opens_by k) t r (Err (w, l.from)) (takes_refused s t x p labels r (Err (w, l.from)) w l.from refl hr) (refused w l.from) (refl, refl) tt);
   }
 
   pub token_too_long : (m : ℕ) → v ≡ true → m ≡ l.to - l.from → 31 < m → r ≡ turned x (Nx.Stop OverLimit l.from) → ByToken d s t n x k l from p labels t n r

@@ -1,5 +1,6 @@
 -- A turn, from the contracts of its parts. One law for each way out.
 -- Assumes nothing.
+use Rattle.std.proofs.Common.{Option, Some, None, Result}
 use mathlib.Core.Path.{◌≡◌, refl, sym, ap, subst, ◌∙◌}
 use mathlib.Core.Bool.{Bool, true, false, ◌&&◌}
 use mathlib.Core.List.{List, [], ◌∷◌}
@@ -31,12 +32,8 @@ use Rattle.tokens.proofs.Pieces.{percent_there}
 use Rattle.tokens.proofs.Lexemes.{is_sign_lem}
 use Rattle.rows.specs.declared.Stretch.{Stretch}
 use Rattle.rows.specs.Table.{stretch_numbers, row_in}
-use Rattle.rows.specs.declared.Link.TheVariants as L
 use Rattle.names.specs.declared.Owner.TheVariants.{Everyone}
-use Rattle.entering.specs.declared.Mark.{Mark}
-use Rattle.entering.specs.declared.Mark.TheVariants.{Unmarked, Marked}
 use Rattle.entering.specs.declared.Tally.{Tally}
-use Rattle.entering.specs.declared.Fault.{Fault}
 use Rattle.entering.specs.Book.{tally_of, fault_in, book_all, book_whole}
 use Rattle.statements.specs.Clauses.{scope_of, Own, Ready}
 use Rattle.openings.specs.declared.Where.{Where}
@@ -314,18 +311,18 @@ enters_low s at q l (enters-behind e f) =
     let some : (token_at mixed s at).from < (token_at mixed s at).to = z.some (sign_real "%" (token_at mixed s at).token f) in
     record { low = omega (arith, some, z.high); within = omega (arith, e, z.high); starts = behind (omega (arith, some, e)) }
 
-module _ (d s t n : List ℕ) (x : State) (at : ℕ) (k : Lexeme) (lex : Lexed s at k) (m : Mark) (hm : AlternativeFrom s x.scope k at m) where
-  pub alternative_wrong : (r : Turned) → m ≡ Unmarked → r ≡ turned x (Nx.Stop Syntax k.from) → Alternatives d s t n x at t n r
+module _ (d s t n : List ℕ) (x : State) (at : ℕ) (k : Lexeme) (lex : Lexed s at k) (m : Option ℕ) (hm : AlternativeFrom s x.scope k at m) where
+  pub alternative_wrong : (r : Turned) → m ≡ None → r ≡ turned x (Nx.Stop Syntax k.from) → Alternatives d s t n x at t n r
   alternative_wrong r y hr = rw hr (record {
     so = λ h l.
-        subst (λ (X : D.Turn). Takes d s t n x X t n (turned x (Nx.Stop Syntax k.from))) (sym (hm.is lex (from_state s t x) ∙ ap (λ (w : Mark). alternative_turn w s (token_at mixed s at) (from_state s t x)) y))
+        subst (λ (X : D.Turn). Takes d s t n x X t n (turned x (Nx.Stop Syntax k.from))) (sym (hm.is lex (from_state s t x) ∙ ap (λ (w : Option ℕ). alternative_turn w s (token_at mixed s at) (from_state s t x)) y))
         (subst (λ (i : ℕ). Takes d s t n x (D.stop Syntax i [] (from_state s t x)) t n (turned x (Nx.Stop Syntax k.from))) lex.from (stay_stop d s t n x h Syntax k.from [] (stay_early d s t n x h Syntax k.from)));
   })
 
-  module _ (q g : ℕ) (y : m ≡ Marked q) (hg : Deep x.opened g) where
+  module _ (q g : ℕ) (y : m ≡ Some q) (hg : Deep x.opened g) where
     deep_is : D.alternative_at mixed (scope_of x.scope) s at (token_at mixed s at) (from_state s t x) ≡ when (leb g 16) (λ _. D.clause_at mixed s (token_at mixed s at).from q (from_state s t x)) (λ _. D.stop OverLimit (token_at mixed s at).from ((token_at mixed s at).from ∷ []) (from_state s t x))
     unfolding D.deep_enough state_of
-    deep_is = hm.is lex (from_state s t x) ∙ ap (λ (w : Mark). alternative_turn w s (token_at mixed s at) (from_state s t x)) y ∙ rw (hg.is s)
+    deep_is = hm.is lex (from_state s t x) ∙ ap (λ (w : Option ℕ). alternative_turn w s (token_at mixed s at) (from_state s t x)) y ∙ rw (hg.is s)
 
     pub alternative_clause : (t' n' : List ℕ) (r : Turned) → g ≤ 16 → Clauses d s t n x k.from q t' n' r → Alternatives d s t n x at t' n' r
     alternative_clause t' n' r l c = record {
@@ -344,8 +341,8 @@ module _ (d s t n : List ℕ) (x : State) (at : ℕ) (k : Lexeme) (lex : Lexed s
     })
 
 -- ---- THE START
-pub begins_so : (m base entered names : ℕ) (g : Open) (xs : List Open) (o : Opened) (y : Stretch) (k : Tally) → g ≡ no_open → y ≡ stretch_at 0 0 → Pushed (record { count = 0; items = xs }) g o → k ≡ tally_of m base names Unmarked Unmarked
-    → Begins m base entered names (record { entered = entered; rows = 0; first = L.Nowhere; lead = y; opened = o; scope = Everyone; tally = k })
+pub begins_so : (m base entered names : ℕ) (g : Open) (xs : List Open) (o : Opened) (y : Stretch) (k : Tally) → g ≡ no_open → y ≡ stretch_at 0 0 → Pushed (record { count = 0; items = xs }) g o → k ≡ tally_of m base names None None
+    → Begins m base entered names (record { entered = entered; rows = 0; first = None; lead = y; opened = o; scope = Everyone; tally = k })
 unfolding state_of rows_from opened_of open_from open_of
 begins_so m base entered names g xs o y k hg hy hp hk =
     let one : (s : List ℕ) → opened_of s o ≡ D.opening D.in_program 0 [] ∷ [] = λ s. hp.is (omega arith) s ∙ rw hg in
@@ -360,6 +357,6 @@ begins_so m base entered names g xs o y k hg hy hp hk =
     }
 
 -- ---- leaves
-pub source_is : (x : State) (f g : Fault) → g ≡ fault_in x.tally.past x.tally.second f
+pub source_is : (x : State) (f g : Result (Unit {0}) (Why × ℕ)) → g ≡ fault_in x.tally.past x.tally.second f
     → ◌≡◌ {A = Source} (record { first = x.first; lead = x.lead; rows = x.rows; names = x.tally.names; fault = g }) (source_of x f)
 source_is x f g e = rw e

@@ -1,5 +1,7 @@
 -- A statement by its first word: what it reads is the definition's clause, and its names are entered. One law for each way out.
 -- Assumes nothing.
+use Rattle.statements.specs.Types.{Read}
+use Rattle.std.proofs.Common.{Option, Some, None, Err}
 use mathlib.Core.Path.{◌≡◌, refl, sym, ap, subst, ◌∙◌}
 use mathlib.Core.Logic.{◌⊎◌, inl, inr}
 use mathlib.Core.Bool.{Bool, true, false, cond, ◌&&◌, false≢true}
@@ -33,13 +35,9 @@ use Rattle.expressions.specs.Check.{is_spelled}
 use Rattle.rows.specs.declared.Statement.{Statement}
 use Rattle.rows.specs.declared.Statement.TheVariants as S
 use Rattle.entering.specs.declared.Tally.{Tally}
-use Rattle.entering.specs.declared.Mark.{Mark}
-use Rattle.entering.specs.declared.Mark.TheVariants.{Unmarked, Marked}
 use Rattle.entering.specs.Book.{Book, Roomy, Entered, book_all, book_whole, book_of}
 use Rattle.statements.specs.declared.Keyword.{Keyword}
 use Rattle.statements.specs.declared.Keyword.TheVariants as K
-use Rattle.statements.specs.declared.Read.{Read}
-use Rattle.statements.specs.declared.Read.TheVariants as Rd
 use Rattle.statements.specs.declared.Declaring.{Declaring}
 use Rattle.statements.specs.Clauses.{scope_of, is_inside, Own, read_for, read_procedure, is_read, plain_for, do_kind, go_clause, clause_in, names_in, parameter_twice, tally_twice, procedure_tally, DeclaresIf, Declares, Heads}
 use Rattle.statements.specs.Again.{statement_at}
@@ -317,7 +315,7 @@ pub word_deep : (d s t n : List ℕ) (x : State) (k : Keyword) (l : Lexeme) (fro
 unfolding state_of
 word_deep d s t n x k l from p labels r m e deep high hr = rw e (record {
   so = λ ns i w c. subst (λ (X : D.Turn). Clausal d s t n x (D.label_meaning (opens_by K.Do) x.rows) ns X t n r) (sym (ap (D.take_read mixed s p ns (from_state s t x)) (do_deep s (token_at mixed s from).from (token_at mixed s from).to (from_state s t x) m (deep.is s) high)))
-      (clausal_read d s t n x l from p labels ns i S.Group (opens_by K.Do) t r (Rd.Refused OverLimit l.from) (takes_refused s t x p labels r (Rd.Refused OverLimit l.from) OverLimit l.from refl hr) (refused OverLimit (token_at mixed s from).from) (refl, i.lexed.from) tt);
+      (clausal_read d s t n x l from p labels ns i S.Group (opens_by K.Do) t r (Err (OverLimit, l.from)) (takes_refused s t x p labels r (Err (OverLimit, l.from)) OverLimit l.from refl hr) (refused OverLimit (token_at mixed s from).from) (refl, i.lexed.from) tt);
 })
 
 -- ---- with names
@@ -353,10 +351,10 @@ procedure_keeps : (s : List ℕ) (at : ℕ) (r : Read) (x : Tally) → SameNames
 unfolding procedure_tally
 procedure_keeps s at r x = by (is_read r && is_spelled (bytes_of "(") (token_at mixed s at).token) (parameter_twice s (token_at mixed s at).to (length s) (token_at mixed s at).to)
   where
-    by : (b : Bool) (m : Mark) → SameNames x (cond b (tally_twice m x) x)
+    by : (b : Bool) (m : Option ℕ) → SameNames x (cond b (tally_twice m x) x)
     by false m = record { names = refl; member = refl; base = refl }
-    by true Unmarked = record { names = refl; member = refl; base = refl }
-    by true (Marked q) = record { names = refl; member = refl; base = refl }
+    by true None = record { names = refl; member = refl; base = refl }
+    by true (Some q) = record { names = refl; member = refl; base = refl }
 
 stood_procedure : (s : List ℕ) (c : ℕ) (Q : St.Declaring) → DeclaresSo S.Procedure St.opens_body Q → c < 65536 → ((z : St.Clause) → clause_in Q ≡ read z → statement_at s S.Procedure c ≡ z.statement) → Stood s (read_procedure c Q) (clause_in Q)
 unfolding read_procedure

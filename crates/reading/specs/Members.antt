@@ -1,13 +1,11 @@
 -- THE CONTRACT of `read_member`: the member is the definition's, and it is entered, or refused, as there.
-use Rattle.std.specs.Prelude.{ℕ, ◌+◌, ◌%◌, ◌≤◌, ◌<◌, List, ◌≡◌, length}
+use Rattle.std.specs.Prelude.{ℕ, ◌+◌, ◌%◌, ◌≤◌, ◌<◌, List, ◌≡◌, length, None, Ok}
 use Rattle.definition.specs.Bytes.{mixed}
 use Rattle.definition.specs.Deck.{line_at}
 use Rattle.definition.specs.Reading as D
 use Rattle.definition.specs.World as W
 use Rattle.definition.specs.Names as N
 use Rattle.deck.specs.Answer.{body_in}
-use Rattle.entering.specs.declared.Mark.TheVariants.{Unmarked}
-use Rattle.entering.specs.declared.Fault.TheVariants.{Sound}
 use Rattle.entering.specs.Book.{Book, tally_of, book_of}
 use Rattle.entering.specs.Entry.{Shows, Entry}
 use Rattle.statements.specs.Clauses.{Lies}
@@ -16,7 +14,7 @@ use Rattle.reading.specs.State.{RoomFor, Reads}
 
 -- the first k names of the room n
 abbrev pub names_of : List ℕ → List ℕ → ℕ → Book
-names_of d n k = book_of d n (tally_of 0 0 k Unmarked Unmarked)
+names_of d n k = book_of d n (tally_of 0 0 k None None)
 
 -- ---- what it needs: the body s lies in the deck at base, and there is room for its rows and names
 abbrev pub base_of : List ℕ → ℕ → ℕ
@@ -37,7 +35,7 @@ pub record Whole (d s : List ℕ) (m entered : ℕ) (b : Book) (t' n' : List ℕ
   pub sentences : entered + r.rows ≤ 2048
 
 pub record Membered (d s n : List ℕ) (m entered names : ℕ) (t' n' : List ℕ) (r : Source) : Type 0 where
-  pub whole : r.fault ≡ Sound → Whole d s m entered (names_of d n names) t' n' r
+  pub whole : r.fault ≡ (Ok tt) → Whole d s m entered (names_of d n names) t' n' r
   pub enters : (w : W.World) → Shows w (names_of d n names) → w.sentences ≡ entered → Entry m (D.read_member mixed s) (names_of d n' r.names) (N.enter m (D.read_member mixed s) w) r.fault
 
 pub record Members (d t n : List ℕ) (m entered names : ℕ) (t' n' : List ℕ) (r : Source) : Type 0 where

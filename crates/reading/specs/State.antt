@@ -1,6 +1,7 @@
 -- What the state of the reading and the room of rows stand for in the definition. A member has its own part of the room: its first
 -- row is row 0.
-use Rattle.std.specs.Prelude.{ℕ, zero, suc, ◌+◌, ◌*◌, ◌%◌, ◌≤◌, ◌<◌, true, false, ◌&&◌, List, [], ◌∷◌, ◌++◌, ◌≡◌, length}
+use Rattle.statements.specs.Types.{Read}
+use Rattle.std.specs.Prelude.{ℕ, zero, suc, ◌+◌, ◌*◌, ◌%◌, ◌≤◌, ◌<◌, true, false, ◌&&◌, List, [], ◌∷◌, ◌++◌, ◌≡◌, length, None, Result, Option, Some, Ok, Err}
 use Rattle.definition.specs.Bytes.{mixed}
 use Rattle.definition.specs.Room.{over}
 use Rattle.definition.specs.Expressions.{Reading, read, refused, Named}
@@ -17,20 +18,14 @@ use Rattle.tokens.specs.declared.Ending.TheVariants as En
 use Rattle.rows.specs.Table.{row_in, link_number}
 use Rattle.rows.specs.Tabled.{Tabled, kind_of}
 use Rattle.rows.specs.declared.Statement.{Statement}
-use Rattle.rows.specs.declared.Link.{Link}
-use Rattle.rows.specs.declared.Link.TheVariants as L
 use Rattle.rows.specs.declared.Stretch.{Stretch}
 use Rattle.rows.specs.declared.Row.{Row}
 use Rattle.names.specs.declared.Owner.{Owner}
 use Rattle.names.specs.declared.Owner.TheVariants as Ow
-use Rattle.entering.specs.declared.Mark.TheVariants.{Unmarked}
 use Rattle.entering.specs.declared.Tally.{Tally}
-use Rattle.entering.specs.declared.Fault.{Fault}
 use Rattle.entering.specs.Book.{Book, tally_of, fault_in, book_whole, book_of, Entered, book_all}
 use Rattle.statements.specs.declared.Clause.{Clause}
 use Rattle.statements.specs.declared.Opens.{Opens}
-use Rattle.statements.specs.declared.Read.{Read}
-use Rattle.statements.specs.declared.Read.TheVariants as Rd
 use Rattle.statements.specs.Clauses.{scope_of, opens_for, Own, Ready, type_in}
 use Rattle.statements.specs.Again.{statement_at}
 use Rattle.openings.specs.declared.Where.{Where}
@@ -187,11 +182,11 @@ pub record Marks (s t : List ℕ) (k : ℕ) (o : Opened) (t' : List ℕ) (n : �
 
 -- ---- the link to a new row n: from the last of its list, or from what it stands in
 abbrev pub link_at : List ℕ → ℕ → ℕ → ℕ → List ℕ
-link_at t k j n = over t (16 * k + j) (link_number (L.To n) ∷ [])
+link_at t k j n = over t (16 * k + j) (link_number (Some n) ∷ [])
 
-abbrev pub link_last : Link → List ℕ → ℕ → List ℕ → List ℕ
-link_last L.Nowhere t n other = other
-link_last (L.To l) t n other = link_at t l 7 n
+abbrev pub link_last : Option ℕ → List ℕ → ℕ → List ℕ → List ℕ
+link_last None t n other = other
+link_last (Some l) t n other = link_at t l 7 n
 
 abbrev pub link_in : Where → List ℕ → Open → ℕ → List ℕ
 link_in Wh.InProgram t o n = link_last o.last t n t
@@ -248,10 +243,10 @@ pub record Again (s : List ℕ) (c : Clause) (x : St.Clause) : Type 0 where
   pub type : c.value_type ≡ type_in x.statement
 
 abbrev pub Stood : List ℕ → Read → Reading St.Clause → Type 0
-Stood s (Rd.Is c) (read x) = Again s c x
-Stood s (Rd.Is c) (refused w q) = ⊥
-Stood s (Rd.Refused v p) (read x) = ⊥
-Stood s (Rd.Refused v p) (refused w q) = (v ≡ w) × (p ≡ q)
+Stood s (Ok c) (read x) = Again s c x
+Stood s (Ok c) (refused w q) = ⊥
+Stood s (Err (v, p)) (read x) = ⊥
+Stood s (Err (v, p)) (refused w q) = (v ≡ w) × (p ≡ q)
 
 -- where the clause is read, its names es follow those of its labels ns, whatever was declared before; where it is not, nothing changes
 abbrev pub Taken : List ℕ → List ℕ → State → ℕ → List ℕ → Turned → List Named → List P.Declared → List P.Declared → Reading St.Clause → Type 0
@@ -383,12 +378,12 @@ pub record Begins (m base before names : ℕ) (r : State) : Type 0 where
   pub entered : r.entered ≡ before
   pub rows : r.rows ≡ 0
   pub scope : r.scope ≡ Ow.Everyone
-  pub tally : r.tally ≡ tally_of m base names Unmarked Unmarked
+  pub tally : r.tally ≡ tally_of m base names None None
 
 pub record Enough (s : List ℕ) (r : ℕ) : Type 0 where
   pub is : length s < 65536 → r ≡ length s + 2
 
-abbrev pub source_of : State → Fault → Source
+abbrev pub source_of : State → Result (Unit {0}) (Why × ℕ) → Source
 source_of x f = record { first = x.first; lead = x.lead; rows = x.rows; names = x.tally.names; fault = fault_in x.tally.past x.tally.second f }
 
 -- THE MEMBER m of the deck, whose body is s; b is the book before it

@@ -19,8 +19,8 @@ ghost use Rattle.reading.specs.Members as M;
 ghost use Rattle.reading.specs.Sentences as S;
 
 use deck::body;
-use definition::Why;
-use entering::{Fault, Mark, Meaning, Spelling, Tally, declare, fault_of, new_tally};
+use definition::{Fault, Why};
+use entering::{Meaning, Spelling, Tally, declare, fault_of, new_tally};
 use expressions::{Expected, NamedAt, name_at};
 use limits::{Nesting, Sentences};
 use names::{Owner, Place};
@@ -30,7 +30,7 @@ use openings::{
     null_clause, opening, other_clause, parent_in, place_after, pop, push, role_in, scope_out, top,
     top_kind,
 };
-use rows::{Link, Row, Stretch, put_row, set_child, set_lead, set_next, set_other, set_text};
+use rows::{Row, Stretch, put_row, set_child, set_lead, set_next, set_other, set_text};
 use statements::{
     Clause, Declaring, Keyword, Opens, Read, declare_clause, is_inside, plain_clause,
     procedure_clause,
@@ -44,7 +44,7 @@ pub struct State {
     // sentences entered before this member, and the rows of the member so far
     pub entered: u16,
     pub rows: u16,
-    pub first: Link,
+    pub first: Option<u16>,
     pub lead: Stretch,
     pub opened: Opened,
     pub scope: Owner,
@@ -134,8 +134,8 @@ fn link_listed(rows: &mut [u16], o: Open, n: u16)
     ensures { rows.new ≡ T.link_last o.last rows.old n (T.link_at rows.old o.row 8 n) }
 {
     match o.last {
-        Link::Nowhere => set_child(rows, o.row, n),
-        Link::To(l) => set_next(rows, l, n),
+        None => set_child(rows, o.row, n),
+        Some(l) => set_next(rows, l, n),
     }
 }
 
@@ -144,8 +144,8 @@ fn link_program(rows: &mut [u16], o: Open, n: u16)
     ensures { rows.new ≡ T.link_last o.last rows.old n rows.old }
 {
     match o.last {
-        Link::Nowhere => {}
-        Link::To(l) => set_next(rows, l, n),
+        None => {}
+        Some(l) => set_next(rows, l, n),
     }
 }
 
@@ -185,9 +185,9 @@ fn add_row(rows: &mut [u16], st: State, c: Clause, p: usize) -> State
             depth: place16(depth(opened)),
             parent: parent_in(o),
             role: role_in(o.kind),
-            next: Link::Nowhere,
-            child: Link::Nowhere,
-            other: Link::Nowhere,
+            next: None,
+            child: None,
+            other: None,
             lead: stretch(0, 0),
             text: stretch(0, 0),
         },
@@ -256,8 +256,8 @@ fn declare_label(
     ensures { L.LabelIf deck.now s.now names.old t at scope meaning names.new result }
 {
     match name_at(s, at) {
-        NamedAt::Is(from, to) => declare(deck, s, names, t, Spelling { from, to }, scope, meaning),
-        NamedAt::Refused(_, _) => t,
+        Ok((from, to)) => declare(deck, s, names, t, Spelling { from, to }, scope, meaning),
+        Err((_, _)) => t,
     }
 }
 
@@ -277,11 +277,11 @@ fn declare_labels(
     let mut at = from;
     for left in (0..s.len()).rev() {
         match label_at(s, at) {
-            Mark::Marked(e) => {
+            Some(e) => {
                 tally = declare_label(deck, s, names, tally, at, scope, meaning);
                 at = e;
             }
-            Mark::Unmarked => return with_tally(st, tally),
+            None => return with_tally(st, tally),
         }
     }
     with_tally(st, tally)
@@ -323,11 +323,11 @@ fn taken(s: &[u8], rows: &mut [u16], st: State, r: Read, p: usize, labels: usize
     ensures { T.TakesAs s.now rows.old st r p labels rows.new result }
 {
     match r {
-        Read::Is(c) => {
+        Ok(c) => {
             let n = st.rows;
             open_inside(s, add_row(rows, st, c, p), c.opens, n, labels, c.to)
         }
-        Read::Refused(w, q) => stop(st, w, q),
+        Err((w, q)) => stop(st, w, q),
     }
 }
 
@@ -431,11 +431,11 @@ fn end_at(deck: &[u8], s: &[u8], names: &mut [u16], st0: State, labels: usize, a
     let st = declare_labels(deck, s, names, st0, labels, Meaning::EndLabelAt(o.row));
     let read = end_name(s, o.labels, at);
     match read {
-        Expected::Past(e) => {
+        Ok(e) => {
             let outer = with_scope(st, scope_out(o.kind, st.scope));
             complete(s, with_opened(outer, pop(outer.opened)), o.row, e)
         }
-        Expected::Refused(w, q) => stop(st, w, q),
+        Err((w, q)) => stop(st, w, q),
     }
 }
 
@@ -480,8 +480,8 @@ fn clause_at(
     let kind = top_kind(st.opened);
     if is_end(s, kind, t) {
         return match l.long {
-            Mark::Marked(q) => end_too_long(deck, s, names, st, at, q),
-            Mark::Unmarked => end_at(deck, s, names, st, at, t.to),
+            Some(q) => end_too_long(deck, s, names, st, at, q),
+            None => end_at(deck, s, names, st, at, t.to),
         };
     }
     if is_full(st) {
@@ -490,8 +490,8 @@ fn clause_at(
     let k = keyword_here(s, kind, st.scope, t, l.count);
     let named = declare_labels(deck, s, names, st, at, label_meaning(k, st.rows));
     match l.long {
-        Mark::Marked(q) => stop(named, Why::OverLimit, q),
-        Mark::Unmarked => by_token(deck, s, rows, names, named, k, t, l.to, p, at),
+        Some(q) => stop(named, Why::OverLimit, q),
+        None => by_token(deck, s, rows, names, named, k, t, l.to, p, at),
     }
 }
 
@@ -547,8 +547,8 @@ fn procedure_end(deck: &[u8], s: &[u8], names: &mut [u16], st: State, at: usize)
     let l = labels_at(s, at);
     let t = token_at(s, l.to);
     match l.long {
-        Mark::Marked(q) => end_too_long(deck, s, names, st, at, q),
-        Mark::Unmarked => {
+        Some(q) => end_too_long(deck, s, names, st, at, q),
+        None => {
             if is_word(s, t, b"END") {
                 return end_at(deck, s, names, st, at, t.to);
             }
@@ -563,8 +563,8 @@ fn not_end(s: &[u8], st: State, at: usize) -> Turned
     ensures { result ≡ T.turned st (S.not_end_next s.now (name_at mixed s.now at)) }
 {
     match name_at(s, at) {
-        NamedAt::Is(_, to) => stop(st, Why::Syntax, token_at(s, to).from),
-        NamedAt::Refused(w, p) => stop(st, w, p),
+        Ok((_, to)) => stop(st, Why::Syntax, token_at(s, to).from),
+        Err((w, p)) => stop(st, w, p),
     }
 }
 
@@ -608,13 +608,13 @@ fn alternative_at(
 {
     let t = token_at(s, at);
     match alternative_from(s, st.scope, t, at) {
-        Mark::Marked(q) => {
+        Some(q) => {
             if depth(st.opened) <= Nesting::GROUPS {
                 return clause_at(deck, s, rows, names, st, t.from, q);
             }
             stop(st, Why::OverLimit, t.from)
         }
-        Mark::Unmarked => stop(st, Why::Syntax, t.from),
+        None => stop(st, Why::Syntax, t.from),
     }
 }
 
@@ -650,14 +650,14 @@ fn turn(
 // A member that was read: its first row and its leading text; how many rows it has; the names that there are now; what is wrong with it.
 #[derive(Clone, Copy)]
 pub struct Source {
-    pub first: Link,
+    pub first: Option<u16>,
     pub lead: Stretch,
     pub rows: u16,
     pub names: u16,
-    pub fault: Fault,
+    pub fault: Result<(), Fault>,
 }
 
-fn source_of(st: State, f: Fault) -> Source
+fn source_of(st: State, f: Result<(), Fault>) -> Source
     ensures { result ≡ T.source_of st f }
 {
     Source {
@@ -679,7 +679,7 @@ fn start(member: u16, base: u16, entered: u16, names: u16) -> State
     State {
         entered,
         rows: 0,
-        first: Link::Nowhere,
+        first: None,
         lead: stretch(0, 0),
         opened: push(none, nothing_open()),
         scope: Owner::Everyone,
@@ -723,9 +723,9 @@ pub fn read_member(
                 mode = m;
                 at = e;
             }
-            Next::Stop(w, p) => return source_of(st, Fault::Faulty(w, p)),
-            Next::Finish => return source_of(st, Fault::Sound),
+            Next::Stop(w, p) => return source_of(st, Err((w, p))),
+            Next::Finish => return source_of(st, Ok(())),
         }
     }
-    source_of(st, Fault::Faulty(Why::Syntax, at))
+    source_of(st, Err((Why::Syntax, at)))
 }

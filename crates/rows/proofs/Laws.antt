@@ -1,5 +1,6 @@
 -- The laws of rows: a row reads back as it was written, and others stay.
 -- Assumes nothing.
+use Rattle.std.proofs.Common.{Option, Some}
 use mathlib.Core.Path.{◌≡◌, refl, sym, ap, ◌∙◌}
 use mathlib.Core.Bool.{Bool, true, false}
 use mathlib.Core.List.{List, [], ◌∷◌}
@@ -16,8 +17,6 @@ use Rattle.rows.specs.declared.Statement.{Statement}
 use Rattle.rows.specs.declared.Statement.TheVariants.{Null, Declare, Procedure, Assign, Conditional, Group, Iterated, Goto, Include, Activate, Deactivate, Return}
 use Rattle.rows.specs.declared.Role.{Role}
 use Rattle.rows.specs.declared.Role.TheVariants.{Listed, ThenPart, ElsePart}
-use Rattle.rows.specs.declared.Link.{Link}
-use Rattle.rows.specs.declared.Link.TheVariants.{To}
 use Rattle.rows.specs.declared.Row.{Row}
 use Rattle.rows.specs.Table.{statement_number, role_number, link_number, numbers_of, statement_in, role_in, link_in, row_in}
 
@@ -48,10 +47,10 @@ role_back ThenPart = refl
 role_back ElsePart = refl
 
 -- a link that a number keeps
-abbrev pub Kept : Link → Type 0
+abbrev pub Kept : Option ℕ → Type 0
 Kept l = link_in (link_number l) ≡ l
 
-pub kept : (n : ℕ) → n < 65535 → Kept (To n)
+pub kept : (n : ℕ) → n < 65535 → Kept (Some n)
 kept n h =
     let e : n + 1 - 1 ≡ n = omega arith in
     let z : n + 1 ≡ 0 → ⊥ = λ q. omega arith in

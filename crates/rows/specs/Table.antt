@@ -1,12 +1,10 @@
 -- The fourteen numbers that hold a row, and the row that numbers of the table are.
-use Rattle.std.specs.Prelude.{ℕ, ◌+◌, ◌*◌, ◌-◌, cond, List, [], ◌∷◌, eqb, ltb, get_or}
+use Rattle.std.specs.Prelude.{ℕ, ◌+◌, ◌*◌, ◌-◌, cond, List, [], ◌∷◌, eqb, ltb, get_or, Option, Some, None}
 use Rattle.types.specs.Kept.{type_number, type_in}
 use Rattle.rows.specs.declared.Statement.{Statement}
 use Rattle.rows.specs.declared.Statement.TheVariants.{Null, Declare, Procedure, Assign, Conditional, Group, Iterated, Goto, Include, Activate, Deactivate, Return}
 use Rattle.rows.specs.declared.Role.{Role}
 use Rattle.rows.specs.declared.Role.TheVariants.{Listed, ThenPart, ElsePart}
-use Rattle.rows.specs.declared.Link.{Link}
-use Rattle.rows.specs.declared.Link.TheVariants.{Nowhere, To}
 use Rattle.rows.specs.declared.Stretch.{Stretch}
 use Rattle.rows.specs.declared.Row.{Row}
 
@@ -31,9 +29,9 @@ role_number ThenPart = 1
 role_number ElsePart = 2
 
 -- one more than the row's number: 0 is no row, and so is a row that no u16 holds one more of
-abbrev pub link_number : Link → ℕ
-link_number Nowhere = 0
-link_number (To n) = cond (ltb n 65535) (n + 1) 0
+abbrev pub link_number : Option ℕ → ℕ
+link_number None = 0
+link_number (Some n) = cond (ltb n 65535) (n + 1) 0
 
 abbrev pub stretch_numbers : Stretch → List ℕ
 stretch_numbers x = x.from ∷ x.to ∷ []
@@ -50,8 +48,8 @@ statement_in k = cond (eqb k 1) Declare (cond (eqb k 2) Procedure (cond (eqb k 3
 abbrev pub role_in : ℕ → Role
 role_in k = cond (eqb k 0) Listed (cond (eqb k 1) ThenPart ElsePart)
 
-abbrev pub link_in : ℕ → Link
-link_in k = cond (eqb k 0) Nowhere (To (k - 1))
+abbrev pub link_in : ℕ → Option ℕ
+link_in k = cond (eqb k 0) None (Some (k - 1))
 
 abbrev pub stretch_in : ℕ → ℕ → Stretch
 stretch_in a b = record { from = a; to = b }

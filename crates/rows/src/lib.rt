@@ -7,7 +7,6 @@ ghost use Rattle.std.specs.Prelude.{◌≡◌, ◌∷◌, [], ◌+◌, ◌*◌};
 ghost use Rattle.definition.specs.Room.{over};
 ghost use Rattle.rows.specs.Table as T;
 ghost use Rattle.rows.specs.Parts as P;
-ghost use Rattle.rows.specs.declared.Link.TheVariants as Link;
 
 use definition::ValueType;
 use rooms::{number16, put_number16};
@@ -38,13 +37,6 @@ pub enum Role {
     ElsePart,
 }
 
-// Another row, or none.
-#[derive(Clone, Copy)]
-pub enum Link {
-    Nowhere,
-    To(u16),
-}
-
 // A text, from a place of the body to another.
 #[derive(Clone, Copy)]
 pub struct Stretch {
@@ -63,13 +55,13 @@ pub struct Row {
     pub value_type: ValueType,
     // the groups and alternatives open around it
     pub depth: u16,
-    pub parent: Link,
+    pub parent: Option<u16>,
     pub role: Role,
-    pub next: Link,
+    pub next: Option<u16>,
     // the first row inside, or the THEN alternative
-    pub child: Link,
+    pub child: Option<u16>,
     // the ELSE alternative
-    pub other: Link,
+    pub other: Option<u16>,
     // the text that a group begins with
     pub lead: Stretch,
     // the text behind the sentence
@@ -126,27 +118,19 @@ impl From<u16> for Role {
 }
 
 // A row that no u16 holds one more of is no row.
-impl From<Link> for u16 {
-    ghost from_gives = { λ x r. r ≡ T.link_number x };
-
-    fn from(x: Link) -> u16 {
-        match x {
-            Link::To(n) if n < u16::MAX => n + 1,
-            Link::To(_) | Link::Nowhere => 0,
-        }
+fn link_number(x: Option<u16>) -> u16
+    ensures { result ≡ T.link_number x }
+{
+    match x {
+        Some(n) if n < u16::MAX => n + 1,
+        Some(_) | None => 0,
     }
 }
 
-impl From<u16> for Link {
-    ghost from_gives = { λ k r. r ≡ T.link_in k };
-
-    fn from(k: u16) -> Link {
-        if k == 0 {
-            Link::Nowhere
-        } else {
-            Link::To(k - 1)
-        }
-    }
+fn link_in(k: u16) -> Option<u16>
+    ensures { result ≡ T.link_in k }
+{
+    if k == 0 { None } else { Some(k - 1) }
 }
 
 // Where the record of row n begins in the table.
@@ -168,11 +152,11 @@ pub fn row_at(rows: &[u16], n: u16) -> Row
         content: number(2),
         value_type: type_in(number(3)),
         depth: number(4),
-        parent: number(5).into(),
+        parent: link_in(number(5)),
         role: number(6).into(),
-        next: number(7).into(),
-        child: number(8).into(),
-        other: number(9).into(),
+        next: link_in(number(7)),
+        child: link_in(number(8)),
+        other: link_in(number(9)),
         lead: Stretch {
             from: number(10),
             to: number(11),
@@ -203,11 +187,11 @@ pub fn put_row(rows: &mut [u16], n: u16, x: Row)
         x.content,
         type_number(x.value_type),
         x.depth,
-        x.parent.into(),
+        link_number(x.parent),
         x.role.into(),
-        x.next.into(),
-        x.child.into(),
-        x.other.into(),
+        link_number(x.next),
+        link_number(x.child),
+        link_number(x.other),
         x.lead.from,
         x.lead.to,
         x.text.from,
@@ -217,21 +201,21 @@ pub fn put_row(rows: &mut [u16], n: u16, x: Row)
 }
 
 pub fn set_next(rows: &mut [u16], n: u16, to: u16)
-    ensures { rows.new ≡ over rows.old (16 * n + 7) (T.link_number (Link.To to) ∷ []) }
+    ensures { rows.new ≡ over rows.old (16 * n + 7) (T.link_number (Some to) ∷ []) }
 {
-    put_number16(rows, record_place(n), 7, Link::To(to).into());
+    put_number16(rows, record_place(n), 7, link_number(Some(to)));
 }
 
 pub fn set_child(rows: &mut [u16], n: u16, to: u16)
-    ensures { rows.new ≡ over rows.old (16 * n + 8) (T.link_number (Link.To to) ∷ []) }
+    ensures { rows.new ≡ over rows.old (16 * n + 8) (T.link_number (Some to) ∷ []) }
 {
-    put_number16(rows, record_place(n), 8, Link::To(to).into());
+    put_number16(rows, record_place(n), 8, link_number(Some(to)));
 }
 
 pub fn set_other(rows: &mut [u16], n: u16, to: u16)
-    ensures { rows.new ≡ over rows.old (16 * n + 9) (T.link_number (Link.To to) ∷ []) }
+    ensures { rows.new ≡ over rows.old (16 * n + 9) (T.link_number (Some to) ∷ []) }
 {
-    put_number16(rows, record_place(n), 9, Link::To(to).into());
+    put_number16(rows, record_place(n), 9, link_number(Some(to)));
 }
 
 pub fn set_lead(rows: &mut [u16], n: u16, x: Stretch)

@@ -1,5 +1,6 @@
 -- A MEMBER IS READ, ENTERED AND RUN: the rooms show the world with it, and the values that there were.
 -- Assumes nothing.
+use Rattle.std.proofs.Common.{Result, Ok, Err}
 use mathlib.Core.Logic.{◌⊎◌, inl, inr}
 use mathlib.Core.Path.{◌≡◌, refl, sym, ap, subst, ◌∙◌}
 use mathlib.Core.Bool.{true}
@@ -38,8 +39,6 @@ use Rattle.output.specs.declared.Out.{Out}
 use Rattle.output.specs.Shows as Output
 use Rattle.rows.specs.Parts.{no_starts, StartsAt, PartPlace}
 use Rattle.rows.specs.declared.Starts.{Starts}
-use Rattle.entering.specs.declared.Fault.{Fault}
-use Rattle.entering.specs.declared.Fault.TheVariants.{Sound, Faulty}
 use Rattle.entering.specs.Book as Book
 use Rattle.entering.specs.Book.{book_of}
 use Rattle.entering.specs.Entry.{Shows, Entry, goes_in, stays_out}
@@ -63,7 +62,6 @@ use Rattle.leaving.specs.Places.{below_of, NoneBelow, Stand}
 use Rattle.texts.specs.declared.Progress.{Progress}
 use Rattle.texts.specs.declared.Here.{Here}
 use Rattle.texts.specs.declared.Stop.{Stop}
-use Rattle.texts.specs.declared.Ran.TheVariants as Rn
 use Rattle.origin.specs.Written.{Filled, Written}
 use Rattle.texts.specs.Shown.{stop_for, Onstage}
 use Rattle.texts.proofs.Common.{written_none}
@@ -188,12 +186,12 @@ module _ (deck rows names c l h w t ls : List ℕ) (starts : Starts) (g : Progre
   grew_read = subst (λ (n : ℕ). Grew rows n rows') (sym S.sentences) (grew_behind rows rows' R.part g.rows (R.behind table) R.size)
 
   -- a member that is refused
-  entry_refused : (f : Fault) (e : Why) (p : ℕ) → f ≡ Faulty e p → Entry m (D.read_member mixed (body_in deck m)) (names_of deck names' x.names) (N.enter m (D.read_member mixed (body_in deck m)) before) f
+  entry_refused : (f : Result (Unit {0}) (Why × ℕ)) (e : Why) (p : ℕ) → f ≡ Err (e, p) → Entry m (D.read_member mixed (body_in deck m)) (names_of deck names' x.names) (N.enter m (D.read_member mixed (body_in deck m)) before) f
       → N.enter m (D.read_member mixed (body_in deck m)) before ≡ N.unreadable e p
   entry_refused f e p q (goes_in v a b z) = let k : ◌≡◌ {A = ℕ} 0 1 = cc in absurd (omega arith)
-  entry_refused f e p q (stays_out y k a z) = let i : Faulty y k ≡ Faulty e p = sym z ∙ q in let j : y ≡ e = cc in let n : k ≡ p = cc in a ∙ rw (j, n)
+  entry_refused f e p q (stays_out y k a z) = let i : Err (y, k) ≡ Err (e, p) = sym z ∙ q in let j : y ≡ e = cc in let n : k ≡ p = cc in a ∙ rw (j, n)
 
-  refused_read : (e : Why) (p : ℕ) → x.fault ≡ Faulty e p → (left : ℕ) (on : List Place) → enter_run left deck m on before ≡ bad (Run.stop m p e) g.meter.used
+  refused_read : (e : Why) (p : ℕ) → x.fault ≡ Err (e, p) → (left : ℕ) (on : List Place) → enter_run left deck m on before ≡ bad (Run.stop m p e) g.meter.used
   unfolding enter_run
   refused_read e p q left on =
       let b : Lined deck m = lined deck sound m line in
@@ -202,7 +200,7 @@ module _ (deck rows names c l h w t ls : List ℕ) (starts : Starts) (g : Progre
       ap (λ (y : N.Entering). entered_run y m before (λ v. Run.run_member mixed left deck m on v)) out
 
   -- a member that goes in, where its rows start behind the others
-  module _ (starts' : Starts) (st : StartsAt starts m g.rows starts') (fine : x.fault ≡ Sound) where
+  module _ (starts' : Starts) (st : StartsAt starts m g.rows starts') (fine : x.fault ≡ (Ok tt)) where
     whole : Whole deck (body_in deck m) m g.rows (names_of deck names g.names) R.part names' x
     whole = membered.whole fine
 
@@ -327,9 +325,9 @@ module _ (deck rows names c l h w t ls : List ℕ) (starts : Starts) (g : Progre
 
 -- ---- THE ANSWERS of `enter_and_run`
 module _ (deck rows names c l h w t ls : List ℕ) (below : Below) (here : Here) (left : ℕ) (g : Progress) (rows' names' : List ℕ) (x : Source) (R : ReadIs deck rows names here.member g rows' names' x) where
-  pub enter_refused : (e : Why) (p : ℕ) (y : Ended) (r : Left) → x.fault ≡ Faulty e p → y ≡ stopped_at g e here.member p → r ≡ left_at here y → EnterIs deck rows names c l h w t ls below here left g rows' names' c l h w t ls r
+  pub enter_refused : (e : Why) (p : ℕ) (y : Result Ended (Stop × Progress)) (r : Left) → x.fault ≡ Err (e, p) → y ≡ stopped_at g e here.member p → r ≡ left_at here y → EnterIs deck rows names c l h w t ls below here left g rows' names' c l h w t ls r
   enter_refused e p y r f a b =
-      subst (λ (z : Left). EnterIs deck rows names c l h w t ls below here left g rows' names' c l h w t ls z) (sym (b ∙ ap (λ (z : Ended). left_at here z) a))
+      subst (λ (z : Left). EnterIs deck rows names c l h w t ls below here left g rows' names' c l h w t ls z) (sym (b ∙ ap (λ (z : Result Ended (Stop × Progress)). left_at here z) a))
       (record {
         is = λ B S sound line stand deep. record {
           world = B;
@@ -338,7 +336,7 @@ module _ (deck rows names c l h w t ls : List ℕ) (below : Below) (here : Here)
         };
       })
 
-  pub enter_runs : (c' : List ℕ) (here' : Here) (g' : Progress) (rows'' names'' c'' l'' h'' w'' t'' ls'' : List ℕ) (r : Left) → x.fault ≡ Sound → c' ≡ over c g.names (zeros (x.names - g.names))
+  pub enter_runs : (c' : List ℕ) (here' : Here) (g' : Progress) (rows'' names'' c'' l'' h'' w'' t'' ls'' : List ℕ) (r : Left) → x.fault ≡ (Ok tt) → c' ≡ over c g.names (zeros (x.names - g.names))
       → StartedAt here here.starts g.rows here' → WithSource g x g' → SourceIs deck rows' names' c' l h w t ls x below here' left g' rows'' names'' c'' l'' h'' w'' t'' ls'' r
       → EnterIs deck rows names c l h w t ls below here left g rows'' names'' c'' l'' h'' w'' t'' ls'' r
   enter_runs c' here' g' rows'' names'' c'' l'' h'' w'' t'' ls'' r f z st e run =
@@ -428,7 +426,7 @@ module _ (deck rows names c l h w t ls : List ℕ) (y : Layout) (steps : ℕ) (m
       (run.is B S sound (main_low deck sound) (subst (λ (on : List Place). Stand on B) (sym top.is) tt) (omega (arith, top.count))))
 
   -- its answers
-  abbrev Ended' : Main → Ended → Type 0
+  abbrev Ended' : Main → Result Ended (Stop × Progress) → Type 0
   Ended' k e = EndNow [] deck rows' names' c' l' h' w' t' ls' (here_at 0 x.starts) (enter_run 8 deck 0 [] (X.world_for y (length t) (length ls) steps)) k.world e
 
   -- what was told stays told
@@ -440,20 +438,20 @@ module _ (deck rows names c l h w t ls : List ℕ) (y : Layout) (steps : ℕ) (m
   unfolding enter_run
   told_kept e v q = layout_kept (N.enter 0 (read_member mixed (body_of deck 0)) (X.world_for y (length t) (length ls) steps)) refl e v q
 
-  ran_to : (e : F.End) (g : Progress) (B : World) → Written (size_in deck) g.layout t' ls' g.out B → enter_run 8 deck 0 [] (X.world_for y (length t) (length ls) steps) ≡ good e (world_in B c' l' h' g.meter.used) → RanTo deck y t' ls' (enter_run 8 deck 0 [] (X.world_for y (length t) (length ls) steps)) (Rn.Good g)
+  ran_to : (e : F.End) (g : Progress) (B : World) → Written (size_in deck) g.layout t' ls' g.out B → enter_run 8 deck 0 [] (X.world_for y (length t) (length ls) steps) ≡ good e (world_in B c' l' h' g.meter.used) → RanTo deck y t' ls' (enter_run 8 deck 0 [] (X.world_for y (length t) (length ls) steps)) (Ok g)
   ran_to e g B v q =
       let W : World = world_in B c' l' h' g.meter.used in
       let u : Written (size_in deck) g.layout t' ls' g.out W = grown_written (size_in deck) g.layout t' ls' g.out B W refl refl refl refl v in
       (W, subst (λ (z : Layout). Written (size_in deck) z t' ls' g.out W) (sym v.layout ∙ told_kept e W q) u, ap X.result q ∙ finished_any e W, refl)
 
-  ran_on : (e : Ended) (g : Progress) → x.ended ≡ e → ((k : Main) → Ended' k e → RanTo deck y t' ls' (enter_run 8 deck 0 [] (X.world_for y (length t) (length ls) steps)) (Rn.Good g)) → RunIs y deck rows names c l h w t ls steps t' ls' (Rn.Good g)
+  ran_on : (e : Result Ended (Stop × Progress)) (g : Progress) → x.ended ≡ e → ((k : Main) → Ended' k e → RanTo deck y t' ls' (enter_run 8 deck 0 [] (X.world_for y (length t) (length ls) steps)) (Ok g)) → RunIs y deck rows names c l h w t ls steps t' ls' (Ok g)
   ran_on e g q f = record { is = λ sound roomy low high work z a. let k : Main = main_ends sound roomy low high work z a in f k (subst (Ended' k) q k.now) }
 
-  pub run_ran : (g : Progress) → (x.ended ≡ En.Ran g) ⊎ ((q : Label) × (x.ended ≡ En.Went q g)) → RunIs y deck rows names c l h w t ls steps t' ls' (Rn.Good g)
-  run_ran g (inl e) = ran_on (En.Ran g) g e (λ k d. ran_to _ g k.world d.stage.onstage.written d.is)
-  run_ran g (inr (q, e)) = ran_on (En.Went q g) g e (λ k d. ran_to _ g k.world d.stage.onstage.written d.is)
+  pub run_ran : (g : Progress) → (x.ended ≡ Ok (En.Ran g)) ⊎ ((q : Label) × (x.ended ≡ Ok (En.Went q g))) → RunIs y deck rows names c l h w t ls steps t' ls' (Ok g)
+  run_ran g (inl e) = ran_on (Ok (En.Ran g)) g e (λ k d. ran_to _ g k.world d.stage.onstage.written d.is)
+  run_ran g (inr (q, e)) = ran_on (Ok (En.Went q g)) g e (λ k d. ran_to _ g k.world d.stage.onstage.written d.is)
 
-  pub run_bad : (q : Stop) (g : Progress) → x.ended ≡ En.Bad q g → RunIs y deck rows names c l h w t ls steps t' ls' (Rn.Bad q g)
+  pub run_bad : (q : Stop) (g : Progress) → x.ended ≡ Err (q, g) → RunIs y deck rows names c l h w t ls steps t' ls' (Err (q, g))
   run_bad q g e = record {
-    is = λ sound roomy low high work z a. let k : Main = main_ends sound roomy low high work z a in let d : Ended' k (En.Bad q g) = subst (Ended' k) e k.now in (stop_for q, refl, ap X.result d);
+    is = λ sound roomy low high work z a. let k : Main = main_ends sound roomy low high work z a in let d : Ended' k (Err (q, g)) = subst (Ended' k) e k.now in (stop_for q, refl, ap X.result d);
   }

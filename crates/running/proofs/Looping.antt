@@ -1,6 +1,8 @@
 -- THE ROWS of a member, one turn after the other: every turn that goes on takes a step, so that the turns are enough. Then the member,
 -- with its leading text.
 -- Assumes nothing.
+use Rattle.texts.specs.Types.{Ran}
+use Rattle.std.proofs.Common.{Option, Some, None, Ok, Err, Result}
 use mathlib.Core.Path.{◌≡◌, refl, sym, ap, subst, ◌∙◌}
 use mathlib.Core.Bool.{Bool, true, false}
 use mathlib.Core.List.{List, []}
@@ -21,8 +23,6 @@ use Rattle.definition.specs.Run.{body_of, member_machine}
 use Rattle.definition.specs.declared.Why.{Why}
 use Rattle.definition.specs.declared.Why.TheVariants.{NoStep}
 use Rattle.deck.specs.Answer.{body_in}
-use Rattle.rows.specs.declared.Link.{Link}
-use Rattle.rows.specs.declared.Link.TheVariants.{Nowhere, To}
 use Rattle.rows.specs.declared.Starts.{Starts}
 use Rattle.flow.specs.declared.Frames.{Frames}
 use Rattle.flow.specs.declared.Next.{Next}
@@ -48,8 +48,6 @@ use Rattle.leaving.specs.Places.{below_of}
 use Rattle.texts.specs.declared.Progress.{Progress}
 use Rattle.texts.specs.declared.Here.{Here}
 use Rattle.texts.specs.declared.Stop.{Stop}
-use Rattle.texts.specs.declared.Ran.{Ran}
-use Rattle.texts.specs.declared.Ran.TheVariants as Rn
 use Rattle.texts.specs.Shown.{stretch_for, stop_for, After, RanAs, Lies}
 use Rattle.texts.specs.Promises.{lead_text, LeadIs}
 use Rattle.texts.proofs.Common.{body_size}
@@ -181,7 +179,7 @@ module _ (deck s rows₀ names₀ c₀ l₀ h₀ w₀ t₀ ls₀ : List ℕ) (x�
     runs_out z r = record { is = λ B st rn at. absurd (omega (arith, z, (ru.is B st rn at).turns_are)) }
 
     -- nothing is next
-    pub runs_over : (b : Bool) → b ≡ is_over y → b ≡ true → (r : Left) → r ≡ left_at here (En.Ran g) → RowsAre deck rows₀ names₀ c₀ l₀ h₀ w₀ t₀ ls₀ x₀ below start left g₀ rows names c l h w t ls r
+    pub runs_over : (b : Bool) → b ≡ is_over y → b ≡ true → (r : Left) → r ≡ left_at here (Ok (En.Ran g)) → RowsAre deck rows₀ names₀ c₀ l₀ h₀ w₀ t₀ ls₀ x₀ below start left g₀ rows names c l h w t ls r
     runs_over b eb e r er = rw er record {
       is = λ B st rn at.
           let go : Going B turns y fs here.starts g rows names c l h w t ls = ru.is B st rn at in
@@ -256,7 +254,7 @@ module _ (deck s rows₀ names₀ c₀ l₀ h₀ w₀ t₀ ls₀ : List ℕ) (x�
           }
 
         -- it ends
-        ended : (q : Ended) (Q : Res Run.Stop F.End) → turned ≡ ended_by Q → EndNow (below_of below) deck rows₁ names₁ c₂ l₂ h₂ w₂ t₂ ls₂ (mine z.starts) Q settled.world q
+        ended : (q : Result Ended (Stop × Progress)) (Q : Res Run.Stop F.End) → turned ≡ ended_by Q → EndNow (below_of below) deck rows₁ names₁ c₂ l₂ h₂ w₂ t₂ ls₂ (mine z.starts) Q settled.world q
             → EndsAs (below_of below) deck rows₀ B rows₁ names₁ c₂ l₂ h₂ w₂ t₂ ls₂ start.member (whole B) (left_at (mine z.starts) q)
         ended q Q f k =
             let is : Q ≡ whole B = sym (ends_as machine go.frames before Q go.fuel (next_from y) go.enough f) ∙ go.same in
@@ -268,7 +266,7 @@ module _ (deck s rows₀ names₀ c₀ l₀ h₀ w₀ t₀ ls₀ : List ℕ) (x�
         member = refl;
       }
 
-      pub runs_end : (q : Ended) → a ≡ Se.End q → (r : Left) → r ≡ left_at here₁ q → RowsAre deck rows₀ names₀ c₀ l₀ h₀ w₀ t₀ ls₀ x₀ below start left g₀ rows₁ names₁ c₂ l₂ h₂ w₂ t₂ ls₂ r
+      pub runs_end : (q : Result Ended (Stop × Progress)) → a ≡ Se.End q → (r : Left) → r ≡ left_at here₁ q → RowsAre deck rows₀ names₀ c₀ l₀ h₀ w₀ t₀ ls₀ x₀ below start left g₀ rows₁ names₁ c₂ l₂ h₂ w₂ t₂ ls₂ r
       runs_end q ea r er = rw (er, here_next) record {
         is = λ B st rn at.
             let k : (Q : Res Run.Stop F.End) × (turned B st rn at ≡ ended_by Q) × EndNow (below_of below) deck rows₁ names₁ c₂ l₂ h₂ w₂ t₂ ls₂ (mine z.starts) Q (settled B st rn at).world q =
@@ -281,15 +279,15 @@ lead_is : (inner : Run.Level) (deck : List ℕ) (m : ℕ) (on : List Place) (x :
 unfolding F.lead_out lead_text member_machine
 lead_is inner deck m on x w = refl
 
-first_is : (a : Link) → next_from (first_of a) ≡ Calls.first_of (link_of a)
+first_is : (a : Option ℕ) → next_from (first_of a) ≡ Calls.first_of (link_of a)
 unfolding first_of
-first_is Nowhere = refl
-first_is (To n) = refl
+first_is None = refl
+first_is (Some n) = refl
 
-first_at : (inner : Run.Level) (deck : List ℕ) (m : ℕ) (on : List Place) (t : List ℕ) (ds : List Denotation) (a : Link) → link_of a ≡ (read_member mixed (body_of deck m)).first → AtNext (machine_of inner deck m on) t ds no_frames [] (first_of a)
+first_at : (inner : Run.Level) (deck : List ℕ) (m : ℕ) (on : List Place) (t : List ℕ) (ds : List Denotation) (a : Option ℕ) → link_of a ≡ (read_member mixed (body_of deck m)).first → AtNext (machine_of inner deck m on) t ds no_frames [] (first_of a)
 unfolding first_of member_machine
-first_at inner deck m on t ds Nowhere e = at_over (machine_of inner deck m on) t ds no_frames []
-first_at inner deck m on t ds (To n) e = at_begin (machine_of inner deck m on) t ds no_frames [] n (record { within = (first_read (body_of deck m) n (sym e)).within; framed = framed_start (machine_of inner deck m on) t ds n })
+first_at inner deck m on t ds None e = at_over (machine_of inner deck m on) t ds no_frames []
+first_at inner deck m on t ds (Some n) e = at_begin (machine_of inner deck m on) t ds no_frames [] n (record { within = (first_read (body_of deck m) n (sym e)).within; framed = framed_start (machine_of inner deck m on) t ds n })
 
 module _ (deck s rows names c l h w t ls : List ℕ) (y : Source) (below : Below) (here : Here) (left : ℕ) (g : Progress) (es : s ≡ body_in deck here.member) (c₁ l₁ h₁ w₁ t₁ ls₁ : List ℕ) (q : Ran)
     (li : LeadIs deck s rows names c l h w t ls y.lead here g c₁ l₁ h₁ w₁ t₁ ls₁ q) where
@@ -364,14 +362,14 @@ module _ (deck s rows names c l h w t ls : List ℕ) (y : Source) (below : Below
             now = subst (λ (i : Res Run.Stop F.End). EndNow (below_of below) deck rows' names' c' l' h' w' t' ls' (here_at here.member r.starts) i ends.world r.ended) is ends.now;
           }
 
-  pub source_runs : (g₁ : Progress) → q ≡ Rn.Good g₁ → length c₁ ≡ length c → (x : Next) → x ≡ first_of y.first → (rows' names' c' l' h' w' t' ls' : List ℕ) (r : Left)
+  pub source_runs : (g₁ : Progress) → q ≡ Ok g₁ → length c₁ ≡ length c → (x : Next) → x ≡ first_of y.first → (rows' names' c' l' h' w' t' ls' : List ℕ) (r : Left)
       → RowsAre deck rows names c₁ l₁ h₁ w₁ t₁ ls₁ x below here left g₁ rows' names' c' l' h' w' t' ls' r → SourceIs deck rows names c l h w t ls y below here left g rows' names' c' l' h' w' t' ls' r
   source_runs g₁ eq size x ex rows' names' c' l' h' w' t' ls' r ra = record {
     is = λ B st ru so.
         rows_led B st ru so g₁ (subst (λ (i : Ran). RanAs deck rows names here.starts g B c₁ l₁ h₁ w₁ t₁ ls₁ i (F.lead_out member source.lead (world_in B c l h g.meter.used))) eq (led B st ru so)) size x ex rows' names' c' l' h' w' t' ls' r ra;
   }
 
-  pub source_bad : (z : Stop) (g₁ : Progress) → q ≡ Rn.Bad z g₁ → (r : Left) → r ≡ left_at here (En.Bad z g₁) → SourceIs deck rows names c l h w t ls y below here left g rows names c₁ l₁ h₁ w₁ t₁ ls₁ r
+  pub source_bad : (z : Stop) (g₁ : Progress) → q ≡ Err (z, g₁) → (r : Left) → r ≡ left_at here (Err (z, g₁)) → SourceIs deck rows names c l h w t ls y below here left g rows names c₁ l₁ h₁ w₁ t₁ ls₁ r
   source_bad z g₁ eq r er = rw er record {
     is = λ B st ru so.
         let is : F.lead_out member source.lead (world_in B c l h g.meter.used) ≡ bad (stop_for z) g₁.meter.used =

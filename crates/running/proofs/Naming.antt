@@ -1,5 +1,6 @@
 -- INCLUDE: the member that a name means, and the members of a list one after the other.
 -- Assumes nothing.
+use Rattle.std.proofs.Common.{Option, Some, None, Result, Ok, Err}
 use mathlib.Core.Path.{◌≡◌, refl, sym, ap, subst, ◌∙◌}
 use mathlib.Core.Bool.{Bool, true, false}
 use mathlib.Core.List.{List, [], ◌∷◌}
@@ -20,8 +21,6 @@ use Rattle.definition.specs.Run as Run
 use Rattle.definition.specs.Run.{body_of}
 use Rattle.definition.specs.declared.Why.{Why}
 use Rattle.definition.specs.declared.Why.TheVariants.{UnknownMember, TooDeep}
-use Rattle.deck.specs.declared.Found.{Found}
-use Rattle.deck.specs.declared.Found.TheVariants as Fo
 use Rattle.deck.specs.declared.Sought.{Sought}
 use Rattle.deck.specs.Answer.{body_in, found_for, sought_in}
 use Rattle.tokens.specs.declared.Lexeme.{Lexeme}
@@ -61,11 +60,11 @@ use Rattle.running.proofs.Afterwards.{since_none, since_on, stand_later}
 use Rattle.running.proofs.Entering.{here_is}
 
 -- ---- ONE NAME: 14, 15, then the member
-found_none : (x : Deck.Found) → found_for x ≡ Fo.Nothing → x ≡ Deck.none
+found_none : (x : Deck.Found) → found_for x ≡ None → x ≡ Deck.none
 found_none Deck.none e = refl
 found_none (Deck.line k) e = let z : ◌≡◌ {A = ℕ} 0 1 = cc in absurd (omega arith)
 
-found_line : (x : Deck.Found) (k : ℕ) → found_for x ≡ Fo.Line k → x ≡ Deck.line k
+found_line : (x : Deck.Found) (k : ℕ) → found_for x ≡ Some k → x ≡ Deck.line k
 found_line Deck.none k e = let z : ◌≡◌ {A = ℕ} 0 1 = cc in absurd (omega arith)
 found_line (Deck.line j) k e = let z : j ≡ k = cc in ap Deck.line z
 
@@ -81,12 +80,12 @@ run_line (suc n) d p m k on v l = let e : n ≡ suc n - 1 = omega arith in ap (�
 ends_in : (on : List Place) (deck rows : List ℕ) (B : World) (rows' names c l h w t ls : List ℕ) (k m : ℕ) (R : Res Run.Stop F.End) (r : Left) → EndsAs on deck rows B rows' names c l h w t ls k R r → EndsAs on deck rows B rows' names c l h w t ls m R r
 ends_in on deck rows B rows' names c l h w t ls k m R r x = record { world = x.world; since = x.since; now = by r.ended x.now }
   where
-    by : (e : Ended) → EndNow on deck rows' names c l h w t ls (here_at k r.starts) R x.world e → EndNow on deck rows' names c l h w t ls (here_at m r.starts) R x.world e
-    by (En.Ran g) y = record { stage = y.stage; is = y.is }
-    by (En.Went z g) y = record { stage = y.stage; is = y.is; reaches = y.reaches }
-    by (En.Bad z g) y = y
+    by : (e : Result Ended (Stop × Progress)) → EndNow on deck rows' names c l h w t ls (here_at k r.starts) R x.world e → EndNow on deck rows' names c l h w t ls (here_at m r.starts) R x.world e
+    by (Ok (En.Ran g)) y = record { stage = y.stage; is = y.is }
+    by (Ok (En.Went z g)) y = record { stage = y.stage; is = y.is; reaches = y.reaches }
+    by (Err (z, g)) y = y
 
-module _ (deck rows names c l h w t ls : List ℕ) (x : Sought) (p : ℕ) (below : Below) (here : Here) (left : ℕ) (g : Progress) (f : Found) (named : FoundIs deck here.member x f) where
+module _ (deck rows names c l h w t ls : List ℕ) (x : Sought) (p : ℕ) (below : Below) (here : Here) (left : ℕ) (g : Progress) (f : Option ℕ) (named : FoundIs deck here.member x f) where
   abbrev found : Deck.Found
   found = find mixed (sought_in (body_in deck here.member) x) 0 (lines deck)
 
@@ -95,19 +94,19 @@ module _ (deck rows names c l h w t ls : List ℕ) (x : Sought) (p : ℕ) (below
       → IncludeOneIs deck rows names c l h w t ls x p below here left g rows names c l h w t ls (left_at here (stopped_at g e here.member p))
   one_refused e q = record { is = λ B S sound line within stand deep some. record { world = B; since = since_none rows B; now = q sound line within (world_in B c l h g.meter.used) } }
 
-  pub include_unknown : (y : Ended) (r : Left) → f ≡ Fo.Nothing → y ≡ stopped_at g UnknownMember here.member p → r ≡ left_at here y → IncludeOneIs deck rows names c l h w t ls x p below here left g rows names c l h w t ls r
+  pub include_unknown : (y : Result Ended (Stop × Progress)) (r : Left) → f ≡ None → y ≡ stopped_at g UnknownMember here.member p → r ≡ left_at here y → IncludeOneIs deck rows names c l h w t ls x p below here left g rows names c l h w t ls r
   include_unknown y r e a b =
-      subst (λ (z : Left). IncludeOneIs deck rows names c l h w t ls x p below here left g rows names c l h w t ls z) (sym (b ∙ ap (λ (z : Ended). left_at here z) a))
+      subst (λ (z : Left). IncludeOneIs deck rows names c l h w t ls x p below here left g rows names c l h w t ls z) (sym (b ∙ ap (λ (z : Result Ended (Stop × Progress)). left_at here z) a))
       (one_refused UnknownMember λ sound line within v.
       ap (λ (z : Deck.Found). found_run z left deck p here.member (below_of below) v) (found_none found (sym (named.is sound line within) ∙ e)))
 
-  pub include_deep : (k : ℕ) (y : Ended) (r : Left) → f ≡ Fo.Line k → left < 1 → y ≡ stopped_at g TooDeep here.member p → r ≡ left_at here y → IncludeOneIs deck rows names c l h w t ls x p below here left g rows names c l h w t ls r
+  pub include_deep : (k : ℕ) (y : Result Ended (Stop × Progress)) (r : Left) → f ≡ Some k → left < 1 → y ≡ stopped_at g TooDeep here.member p → r ≡ left_at here y → IncludeOneIs deck rows names c l h w t ls x p below here left g rows names c l h w t ls r
   include_deep k y r e few a b =
-      subst (λ (z : Left). IncludeOneIs deck rows names c l h w t ls x p below here left g rows names c l h w t ls z) (sym (b ∙ ap (λ (z : Ended). left_at here z) a))
+      subst (λ (z : Left). IncludeOneIs deck rows names c l h w t ls x p below here left g rows names c l h w t ls z) (sym (b ∙ ap (λ (z : Result Ended (Stop × Progress)). left_at here z) a))
       (one_refused TooDeep λ sound line within v.
       ap (λ (z : Deck.Found). found_run z left deck p here.member (below_of below) v) (found_line found k (sym (named.is sound line within) ∙ e)) ∙ run_deep left deck p here.member k (below_of below) v few)
 
-  pub include_enters : (k : ℕ) (here' : Here) (rows' names' c' l' h' w' t' ls' : List ℕ) (r : Left) → f ≡ Fo.Line k → 1 ≤ left → here' ≡ here_at k here.starts
+  pub include_enters : (k : ℕ) (here' : Here) (rows' names' c' l' h' w' t' ls' : List ℕ) (r : Left) → f ≡ Some k → 1 ≤ left → here' ≡ here_at k here.starts
       → EnterIs deck rows names c l h w t ls below here' (left - 1) g rows' names' c' l' h' w' t' ls' r → IncludeOneIs deck rows names c l h w t ls x p below here left g rows' names' c' l' h' w' t' ls' r
   include_enters k here' rows' names' c' l' h' w' t' ls' r e some a run =
       let enter : EnterIs deck rows names c l h w t ls below (here_at k here.starts) (left - 1) g rows' names' c' l' h' w' t' ls' r =
@@ -152,11 +151,11 @@ stage_back deck rows names c l h w t ls starts g B S rows' names' c' l' h' w' t'
     }
 
 end_back : (on : List Place) (deck rows : List ℕ) (k m : ℕ) (starts starts' : Starts) (R : Res Run.Stop F.End) (names c l h w t ls : List ℕ) (B : World)
-    → ((g : Progress) → Stage deck rows names c l h w t ls starts g B → Stage deck rows names c l h w t ls starts' g B) → (e : Ended) → EndNow on deck rows names c l h w t ls (here_at k starts) R B e
+    → ((g : Progress) → Stage deck rows names c l h w t ls starts g B → Stage deck rows names c l h w t ls starts' g B) → (e : Result Ended (Stop × Progress)) → EndNow on deck rows names c l h w t ls (here_at k starts) R B e
     → EndNow on deck rows names c l h w t ls (here_at m starts') R B e
-end_back on deck rows k m starts starts' R names c l h w t ls B f (En.Ran g) y = record { stage = f g y.stage; is = y.is }
-end_back on deck rows k m starts starts' R names c l h w t ls B f (En.Went z g) y = record { stage = f g y.stage; is = y.is; reaches = y.reaches }
-end_back on deck rows k m starts starts' R names c l h w t ls B f (En.Bad z g) y = y
+end_back on deck rows k m starts starts' R names c l h w t ls B f (Ok (En.Ran g)) y = record { stage = f g y.stage; is = y.is }
+end_back on deck rows k m starts starts' R names c l h w t ls B f (Ok (En.Went z g)) y = record { stage = f g y.stage; is = y.is; reaches = y.reaches }
+end_back on deck rows k m starts starts' R names c l h w t ls B f (Err (z, g)) y = y
 
 -- ---- THE LIST of an INCLUDE, which stands at row n of the member, at a place; its names begin behind `from`. `inner` has the INCLUDE itself
 module _ (deck rows names c l h w t ls : List ℕ) (n left place from : ℕ) (inner : Below) (before : Here) (g₀ : Progress) where
@@ -272,11 +271,11 @@ module _ (deck rows names c l h w t ls : List ℕ) (n left place from : ℕ) (in
               }
 
       -- a GOTO or a refusal ends the list
-      went : (q : Label) (g₂ : Progress) → x.ended ≡ En.Went q g₂ → (B : World) (ns : List Deck.Sought) → Asked B ns → Answered rows₂ names₂ c₂ l₂ h₂ w₂ t₂ ls₂ (left_at here₂ (En.Went q g₂)) B ns
+      went : (q : Label) (g₂ : Progress) → x.ended ≡ Ok (En.Went q g₂) → (B : World) (ns : List Deck.Sought) → Asked B ns → Answered rows₂ names₂ c₂ l₂ h₂ w₂ t₂ ls₂ (left_at here₂ (Ok (En.Went q g₂))) B ns
       went q g₂ e B ns a =
           let k : Past B ns = passed B ns a in
-          let d : EndNow (below_of inner) deck rows₂ names₂ c₂ l₂ h₂ w₂ t₂ ls₂ (here_at before.member here₂.starts) k.answer k.world (En.Went q g₂) =
-          subst (λ (v : Ended). EndNow (below_of inner) deck rows₂ names₂ c₂ l₂ h₂ w₂ t₂ ls₂ (here_at before.member here₂.starts) k.answer k.world v) e k.now in (
+          let d : EndNow (below_of inner) deck rows₂ names₂ c₂ l₂ h₂ w₂ t₂ ls₂ (here_at before.member here₂.starts) k.answer k.world (Ok (En.Went q g₂)) =
+          subst (λ (v : Result Ended (Stop × Progress)). EndNow (below_of inner) deck rows₂ names₂ c₂ l₂ h₂ w₂ t₂ ls₂ (here_at before.member here₂.starts) k.answer k.world v) e k.now in (
             record {
               world = k.world;
               since = k.since;
@@ -285,23 +284,23 @@ module _ (deck rows names c l h w t ls : List ℕ) (n left place from : ℕ) (in
             k.start,
           )
 
-      stops : (q : Stop) (g₂ : Progress) → x.ended ≡ En.Bad q g₂ → (B : World) (ns : List Deck.Sought) → Asked B ns → Answered rows₂ names₂ c₂ l₂ h₂ w₂ t₂ ls₂ (left_at here₂ (En.Bad q g₂)) B ns
+      stops : (q : Stop) (g₂ : Progress) → x.ended ≡ Err (q, g₂) → (B : World) (ns : List Deck.Sought) → Asked B ns → Answered rows₂ names₂ c₂ l₂ h₂ w₂ t₂ ls₂ (left_at here₂ (Err (q, g₂))) B ns
       stops q g₂ e B ns a =
           let k : Past B ns = passed B ns a in
           let d : k.answer ≡ bad (stop_for q) g₂.meter.used =
-          subst (λ (v : Ended). EndNow (below_of inner) deck rows₂ names₂ c₂ l₂ h₂ w₂ t₂ ls₂ (here_at before.member here₂.starts) k.answer k.world v) e k.now in
+          subst (λ (v : Result Ended (Stop × Progress)). EndNow (below_of inner) deck rows₂ names₂ c₂ l₂ h₂ w₂ t₂ ls₂ (here_at before.member here₂.starts) k.answer k.world v) e k.now in
           (record { world = k.world; since = k.since; now = sym k.same ∙ ap (λ (v : Res Run.Stop F.End). bind v (λ b u. end_on b u (λ i. names_left k.rest i))) d }, k.start)
 
       -- the member has run: the next name, or the end
-      module _ (g₂ : Progress) (e : x.ended ≡ En.Ran g₂) (cm : Lexeme) (lex₂ : Lexed s it.to cm) (b : Bool) (sign : b ≡ is_sign_in s cm (44 ∷ [])) where
+      module _ (g₂ : Progress) (e : x.ended ≡ Ok (En.Ran g₂)) (cm : Lexeme) (lex₂ : Lexed s it.to cm) (b : Bool) (sign : b ≡ is_sign_in s cm (44 ∷ [])) where
         comma : (v : Bool) → b ≡ v → is_sign "," (token_at mixed (body_in deck before.member) (item_end (body_in deck before.member) at)).token ≡ v
         comma v q = subst (λ (z : List ℕ). is_sign "," (token_at mixed z (item_end z at)).token ≡ v) body (subst (λ (i : ℕ). is_sign "," (token_at mixed s i).token ≡ v) item.to (told s it.to cm lex₂ "," (44 ∷ []) b v refl sign q))
 
         behind : cm.to ≡ (token_at mixed (body_in deck before.member) (item_end (body_in deck before.member) at)).to
         behind = lex₂.to ∙ ap (λ (i : ℕ). (token_at mixed s i).to) item.to ∙ ap (λ (z : List ℕ). (token_at mixed z (item_end z at)).to) body
 
-        ran_by : (B : World) (ns : List Deck.Sought) (k : Past B ns) → EndNow (below_of inner) deck rows₂ names₂ c₂ l₂ h₂ w₂ t₂ ls₂ (here_at before.member here₂.starts) k.answer k.world (En.Ran g₂)
-        ran_by B ns k = subst (λ (v : Ended). EndNow (below_of inner) deck rows₂ names₂ c₂ l₂ h₂ w₂ t₂ ls₂ (here_at before.member here₂.starts) k.answer k.world v) e k.now
+        ran_by : (B : World) (ns : List Deck.Sought) (k : Past B ns) → EndNow (below_of inner) deck rows₂ names₂ c₂ l₂ h₂ w₂ t₂ ls₂ (here_at before.member here₂.starts) k.answer k.world (Ok (En.Ran g₂))
+        ran_by B ns k = subst (λ (v : Result Ended (Stop × Progress)). EndNow (below_of inner) deck rows₂ names₂ c₂ l₂ h₂ w₂ t₂ ls₂ (here_at before.member here₂.starts) k.answer k.world v) e k.now
 
         left_over : (B : World) (ns : List Deck.Sought) (k : Past B ns) → names_left k.rest (world_in k.world c₂ l₂ h₂ g₂.meter.used) ≡ names_left ns (world_in B c l h g₀.meter.used)
         left_over B ns k = sym (ap (λ (v : Res Run.Stop F.End). bind v (λ a u. end_on a u (λ i. names_left k.rest i))) (ran_by B ns k).is) ∙ k.same
@@ -323,7 +322,7 @@ module _ (deck rows names c l h w t ls : List ℕ) (n left place from : ℕ) (in
               };
         }
 
-        ends : b ≡ false → (B : World) (ns : List Deck.Sought) → Asked B ns → Answered rows₂ names₂ c₂ l₂ h₂ w₂ t₂ ls₂ (left_at here₂ (En.Ran g₂)) B ns
+        ends : b ≡ false → (B : World) (ns : List Deck.Sought) → Asked B ns → Answered rows₂ names₂ c₂ l₂ h₂ w₂ t₂ ls₂ (left_at here₂ (Ok (En.Ran g₂))) B ns
         unfolding include_on
         ends q B ns a =
             let k : Past B ns = passed B ns a in
@@ -386,22 +385,22 @@ module _ (deck rows names c l h w t ls : List ℕ) (n left : ℕ) (inner : Below
   module _ (s : List ℕ) (body : s ≡ body_in deck before.member) (rows₁ names₁ c₁ l₁ h₁ w₁ t₁ ls₁ : List ℕ) (here : Here) (at : ℕ) (g : Progress) (turns : ℕ)
       (going : Going deck rows names c l h w t ls n left r.place r.content inner before g₀ rows₁ names₁ c₁ l₁ h₁ w₁ t₁ ls₁ here at g turns) (it : Item) (item : ItemIs s at it) (rows₂ names₂ c₂ l₂ h₂ w₂ t₂ ls₂ : List ℕ) (x : Left)
       (ran : IncludeOneIs deck rows₁ names₁ c₁ l₁ h₁ w₁ t₁ ls₁ it.sought r.place inner here left g rows₂ names₂ c₂ l₂ h₂ w₂ t₂ ls₂ x) (here₂ : Here) (back : StartedAt here x.starts (start_in here.starts here.member) here₂) where
-    pub all_left : ((g₂ : Progress) → x.ended ≡ En.Ran g₂ → ⊥) → (y : Left) → y ≡ left_at here₂ x.ended → IncludeAllIs deck rows names c l h w t ls n below before left g₀ rows₂ names₂ c₂ l₂ h₂ w₂ t₂ ls₂ y
+    pub all_left : ((g₂ : Progress) → x.ended ≡ Ok (En.Ran g₂) → ⊥) → (y : Left) → y ≡ left_at here₂ x.ended → IncludeAllIs deck rows names c l h w t ls n below before left g₀ rows₂ names₂ c₂ l₂ h₂ w₂ t₂ ls₂ y
     all_left over y f = by x.ended refl
       where
-        by : (z : Ended) → x.ended ≡ z → IncludeAllIs deck rows names c l h w t ls n below before left g₀ rows₂ names₂ c₂ l₂ h₂ w₂ t₂ ls₂ y
-        by (En.Ran g₂) e = absurd (over g₂ e)
-        by (En.Went q g₂) e =
-            all_is rows₂ names₂ c₂ l₂ h₂ w₂ t₂ ls₂ y (left_at here₂ (En.Went q g₂)) (f ∙ ap (λ (z : Ended). left_at here₂ z) e)
+        by : (z : Result Ended (Stop × Progress)) → x.ended ≡ z → IncludeAllIs deck rows names c l h w t ls n below before left g₀ rows₂ names₂ c₂ l₂ h₂ w₂ t₂ ls₂ y
+        by (Ok (En.Ran g₂)) e = absurd (over g₂ e)
+        by (Ok (En.Went q g₂)) e =
+            all_is rows₂ names₂ c₂ l₂ h₂ w₂ t₂ ls₂ y (left_at here₂ (Ok (En.Went q g₂))) (f ∙ ap (λ (z : Result Ended (Stop × Progress)). left_at here₂ z) e)
             (went deck rows names c l h w t ls n left r.place r.content inner before g₀ s body rows₁ names₁ c₁ l₁ h₁ w₁ t₁ ls₁ here at g turns going it item rows₂ names₂ c₂ l₂ h₂ w₂ t₂ ls₂ x ran here₂ back q g₂ e)
-        by (En.Bad q g₂) e =
-            all_is rows₂ names₂ c₂ l₂ h₂ w₂ t₂ ls₂ y (left_at here₂ (En.Bad q g₂)) (f ∙ ap (λ (z : Ended). left_at here₂ z) e)
+        by (Err (q, g₂)) e =
+            all_is rows₂ names₂ c₂ l₂ h₂ w₂ t₂ ls₂ y (left_at here₂ (Err (q, g₂))) (f ∙ ap (λ (z : Result Ended (Stop × Progress)). left_at here₂ z) e)
             (stops deck rows names c l h w t ls n left r.place r.content inner before g₀ s body rows₁ names₁ c₁ l₁ h₁ w₁ t₁ ls₁ here at g turns going it item rows₂ names₂ c₂ l₂ h₂ w₂ t₂ ls₂ x ran here₂ back q g₂ e)
 
-    pub all_ran : (g₂ : Progress) → x.ended ≡ En.Ran g₂ → (cm : Lexeme) → Lexed s it.to cm → (b : Bool) → b ≡ is_sign_in s cm (44 ∷ []) → b ≡ false → (y : Left) → y ≡ left_at here₂ (En.Ran g₂)
+    pub all_ran : (g₂ : Progress) → x.ended ≡ Ok (En.Ran g₂) → (cm : Lexeme) → Lexed s it.to cm → (b : Bool) → b ≡ is_sign_in s cm (44 ∷ []) → b ≡ false → (y : Left) → y ≡ left_at here₂ (Ok (En.Ran g₂))
         → IncludeAllIs deck rows names c l h w t ls n below before left g₀ rows₂ names₂ c₂ l₂ h₂ w₂ t₂ ls₂ y
     all_ran g₂ e cm lex₂ b sign q y f =
-        all_is rows₂ names₂ c₂ l₂ h₂ w₂ t₂ ls₂ y (left_at here₂ (En.Ran g₂)) f
+        all_is rows₂ names₂ c₂ l₂ h₂ w₂ t₂ ls₂ y (left_at here₂ (Ok (En.Ran g₂))) f
         (ends deck rows names c l h w t ls n left r.place r.content inner before g₀ s body rows₁ names₁ c₁ l₁ h₁ w₁ t₁ ls₁ here at g turns going it item rows₂ names₂ c₂ l₂ h₂ w₂ t₂ ls₂ x ran here₂ back g₂ e cm lex₂ b sign q)
 
   pub all_turned : (rows₁ names₁ c₁ l₁ h₁ w₁ t₁ ls₁ : List ℕ) (here : Here) (at : ℕ) (g : Progress) (turns : ℕ) → Going deck rows names c l h w t ls n left r.place r.content inner before g₀ rows₁ names₁ c₁ l₁ h₁ w₁ t₁ ls₁ here at g turns

@@ -1,5 +1,6 @@
 -- INCLUDE: what an item of its list names, and the line of the deck for it.
 -- Assumes nothing.
+use Rattle.std.proofs.Common.{Option}
 use mathlib.Core.Path.{◌≡◌, refl, sym, ap, subst, ◌∙◌}
 use mathlib.Core.Bool.{Bool, true, false, cond}
 use mathlib.Core.List.{List, [], ◌∷◌}
@@ -16,7 +17,6 @@ use Rattle.definition.specs.Deck.{line_at, is_sound, count, lines, find}
 use Rattle.definition.specs.Run.{body_of}
 use Rattle.definition.proofs.Joined.{sound_parts}
 use Rattle.definition.proofs.Parts.{length_part, part_of_part}
-use Rattle.deck.specs.declared.Found.{Found}
 use Rattle.deck.specs.declared.Spelled.{Spelled}
 use Rattle.deck.specs.declared.Sought.{Sought}
 use Rattle.deck.specs.declared.Sought.TheVariants.{Bare, InLibrary}
@@ -108,7 +108,7 @@ name_there d m sound line from (suc n) h =
     (sym (part_of_part (suc n) from (line_at d m).size (line_at d m).offset d (omega (arith, h, size))) ∙ ap (λ (s : List ℕ). part (suc n) from s) (sym b.same))
 
 -- ---- THE LINE for what is sought
-module _ (d : List ℕ) (m : ℕ) (x : Sought) (base : ℕ) (e : base ≡ (line_at d m).offset) (r : Found) where
+module _ (d : List ℕ) (m : ℕ) (x : Sought) (base : ℕ) (e : base ≡ (line_at d m).offset) (r : Option ℕ) where
   in_deck_lem : is_sound mixed d ≡ true → m < count d → (w v : Spelled) → v ≡ in_deck base w → w.from + w.len ≤ length (body_in d m) → spelled d v ≡ spelled (body_in d m) w
   in_deck_lem sound line w v f h = ap (spelled d) (f ∙ ap (λ (i : ℕ). in_deck i w) e) ∙ ap (folded mixed) (name_there d m sound line w.from w.len h)
 

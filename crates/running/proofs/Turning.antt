@@ -1,5 +1,7 @@
 -- TURNS of a member: a statement begins, or an iterated group is tested again. After an INCLUDE the member is looked at where it was.
 -- Assumes nothing.
+use Rattle.texts.specs.declared.Stop.{Stop}
+use Rattle.std.proofs.Common.{Some, Ok, Result, Err}
 use mathlib.Core.Path.{◌≡◌, refl, sym, ap, subst, ◌∙◌}
 use mathlib.Core.Bool.{Bool, true, false, cond, false≢true}
 use mathlib.Core.List.{List, ◌∷◌}
@@ -20,15 +22,13 @@ use Rattle.definition.specs.declared.Why.{Why}
 use Rattle.definition.specs.declared.Why.TheVariants.{NoStep}
 use Rattle.definition.specs.declared.ValueType.TheVariants.{FixedType}
 use Rattle.deck.specs.Answer.{body_in}
-use Rattle.meter.specs.declared.Charged.{Charged}
-use Rattle.meter.specs.Charges.{Charges}
+use Rattle.meter.specs.Charges.{Charges, Charged, charged_for, ChargedAs}
 use Rattle.names.specs.declared.Label.{Label}
 use Rattle.rows.specs.Table.{row_in}
 use Rattle.rows.specs.Tabled.{kind_of}
 use Rattle.rows.specs.Parts.{start_in}
 use Rattle.rows.specs.declared.Row.{Row}
 use Rattle.rows.specs.declared.Starts.{Starts}
-use Rattle.rows.specs.declared.Link.TheVariants.{To}
 use Rattle.flow.specs.declared.Frames.{Frames}
 use Rattle.flow.specs.declared.Next.{Next}
 use Rattle.flow.specs.declared.Next.TheVariants.{Begin, Again, Over}
@@ -209,15 +209,15 @@ module _ (deck s rows names c l h w t ls : List ℕ) (fs : Frames) (n : ℕ) (be
     here_at_lem : here.member ≡ x.place.member → k.reaches.at ≡ n
     unfolding row_for
     here_at_lem e =
-        let f : cond (eqb here.member x.place.member) (To n) (row_for (below_of below) x.place.member) ≡ To k.reaches.at = k.reaches.stands in
-        let i : To n ≡ To k.reaches.at = rw (eq-eqb here.member x.place.member e) at f in
+        let f : cond (eqb here.member x.place.member) (Some n) (row_for (below_of below) x.place.member) ≡ Some k.reaches.at = k.reaches.stands in
+        let i : Some n ≡ Some k.reaches.at = rw (eq-eqb here.member x.place.member e) at f in
         let j : n ≡ k.reaches.at = cc in
         sym j
 
-    below_at : (here.member ≡ x.place.member → ⊥) → row_for (below_of below) x.place.member ≡ To k.reaches.at
+    below_at : (here.member ≡ x.place.member → ⊥) → row_for (below_of below) x.place.member ≡ Some k.reaches.at
     unfolding row_for
     below_at e =
-        let f : cond (eqb here.member x.place.member) (To n) (row_for (below_of below) x.place.member) ≡ To k.reaches.at = k.reaches.stands in
+        let f : cond (eqb here.member x.place.member) (Some n) (row_for (below_of below) x.place.member) ≡ Some k.reaches.at = k.reaches.stands in
         rw (ne_eqb here.member x.place.member e) at f
 
     shown_back : Shown (part_here rows' back) M.rows
@@ -255,8 +255,8 @@ module _ (deck s rows names c l h w t ls : List ℕ) (fs : Frames) (n : ℕ) (be
     went_is = ap (after_it deck here.member n left (below_of below) G) k.is
 
     came_went : (b : Bool) → eqb x.place.member here.member ≡ b
-        → StepNow M (below_of below) deck rows' names' c' l' h' w' t' ls' back (cond b (landed_at (part_here rows' back) fs x g') (turned_by fs (St.Went x g'))).frames (after_it deck here.member n left (below_of below) G Q) B'
-        (cond b (landed_at (part_here rows' back) fs x g') (turned_by fs (St.Went x g'))).step
+        → StepNow M (below_of below) deck rows' names' c' l' h' w' t' ls' back (cond b (landed_at (part_here rows' back) fs x g') (turned_by fs (Ok (St.Went x g')))).frames (after_it deck here.member n left (below_of below) G Q) B'
+        (cond b (landed_at (part_here rows' back) fs x g') (turned_by fs (Ok (St.Went x g')))).step
     came_went true q =
         let e : x.place.member ≡ here.member = eqb-true x.place.member here.member q in
         record { stage = k.stage; frames = G; is = went_is ∙ ap followed q ∙ landed_is e x.is_end refl; at = landed_at_lem e }
@@ -266,16 +266,16 @@ module _ (deck s rows names c l h w t ls : List ℕ) (fs : Frames) (n : ℕ) (be
       reaches = record { at = k.reaches.at; stands = below_at (λ f. eqb-false x.place.member here.member q (sym f)); may = k.reaches.may; there = k.reaches.there };
     }
 
-  came : (e : Ended) (Q : Res Run.Stop F.End) → EndNow (record { member = here.member; row = n } ∷ below_of below) deck rows' names' c' l' h' w' t' ls' back Q B' e
+  came : (e : Result Ended (Stop × Progress)) (Q : Res Run.Stop F.End) → EndNow (record { member = here.member; row = n } ∷ below_of below) deck rows' names' c' l' h' w' t' ls' back Q B' e
       → StepNow M (below_of below) deck rows' names' c' l' h' w' t' ls' back (ended_to (part_here rows' back) fs n here.member e).frames (after_it deck here.member n left (below_of below) G Q) B' (ended_to (part_here rows' back) fs n here.member e).step
-  came (En.Ran g') Q k = record {
+  came (Ok (En.Ran g')) Q k = record {
     stage = k.stage;
     frames = G;
     is = ap (after_it deck here.member n left (below_of below) G) k.is;
     at = walk_up M (part_here rows' back) B'.denotations fs G n at_back;
   }
-  came (En.Went x g') Q k = came_went x g' Q k (eqb x.place.member here.member) refl
-  came (En.Bad x g') Q k = ap (after_it deck here.member n left (below_of below) G) k
+  came (Ok (En.Went x g')) Q k = came_went x g' Q k (eqb x.place.member here.member) refl
+  came (Err (x, g')) Q k = ap (after_it deck here.member n left (below_of below) G) k
 
 -- ---- A STATEMENT BEGINS: the row n of the part pt is x, k is its step, g₁ is what there is when it was charged
 module _ (deck s rows names c l h w t ls : List ℕ) (fs : Frames) (n : ℕ) (below : Below) (here : Here) (left : ℕ) (g : Progress) (pt : List ℕ) (ep : pt ≡ part_here rows here) (x : Row) (ex : x ≡ row_in pt n)

@@ -1,5 +1,6 @@
 -- THE CONTRACTS of members that run: what an answer stands for, with the table of rows and the world as they have grown.
-use Rattle.std.specs.Prelude.{ℕ, suc, ◌+◌, ◌-◌, ◌<◌, ◌≤◌, true, false, ◌≡◌, List, [], ◌∷◌, length}
+use Rattle.texts.specs.Types.{Ran}
+use Rattle.std.specs.Prelude.{ℕ, suc, ◌+◌, ◌-◌, ◌<◌, ◌≤◌, true, false, ◌≡◌, List, [], ◌∷◌, length, Option, Ok, Err}
 use Rattle.definition.specs.Bytes.{mixed}
 use Rattle.definition.specs.Room.{zeros}
 use Rattle.definition.specs.Limits.{include_levels}
@@ -14,7 +15,6 @@ use Rattle.definition.specs.Run.{body_of}
 use Rattle.definition.specs.declared.Layout.{Layout}
 use Rattle.definition.specs.Expansion as X
 use Rattle.definition.specs.Expansion.{size_in}
-use Rattle.deck.specs.declared.Found.{Found}
 use Rattle.deck.specs.declared.Spelled.{Spelled}
 use Rattle.deck.specs.declared.Sought.{Sought}
 use Rattle.deck.specs.declared.Sought.TheVariants.{Bare, InLibrary}
@@ -38,8 +38,6 @@ use Rattle.leaving.specs.declared.Below.{Below}
 use Rattle.leaving.specs.Places.{below_of, Stand}
 use Rattle.texts.specs.declared.Progress.{Progress}
 use Rattle.texts.specs.declared.Here.{Here}
-use Rattle.texts.specs.declared.Ran.{Ran}
-use Rattle.texts.specs.declared.Ran.TheVariants as Rn
 use Rattle.origin.specs.Written.{Written}
 use Rattle.texts.specs.Shown.{stop_for}
 use Rattle.stepping.specs.Stage.{Roomy, Stage, InMember, part_here, machine_of}
@@ -98,7 +96,7 @@ abbrev pub in_deck : ℕ → Spelled → Spelled
 in_deck base w = record { from = sum_to greatest base w.from; len = w.len }
 
 -- the line of the deck for what is sought, which the body of the member spells
-pub record FoundIs (deck : List ℕ) (m : ℕ) (x : Sought) (r : Found) : Type 0 where
+pub record FoundIs (deck : List ℕ) (m : ℕ) (x : Sought) (r : Option ℕ) : Type 0 where
   pub is : Deck.is_sound mixed deck ≡ true → m < Deck.count deck → Within (length (body_in deck m)) x → r ≡ found_for (Deck.find mixed (sought_in (body_in deck m) x) 0 (Deck.lines deck))
 
 -- one of its members; `below` has the INCLUDE itself, of the member m
@@ -152,8 +150,8 @@ pub record EnterIs (deck rows names c l h w t ls : List ℕ) (below : Below) (he
 
 -- ---- THE RUN of a sound deck, where the text room and the list room are zero: R is the end of the main program
 abbrev pub RanTo : List ℕ → Layout → List ℕ → List ℕ → Res Run.Stop F.End → Ran → Type 0
-RanTo deck y t ls R (Rn.Good g) = (B : World) × Written (size_in deck) y t ls g.out B × (X.result R ≡ X.finished B) × (g.meter.used ≡ B.used)
-RanTo deck y t ls R (Rn.Bad x g) = (e : Run.Stop) × (e ≡ stop_for x) × (X.result R ≡ X.refusal e.why e.member e.place g.meter.used)
+RanTo deck y t ls R (Ok g) = (B : World) × Written (size_in deck) y t ls g.out B × (X.result R ≡ X.finished B) × (g.meter.used ≡ B.used)
+RanTo deck y t ls R (Err (x, g)) = (e : Run.Stop) × (e ≡ stop_for x) × (X.result R ≡ X.refusal e.why e.member e.place g.meter.used)
 
 pub record RunIs (y : Layout) (deck rows names c l h w t ls : List ℕ) (steps : ℕ) (t' ls' : List ℕ) (r : Ran) : Type 0 where
   pub is : Deck.is_sound mixed deck ≡ true → Roomy rows names c → 65536 ≤ length l → 65536 ≤ length h → 65536 ≤ length w → t ≡ zeros (length t) → ls ≡ zeros (length ls)

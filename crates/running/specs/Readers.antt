@@ -1,5 +1,6 @@
 -- THE CONTRACTS of what stands before a member that runs: it is read behind the rows that there are, and starts there.
-use Rattle.std.specs.Prelude.{ℕ, ◌+◌, ◌*◌, ◌≤◌, ◌≡◌, List, length, drop}
+use Rattle.texts.specs.declared.Stop.{Stop}
+use Rattle.std.specs.Prelude.{ℕ, ◌+◌, ◌*◌, ◌≤◌, ◌≡◌, List, length, drop, Result, Err}
 use Rattle.definition.specs.declared.Why.{Why}
 use Rattle.rows.specs.Parts.{StartsAt}
 use Rattle.rows.specs.declared.Starts.{Starts}
@@ -33,5 +34,5 @@ pub record StartedAt (here : Here) (x : Starts) (n : ℕ) (r : Here) : Type 0 wh
   pub starts : StartsAt x here.member n r.starts
 
 -- ---- how a member has ended
-abbrev pub stopped_at : Progress → Why → ℕ → ℕ → Ended
-stopped_at g e m p = En.Bad (record { why = e; member = m; place = p }) g
+abbrev pub stopped_at : Progress → Why → ℕ → ℕ → Result Ended (Stop × Progress)
+stopped_at g e m p = Err ((record { why = e; member = m; place = p }), g)

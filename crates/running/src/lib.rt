@@ -12,7 +12,6 @@ ghost use Rattle.running.specs.Members.{here_at, spelled_by, ItemIs, in_deck, Fo
 
 use deck::{Sought, Spelled, body};
 use definition::{Layout, Why};
-use entering::Fault;
 use evaluating::deeds::turns_left;
 use flow::{Frames, Next, Walk};
 use leaving::{Below, none_below, with_below};
@@ -27,7 +26,7 @@ use stepping::{
     statement, went_to, with_step,
 };
 use sums::sum;
-use texts::{Here, Progress, Ran, Stop, lead_out, with_meter};
+use texts::{Halted, Here, Progress, Ran, Stop, lead_out, with_meter};
 use tokens::{Lexeme, is_sign, token_at, width};
 
 // ---- where members stand
@@ -35,11 +34,11 @@ use tokens::{Lexeme, is_sign, token_at, width};
 // How the rows of a member have ended, and where the rows of each member start since.
 #[derive(Clone, Copy)]
 struct Left {
-    ended: Ended,
+    ended: Result<Ended, Halted>,
     starts: Starts,
 }
 
-fn left_at(here: Here, ended: Ended) -> Left
+fn left_at(here: Here, ended: Result<Ended, Halted>) -> Left
     ensures { result ≡ left_at here ended }
 {
     Left {
@@ -101,9 +100,9 @@ fn on_ended(rows: &[u16], fs: Frames, n: u16, before: Here, x: Left) -> Begun
 {
     let here = since(before, x.starts);
     match x.ended {
-        Ended::Ran(g) => turned_at(here, with_step(fs, Step::On(Walk::Up(n), g))),
-        Ended::Went(l, g) => turned_at(here, went_to(rows, fs, here, l, g)),
-        Ended::Bad(stop, g) => turned_at(here, with_step(fs, Step::Bad(stop, g))),
+        Ok(Ended::Ran(g)) => turned_at(here, with_step(fs, Ok(Step::On(Walk::Up(n), g)))),
+        Ok(Ended::Went(l, g)) => turned_at(here, went_to(rows, fs, here, l, g)),
+        Err((stop, g)) => turned_at(here, with_step(fs, Err((stop, g)))),
     }
 }
 
@@ -186,7 +185,7 @@ fn in_deck(base: usize, w: Spelled) -> Spelled
 }
 
 // The line of the member that is sought, by names which the body of member `here` spells.
-fn member_named(deck: &[u8], here: u16, x: Sought) -> deck::Found
+fn member_named(deck: &[u8], here: u16, x: Sought) -> Option<u16>
     ensures { FoundIs deck.now here x result }
 {
     let base = deck::offset(deck, here) as usize;
@@ -199,10 +198,10 @@ fn member_named(deck: &[u8], here: u16, x: Sought) -> deck::Found
     }
 }
 
-fn stopped(g: Progress, why: Why, member: u16, place: usize) -> Ended
+fn stopped(g: Progress, why: Why, member: u16, place: usize) -> Result<Ended, Halted>
     ensures { result ≡ stopped_at g why member place }
 {
-    Ended::Bad(Stop { why, member, place }, g)
+    Err((Stop { why, member, place }, g))
 }
 
 // The member of the deck that an item of INCLUDE means is entered and run: 14, 15, then the member.
@@ -227,8 +226,8 @@ fn include_one(
     ensures { IncludeOneIs deck.now rows.old names.old cells.old low.old high.old work.old text.old list.old x place below here left g rows.new names.new cells.new low.new high.new work.new text.new list.new result }
 {
     match member_named(deck, here.member, x) {
-        deck::Found::Nothing => left_at(here, stopped(g, Why::UnknownMember, here.member, place)),
-        deck::Found::Line(k) => {
+        None => left_at(here, stopped(g, Why::UnknownMember, here.member, place)),
+        Some(k) => {
             if left < 1 {
                 return left_at(here, stopped(g, Why::TooDeep, here.member, place));
             }
@@ -299,17 +298,17 @@ fn include_all(
             g,
         );
         here = resumed(here, x.starts);
-        let Ended::Ran(h) = x.ended else {
+        let Ok(Ended::Ran(h)) = x.ended else {
             return left_at(here, x.ended);
         };
         let comma = token_at(s, item.to);
         if !is_sign(s, comma, b",") {
-            return left_at(here, Ended::Ran(h));
+            return left_at(here, Ok(Ended::Ran(h)));
         }
         at = comma.to;
         g = h;
     }
-    left_at(here, Ended::Ran(g))
+    left_at(here, Ok(Ended::Ran(g)))
 }
 
 // ---- turns
@@ -337,12 +336,13 @@ fn begin(
     ensures { TurnIs deck.now s.now rows.old names.old cells.old low.old high.old work.old text.old list.old fs (Begin n) below here left g0 rows.new names.new cells.new low.new high.new work.new text.new list.new result }
 {
     let r = row_at(part_here(rows, here), n);
-    let paid = g0.meter.charged();
-    let g = with_meter(g0, paid.meter);
-    if !paid.paid {
-        let t = refused(fs, g, Why::NoStep, here.member, usize::from(r.place));
-        return turned_at(here, t);
-    }
+    let g = match g0.meter.charged() {
+        Ok(m) => with_meter(g0, m),
+        Err((w, m)) => {
+            let t = refused(fs, with_meter(g0, m), w, here.member, usize::from(r.place));
+            return turned_at(here, t);
+        }
+    };
     if is_include(r) {
         let e = include_all(
             deck, rows, names, cells, low, high, work, text, list, n, below, here, left, g,
@@ -419,7 +419,7 @@ fn turn(
             );
             turned_at(here, t)
         }
-        Next::Over => turned_at(here, with_step(fs, Step::On(Walk::To(Next::Over), g))),
+        Next::Over => turned_at(here, with_step(fs, Ok(Step::On(Walk::To(Next::Over), g)))),
     }
 }
 
@@ -450,7 +450,7 @@ fn run_rows(
     let mut g = g0;
     for _ in 0..turns_left(g0.meter) {
         if is_over(next) {
-            return left_at(here, Ended::Ran(g));
+            return left_at(here, Ok(Ended::Ran(g)));
         }
         let t = turn(
             deck, s, rows, names, cells, low, high, work, text, list, fs, next, below, here, left,
@@ -480,7 +480,7 @@ fn run_rows(
             Settled::End(e) => return left_at(here, e),
         }
     }
-    left_at(here, Ended::Ran(g))
+    left_at(here, Ok(Ended::Ran(g)))
 }
 
 // ---- a member
@@ -509,7 +509,7 @@ fn run_source(
     match lead_out(
         deck, s, rows, names, cells, low, high, work, text, list, x.lead, here, g,
     ) {
-        Ran::Good(h) => {
+        Ok(h) => {
             run_rows(
                 deck,
                 rows,
@@ -527,7 +527,7 @@ fn run_source(
                 h,
             )
         }
-        Ran::Bad(stop, h) => left_at(here, Ended::Bad(stop, h)),
+        Err((stop, h)) => left_at(here, Err((stop, h))),
     }
 }
 
@@ -552,7 +552,7 @@ fn enter_and_run(
 {
     let x = read_behind(deck, rows, names, here.member, g);
     match x.fault {
-        Fault::Sound => {
+        Ok(()) => {
             forget(cells, g.names, x.names);
             run_source(
                 deck,
@@ -571,7 +571,7 @@ fn enter_and_run(
                 with_source(g, x),
             )
         }
-        Fault::Faulty(why, place) => left_at(here, stopped(g, why, here.member, place)),
+        Err((why, place)) => left_at(here, stopped(g, why, here.member, place)),
     }
 }
 
@@ -618,7 +618,7 @@ pub fn run(
         g,
     );
     match x.ended {
-        Ended::Ran(h) | Ended::Went(_, h) => Ran::Good(h),
-        Ended::Bad(stop, h) => Ran::Bad(stop, h),
+        Ok(Ended::Ran(h)) | Ok(Ended::Went(_, h)) => Ok(h),
+        Err((stop, h)) => Err((stop, h)),
     }
 }

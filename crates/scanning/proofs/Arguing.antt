@@ -1,5 +1,8 @@
 -- The arguments of an entry, one after the other.
 -- Assumes nothing.
+use Rattle.outcomes.specs.Types.{Scanned}
+use Rattle.operands.specs.Types.{Evaluated}
+use Rattle.std.proofs.Common.{Option, Some, None}
 use mathlib.Core.Path.{◌≡◌, refl, sym, ap, subst, ◌∙◌}
 use mathlib.Core.Bool.{Bool, true, false, cond}
 use mathlib.Core.List.{List, [], ◌∷◌, ◌++◌}
@@ -39,21 +42,15 @@ use Rattle.operators.proofs.Callers.{below_less, put_is}
 use Rattle.callees.specs.declared.Callee.{Callee}
 use Rattle.callees.specs.declared.Held.{Held}
 use Rattle.callees.specs.declared.Parameter.{Parameter}
-use Rattle.callees.specs.declared.ParameterAt.{ParameterAt}
-use Rattle.callees.specs.declared.ParameterAt.TheVariants as P
 use Rattle.callees.specs.Shown.{names_world, world_in}
 use Rattle.callees.specs.Answer.{owner_at, parameter_of, ParameterIs, Names, HeldWith, held_number, held_at, fixed_in, held_in, held_size, held_from, Waiting}
 use Rattle.callees.proofs.Listing.{First, first_of}
 use Rattle.outcomes.specs.declared.Src.{Src}
 use Rattle.outcomes.specs.declared.Dest.{Dest}
-use Rattle.outcomes.specs.declared.Scanned.{Scanned}
-use Rattle.outcomes.specs.declared.Scanned.TheVariants as S
 use Rattle.outcomes.specs.Texts.{room_of, stretch_of, text_of, Within, part_of}
 use Rattle.outcomes.specs.Places.{into_of, into_work, out_in, meter_of}
 use Rattle.outcomes.specs.Arguments.{cut_from, argument, Ends, EndIn}
 use Rattle.operands.specs.declared.Scene.{Scene}
-use Rattle.operands.specs.declared.Evaluated.{Evaluated}
-use Rattle.operands.specs.declared.Evaluated.TheVariants as E
 use Rattle.sums.specs.Numbers.{greatest, sum_to}
 use Rattle.sums.proofs.Laws.{sum_fits}
 use Rattle.operands.specs.Answer.{res_in}
@@ -175,7 +172,7 @@ module _ (deck s rows names c₀ l₀ h₀ w₀ t₀ : List ℕ) (x : Src) (firs
   arguing_done k = record { is = λ B o g so b cs xs q sz ct. done_by B b.parameters xs q (rest_of B o g so b cs xs q sz ct) k }
 
 -- ---- one more
-pub record Head (deck names : List ℕ) (sc : Scene) (pl : Place) (T : List ℕ) (pa : ParameterAt) (from at to q : ℕ) (rest : List Ev.Parameter) (args : List Argument) : Type 0 where
+pub record Head (deck names : List ℕ) (sc : Scene) (pl : Place) (T : List ℕ) (pa : Option Parameter) (from at to q : ℕ) (rest : List Ev.Parameter) (args : List Argument) : Type 0 where
   pub parameter : Ev.Parameter
   pub others : List Ev.Parameter
   pub argument₁ : Argument
@@ -191,13 +188,13 @@ pub record Head (deck names : List ℕ) (sc : Scene) (pl : Place) (T : List ℕ)
   pub within : to < length T
   pub cut : CutAt T (to + 1) arguments q
 
-module _ (deck names : List ℕ) (sc : Scene) (pl : Place) (T : List ℕ) (pa : ParameterAt) (from at to q : ℕ) (pi : ParameterIs deck (body_in deck pl.member) names sc.names pl at pa) where
+module _ (deck names : List ℕ) (sc : Scene) (pl : Place) (T : List ℕ) (pa : Option Parameter) (from at to q : ℕ) (pi : ParameterIs deck (body_in deck pl.member) names sc.names pl at pa) where
   abbrev nw : World
   nw = names_world deck names sc.names
 
-  next_is : (prm : Parameter) → pa ≡ P.Is prm → prm.to ≡ (token_at mixed (body_in deck pl.member) (token_at mixed (body_in deck pl.member) at).to).to
+  next_is : (prm : Parameter) → pa ≡ Some prm → prm.to ≡ (token_at mixed (body_in deck pl.member) (token_at mixed (body_in deck pl.member) at).to).to
   next_is prm f =
-      let g : P.Is prm ≡ P.Is (record { address = prm.address; value_type = prm.value_type; to = (token_at mixed (body_in deck pl.member) (token_at mixed (body_in deck pl.member) at).to).to }) = rw f at pi.to in
+      let g : Some prm ≡ Some (record { address = prm.address; value_type = prm.value_type; to = (token_at mixed (body_in deck pl.member) (token_at mixed (body_in deck pl.member) at).to).to }) = rw f at pi.to in
       let j : prm ≡ record { address = prm.address; value_type = prm.value_type; to = (token_at mixed (body_in deck pl.member) (token_at mixed (body_in deck pl.member) at).to).to } = cc in
       ap (λ (a : Parameter). a.to) j
 
@@ -206,16 +203,16 @@ module _ (deck names : List ℕ) (sc : Scene) (pl : Place) (T : List ℕ) (pa : 
   and_gives (Val.fails w) p₀ q₀ qs e = never _ (cc)
 
   head_by : (rest : List Ev.Parameter) (args : List Argument) (ns : List (List ℕ)) → 0 < length rest → length args ≡ length rest → Names (body_in deck pl.member) ns at → Ev.parameters (owner_at pl) ns nw ≡ Val.gives rest → CutAt T from args q
-      → ((xs : List Argument) → cut_from T from ≡ list_up_to xs q → Ends T from to xs q) → (y : ParameterAt) → pa ≡ y → Head deck names sc pl T pa from at to q rest args
+      → ((xs : List Argument) → cut_from T from ≡ list_up_to xs q → Ends T from to xs q) → (y : Option Parameter) → pa ≡ y → Head deck names sc pl T pa from at to q rest args
   unfolding Ev.parameters
   head_by [] args ns lt sz nm ak ct en y f = absurd (omega arith)
   head_by (q₀ ∷ qs) [] ns lt sz nm ak ct en y f = absurd (omega (arith, sz))
   head_by (q₀ ∷ qs) (a ∷ ax) [] lt sz nm ak ct en y f = never _ (cc)
-  head_by (q₀ ∷ qs) (a ∷ ax) (l ∷ ns) lt sz nm ak ct en P.Wrong f =
+  head_by (q₀ ∷ qs) (a ∷ ax) (l ∷ ns) lt sz nm ak ct en None f =
       let g : parameter_of deck names sc.names pl l ≡ Val.fails WrongName = rw (first_of (body_in deck pl.member) l ns at nm).spelled (sym pi.is ∙ rw f) in
       let j : ◌≡◌ {A = Val.Answer (List Ev.Parameter)} (Val.fails WrongName) (Val.gives (q₀ ∷ qs)) = rw g at ak in
       never _ (cc)
-  head_by (q₀ ∷ qs) (a ∷ ax) (l ∷ ns) lt sz nm ak ct en (P.Is prm) f =
+  head_by (q₀ ∷ qs) (a ∷ ax) (l ∷ ns) lt sz nm ak ct en (Some prm) f =
       let fi : First (body_in deck pl.member) l ns at = first_of (body_in deck pl.member) l ns at nm in
       let g : parameter_of deck names sc.names pl l ≡ Val.gives (record { at = prm.address; type = prm.value_type }) = rw fi.spelled (sym pi.is ∙ rw f) in
       let ag : (Ev.parameters (owner_at pl) ns nw ≡ Val.gives qs) × (record { at = prm.address; type = prm.value_type } ≡ q₀) = and_gives (Ev.parameters (owner_at pl) ns nw) (record { at = prm.address; type = prm.value_type }) q₀ qs (rw g at ak) in
@@ -263,10 +260,10 @@ pub step_is : (B : World) (sc : Scene) (n top : ℕ) (T w t c l h w₁ t₁ w₂
     → q₀.type ≡ ty → Came B into_work top w t c l h w₁ t₁ zz (scanner_in sc n (D.to_work 512) (part (to - from) from T) top W₁) → res_in B c l h w₂ top v ≡ converted_for zz top ty B c l h w₁
     → D.scan_arguments (scanner_in sc n) T (q₀ ∷ qs) (argument from to ∷ ax) top W₁ ≡ bind (res_in B c l h w₂ top v) (following sc n T qs ax top)
 unfolding D.scan_arguments converted_by
-step_is B sc n top T w t c l h w₁ t₁ w₂ W₁ (S.Good k m) v q₀ qs from to ax ty e cm f =
+step_is B sc n top T w t c l h w₁ t₁ w₂ W₁ (Ok (k, m)) v q₀ qs from to ax ty e cm f =
     let a : scanner_in sc n (D.to_work 512) (part (to - from) from T) top W₁ ≡ good (part k top w₁) (world_in B c l h m.used) = sym cm.is ∙ ap (λ (y : List ℕ). good y (world_in B c l h m.used)) (out_work into_work t₁ w₁ top k refl) in
     rw (a, e, f, put_is)
-step_is B sc n top T w t c l h w₁ t₁ w₂ W₁ (S.Bad y m) v q₀ qs from to ax ty e cm f = rw (← cm.is, f)
+step_is B sc n top T w t c l h w₁ t₁ w₂ W₁ (Err (y, m)) v q₀ qs from to ax ty e cm f = rw (← cm.is, f)
 
 -- ---- the value that is held
 small_of : (z : ℤ) (a : Val.Answer ℤ) → Gives Small a → a ≡ Val.gives z → Small z
@@ -316,8 +313,8 @@ kept_of w held i top CharacterType val l h e f = in_room (leb (top + length l) 6
 
 -- ---- one argument is scanned and converted
 came_fits : (B : World) (top : ℕ) (w t c l h w' t' : List ℕ) (k : Scanned) (R : Res Why (List ℕ)) → Came B into_work top w t c l h w' t' k R → TextFits k top
-came_fits B top w t c l h w' t' (S.Good j m) R g = g.put.fits refl
-came_fits B top w t c l h w' t' (S.Bad y m) R g = tt
+came_fits B top w t c l h w' t' (Ok (j, m)) R g = g.put.fits refl
+came_fits B top w t c l h w' t' (Err (y, m)) R g = tt
 
 pub record One (top : ℕ) (ty : ValueType) (w : List ℕ) (val : Value) (t t' : List ℕ) : Type 0 where
   pub bytes : List ℕ
@@ -331,13 +328,13 @@ ask_good (Val.fails y) x w w' e = never _ (cc)
 
 one_of : (B : World) (top : ℕ) (w t c l h w₁ t₁ w₂ : List ℕ) (k : Scanned) (R : Res Why (List ℕ)) (ty : ValueType) (val : Value) (m : Meter) → Came B into_work top w t c l h w₁ t₁ k R
     → good (value_in w₂ top val) (world_in B c l h m.used) ≡ converted_for k top ty B c l h w₁ → One top ty w₂ val t t₁
-one_of B top w t c l h w₁ t₁ w₂ (S.Good j k) R ty val m g e = record {
+one_of B top w t c l h w₁ t₁ w₂ (Ok (j, k)) R ty val m g e = record {
   bytes = part j top w₁;
   short = omega (arith, length_part j top w₁, g.put.room);
   is = ask_good (converted_by top ty (part j top w₁)) (value_in w₂ top val) (world_in B c l h m.used) (world_in B c l h k.used) e;
   text = g.put.text ∙ with_work into_work (out_in into_work t₁ w₁ top j) t refl;
 }
-one_of B top w t c l h w₁ t₁ w₂ (S.Bad y k) R ty val m g e = never _ (cc)
+one_of B top w t c l h w₁ t₁ w₂ (Err (y, k)) R ty val m g e = never _ (cc)
 
 -- what is put among those that wait fits there
 stacked_fits : (top : ℕ) (a : Val.Answer Val.Value) (x : Val.Value) → Val.gives x ≡ stacked top a → top + Val.size_of x ≤ 65536
@@ -360,7 +357,7 @@ bind_more (bad y n) a xs = refl
 -- ---- a turn: what it has in hand
 module _ (deck s rows names c₀ l₀ h₀ w₀ t₀ : List ℕ) (x : Src) (first u n : ℕ) (sc : Scene) (m₀ : Meter) (z : Callee) (held : Held) (from at top : ℕ) (m : Meter) (i : ℕ) (c l h w t : List ℕ)
     (ar : Arguing deck s rows names c₀ l₀ h₀ w₀ t₀ x first u n sc m₀ z.place z.list z.count held from at top m i c l h w t) (go : i < z.count)
-    (bd : List ℕ) (eb : bd ≡ body_in deck z.place.member) (pa : ParameterAt) (pi : ParameterIs deck bd names sc.names z.place at pa) (to : ℕ) (en : EndIn (room_of s w x) x.from x.to from to)
+    (bd : List ℕ) (eb : bd ≡ body_in deck z.place.member) (pa : Option Parameter) (pi : ParameterIs deck bd names sc.names z.place at pa) (to : ℕ) (en : EndIn (room_of s w x) x.from x.to from to)
     (px : Src) (ex : px ≡ part_of x from to) (dw : Dest) (ed : dw ≡ into_work) (c₁ l₁ h₁ w₁ t₁ : List ℕ) (sd : Scanned) (sn : Scans deck s rows names c l h w t px dw top n sc m c₁ l₁ h₁ w₁ t₁ sd)
     (ty : ValueType) (et : ty ≡ type_for pa) (w₂ : List ℕ) (v : Evaluated) (cv : ConvertedIs w₁ top ty sd w₂ v) (e₂ : length w₂ ≡ length w₁) where
   module _ (B : World) (o : Dest) (g : Stage deck rows names c₀ l₀ h₀ w₀ u sc m₀ t₀ o B) (so : Sourced s w₀ x u) (ps : List Ev.Parameter) (xs : List Argument) (q : ℕ)
@@ -424,10 +421,10 @@ module _ (deck s rows names c₀ l₀ h₀ w₀ t₀ : List ℕ) (x : Src) (firs
       slots = came.left.slots;
     }
 
-    failed_by : (y : Why) (k : Meter) → v ≡ E.Failed y k → Taking B u w₀ t₀ c₁ l₁ h₁ w₂ t₁ ps (Err (y, k)) all
+    failed_by : (y : Why) (k : Meter) → v ≡ Err (y, k) → Taking B u w₀ t₀ c₁ l₁ h₁ w₂ t₁ ps (Err (y, k)) all
     failed_by y k e = record { is = sym (ap (λ (a : Evaluated). bind (bind (res_in B c₁ l₁ h₁ w₂ top a) (following sc n text head.others head.arguments top)) (λ ys y. good (held_from w held 0 u r.done ++ ys) y)) e) ∙ step; waits = tt; left = left_on k (ap meter_for (sym e) ∙ cv.meter); text = tt }
 
-    module _ (val : Value) (d : ℕ) (k : Meter) (e : v ≡ E.Is val d k) (held₂ : Held) (hw : HeldWith held i val held₂) where
+    module _ (val : Value) (d : ℕ) (k : Meter) (e : v ≡ Ok (val, d, k)) (held₂ : Held) (hw : HeldWith held i val held₂) where
       one : One top ty w₂ val t t₁
       one = one_of B top w t c₁ l₁ h₁ w₁ t₁ w₂ sd _ ty val k came (rw e at (cv.is long fits B c₁ l₁ h₁))
 
@@ -497,10 +494,10 @@ module _ (deck s rows names c₀ l₀ h₀ w₀ t₀ : List ℕ) (x : Src) (firs
             text = one.text ∙ r.text;
           }
 
-  pub arguing_failed : (y : Why) (k : Meter) → v ≡ E.Failed y k → TakenIs deck s rows names c₀ l₀ h₀ w₀ t₀ x first z u n sc m₀ c₁ l₁ h₁ w₂ t₁ (Err (y, k))
+  pub arguing_failed : (y : Why) (k : Meter) → v ≡ Err (y, k) → TakenIs deck s rows names c₀ l₀ h₀ w₀ t₀ x first z u n sc m₀ c₁ l₁ h₁ w₂ t₁ (Err (y, k))
   arguing_failed y k e = record { is = λ B o g so b cs xs q sz ct. failed_by B o g so b.parameters xs q (rest_of deck s rows names c₀ l₀ h₀ w₀ t₀ x first u n sc m₀ z held from at top m i c l h w t ar B o g so b cs xs q sz ct) y k e }
 
-  pub arguing_more : (val : Value) (d : ℕ) (k : Meter) (held₂ : Held) (sz top₂ from₂ at₂ : ℕ) → v ≡ E.Is val d k → HeldWith held i val held₂ → sz ≡ size_for val → top₂ ≡ top_of top sz → from₂ ≡ sum_to greatest to 1 → at₂ ≡ next_for pa at
+  pub arguing_more : (val : Value) (d : ℕ) (k : Meter) (held₂ : Held) (sz top₂ from₂ at₂ : ℕ) → v ≡ Ok (val, d, k) → HeldWith held i val held₂ → sz ≡ size_for val → top₂ ≡ top_of top sz → from₂ ≡ sum_to greatest to 1 → at₂ ≡ next_for pa at
       → Arguing deck s rows names c₀ l₀ h₀ w₀ t₀ x first u n sc m₀ z.place z.list z.count held₂ from₂ at₂ top₂ k (i + 1) c₁ l₁ h₁ w₂ t₁
   arguing_more val d k held₂ sz top₂ from₂ at₂ e hw is it fi ia = record {
     so = λ B o g so ns ps xs q nm ak co fw sz₁ ct. more_by B o g so ps xs q (ar.so B o g so ns ps xs q nm ak co fw sz₁ ct) val d k e held₂ hw top₂ from₂ at₂ (it ∙ ap (top_of top) is) fi ia;

@@ -1,5 +1,7 @@
 -- Sources, places and rooms: what stays, and what comes behind what.
 -- Assumes nothing.
+use Rattle.std.proofs.Common.{Ok, Err}
+use Rattle.outcomes.specs.Types.{Scanned}
 use mathlib.Core.Path.{◌≡◌, refl, sym, ap, ◌∙◌}
 use mathlib.Core.Bool.{Bool, true, false, cond}
 use mathlib.Core.List.{List, [], ◌++◌}
@@ -19,9 +21,6 @@ use Rattle.operators.proofs.Room.{top_in_lem, part_below, below_over}
 use Rattle.callees.specs.Shown.{Slots}
 use Rattle.outcomes.specs.declared.Src.{Src}
 use Rattle.outcomes.specs.declared.Dest.{Dest}
-use Rattle.outcomes.specs.declared.Scanned.{Scanned}
-use Rattle.outcomes.specs.declared.Scanned.TheVariants as S
-use Rattle.outcomes.specs.declared.Replaced.TheVariants as R
 use Rattle.outcomes.specs.Texts.{room_of, stretch_of, text_of}
 use Rattle.outcomes.specs.Places.{into_of, after_of, waiting_of, up_to_of, out_in}
 use Rattle.outcomes.proofs.Sources.{stretch_length}
@@ -187,10 +186,10 @@ module _ (B : World) (o : Dest) (u : ℕ) (t₀ w t w' t' : List ℕ) (k j : ℕ
           g ∙ ap (λ (y : List ℕ). over y (o.at + k) b) f ∙ i ∙ ap (over t₀ o.at) (sym out_next) ∙ sym (with_text o (out_in o t' w' u (k + j)) t₀ e)
 
 -- ---- answers
-pub came_bad : (B : World) (o : Dest) (u : ℕ) (w t c l h w' t' : List ℕ) (y : Why) (m : Meter) (R : Res Why (List ℕ)) → bad y m.used ≡ R → Left B u w t c l h w' t' m → Came B o u w t c l h w' t' (S.Bad y m) R
+pub came_bad : (B : World) (o : Dest) (u : ℕ) (w t c l h w' t' : List ℕ) (y : Why) (m : Meter) (R : Res Why (List ℕ)) → bad y m.used ≡ R → Left B u w t c l h w' t' m → Came B o u w t c l h w' t' (Err (y, m)) R
 came_bad B o u w t c l h w' t' y m R e k = record { is = e; put = tt; left = k }
 
-pub gone_bad : (B : World) (o : Dest) (u : ℕ) (w t c l h w' t' : List ℕ) (y : Why) (m : Meter) (Q : Res Why D.Replaced) → bad y m.used ≡ Q → Left B u w t c l h w' t' m → Gone B o u w t c l h w' t' (R.Bad y m) Q
+pub gone_bad : (B : World) (o : Dest) (u : ℕ) (w t c l h w' t' : List ℕ) (y : Why) (m : Meter) (Q : Res Why D.Replaced) → bad y m.used ≡ Q → Left B u w t c l h w' t' m → Gone B o u w t c l h w' t' (Err (y, m)) Q
 gone_bad B o u w t c l h w' t' y m Q e k = record { is = e; put = tt; left = k }
 
 pub left_same : (deck rows names c l h w : List ℕ) (u : ℕ) (x : Scene) (m : Meter) (t : List ℕ) (o : Dest) (B : World) → Stage deck rows names c l h w u x m t o B → Left B u w t c l h w t m
@@ -198,5 +197,5 @@ left_same deck rows names c l h w u x m t o B g = record { below = refl; work = 
 
 -- an outcome with a place behind it
 pub up_gone : (B : World) (o : Dest) (u : ℕ) (w t c l h w' t' : List ℕ) (z : Scanned) (p : ℕ) (R : Res Why (List ℕ)) → Came B o u w t c l h w' t' z R → Gone B o u w t c l h w' t' (up_to_of z p) (D.up_to p R)
-up_gone B o u w t c l h w' t' (S.Good k m) p R g = record { is = ap (D.up_to p) g.is; put = g.put; left = g.left }
-up_gone B o u w t c l h w' t' (S.Bad e m) p R g = record { is = ap (D.up_to p) g.is; put = tt; left = g.left }
+up_gone B o u w t c l h w' t' (Ok (k, m)) p R g = record { is = ap (D.up_to p) g.is; put = g.put; left = g.left }
+up_gone B o u w t c l h w' t' (Err (e, m)) p R g = record { is = ap (D.up_to p) g.is; put = tt; left = g.left }

@@ -1,5 +1,7 @@
 -- An entry, with its arguments or without.
 -- Assumes nothing.
+use Rattle.std.proofs.Common.{Some, None}
+use Rattle.outcomes.specs.Types.{Listing, Scanned, Replaced}
 use mathlib.Core.Path.{◌≡◌, refl, sym, ap, subst, ◌∙◌}
 use mathlib.Core.Bool.{true, false}
 use mathlib.Core.List.{List, [], ◌∷◌}
@@ -26,11 +28,6 @@ use Rattle.callees.specs.Shown.{world_in}
 use Rattle.callees.specs.Answer.{Waiting, held_from}
 use Rattle.outcomes.specs.declared.Src.{Src}
 use Rattle.outcomes.specs.declared.Dest.{Dest}
-use Rattle.outcomes.specs.declared.Scanned.{Scanned}
-use Rattle.outcomes.specs.declared.Replaced.{Replaced}
-use Rattle.outcomes.specs.declared.Replaced.TheVariants as R
-use Rattle.outcomes.specs.declared.Listing.{Listing}
-use Rattle.outcomes.specs.declared.Listing.TheVariants as L
 use Rattle.outcomes.specs.Texts.{room_of, text_of}
 use Rattle.outcomes.specs.Places.{into_of, up_to_of}
 use Rattle.outcomes.specs.Arguments.{cut_from, past_blanks, listing_for, ListIn}
@@ -49,11 +46,11 @@ pub record ListedAs (a : D.Arguments) (f n first q : ℕ) : Type 0 where
   pub size : length arguments ≡ n
   pub begins : first ≡ f
 
-listed_as : (a : D.Arguments) (f n first q : ℕ) → L.Upto n first q ≡ listing_for f a → ListedAs a f n first q
+listed_as : (a : D.Arguments) (f n first q : ℕ) → Some (n, first, q) ≡ listing_for f a → ListedAs a f n first q
 listed_as (list_up_to xs r) f n first q e = let i : n ≡ length xs = cc in let j : first ≡ f = cc in let k : q ≡ r = cc in record { arguments = xs; is = ap (list_up_to xs) (sym k); size = sym i; begins = j }
 listed_as no_list f n first q e = never _ (cc)
 
-listed_none : (a : D.Arguments) (f : ℕ) → L.NoList ≡ listing_for f a → a ≡ no_list
+listed_none : (a : D.Arguments) (f : ℕ) → None ≡ listing_for f a → a ≡ no_list
 listed_none (list_up_to xs r) f e = never _ (cc)
 listed_none no_list f e = refl
 
@@ -92,17 +89,17 @@ module _ (deck s rows names c l h w t : List ℕ) (x : Src) (p : ℕ) (z : Calle
     unfolding D.replace_entry
     with_is B b cs a e = let f : length b.parameters ≡ 0 → ⊥ = λ i. omega (arith, cs.count) in rw (ne_eqb (length b.parameters) 0 f, e)
 
-    wrong : (B : World) (b : Ev.Callee) → Stage deck rows names c l h w u sc m t o B → entered B b ≡ bad WrongArguments m.used → Gone B o u w t c l h w t (R.Bad WrongArguments m) (entered B b)
+    wrong : (B : World) (b : Ev.Callee) → Stage deck rows names c l h w u sc m t o B → entered B b ≡ bad WrongArguments m.used → Gone B o u w t c l h w t (Err (WrongArguments, m)) (entered B b)
     wrong B b g q = gone_bad B o u w t c l h w t WrongArguments m _ (sym q) (left_same deck rows names c l h w u sc m t o B g)
 
-    pub entry_none : ls ≡ L.NoList → EntryIs deck s rows names c l h w t x p z y o u n sc m c l h w t (R.Bad WrongArguments m)
+    pub entry_none : ls ≡ None → EntryIs deck s rows names c l h w t x p z y o u n sc m c l h w t (Err (WrongArguments, m))
     entry_none e = record { is = λ B g so on b cs. wrong B b g (with_is B b cs no_list (listed_none (list_at mixed (text_of s w x) p) (past_blanks (text_of s w x) p + 1) (sym e ∙ list_is so))) }
 
-    module _ (cnt first q : ℕ) (e : ls ≡ L.Upto cnt first q) where
+    module _ (cnt first q : ℕ) (e : ls ≡ Some (cnt, first, q)) where
       listed : Sourced s w x u → ListedAs (list_at mixed (text_of s w x) p) (past_blanks (text_of s w x) p + 1) cnt first q
       listed so = listed_as (list_at mixed (text_of s w x) p) (past_blanks (text_of s w x) p + 1) cnt first q (sym e ∙ list_is so)
 
-      pub entry_many : (cnt ≡ z.count → ⊥) → EntryIs deck s rows names c l h w t x p z y o u n sc m c l h w t (R.Bad WrongArguments m)
+      pub entry_many : (cnt ≡ z.count → ⊥) → EntryIs deck s rows names c l h w t x p z y o u n sc m c l h w t (Err (WrongArguments, m))
       entry_many f = record {
         is = λ B g so on b cs.
             let d = listed so in
@@ -129,7 +126,7 @@ module _ (deck s rows names c l h w t : List ℕ) (x : Src) (p : ℕ) (z : Calle
           all_is : entered B b ≡ bind took (λ vs v. D.up_to q (D.call_with (run_in sc) (scanner_in sc n) (activity_of y) (into_of o) u b vs v))
           all_is = with_is B b cs (list_up_to d.arguments q) d.is ∙ rw (eq-eqb (length d.arguments) (length b.parameters) sized)
 
-          refused_by : (f : Why) (m' : Meter) → oc ≡ Err (f, m') → Gone B o u w t c₁ l₁ h₁ w₁ t₁ (R.Bad f m') (entered B b)
+          refused_by : (f : Why) (m' : Meter) → oc ≡ Err (f, m') → Gone B o u w t c₁ l₁ h₁ w₁ t₁ (Err (f, m')) (entered B b)
           refused_by f m' i =
               let T : Taking B u w t c₁ l₁ h₁ w₁ t₁ b.parameters (Err (f, m')) took = rw i at taken in
               gone_bad B o u w t c₁ l₁ h₁ w₁ t₁ f m' _ (sym (all_is ∙ rw (← T.is))) T.left
@@ -144,7 +141,7 @@ module _ (deck s rows names c l h w t : List ℕ) (x : Src) (p : ℕ) (z : Calle
               let Q : entered B b ≡ D.up_to q (D.call_with (run_in sc) (scanner_in sc n) (activity_of y) (into_of o) u b (held_from w₁ k 0 u b.parameters) (world_in B c₁ l₁ h₁ m'.used)) = all_is ∙ rw (← T.is) in
               rw Q (up_gone B o u w t c' l' h' w' t' v q _ C)
 
-        pub entry_refused : (f : Why) (m' : Meter) → oc ≡ Err (f, m') → EntryIs deck s rows names c l h w t x p z y o u n sc m c₁ l₁ h₁ w₁ t₁ (R.Bad f m')
+        pub entry_refused : (f : Why) (m' : Meter) → oc ≡ Err (f, m') → EntryIs deck s rows names c l h w t x p z y o u n sc m c₁ l₁ h₁ w₁ t₁ (Err (f, m'))
         entry_refused f m' i = record { is = λ B g so on b cs. refused_by B g so b cs f m' i }
 
         pub entry_called : (k : Held) (m' : Meter) (c' l' h' w' t' : List ℕ) (v : Scanned) (r : Replaced) → oc ≡ Ok (k, m') → CallWith deck s rows names c₁ l₁ h₁ w₁ t₁ z k y o u n sc m' c' l' h' w' t' v → r ≡ up_to_of v q → EntryIs deck s rows names c l h w t x p z y o u n sc m c' l' h' w' t' r

@@ -1,5 +1,6 @@
 -- The procedure of an entry that the table of names has.
 -- Assumes nothing.
+use Rattle.std.proofs.Common.{Option, Some, Result, Ok, Err}
 use mathlib.Core.Path.{◌≡◌, refl, sym, ap, ◌∙◌}
 use mathlib.Core.Bool.{Bool, true, false}
 use mathlib.Core.List.{List, [], ◌∷◌}
@@ -20,11 +21,7 @@ use Rattle.deck.specs.Answer.{body_in}
 use Rattle.rows.specs.Table.{row_in}
 use Rattle.rows.specs.Parts.{part_in}
 use Rattle.names.specs.declared.Place.{Place}
-use Rattle.names.specs.declared.Body.{Body}
-use Rattle.names.specs.declared.Body.TheVariants as Bd
 use Rattle.callees.specs.declared.Callee.{Callee}
-use Rattle.callees.specs.declared.Called.{Called}
-use Rattle.callees.specs.declared.Called.TheVariants as K
 use Rattle.callees.specs.Shown.{names_world, world_in}
 use Rattle.callees.specs.Answer.{owner_at, Names, HeadedBy, called_for, CalleeOf}
 use Rattle.callees.proofs.Naming.{parameters_there}
@@ -39,7 +36,7 @@ names_of true s (l ∷ ns) list k = k
 names_of false s [] list k = tt
 names_of false s (l ∷ ns) list k = never _ (cc)
 
-pub record Found (deck rows names : List ℕ) (n : ℕ) (p : Place) (y : Called) (W₁ : World) (B₁ : World) : Type 0 where
+pub record Found (deck rows names : List ℕ) (n : ℕ) (p : Place) (y : Result Callee Why) (W₁ : World) (B₁ : World) : Type 0 where
   pub list : ℕ
   pub listed : List (List ℕ)
   pub placed : Names (body_in deck p.member) listed list
@@ -48,7 +45,7 @@ pub record Found (deck rows names : List ℕ) (n : ℕ) (p : Place) (y : Called)
   pub called : y ≡ called_for p list (Ev.parameters (owner_at p) listed (names_world deck names n))
   pub value : callee (body_at p.member p.row) W₁ ≡ Val.and_then (Ev.parameters (owner_at p) listed (names_world deck names n)) (λ ps. Val.gives (record { member = p.member; row = p.row; parameters = ps }))
 
-module _ (deck rows names c l h w : List ℕ) (u : ℕ) (x : Scene) (m : Meter) (b : Body) (y : Called) (co : CalleeOf deck rows x.starts names x.names b y) where
+module _ (deck rows names c l h w : List ℕ) (u : ℕ) (x : Scene) (m : Meter) (b : Option Place) (y : Result Callee Why) (co : CalleeOf deck rows x.starts names x.names b y) where
   callee_value : (B₁ : World) → Shows deck rows names c l h w u x m B₁ → (p : Place) (ns : List (List ℕ)) (v : ValueType) → (row_of (rows_of p.member B₁) p.row).statement ≡ D.procedure ns v
       → callee (body_at p.member p.row) (world_in B₁ c l h m.used) ≡ Val.and_then (Ev.parameters (owner_at p) ns (names_world deck names x.names)) (λ ps. Val.gives (record { member = p.member; row = p.row; parameters = ps }))
   unfolding callee
@@ -57,7 +54,7 @@ module _ (deck rows names c l h w : List ℕ) (u : ℕ) (x : Scene) (m : Meter) 
       ∙ ap (λ (i : Val.Answer (List Ev.Parameter)). Val.and_then i (λ ps. Val.gives (record { member = p.member; row = p.row; parameters = ps }))) (parameters_there deck names x.names (world_in B₁ c l h m.used) sh.named.identifiers sh.named.denotations (owner_at p) ns)
 
   -- the entry at the address a
-  pub found : (B₁ : World) → Shows deck rows names c l h w u x m B₁ → (p : Place) → b ≡ Bd.At p → (a : ℕ) (d : Bool) → get_or B₁.denotations a builtin_name ≡ entry_of d (body_at p.member p.row) → Found deck rows names x.names p y (world_in B₁ c l h m.used) B₁
+  pub found : (B₁ : World) → Shows deck rows names c l h w u x m B₁ → (p : Place) → b ≡ Some p → (a : ℕ) (d : Bool) → get_or B₁.denotations a builtin_name ≡ entry_of d (body_at p.member p.row) → Found deck rows names x.names p y (world_in B₁ c l h m.used) B₁
   found B₁ sh p e a d k =
       let q : IsRow p.member p.row B₁ × ((ns : List (List ℕ)) × (v : ValueType) × ((row_of (rows_of p.member B₁) p.row).statement ≡ D.procedure ns v)) = sh.rowed.bodies a p.member p.row d k in
       let t : Stated (body_in deck p.member) (row_in (part_in rows x.starts p.member) p.row).content (D.procedure q.1.0 q.1.1) = rw q.1.2 at (sh.rowed.stated p.member p.row q.0) in
@@ -71,7 +68,7 @@ module _ (deck rows names c l h w : List ℕ) (u : ℕ) (x : Scene) (m : Meter) 
         value = callee_value B₁ sh p q.1.0 q.1.1 q.1.2;
       }
 
-pub called_fails : (p : Place) (list : ℕ) (Z : Val.Answer (List Ev.Parameter)) (f : Why) → K.Fails f ≡ called_for p list Z → Z ≡ Val.fails f
+pub called_fails : (p : Place) (list : ℕ) (Z : Val.Answer (List Ev.Parameter)) (f : Why) → Err f ≡ called_for p list Z → Z ≡ Val.fails f
 unfolding called_for
 called_fails p list (Val.gives ps) f e = never _ (cc)
 called_fails p list (Val.fails g) f e = let k : f ≡ g = cc in ap Val.fails (sym k)
@@ -81,7 +78,7 @@ pub record Got (p : Place) (list : ℕ) (z : Callee) (Z : Val.Answer (List Ev.Pa
   pub is : Z ≡ Val.gives parameters
   pub callee : z ≡ record { place = p; list = list; count = length parameters }
 
-pub called_is : (p : Place) (list : ℕ) (Z : Val.Answer (List Ev.Parameter)) (z : Callee) → K.Is z ≡ called_for p list Z → Got p list z Z
+pub called_is : (p : Place) (list : ℕ) (Z : Val.Answer (List Ev.Parameter)) (z : Callee) → Ok z ≡ called_for p list Z → Got p list z Z
 unfolding called_for
 called_is p list (Val.gives ps) z e = let k : z ≡ record { place = p; list = list; count = length ps } = cc in record { parameters = ps; is = refl; callee = k }
 called_is p list (Val.fails g) z e = never _ (cc)

@@ -1,5 +1,7 @@
 -- The tokens one after the other.
 -- Assumes nothing.
+use Rattle.outcomes.specs.Types.{Replaced}
+use Rattle.std.proofs.Common.{Ok, Err}
 use mathlib.Core.Path.{◌≡◌, refl, sym, ap, ◌∙◌}
 use mathlib.Core.Bool.{Bool, true, false}
 use mathlib.Core.List.{List, ◌++◌}
@@ -19,15 +21,11 @@ use Rattle.definition.specs.Scan.{Into, Replacer}
 use Rattle.definition.specs.declared.Why.{Why}
 use Rattle.definition.specs.declared.Why.TheVariants.{NoStep}
 use Rattle.meter.specs.declared.Meter.{Meter}
-use Rattle.meter.specs.declared.Charged.{Charged}
-use Rattle.meter.specs.Charges.{Charges}
+use Rattle.meter.specs.Charges.{Charges, Charged, charged_for, ChargedAs}
 use Rattle.callees.specs.Shown.{world_in}
 use Rattle.operators.proofs.Callers.{below_less}
 use Rattle.outcomes.specs.declared.Src.{Src}
 use Rattle.outcomes.specs.declared.Dest.{Dest}
-use Rattle.outcomes.specs.declared.Scanned.TheVariants as S
-use Rattle.outcomes.specs.declared.Replaced.{Replaced}
-use Rattle.outcomes.specs.declared.Replaced.TheVariants as R
 use Rattle.outcomes.specs.Texts.{text_of}
 use Rattle.outcomes.specs.Places.{into_of, after_of, waiting_of, out_in}
 use Rattle.operands.specs.declared.Scene.{Scene}
@@ -90,15 +88,15 @@ scanning_start deck s rows names c l h w t x o u n sc m size turns e f = record 
 
 module _ (deck s rows names c₀ l₀ h₀ w₀ t₀ : List ℕ) (x : Src) (o : Dest) (u n : ℕ) (sc : Scene) (m₀ : Meter) (turns k p : ℕ) (m : Meter) (c l h w t : List ℕ)
     (i : Scanning deck s rows names c₀ l₀ h₀ w₀ t₀ x o u n sc m₀ turns k p m c l h w t) where
-  end_by : (f : ℕ) → turns ≡ f → ((v : ℕ) → f ≡ suc v → x.to - x.from ≤ p) → Scans deck s rows names c₀ l₀ h₀ w₀ t₀ x o u n sc m₀ c l h w t (S.Good k m)
+  end_by : (f : ℕ) → turns ≡ f → ((v : ℕ) → f ≡ suc v → x.to - x.from ≤ p) → Scans deck s rows names c₀ l₀ h₀ w₀ t₀ x o u n sc m₀ c l h w t (Ok (k, m))
   unfolding D.scan_on
   end_by zero e j = record { is = λ B g q. let z = i.so B g q in record { is = rw e at z.same; put = z.put; left = z.left } }
   end_by (suc f) e j = record { is = λ B g q. let z = i.so B g q in record { is = rw (e, le-leb (length (text_of s w₀ x)) p (omega (arith, text_length s w₀ x, j f refl))) at z.same; put = z.put; left = z.left } }
 
-  pub scanning_end : (size : ℕ) → size ≡ x.to - x.from → size ≤ p → Scans deck s rows names c₀ l₀ h₀ w₀ t₀ x o u n sc m₀ c l h w t (S.Good k m)
+  pub scanning_end : (size : ℕ) → size ≡ x.to - x.from → size ≤ p → Scans deck s rows names c₀ l₀ h₀ w₀ t₀ x o u n sc m₀ c l h w t (Ok (k, m))
   scanning_end size e f = end_by turns refl (λ v _. omega arith)
 
-  pub scanning_out : turns ≤ 0 → Scans deck s rows names c₀ l₀ h₀ w₀ t₀ x o u n sc m₀ c l h w t (S.Good k m)
+  pub scanning_out : turns ≤ 0 → Scans deck s rows names c₀ l₀ h₀ w₀ t₀ x o u n sc m₀ c l h w t (Ok (k, m))
   scanning_out f = end_by turns refl (λ v e. absurd (omega arith))
 
   module _ (size : ℕ) (e : size ≡ x.to - x.from) (lt : p < size) (go : 0 < turns) (r : Charged) (ch : Charges m r) where
@@ -148,9 +146,9 @@ module _ (deck s rows names c₀ l₀ h₀ w₀ t₀ : List ℕ) (x : Src) (o : 
         slots = z.slots;
       }
 
-      bad_on : (c' l' h' w' t' : List ℕ) (b : Why) (m' : Meter) → TokenIs deck s rows names c l h w t x p k o u n sc r.meter c' l' h' w' t' (R.Bad b m') → r.paid ≡ true → Came B o u w₀ t₀ c' l' h' w' t' (S.Bad b m') all
+      bad_on : (c' l' h' w' t' : List ℕ) (b : Why) (m' : Meter) → TokenIs deck s rows names c l h w t x p k o u n sc r.meter c' l' h' w' t' (Err (b, m')) → r.paid ≡ true → Came B o u w₀ t₀ c' l' h' w' t' (Err (b, m')) all
       bad_on c' l' h' w' t' b m' tk j =
-          let z = gone_is c' l' h' w' t' (R.Bad b m') tk in
+          let z = gone_is c' l' h' w' t' (Err (b, m')) tk in
           came_bad B o u w₀ t₀ c' l' h' w' t' b m' all (rw (← z.is) at (paid_is j (turns - 1) (omega arith))) (left_on c' l' h' w' t' m' z.left)
 
       sum_is : (c' l' h' w' t' : List ℕ) (j k' : ℕ) → Put B (after_of o k) (waiting_of o u k) t w' t' j → k' ≡ sum_to greatest k j → k' ≡ k + j
@@ -158,10 +156,10 @@ module _ (deck s rows names c₀ l₀ h₀ w₀ t₀ : List ℕ) (x : Src) (o : 
           (λ a. omega (arith, z.fits a, wait_work o u k a (now_is.put.fits a)))
           (λ a. omega (arith, z.room, now_is.put.room, g.aims.short a)))
 
-      good_on : (c' l' h' w' t' : List ℕ) (j k' p' : ℕ) (m' : Meter) → TokenIs deck s rows names c l h w t x p k o u n sc r.meter c' l' h' w' t' (R.Good j p' m') → r.paid ≡ true → k' ≡ sum_to greatest k j
+      good_on : (c' l' h' w' t' : List ℕ) (j k' p' : ℕ) (m' : Meter) → TokenIs deck s rows names c l h w t x p k o u n sc r.meter c' l' h' w' t' (Ok (j, p', m')) → r.paid ≡ true → k' ≡ sum_to greatest k j
           → Going s c₀ l₀ h₀ w₀ t₀ x o u n sc m₀ B (turns - 1) k' p' m' c' l' h' w' t'
       good_on c' l' h' w' t' j k' p' m' tk a b =
-          let z = gone_is c' l' h' w' t' (R.Good j p' m') tk in
+          let z = gone_is c' l' h' w' t' (Ok (j, p', m')) tk in
           let v : k' ≡ k + j = sum_is c' l' h' w' t' j k' z.put b in
           let aim : Aims t o = aims_same t₀ t o g.aims now_is.left.long in
           let y : out_in o t' w' u (k + j) ≡ out_in o t w u k ++ out_in (after_of o k) t' w' (waiting_of o u k) j = out_next B o u t₀ w t w' t' k j aim now_is.put z.put z.left.below in
@@ -171,7 +169,7 @@ module _ (deck s rows names c₀ l₀ h₀ w₀ t₀ : List ℕ) (x : Src) (o : 
             left = left_on c' l' h' w' t' m' z.left;
           }
 
-    pub scanning_none : r.paid ≡ false → Scans deck s rows names c₀ l₀ h₀ w₀ t₀ x o u n sc m₀ c l h w t (S.Bad NoStep r.meter)
+    pub scanning_none : r.paid ≡ false → Scans deck s rows names c₀ l₀ h₀ w₀ t₀ x o u n sc m₀ c l h w t (Err (NoStep, r.meter))
     scanning_none j = record {
       is = λ B g q.
           let z = now_is B g q in
@@ -179,10 +177,10 @@ module _ (deck s rows names c₀ l₀ h₀ w₀ t₀ : List ℕ) (x : Src) (o : 
     }
 
     module _ (c' l' h' w' t' : List ℕ) (y : Replaced) (tk : TokenIs deck s rows names c l h w t x p k o u n sc r.meter c' l' h' w' t' y) (paid : r.paid ≡ true) where
-      pub scanning_bad : (b : Why) (m' : Meter) → y ≡ R.Bad b m' → Scans deck s rows names c₀ l₀ h₀ w₀ t₀ x o u n sc m₀ c' l' h' w' t' (S.Bad b m')
+      pub scanning_bad : (b : Why) (m' : Meter) → y ≡ Err (b, m') → Scans deck s rows names c₀ l₀ h₀ w₀ t₀ x o u n sc m₀ c' l' h' w' t' (Err (b, m'))
       scanning_bad b m' j = record { is = λ B g q. bad_on B g q c' l' h' w' t' b m' (rw j at tk) paid }
 
-      pub scanning_more : (j k' p' : ℕ) (m' : Meter) → y ≡ R.Good j p' m' → k' ≡ sum_to greatest k j → (fewer : ℕ) → fewer ≡ turns - 1
+      pub scanning_more : (j k' p' : ℕ) (m' : Meter) → y ≡ Ok (j, p', m') → k' ≡ sum_to greatest k j → (fewer : ℕ) → fewer ≡ turns - 1
           → Scanning deck s rows names c₀ l₀ h₀ w₀ t₀ x o u n sc m₀ fewer k' p' m' c' l' h' w' t'
       scanning_more j k' p' m' v b fewer ef = rw ef record {
         so = λ B g q. good_on B g q c' l' h' w' t' j k' p' m' (rw v at tk) paid b;

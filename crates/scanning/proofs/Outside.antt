@@ -1,5 +1,7 @@
 -- The replacement of a name in program text, as it is asked for where no procedure runs. For who puts text out.
 -- Assumes nothing.
+use Rattle.std.proofs.Common.{Ok, Err}
+use Rattle.outcomes.specs.Types.{Replaced}
 use mathlib.Core.Path.{◌≡◌, refl, sym, ap, ◌∙◌}
 use mathlib.Core.Bool.{true, false}
 use mathlib.Core.List.{List}
@@ -22,8 +24,6 @@ use Rattle.operands.specs.declared.Scene.{Scene}
 use Rattle.operands.specs.Answer.{run_in}
 use Rattle.outcomes.specs.declared.Src.{Src}
 use Rattle.outcomes.specs.declared.Dest.{Dest}
-use Rattle.outcomes.specs.declared.Replaced.{Replaced}
-use Rattle.outcomes.specs.declared.Replaced.TheVariants as R
 use Rattle.outcomes.specs.Texts.{room_of, stretch_of, text_of, Within}
 use Rattle.outcomes.specs.Places.{into_of, out_in}
 use Rattle.scanning.specs.Cycle.{Sourced, Stage, Left, meter_in, Gone, replacer_in, is_on, ReplaceIs}
@@ -42,18 +42,18 @@ pub record Went (B : World) (t c l h t' : List ℕ) (at room k q : ℕ) (m : Met
   pub fits : k ≤ room
 
 abbrev pub WentAs : World → List ℕ → List ℕ → List ℕ → List ℕ → List ℕ → ℕ → ℕ → Replaced → Res Why D.Replaced → Type 0
-WentAs B t c l h t' at room (R.Good k q m) Q = Went B t c l h t' at room k q m Q
-WentAs B t c l h t' at room (R.Bad e m) Q = Q ≡ bad e m.used
+WentAs B t c l h t' at room (Ok (k, q, m)) Q = Went B t c l h t' at room k q m Q
+WentAs B t c l h t' at room (Err (e, m)) Q = Q ≡ bad e m.used
 
 went_as : (B : World) (u : ℕ) (w t c l h w' t' : List ℕ) (at room : ℕ) (r : Replaced) (Q : Res Why D.Replaced) → Gone B (to_place at room) u w t c l h w' t' r Q → WentAs B t c l h t' at room r Q
-went_as B u w t c l h w' t' at room (R.Good k q m) Q g = record {
+went_as B u w t c l h w' t' at room (Ok (k, q, m)) Q g = record {
   bytes = out_in (to_place at room) t' w' u k;
   is = sym g.is;
   text = g.put.text ∙ with_text (to_place at room) (out_in (to_place at room) t' w' u k) t refl;
   size = out_length (to_place at room) t' w' u k;
   fits = g.put.room;
 }
-went_as B u w t c l h w' t' at room (R.Bad e m) Q g = sym g.is
+went_as B u w t c l h w' t' at room (Err (e, m)) Q g = sym g.is
 
 -- no procedure runs
 run_out : (sc : Scene) → sc.running.left ≡ 16 → run_in sc ≡ call_out

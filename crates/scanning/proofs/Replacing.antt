@@ -1,5 +1,8 @@
 -- The replacement of a name: a variable's value, or an entry.
 -- Assumes nothing.
+use Rattle.outcomes.specs.Types.{Scanned, Replaced}
+use Rattle.operators.specs.declared.Value.{Value}
+use Rattle.std.proofs.Common.{Option, Some, None, Result, Ok, Err}
 use mathlib.Core.Logic.{◌⊎◌, inl, inr}
 use mathlib.Core.Path.{◌≡◌, refl, sym, ap, subst, ◌∙◌}
 use mathlib.Core.Bool.{Bool, true, false}
@@ -21,27 +24,19 @@ use Rattle.definition.specs.declared.ValueType.{ValueType}
 use Rattle.meter.specs.declared.Meter.{Meter}
 use Rattle.store.specs.Cells.{cell_in}
 use Rattle.names.specs.declared.Place.{Place}
-use Rattle.names.specs.declared.Body.{Body}
-use Rattle.names.specs.declared.Body.TheVariants as Bd
 use Rattle.names.specs.declared.Name.{Name}
 use Rattle.names.specs.declared.Entry.{Entry}
 use Rattle.names.specs.declared.Label.{Label}
 use Rattle.names.specs.declared.Denotation.TheVariants as N
 use Rattle.names.specs.declared.Activity.{Activity}
 use Rattle.names.specs.Table.{name_in, denotation_of, activity_of, body_of}
-use Rattle.operators.specs.declared.Given.{Given}
 use Rattle.operators.specs.Stands.{given_in}
 use Rattle.callees.specs.declared.Callee.{Callee}
-use Rattle.callees.specs.declared.Called.{Called}
-use Rattle.callees.specs.declared.Called.TheVariants as K
 use Rattle.callees.specs.Shown.{denotations_from, names_world, world_in, values_from, cell_as}
 use Rattle.callees.specs.Answer.{owner_at, CalleeOf, VariableIs}
 use Rattle.callees.proofs.Naming.{denotations_length}
 use Rattle.outcomes.specs.declared.Src.{Src}
 use Rattle.outcomes.specs.declared.Dest.{Dest}
-use Rattle.outcomes.specs.declared.Scanned.{Scanned}
-use Rattle.outcomes.specs.declared.Replaced.{Replaced}
-use Rattle.outcomes.specs.declared.Replaced.TheVariants as R
 use Rattle.outcomes.specs.Texts.{text_of}
 use Rattle.outcomes.specs.Places.{into_of, up_to_of}
 use Rattle.outcomes.specs.Copies.{is_rescanned, held_by, CopiedFrom}
@@ -68,7 +63,7 @@ values_at (d ∷ ds) b (suc i) c l h k = let e : b + suc i ≡ suc b + i = omega
 
 -- ---- the ways out of replace
 module _ (deck s rows names c l h w t : List ℕ) (x : Src) (p a : ℕ) (y : Activity) (o : Dest) (u left : ℕ) (sc : Scene) (m : Meter) where
-  pub replace_deep : left < 1 → ReplaceIs deck s rows names c l h w t x p a y o u left sc m c l h w t (R.Bad TooDeep m)
+  pub replace_deep : left < 1 → ReplaceIs deck s rows names c l h w t x p a y o u left sc m c l h w t (Err (TooDeep, m))
   unfolding replacer_in D.replacer
   replace_deep k = let e : left ≡ 0 = omega arith in rw e (record { is = λ B g so lt on. gone_bad B o u w t c l h w t TooDeep m _ refl (left_same deck rows names c l h w u sc m t o B g) })
 
@@ -93,7 +88,7 @@ module _ (deck s rows names c l h w t : List ℕ) (x : Src) (p a : ℕ) (y : Act
       as_is : (T : List ℕ) (d : W.Denotation) → denotation_of nm.denotation ≡ d → replacer_in sc left T p a (activity_of y) (into_of o) u world ≡ D.replace_as mixed d (run_in sc) (scanner_in sc n) T p a (activity_of y) (into_of o) u world
       as_is T d f = replacer_is T world ∙ rw (denotation_is ∙ f)
 
-      wrong : (T : List ℕ) (f : Why) → replacer_in sc left T p a (activity_of y) (into_of o) u world ≡ bad f m.used → Gone B o u w t c l h w t (R.Bad f m) (replacer_in sc left T p a (activity_of y) (into_of o) u world)
+      wrong : (T : List ℕ) (f : Why) → replacer_in sc left T p a (activity_of y) (into_of o) u world ≡ bad f m.used → Gone B o u w t c l h w t (Err (f, m)) (replacer_in sc left T p a (activity_of y) (into_of o) u world)
       wrong T f q = gone_bad B o u w t c l h w t f m _ (sym q) (left_same deck rows names c l h w u sc m t o B g)
 
       value_is : (ty : ValueType) → nm.denotation ≡ N.Variable ty → W.value_at a world ≡ cell_in c l h ty a
@@ -111,7 +106,7 @@ module _ (deck s rows names c l h w t : List ℕ) (x : Src) (p a : ℕ) (y : Act
       variable_is T ty f = as_is T (variable_of ty) (ap denotation_of f) ∙ rw (value_is ty f) (cell_is (cell_in c l h ty a) world)
 
     module _ (ty : ValueType) (f : nm.denotation ≡ N.Variable ty) (bb : Bool) (ib : bb ≡ is_rescanned y) where
-      rescanned_by : (w₁ : List ℕ) (gv : Given) (z : Scanned) (c' l' h' w' t' : List ℕ) → bb ≡ true → VariableIs c l h w a ty u w₁ gv → RescanIs deck s rows names c l h w₁ t gv o u (left - 1) sc m c' l' h' w' t' z → length w₁ ≡ length w
+      rescanned_by : (w₁ : List ℕ) (gv : Result Value Why) (z : Scanned) (c' l' h' w' t' : List ℕ) → bb ≡ true → VariableIs c l h w a ty u w₁ gv → RescanIs deck s rows names c l h w₁ t gv o u (left - 1) sc m c' l' h' w' t' z → length w₁ ≡ length w
           → (B : World) (g : Stage deck rows names c l h w u sc m t o B) (lt : a < sc.names) → Gone B o u w t c' l' h' w' t' (up_to_of z p) (replacer_in sc left (text_of s w x) p a (activity_of y) (into_of o) u (world_in B c l h m.used))
       rescanned_by w₁ gv z c' l' h' w' t' ie va re e₁ B g lt =
           let st : Stage deck rows names c l h w₁ u sc m t o B = stage_on deck rows names c l h w u sc m t o B c l h w₁ u m t o g g.shows.slots e₁ g.shows.taken g.shows.limit g.aims in
@@ -121,7 +116,7 @@ module _ (deck s rows names c l h w t : List ℕ) (x : Src) (p a : ℕ) (y : Act
           let Q : replacer_in sc left (text_of s w x) p a (activity_of y) (into_of o) u (world_in B c l h m.used) ≡ D.up_to p (outcome_of sc (left - 1) W.rescanned o u (given_in w₁ u gv) (world_in B c l h m.used)) = variable_is B g lt (text_of s w x) ty f ∙ ap (D.up_to p) q in
           rw Q (up_gone B o u w t c' l' h' w' t' z p _ C)
 
-      pub replace_rescanned : (w₁ : List ℕ) (gv : Given) (z : Scanned) (c' l' h' w' t' : List ℕ) (r : Replaced) → bb ≡ true → VariableIs c l h w a ty u w₁ gv → RescanIs deck s rows names c l h w₁ t gv o u (left - 1) sc m c' l' h' w' t' z
+      pub replace_rescanned : (w₁ : List ℕ) (gv : Result Value Why) (z : Scanned) (c' l' h' w' t' : List ℕ) (r : Replaced) → bb ≡ true → VariableIs c l h w a ty u w₁ gv → RescanIs deck s rows names c l h w₁ t gv o u (left - 1) sc m c' l' h' w' t' z
           → length w₁ ≡ length w → r ≡ up_to_of z p → ReplaceIs deck s rows names c l h w t x p a y o u left sc m c' l' h' w' t' r
       replace_rescanned w₁ gv z c' l' h' w' t' r ie va re e₁ i = rw i (record { is = λ B g so lt on. rescanned_by w₁ gv z c' l' h' w' t' ie va re e₁ B g lt })
 
@@ -136,42 +131,42 @@ module _ (deck s rows names c l h w t : List ℕ) (x : Src) (p a : ℕ) (y : Act
       pub replace_copied : (z : Scanned) (w' t' : List ℕ) (r : Replaced) → bb ≡ false → CopiedFrom (held_by (cell_in c l h ty a)) w t o u m w' t' z → r ≡ up_to_of z p → ReplaceIs deck s rows names c l h w t x p a y o u left sc m c l h w' t' r
       replace_copied z w' t' r ie cf i = rw i (record { is = λ B g so lt on. copied_by z w' t' ie cf B g lt on })
 
-    pub replace_wrong : ((d : Label) × (nm.denotation ≡ N.LabelName d)) ⊎ (nm.denotation ≡ N.Builtin) → ReplaceIs deck s rows names c l h w t x p a y o u left sc m c l h w t (R.Bad WrongName m)
+    pub replace_wrong : ((d : Label) × (nm.denotation ≡ N.LabelName d)) ⊎ (nm.denotation ≡ N.Builtin) → ReplaceIs deck s rows names c l h w t x p a y o u left sc m c l h w t (Err (WrongName, m))
     replace_wrong (inl (d, f)) = record { is = λ B g so lt on. wrong B g lt (text_of s w x) WrongName (as_is B g lt (text_of s w x) _ (ap denotation_of f)) }
     replace_wrong (inr f) = record { is = λ B g so lt on. wrong B g lt (text_of s w x) WrongName (as_is B g lt (text_of s w x) _ (ap denotation_of f)) }
 
-    module _ (en : Entry) (f : nm.denotation ≡ N.EntryName en) (yc : Called) (co : CalleeOf deck rows sc.starts names sc.names en.body yc) where
-      entry_is : (B : World) (g : Stage deck rows names c l h w u sc m t o B) (lt : a < sc.names) (T : List ℕ) (b : Body) → en.body ≡ b → (q : Val.Answer Ev.Callee) → callee (body_of b) (world_in B c l h m.used) ≡ q
+    module _ (en : Entry) (f : nm.denotation ≡ N.EntryName en) (yc : Result Callee Why) (co : CalleeOf deck rows sc.starts names sc.names en.body yc) where
+      entry_is : (B : World) (g : Stage deck rows names c l h w u sc m t o B) (lt : a < sc.names) (T : List ℕ) (b : Option Place) → en.body ≡ b → (q : Val.Answer Ev.Callee) → callee (body_of b) (world_in B c l h m.used) ≡ q
           → replacer_in sc left T p a (activity_of y) (into_of o) u (world_in B c l h m.used) ≡ bind (ask q (world_in B c l h m.used)) (λ z v. D.replace_entry mixed (run_in sc) (scanner_in sc (left - 1)) T p (activity_of y) (into_of o) u z v)
       entry_is B g lt T b i q j = as_is B g lt T (entry_of en.declared (body_of en.body)) (ap denotation_of f) ∙ rw (i, j)
 
-      place_is : (B : World) (g : Stage deck rows names c l h w u sc m t o B) (lt : a < sc.names) (pl : Place) → en.body ≡ Bd.At pl → Found deck rows names sc.names pl yc (world_in B c l h m.used) B
-      place_is B g lt pl i = found deck rows names c l h w u sc m en.body yc co B g.shows pl i a en.declared (denotation_is B g lt ∙ ap denotation_of f ∙ ap (λ (z : Body). entry_of en.declared (body_of z)) i)
+      place_is : (B : World) (g : Stage deck rows names c l h w u sc m t o B) (lt : a < sc.names) (pl : Place) → en.body ≡ Some pl → Found deck rows names sc.names pl yc (world_in B c l h m.used) B
+      place_is B g lt pl i = found deck rows names c l h w u sc m en.body yc co B g.shows pl i a en.declared (denotation_is B g lt ∙ ap denotation_of f ∙ ap (λ (z : Option Place). entry_of en.declared (body_of z)) i)
 
-      fails_by : (fl : Why) → yc ≡ K.Fails fl → (B : World) (g : Stage deck rows names c l h w u sc m t o B) (lt : a < sc.names) (T : List ℕ) (b : Body) → en.body ≡ b → Gone B o u w t c l h w t (R.Bad fl m) (replacer_in sc left T p a (activity_of y) (into_of o) u (world_in B c l h m.used))
-      fails_by fl j B g lt T Bd.Nothing i =
-          let d : K.Fails fl ≡ K.Fails WrongName = sym j ∙ co.none i in
+      fails_by : (fl : Why) → yc ≡ Err fl → (B : World) (g : Stage deck rows names c l h w u sc m t o B) (lt : a < sc.names) (T : List ℕ) (b : Option Place) → en.body ≡ b → Gone B o u w t c l h w t (Err (fl, m)) (replacer_in sc left T p a (activity_of y) (into_of o) u (world_in B c l h m.used))
+      fails_by fl j B g lt T None i =
+          let d : Err fl ≡ Err WrongName = sym j ∙ co.none i in
           let d₂ : WrongName ≡ fl = cc in
-          wrong B g lt T fl (entry_is B g lt T Bd.Nothing i (Val.fails WrongName) (callee_none (world_in B c l h m.used)) ∙ ap (λ (z : Why). bad z m.used) d₂)
-      fails_by fl j B g lt T (Bd.At pl) i =
+          wrong B g lt T fl (entry_is B g lt T None i (Val.fails WrongName) (callee_none (world_in B c l h m.used)) ∙ ap (λ (z : Why). bad z m.used) d₂)
+      fails_by fl j B g lt T (Some pl) i =
           let F : Found deck rows names sc.names pl yc (world_in B c l h m.used) B = place_is B g lt pl i in
           let d : Ev.parameters (owner_at pl) F.listed (names_world deck names sc.names) ≡ Val.fails fl = called_fails pl F.list _ fl (sym j ∙ F.called) in
-          wrong B g lt T fl (entry_is B g lt T (Bd.At pl) i (Val.fails fl) (F.value ∙ rw d))
+          wrong B g lt T fl (entry_is B g lt T (Some pl) i (Val.fails fl) (F.value ∙ rw d))
 
-      pub replace_fails : (fl : Why) → yc ≡ K.Fails fl → ReplaceIs deck s rows names c l h w t x p a y o u left sc m c l h w t (R.Bad fl m)
+      pub replace_fails : (fl : Why) → yc ≡ Err fl → ReplaceIs deck s rows names c l h w t x p a y o u left sc m c l h w t (Err (fl, m))
       replace_fails fl j = record { is = λ B g so lt on. fails_by fl j B g lt (text_of s w x) en.body refl }
 
-      some_by : (z : Callee) (c' l' h' w' t' : List ℕ) (r : Replaced) → yc ≡ K.Is z → EntryIs deck s rows names c l h w t x p z y o u (left - 1) sc m c' l' h' w' t' r → (B : World) (g : Stage deck rows names c l h w u sc m t o B) → Sourced s w x u → (lt : a < sc.names) → is_on y ≡ true
-          → (b : Body) → en.body ≡ b → Gone B o u w t c' l' h' w' t' r (replacer_in sc left (text_of s w x) p a (activity_of y) (into_of o) u (world_in B c l h m.used))
-      some_by z c' l' h' w' t' r j ei B g so lt on Bd.Nothing i = never _ (let d : K.Is z ≡ K.Fails WrongName = sym j ∙ co.none i in cc)
-      some_by z c' l' h' w' t' r j ei B g so lt on (Bd.At pl) i =
+      some_by : (z : Callee) (c' l' h' w' t' : List ℕ) (r : Replaced) → yc ≡ Ok z → EntryIs deck s rows names c l h w t x p z y o u (left - 1) sc m c' l' h' w' t' r → (B : World) (g : Stage deck rows names c l h w u sc m t o B) → Sourced s w x u → (lt : a < sc.names) → is_on y ≡ true
+          → (b : Option Place) → en.body ≡ b → Gone B o u w t c' l' h' w' t' r (replacer_in sc left (text_of s w x) p a (activity_of y) (into_of o) u (world_in B c l h m.used))
+      some_by z c' l' h' w' t' r j ei B g so lt on None i = never _ (let d : Ok z ≡ Err WrongName = sym j ∙ co.none i in cc)
+      some_by z c' l' h' w' t' r j ei B g so lt on (Some pl) i =
           let F : Found deck rows names sc.names pl yc (world_in B c l h m.used) B = place_is B g lt pl i in
           let G : Got pl F.list z (Ev.parameters (owner_at pl) F.listed (names_world deck names sc.names)) = called_is pl F.list _ z (sym j ∙ F.called) in
           let bb : Ev.Callee = record { member = pl.member; row = pl.row; parameters = G.parameters } in
           let cs₀ : CalleeShown deck names sc.names (record { place = pl; list = F.list; count = length G.parameters }) bb B = record { member = refl; row = refl; listed = F.listed; placed = F.placed; asked = G.is; count = refl; few = F.few G.parameters G.is; within = F.within } in
           let cs : CalleeShown deck names sc.names z bb B = subst (λ (i : Callee). CalleeShown deck names sc.names i bb B) (sym G.callee) cs₀ in
-          let v : callee (body_of (Bd.At pl)) (world_in B c l h m.used) ≡ Val.gives bb = F.value ∙ ap (λ (i : Val.Answer (List Ev.Parameter)). Val.and_then i (λ ps. Val.gives (record { member = pl.member; row = pl.row; parameters = ps }))) G.is in
-          rw (entry_is B g lt (text_of s w x) (Bd.At pl) i (Val.gives bb) v) (ei.is B g so on bb cs)
+          let v : callee (body_of (Some pl)) (world_in B c l h m.used) ≡ Val.gives bb = F.value ∙ ap (λ (i : Val.Answer (List Ev.Parameter)). Val.and_then i (λ ps. Val.gives (record { member = pl.member; row = pl.row; parameters = ps }))) G.is in
+          rw (entry_is B g lt (text_of s w x) (Some pl) i (Val.gives bb) v) (ei.is B g so on bb cs)
 
-      pub replace_some : (z : Callee) (c' l' h' w' t' : List ℕ) (r : Replaced) → yc ≡ K.Is z → EntryIs deck s rows names c l h w t x p z y o u (left - 1) sc m c' l' h' w' t' r → ReplaceIs deck s rows names c l h w t x p a y o u left sc m c' l' h' w' t' r
+      pub replace_some : (z : Callee) (c' l' h' w' t' : List ℕ) (r : Replaced) → yc ≡ Ok z → EntryIs deck s rows names c l h w t x p z y o u (left - 1) sc m c' l' h' w' t' r → ReplaceIs deck s rows names c l h w t x p a y o u left sc m c' l' h' w' t' r
       replace_some z c' l' h' w' t' r j ei = record { is = λ B g so lt on. some_by z c' l' h' w' t' r j ei B g so lt on en.body refl }

@@ -1,5 +1,7 @@
 -- One token.
 -- Assumes nothing.
+use Rattle.outcomes.specs.Types.{Replaced}
+use Rattle.std.proofs.Common.{Option, Some, None, Ok, Err}
 use mathlib.Core.Path.{◌≡◌, refl, sym, ap, ◌∙◌}
 use mathlib.Core.Bool.{Bool, true, false, cond, ◌&&◌}
 use mathlib.Core.List.{List, [], ◌∷◌}
@@ -32,10 +34,6 @@ use Rattle.operators.proofs.Room.{top_in_lem, part_written, below_over}
 use Rattle.callees.specs.Shown.{world_in}
 use Rattle.outcomes.specs.declared.Src.{Src}
 use Rattle.outcomes.specs.declared.Dest.{Dest}
-use Rattle.outcomes.specs.declared.Active.{Active}
-use Rattle.outcomes.specs.declared.Active.TheVariants.{NotActive, IsActive}
-use Rattle.outcomes.specs.declared.Replaced.{Replaced}
-use Rattle.outcomes.specs.declared.Replaced.TheVariants as R
 use Rattle.outcomes.specs.Texts.{room_of, stretch_of, text_of, PieceIn, Awake, active_for, ActiveHere}
 use Rattle.outcomes.specs.Places.{into_of, after_of, waiting_of, bytes_at, work_put, text_put, Puts, copied_for, Copied, out_in}
 use Rattle.outcomes.proofs.Sources.{stretch_length}
@@ -86,7 +84,7 @@ on_is A.Rescanned f = refl
 on_is A.CopiedOnly f = refl
 
 -- a name that is active in a world whose names the table has: its address is in the table, and it is on
-pub awake_active : (deck names : List ℕ) (n : ℕ) (B : World) → Awake deck names n B → (x : T.Piece) (act : Active) (a : Address) (v : Activity) → active_for act ≡ D.active_in x B → act ≡ IsActive a v
+pub awake_active : (deck names : List ℕ) (n : ℕ) (B : World) → Awake deck names n B → (x : T.Piece) (act : Option (Address × Activity)) (a : Address) (v : Activity) → active_for act ≡ D.active_in x B → act ≡ Some (a, v)
     → (D.active_in x B ≡ D.active a.0 (activity_of v)) × (a.0 < n) × (is_on v ≡ true)
 awake_active deck names n B k x act a v f e =
     let g : D.active_in x B ≡ D.active a.0 (activity_of v) = sym f ∙ ap active_for e in
@@ -178,7 +176,7 @@ module _ (B : World) (o : Dest) (u k n : ℕ) (w t w' t' bs : List ℕ) (size : 
 
 -- ---- the ways out
 module _ (deck s rows names c l h w t : List ℕ) (x : Src) (p k : ℕ) (o : Dest) (u n : ℕ) (sc : Scene) (m : Meter) (y : Piece) (pi : PieceIn (room_of s w x) x.from x.to p y)
-    (act : Active) (ah : ActiveHere deck names sc.names (room_of s w x) x p y act) where
+    (act : Option (Address × Activity)) (ah : ActiveHere deck names sc.names (room_of s w x) x p y act) where
   module _ (B : World) (g : Stage deck rows names c l h w u sc m t o B) (so : Sourced s w x u) (lt : p < x.to - x.from) where
     abbrev text : List ℕ
     text = text_of s w x
@@ -212,12 +210,12 @@ module _ (deck s rows names c l h w t : List ℕ) (x : Src) (p k : ℕ) (o : Des
     unfolding token_at
     token_is z e = rw (e, to_is)
 
-    copied_by : (w' t' : List ℕ) (r : Replaced) → act ≡ NotActive → Copied s w t x p y.to o u k m w' t' r → k ≤ o.room → (o.to_work ≡ true → u + k ≤ 65536) → (b : Bool) → D.fits (into_of o) u k (y.to - p) ≡ b
+    copied_by : (w' t' : List ℕ) (r : Replaced) → act ≡ None → Copied s w t x p y.to o u k m w' t' r → k ≤ o.room → (o.to_work ≡ true → u + k ≤ 65536) → (b : Bool) → D.fits (into_of o) u k (y.to - p) ≡ b
         → Gone B (after_of o k) (waiting_of o u k) w t c l h w' t' r (token_at (replacer_in sc n) (into_of o) text k u p world)
     unfolding copied_for
     copied_by w' t' r e cp kr kf true f =
         let q : token_at (replacer_in sc n) (into_of o) text k u p world ≡ good (record { bytes = part (y.to - p) p text; to = y.to }) world = token_is D.not_active (sym active_at_lem ∙ ap active_for e) ∙ rw f in
-        let i : r ≡ R.Good (y.to - p) y.to m = cp.is ∙ rw f in
+        let i : r ≡ Ok ((y.to - p), y.to, m) = cp.is ∙ rw f in
         let pt : Puts s w t x p (y.to - p) o u k w' t' = cp.put f in
         let bs : List ℕ = part (y.to - p) p text in
         let low : x.in_work ≡ true → sum_to greatest x.from p ≤ top_of u k = λ v. omega (arith, sum_fits x.from p (omega (arith, so.within.short)), top_low u k g.shows.taken, so.below v) in
@@ -238,10 +236,10 @@ module _ (deck s rows names c l h w t : List ℕ) (x : Src) (p k : ℕ) (o : Des
         })
     copied_by w' t' r e cp kr kf false f =
         let q : token_at (replacer_in sc n) (into_of o) text k u p world ≡ bad (D.full (into_of o)) m.used = token_is D.not_active (sym active_at_lem ∙ ap active_for e) ∙ rw f in
-        let i : r ≡ R.Bad (D.full (into_of o)) m = cp.is ∙ rw f in
+        let i : r ≡ Err ((D.full (into_of o)), m) = cp.is ∙ rw f in
         rw (i, cp.work f, cp.text f) (gone_bad B (after_of o k) (waiting_of o u k) w t c l h w t (D.full (into_of o)) m _ (sym q) (record { below = refl; work = refl; long = refl; limit = g.shows.limit; slots = g.shows.slots }))
 
-    replaced_by : (c' l' h' w' t' : List ℕ) (r : Replaced) (a : Address) (v : Activity) → act ≡ IsActive a v → ReplaceIs deck s rows names c l h w t x y.to a.0 v (after_of o k) (waiting_of o u k) n sc m c' l' h' w' t' r
+    replaced_by : (c' l' h' w' t' : List ℕ) (r : Replaced) (a : Address) (v : Activity) → act ≡ Some (a, v) → ReplaceIs deck s rows names c l h w t x y.to a.0 v (after_of o k) (waiting_of o u k) n sc m c' l' h' w' t' r
         → k ≤ o.room → (o.to_work ≡ true → u + k ≤ 65536) → Gone B (after_of o k) (waiting_of o u k) w t c' l' h' w' t' r (token_at (replacer_in sc n) (into_of o) text k u p world)
     replaced_by c' l' h' w' t' r a v e ri kr kf =
         let aw : (D.active_in (piece_at mixed text p).piece world ≡ D.active a.0 (activity_of v)) × (a.0 < sc.names) × (is_on v ≡ true) =
@@ -252,9 +250,9 @@ module _ (deck s rows names c l h w t : List ℕ) (x : Src) (p k : ℕ) (o : Des
         token_is (D.active a.0 (activity_of v)) aw.0 ∙ rw (into_after o k, waiting_is o u k kf) in
         rw q (ri.is B st ss aw.1 aw.2)
 
-  pub token_copied : (w' t' : List ℕ) (r : Replaced) → act ≡ NotActive → Copied s w t x p y.to o u k m w' t' r → TokenIs deck s rows names c l h w t x p k o u n sc m c l h w' t' r
+  pub token_copied : (w' t' : List ℕ) (r : Replaced) → act ≡ None → Copied s w t x p y.to o u k m w' t' r → TokenIs deck s rows names c l h w t x p k o u n sc m c l h w' t' r
   token_copied w' t' r e cp = record { is = λ B g so lt kr kf. copied_by B g so lt w' t' r e cp kr kf (D.fits (into_of o) u k (y.to - p)) refl }
 
-  pub token_replaced : (c' l' h' w' t' : List ℕ) (r : Replaced) (a : Address) (v : Activity) (o' : Dest) (u' : ℕ) → act ≡ IsActive a v → o' ≡ after_of o k → u' ≡ waiting_of o u k
+  pub token_replaced : (c' l' h' w' t' : List ℕ) (r : Replaced) (a : Address) (v : Activity) (o' : Dest) (u' : ℕ) → act ≡ Some (a, v) → o' ≡ after_of o k → u' ≡ waiting_of o u k
       → ReplaceIs deck s rows names c l h w t x y.to a.0 v o' u' n sc m c' l' h' w' t' r → TokenIs deck s rows names c l h w t x p k o u n sc m c' l' h' w' t' r
   token_replaced c' l' h' w' t' r a v o' u' e i j ri = record { is = λ B g so lt kr kf. replaced_by B g so lt c' l' h' w' t' r a v e (rw (i, j) at ri) kr kf }

@@ -1,5 +1,9 @@
 -- Values: rescanned or copied, and those of calls.
 -- Assumes nothing.
+use Rattle.outcomes.specs.Types.{Scanned}
+use Rattle.operands.specs.Types.{Evaluated}
+use Rattle.std.proofs.Common.{Result, Ok, Err}
+use Rattle.operators.specs.declared.Value.{Value}
 use mathlib.Core.Path.{◌≡◌, refl, sym, ap, ◌∙◌}
 use mathlib.Core.Bool.{Bool, true, false, cond}
 use mathlib.Core.List.{List}
@@ -23,7 +27,6 @@ use Rattle.meter.specs.declared.Meter.{Meter}
 use Rattle.names.specs.declared.Activity.{Activity}
 use Rattle.names.specs.declared.Activity.TheVariants as A
 use Rattle.names.specs.Table.{activity_of}
-use Rattle.operators.specs.declared.Given.{Given}
 use Rattle.operators.specs.Stands.{top_of, given_in}
 use Rattle.operators.proofs.Room.{top_in_lem, part_written, below_over}
 use Rattle.operators.proofs.Callers.{below_less}
@@ -32,15 +35,11 @@ use Rattle.callees.specs.declared.Held.{Held}
 use Rattle.callees.specs.Shown.{world_in}
 use Rattle.callees.specs.Answer.{read_in, held_from}
 use Rattle.outcomes.specs.declared.Dest.{Dest}
-use Rattle.outcomes.specs.declared.Scanned.{Scanned}
-use Rattle.outcomes.specs.declared.Scanned.TheVariants as S
 use Rattle.outcomes.specs.Texts.{room_of, stretch_of, text_of}
 use Rattle.outcomes.specs.Places.{into_of, out_in, characters_at, characters_of, TextIs, settled_in, Settled}
 use Rattle.outcomes.specs.Copies.{is_rescanned, copied_value, work_copied, text_copied, CopiedValue, held_by, CopiedAs, CopiedFrom}
 use Rattle.outcomes.proofs.Meaning.{copied_out}
 use Rattle.operands.specs.declared.Scene.{Scene}
-use Rattle.operands.specs.declared.Evaluated.{Evaluated}
-use Rattle.operands.specs.declared.Evaluated.TheVariants as E
 use Rattle.operands.specs.Answer.{Gave, run_in}
 use Rattle.evaluating.specs.Cycle.{CallIs}
 use Rattle.scanning.specs.Cycle.{Sourced, Stage, text_with, Came, scanner_in, is_on, Scans, outcome_of, RescanIs, CallWith, given_for, meter_for}
@@ -95,14 +94,14 @@ module _ (sc : Scene) (n : ℕ) (o : Dest) (u : ℕ) (k : World) where
 -- the outcome of a text of k bytes at u, scanned above it, comes down to u
 module _ (o : Dest) (u k : ℕ) (w t c l h w₁ t' w' : List ℕ) (B : World) (room : 65536 ≤ length w) (z : Scanned) (Q : Res Why (List ℕ)) (cm : Came B o (u + k) w t c l h w₁ t' z Q) where
   down_by : (v : Scanned) → z ≡ v → w' ≡ settled_in o.to_work w₁ u k v → Came B o (u + k) w t c l h w₁ t' v Q → Came B o u w t c l h w' t' v Q
-  down_by (S.Bad b m') e f g =
+  down_by (Err (b, m')) e f g =
       let i : w' ≡ w₁ = f ∙ same_bad o.to_work in
       rw i (came_bad B o u w t c l h w₁ t' b m' Q g.is (record { below = below_less u (u + k) w w₁ (omega arith) g.left.below; work = g.left.work; long = g.left.long; limit = g.left.limit; slots = g.left.slots }))
     where
-      same_bad : (v : Bool) → settled_in v w₁ u k (S.Bad b m') ≡ w₁
+      same_bad : (v : Bool) → settled_in v w₁ u k (Err (b, m')) ≡ w₁
       same_bad true = refl
       same_bad false = refl
-  down_by (S.Good j m') e f g =
+  down_by (Ok (j, m')) e f g =
       let lp : length (part j (u + k) w₁) ≡ j = length_part j (u + k) w₁ in
       let tw : o.to_work ≡ true → w' ≡ over w₁ u (part j (u + k) w₁) = λ i. f ∙ rw i in
       let tx : o.to_work ≡ false → w' ≡ w₁ = λ i. f ∙ rw i in
@@ -124,21 +123,21 @@ module _ (o : Dest) (u k : ℕ) (w t c l h w₁ t' w' : List ℕ) (B : World) (r
   down : w' ≡ settled_in o.to_work w₁ u k z → Came B o u w t c l h w' t' z Q
   down f = down_by z refl f cm
 
-module _ (deck s rows names c l h w t : List ℕ) (g : Given) (o : Dest) (u n : ℕ) (sc : Scene) (m : Meter) (w₁ : List ℕ) (x : Scanned) (tx : TextIs w u g m w₁ x) (e₁ : length w₁ ≡ length w) where
-  bad_by : (e : Why) (k : Meter) → x ≡ S.Bad e k → (B : World) → Stage deck rows names c l h w u sc m t o B → Came B o u w t c l h w₁ t (S.Bad e k) (outcome_of sc n W.rescanned o u (given_in w u g) (world_in B c l h m.used))
+module _ (deck s rows names c l h w t : List ℕ) (g : Result Value Why) (o : Dest) (u n : ℕ) (sc : Scene) (m : Meter) (w₁ : List ℕ) (x : Scanned) (tx : TextIs w u g m w₁ x) (e₁ : length w₁ ≡ length w) where
+  bad_by : (e : Why) (k : Meter) → x ≡ Err (e, k) → (B : World) → Stage deck rows names c l h w u sc m t o B → Came B o u w t c l h w₁ t (Err (e, k)) (outcome_of sc n W.rescanned o u (given_in w u g) (world_in B c l h m.used))
   bad_by e k f B st =
       let d : characters_of u (given_in w u g) ≡ Val.fails e = sym (rw f at (tx.is st.shows.work)) in
       let i : k ≡ m = rw f at tx.meter in
       rw i (came_bad B o u w t c l h w₁ t e m _ (sym (outcome_fails sc n o u (world_in B c l h m.used) (given_in w u g) e d)) (record { below = tx.below; work = e₁; long = refl; limit = st.shows.limit; slots = st.shows.slots }))
 
-  pub rescan_bad : ((k : ℕ) (mk : Meter) → x ≡ S.Good k mk → ⊥) → RescanIs deck s rows names c l h w t g o u n sc m c l h w₁ t x
+  pub rescan_bad : ((k : ℕ) (mk : Meter) → x ≡ Ok (k, mk) → ⊥) → RescanIs deck s rows names c l h w t g o u n sc m c l h w₁ t x
   rescan_bad over = by x refl
     where
       by : (y : Scanned) → x ≡ y → RescanIs deck s rows names c l h w t g o u n sc m c l h w₁ t y
-      by (S.Good k mk) f = absurd (over k mk f)
-      by (S.Bad e k) f = record { is = λ B st. bad_by e k f B st }
+      by (Ok (k, mk)) f = absurd (over k mk f)
+      by (Err (e, k)) f = record { is = λ B st. bad_by e k f B st }
 
-  module _ (k : ℕ) (mk : Meter) (f : x ≡ S.Good k mk) (c' l' h' w₂ t' w' : List ℕ) (z r : Scanned) (sd : Settled w₂ o u k z w' r) where
+  module _ (k : ℕ) (mk : Meter) (f : x ≡ Ok (k, mk)) (c' l' h' w₂ t' w' : List ℕ) (z r : Scanned) (sd : Settled w₂ o u k z w' r) where
     scanned_by : (B : World) → Stage deck rows names c l h w u sc m t o B → (top : ℕ) → top ≡ top_of u k → Scans deck s rows names c l h w₁ t (record { in_work = true; from = u; to = top }) o top n sc mk c' l' h' w₂ t' z
         → Came B o u w t c' l' h' w' t' r (outcome_of sc n W.rescanned o u (given_in w u g) (world_in B c l h m.used))
     unfolding text_of stretch_of room_of
@@ -166,7 +165,7 @@ module _ (deck rows names c l h w t : List ℕ) (o : Dest) (u n : ℕ) (sc : Sce
   value_by : (v : Val.Value) → CopiedValue w t (Val.to_characters v) o u m w' t' r → (b : Bool) → D.fits (into_of o) u 0 (length (Val.to_characters v)) ≡ b → Came B o u w t c l h w' t' r (outcome_of sc n W.copied_only o u (Val.gives v) (world_in B c l h m.used))
   unfolding outcome_of copied_value work_copied text_copied
   value_by v cv true f =
-      let i : r ≡ S.Good (length (Val.to_characters v)) m = cv.is ∙ rw f in
+      let i : r ≡ Ok ((length (Val.to_characters v)), m) = cv.is ∙ rw f in
       let ww : o.to_work ≡ true → w' ≡ over w u (Val.to_characters v) = λ z. cv.work ∙ rw (f, z) in
       let wt : o.to_work ≡ false → w' ≡ w = λ z. cv.work ∙ rw (f, z) in
       let tw : o.to_work ≡ true → t' ≡ t = λ z. cv.text ∙ rw (f, z) in
@@ -192,7 +191,7 @@ module _ (deck rows names c l h w t : List ℕ) (o : Dest) (u n : ℕ) (sc : Sce
         };
       })
   value_by v cv false f =
-      let i : r ≡ S.Bad (D.full (into_of o)) m = cv.is ∙ rw f in
+      let i : r ≡ Err ((D.full (into_of o)), m) = cv.is ∙ rw f in
       let j : w' ≡ w = cv.work ∙ rw f in
       let k : t' ≡ t = cv.text ∙ rw f in
       let q : outcome_of sc n W.copied_only o u (Val.gives v) (world_in B c l h m.used) ≡ bad (D.full (into_of o)) m.used = rw f in
@@ -220,16 +219,16 @@ copied_only_lem A.CopiedOnly e f = refl
 
 -- ---- the ways out of call_with
 module _ (deck s rows names c l h w t : List ℕ) (z : Callee) (k : Held) (y : Activity) (o : Dest) (u n : ℕ) (sc : Scene) (m : Meter) (c₁ l₁ h₁ w₁ : List ℕ) (v : Evaluated) (ca : CallIs deck rows names c l h w u sc m z k c₁ l₁ h₁ w₁ v) (e₁ : length w₁ ≡ length w)
-    (gv : Given) (mm : Meter) (ig : gv ≡ given_for v) (im : mm ≡ meter_for v) (bb : Bool) (ib : bb ≡ is_rescanned y) where
+    (gv : Result Value Why) (mm : Meter) (ig : gv ≡ given_for v) (im : mm ≡ meter_for v) (bb : Bool) (ib : bb ≡ is_rescanned y) where
   called_is : (B : World) (b : Ev.Callee) (vs : List Val.Value) (W₁ : World) (e : Evaluated) → Gave B u w c₁ l₁ h₁ w₁ e 0 (run_in sc b vs u W₁)
       → D.call_with (run_in sc) (scanner_in sc n) (activity_of y) (into_of o) u b vs W₁ ≡ outcome_of sc n (activity_of y) o u (given_in w₁ u (given_for e)) (world_in B c₁ l₁ h₁ (meter_for e).used)
   unfolding D.call_with outcome_of given_in
-  called_is B b vs W₁ (E.Is vv a m') G = rw (← G.is)
-  called_is B b vs W₁ (E.Failed a m') G = rw (← G.is)
+  called_is B b vs W₁ (Ok (vv, a, m')) G = rw (← G.is)
+  called_is B b vs W₁ (Err (a, m')) G = rw (← G.is)
 
   limit_is : (B : World) (e : Evaluated) (R : Res Why Val.Value) → Gave B u w c₁ l₁ h₁ w₁ e 0 R → (meter_for e).limit ≡ B.limit
-  limit_is B (E.Is vv a m') R G = G.limit
-  limit_is B (E.Failed a m') R G = G.limit
+  limit_is B (Ok (vv, a, m')) R G = G.limit
+  limit_is B (Err (a, m')) R G = G.limit
 
   stage_called : (B : World) (R : Res Why Val.Value) → Stage deck rows names c l h w u sc m t o B → Gave B u w c₁ l₁ h₁ w₁ v 0 R → Stage deck rows names c₁ l₁ h₁ w₁ u sc mm t o B
   stage_called B R g G = stage_on deck rows names c l h w u sc m t o B c₁ l₁ h₁ w₁ u mm t o g G.slots e₁ g.shows.taken (ap (λ (i : Meter). i.limit) im ∙ limit_is B v R G) g.aims

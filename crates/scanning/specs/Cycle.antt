@@ -1,5 +1,9 @@
 -- THE CONTRACTS OF SCANNING. An outcome so far of k bytes lies in the text room from `at` on, or in the work room above u.
-use Rattle.std.specs.Prelude.{ℕ, ◌+◌, ◌-◌, ◌<◌, ◌≤◌, Bool, true, false, cond, ◌≡◌, Result, Ok, Err, List, length, take}
+use Rattle.outcomes.specs.Types.{Scanned, Replaced}
+use Rattle.operands.specs.Types.{Evaluated}
+use Rattle.operators.specs.declared.Value.{Value}
+use Rattle.callees.specs.declared.Parameter.{Parameter}
+use Rattle.std.specs.Prelude.{ℕ, ◌+◌, ◌-◌, ◌<◌, ◌≤◌, Bool, true, false, cond, ◌≡◌, Result, Ok, Err, List, length, take, Option, Some, None}
 use Rattle.definition.specs.Bytes.{mixed}
 use Rattle.definition.specs.Choice.{when}
 use Rattle.definition.specs.Limits.{text_bytes, unfinished_bytes}
@@ -19,27 +23,17 @@ use Rattle.meter.specs.declared.Meter.{Meter}
 use Rattle.names.specs.declared.Activity.{Activity}
 use Rattle.names.specs.declared.Activity.TheVariants as A
 use Rattle.names.specs.Table.{activity_of}
-use Rattle.operators.specs.declared.Given.{Given}
-use Rattle.operators.specs.declared.Given.TheVariants.{Gives, Fails}
 use Rattle.operators.specs.Stands.{stacked, given_in}
 use Rattle.callees.specs.declared.Callee.{Callee}
 use Rattle.callees.specs.declared.Held.{Held}
-use Rattle.callees.specs.declared.ParameterAt.{ParameterAt}
-use Rattle.callees.specs.declared.ParameterAt.TheVariants as P
 use Rattle.callees.specs.Shown.{world_in, Slots}
 use Rattle.callees.specs.Answer.{Waiting, held_from}
 use Rattle.operands.specs.declared.Scene.{Scene}
-use Rattle.operands.specs.declared.Evaluated.{Evaluated}
-use Rattle.operands.specs.declared.Evaluated.TheVariants as E
 use Rattle.operands.specs.Shown.{Shows}
 use Rattle.operands.specs.Answer.{res_in, run_in}
 use Rattle.evaluating.specs.Cycle.{CalleeShown}
 use Rattle.outcomes.specs.declared.Src.{Src}
 use Rattle.outcomes.specs.declared.Dest.{Dest}
-use Rattle.outcomes.specs.declared.Scanned.{Scanned}
-use Rattle.outcomes.specs.declared.Scanned.TheVariants as S
-use Rattle.outcomes.specs.declared.Replaced.{Replaced}
-use Rattle.outcomes.specs.declared.Replaced.TheVariants as R
 use Rattle.outcomes.specs.Texts.{room_of, text_of, Within, Awake}
 use Rattle.outcomes.specs.Places.{into_of, after_of, waiting_of, out_in, meter_of}
 use Rattle.outcomes.specs.Arguments.{cut_from}
@@ -67,12 +61,12 @@ unfoldable pub text_with : Dest → List ℕ → List ℕ → List ℕ
 text_with o bs t = cond o.to_work t (over t o.at bs)
 
 abbrev pub scanned_in : World → Dest → ℕ → List ℕ → List ℕ → List ℕ → List ℕ → List ℕ → Scanned → Res Why (List ℕ)
-scanned_in B o u c l h w t (S.Good k m) = good (out_in o t w u k) (world_in B c l h m.used)
-scanned_in B o u c l h w t (S.Bad e m) = bad e m.used
+scanned_in B o u c l h w t (Ok (k, m)) = good (out_in o t w u k) (world_in B c l h m.used)
+scanned_in B o u c l h w t (Err (e, m)) = bad e m.used
 
 abbrev pub replaced_in : World → Dest → ℕ → List ℕ → List ℕ → List ℕ → List ℕ → List ℕ → Replaced → Res Why D.Replaced
-replaced_in B o u c l h w t (R.Good k q m) = good (record { bytes = out_in o t w u k; to = q }) (world_in B c l h m.used)
-replaced_in B o u c l h w t (R.Bad e m) = bad e m.used
+replaced_in B o u c l h w t (Ok (k, q, m)) = good (record { bytes = out_in o t w u k; to = q }) (world_in B c l h m.used)
+replaced_in B o u c l h w t (Err (e, m)) = bad e m.used
 
 -- what else an answer of k bytes with a meter says
 pub record Put (B : World) (o : Dest) (u : ℕ) (t w' t' : List ℕ) (k : ℕ) : Type 0 where
@@ -81,16 +75,16 @@ pub record Put (B : World) (o : Dest) (u : ℕ) (t w' t' : List ℕ) (k : ℕ) :
   pub fits : o.to_work ≡ true → u + k ≤ unfinished_bytes
 
 abbrev pub ScannedPut : World → Dest → ℕ → List ℕ → List ℕ → List ℕ → Scanned → Type 0
-ScannedPut B o u t w' t' (S.Good k m) = Put B o u t w' t' k
-ScannedPut B o u t w' t' (S.Bad e m) = Unit {0}
+ScannedPut B o u t w' t' (Ok (k, m)) = Put B o u t w' t' k
+ScannedPut B o u t w' t' (Err (e, m)) = Unit {0}
 
 abbrev pub ReplacedPut : World → Dest → ℕ → List ℕ → List ℕ → List ℕ → Replaced → Type 0
-ReplacedPut B o u t w' t' (R.Good k q m) = Put B o u t w' t' k
-ReplacedPut B o u t w' t' (R.Bad e m) = Unit {0}
+ReplacedPut B o u t w' t' (Ok (k, q, m)) = Put B o u t w' t' k
+ReplacedPut B o u t w' t' (Err (e, m)) = Unit {0}
 
 abbrev pub meter_in : Replaced → Meter
-meter_in (R.Good k q m) = m
-meter_in (R.Bad e m) = m
+meter_in (Ok (k, q, m)) = m
+meter_in (Err (e, m)) = m
 
 -- what is left as it was
 pub record Left (B : World) (u : ℕ) (w t c' l' h' w' t' : List ℕ) (m : Meter) : Type 0 where
@@ -158,37 +152,37 @@ unfoldable pub outcome_of : Scene → ℕ → W.Activity → Dest → ℕ → Va
 outcome_of sc n y o u a w = bind (W.ask a w) (λ v z. D.outcome y (scanner_in sc n) (into_of o) u (Val.to_characters v) z)
 
 -- with RESCAN, of the value g at u
-pub record RescanIs (deck s rows names c l h w t : List ℕ) (g : Given) (o : Dest) (u n : ℕ) (sc : Scene) (m : Meter) (c' l' h' w' t' : List ℕ) (r : Scanned) : Type 0 where
+pub record RescanIs (deck s rows names c l h w t : List ℕ) (g : Result Value Why) (o : Dest) (u n : ℕ) (sc : Scene) (m : Meter) (c' l' h' w' t' : List ℕ) (r : Scanned) : Type 0 where
   pub is : (B : World) → Stage deck rows names c l h w u sc m t o B → Came B o u w t c' l' h' w' t' r (outcome_of sc n W.rescanned o u (given_in w u g) (world_in B c l h m.used))
 
 -- ---- arguments
-abbrev pub type_for : ParameterAt → ValueType
-type_for (P.Is x) = x.value_type
-type_for P.Wrong = CharacterType
+abbrev pub type_for : Option Parameter → ValueType
+type_for (Some x) = x.value_type
+type_for None = CharacterType
 
-abbrev pub next_for : ParameterAt → ℕ → ℕ
-next_for (P.Is x) at = x.to
-next_for P.Wrong at = at
+abbrev pub next_for : Option Parameter → ℕ → ℕ
+next_for (Some x) at = x.to
+next_for None at = at
 
-abbrev pub given_for : Evaluated → Given
-given_for (E.Is v e m) = Gives v
-given_for (E.Failed e m) = Fails e
+abbrev pub given_for : Evaluated → Result Value Why
+given_for (Ok (v, e, m)) = Ok v
+given_for (Err (e, m)) = Err e
 
 abbrev pub meter_for : Evaluated → Meter
-meter_for (E.Is v e m) = m
-meter_for (E.Failed e m) = m
+meter_for (Ok (v, e, m)) = m
+meter_for (Err (e, m)) = m
 
 abbrev pub TextFits : Scanned → ℕ → Type 0
-TextFits (S.Good k m) u = u + k ≤ unfinished_bytes
-TextFits (S.Bad e m) u = Unit {0}
+TextFits (Ok (k, m)) u = u + k ≤ unfinished_bytes
+TextFits (Err (e, m)) u = Unit {0}
 
 -- the outcome of an argument, bytes at u, made of a type
 unfoldable pub converted_by : ℕ → ValueType → List ℕ → Val.Answer Val.Value
 converted_by u t l = stacked u (Val.convert t (Val.characters l))
 
 abbrev pub converted_for : Scanned → ℕ → ValueType → World → List ℕ → List ℕ → List ℕ → List ℕ → Res Why Val.Value
-converted_for (S.Good k m) u t B c l h w = W.ask (converted_by u t (part k u w)) (world_in B c l h m.used)
-converted_for (S.Bad e m) u t B c l h w = bad e m.used
+converted_for (Ok (k, m)) u t B c l h w = W.ask (converted_by u t (part k u w)) (world_in B c l h m.used)
+converted_for (Err (e, m)) u t B c l h w = bad e m.used
 
 pub record ConvertedIs (w : List ℕ) (u : ℕ) (t : ValueType) (x : Scanned) (w' : List ℕ) (r : Evaluated) : Type 0 where
   pub is : unfinished_bytes ≤ length w → TextFits x u → (B : World) (c l h : List ℕ) → res_in B c l h w' u r ≡ converted_for x u t B c l h w

@@ -1,2 +1,3 @@
 -- What the contracts of `scanning` cite beside the definition.
 pub mod Cycle
+pub mod Types

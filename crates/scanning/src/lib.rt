@@ -6,8 +6,7 @@ ghost use Rattle.std.specs.Prelude.{◌≡◌};
 ghost use Rattle.scanning.specs.Cycle.{type_for, next_for, ConvertedIs, given_for, meter_for, RescanIs, TakenIs, CallWith, EntryIs, ReplaceIs, TokenIs, Scans};
 
 use callees::{
-    Called, Callee, Held, ParameterAt, callee_of, nothing_held, parameter_at, variable_value,
-    with_held,
+    Callee, Held, Parameter, callee_of, nothing_held, parameter_at, variable_value, with_held,
 };
 use deck::body;
 use definition::{ValueType, Why};
@@ -15,29 +14,29 @@ use evaluating::call;
 use meter::Meter;
 use names::{Activity, Address, Denotation, name_at};
 use operands::{Evaluated, Scene};
-use operators::{Given, Value, above, convert, size_of};
+use operators::{Value, above, convert, size_of};
 use outcomes::{
-    Active, Dest, Listing, Replaced, Scanned, Src, active_in, after, as_text, copied_result,
+    Dest, Listing, Replaced, Scanned, Src, active_in, after, as_text, copied_result,
     copied_variable, copy_token, end_of, into_work, is_rescanned, list_of, part_of, piece_of,
     place_after, settled, up_to, waiting,
 };
 use sums::{less, sum};
 
-fn type_of(x: ParameterAt) -> ValueType
+fn type_of(x: Option<Parameter>) -> ValueType
     ensures { result ≡ type_for x }
 {
     match x {
-        ParameterAt::Is(p) => p.value_type,
-        ParameterAt::Wrong => ValueType::CharacterType,
+        Some(p) => p.value_type,
+        None => ValueType::CharacterType,
     }
 }
 
-fn next_of(x: ParameterAt, at: usize) -> usize
+fn next_of(x: Option<Parameter>, at: usize) -> usize
     ensures { result ≡ next_for x at }
 {
     match x {
-        ParameterAt::Is(p) => p.to,
-        ParameterAt::Wrong => at,
+        Some(p) => p.to,
+        None => at,
     }
 }
 
@@ -46,21 +45,21 @@ fn converted(work: &mut [u8], u: usize, t: ValueType, x: Scanned) -> Evaluated
     ensures { ConvertedIs work.old u t x work.new result }
 {
     match x {
-        Scanned::Good(n, m) => match convert(work, u, t, Value::Characters(n)) {
-            Given::Gives(v) => Evaluated::Is(v, 0, m),
-            Given::Fails(w) => Evaluated::Failed(w, m),
+        Ok((n, m)) => match convert(work, u, t, Value::Characters(n)) {
+            Ok(v) => Ok((v, 0, m)),
+            Err(w) => Err((w, m)),
         },
-        Scanned::Bad(w, m) => Evaluated::Failed(w, m),
+        Err((w, m)) => Err((w, m)),
     }
 }
 
 // stays: `Evaluated`, `Given` and `Meter` are public types of other crates, whose impls stand there, so no `From` can stand here.
-fn value_given(x: Evaluated) -> Given
+fn value_given(x: Evaluated) -> Result<Value, Why>
     ensures { result ≡ given_for x }
 {
     match x {
-        Evaluated::Is(v, _, _) => Given::Gives(v),
-        Evaluated::Failed(w, _) => Given::Fails(w),
+        Ok((v, _, _)) => Ok(v),
+        Err((w, _)) => Err(w),
     }
 }
 
@@ -68,8 +67,8 @@ fn meter_of(x: Evaluated) -> Meter
     ensures { result ≡ meter_for x }
 {
     match x {
-        Evaluated::Is(_, _, m) => m,
-        Evaluated::Failed(_, m) => m,
+        Ok((_, _, m)) => m,
+        Err((_, m)) => m,
     }
 }
 
@@ -87,7 +86,7 @@ fn rescan(
     high: &mut [u8],
     work: &mut [u8],
     text: &mut [u8],
-    g: Given,
+    g: Result<Value, Why>,
     d: Dest,
     u: usize,
     n: usize,
@@ -97,7 +96,7 @@ fn rescan(
     ensures { RescanIs deck.now s.now rows.now names.now cells.old low.old high.old work.old text.old g d u n c m cells.new low.new high.new work.new text.new result }
 {
     let x = as_text(work, u, g, m);
-    let Scanned::Good(size, k) = x else {
+    let Ok((size, k)) = x else {
         return x;
     };
     let top = above(u, size);
@@ -162,13 +161,13 @@ fn scan_arguments(
             m,
         );
         match converted(work, top, type_of(parameter), z) {
-            Evaluated::Is(w, _, k) => {
+            Ok((w, _, k)) => {
                 held = with_held(held, i, w);
                 top = above(top, size_of(w));
                 from = place_after(to);
                 m = k;
             }
-            Evaluated::Failed(w, k) => return Err((w, k)),
+            Err((w, k)) => return Err((w, k)),
         }
     }
     Ok((held, m))
@@ -255,9 +254,9 @@ fn replace_entry(
         return up_to(z, p);
     }
     match list_of(s, work, x, p) {
-        Listing::Upto(count, first, to) => {
+        Some((count, first, to)) => {
             if count != y.count {
-                return Replaced::Bad(Why::WrongArguments, m);
+                return Err((Why::WrongArguments, m));
             }
             match scan_arguments(
                 deck, s, rows, names, cells, low, high, work, text, x, first, y, u, n, c, m,
@@ -269,10 +268,10 @@ fn replace_entry(
                     );
                     up_to(z, to)
                 }
-                Err((w, k)) => Replaced::Bad(w, k),
+                Err((w, k)) => Err((w, k)),
             }
         }
-        Listing::NoList => Replaced::Bad(Why::WrongArguments, m),
+        None => Err((Why::WrongArguments, m)),
     }
 }
 
@@ -301,7 +300,7 @@ pub fn replace(
     ensures { ReplaceIs deck.now s.now rows.now names.now cells.old low.old high.old work.old text.old x p a.0 act d u left c m cells.new low.new high.new work.new text.new result }
 {
     if left < 1 {
-        return Replaced::Bad(Why::TooDeep, m);
+        return Err((Why::TooDeep, m));
     }
     let n = left - 1;
     match name_at(names, a).denotation {
@@ -318,16 +317,16 @@ pub fn replace(
         }
         Denotation::EntryName(e) => {
             match callee_of(deck, rows, c.starts, names, c.names, e.body) {
-                Called::Is(z) => {
+                Ok(z) => {
                     replace_entry(
                         deck, s, rows, names, cells, low, high, work, text, x, p, z, act, d, u, n,
                         c, m,
                     )
                 }
-                Called::Fails(w) => Replaced::Bad(w, m),
+                Err(w) => Err((w, m)),
             }
         }
-        Denotation::LabelName(_) | Denotation::Builtin => Replaced::Bad(Why::WrongName, m),
+        Denotation::LabelName(_) | Denotation::Builtin => Err((Why::WrongName, m)),
     }
 }
 
@@ -356,8 +355,8 @@ fn token(
 {
     let y = piece_of(s, work, x, p);
     match active_in(deck, s, work, names, c.names, x, p, y) {
-        Active::NotActive => copy_token(s, work, text, x, p, y.to, d, u, k, m),
-        Active::IsActive(a, act) => {
+        None => copy_token(s, work, text, x, p, y.to, d, u, k, m),
+        Some((a, act)) => {
             replace(
                 deck,
                 s,
@@ -410,22 +409,19 @@ fn scan(
     // each token has a byte at least, and one more turn finds the end
     for _ in 0..sum(size, 1) {
         if size <= p {
-            return Scanned::Good(k, m);
+            return Ok((k, m));
         }
-        let paid = m.charged();
-        if !paid.paid {
-            return Scanned::Bad(Why::NoStep, paid.meter);
-        }
+        let left = m.charged()?;
         match token(
-            deck, s, rows, names, cells, low, high, work, text, x, p, k, d, u, n, c, paid.meter,
+            deck, s, rows, names, cells, low, high, work, text, x, p, k, d, u, n, c, left,
         ) {
-            Replaced::Good(more, q, now) => {
+            Ok((more, q, now)) => {
                 k = sum(k, more);
                 p = q;
                 m = now;
             }
-            Replaced::Bad(w, now) => return Scanned::Bad(w, now),
+            Err((w, now)) => return Err((w, now)),
         }
     }
-    Scanned::Good(k, m)
+    Ok((k, m))
 }

@@ -1,5 +1,6 @@
 -- The rows of a member in the table: their links and roles, their statements, and their places and texts.
 -- Assumes nothing.
+use Rattle.std.proofs.Common.{Option, Some, None}
 use mathlib.Core.Path.{◌≡◌, refl, sym, ap, ◌∙◌}
 use mathlib.Core.List.{List}
 use Prim.Native.Nat.{ℕ, ◌<◌}
@@ -9,8 +10,6 @@ use Rattle.definition.specs.Program as P
 use Rattle.definition.specs.World.{row_of}
 use Rattle.rows.specs.Table.{row_in}
 use Rattle.rows.specs.Tabled.{Tabled}
-use Rattle.rows.specs.declared.Link.{Link}
-use Rattle.rows.specs.declared.Link.TheVariants as L
 use Rattle.rows.specs.declared.Role.{Role}
 use Rattle.rows.specs.declared.Role.TheVariants as Rl
 use Rattle.rows.specs.declared.Row.{Row}
@@ -26,9 +25,9 @@ use Rattle.showing.specs.Listed.{Lists, Written}
 use Rattle.showing.proofs.Stating.{stated_again}
 use Rattle.showing.proofs.Listing.{lists_again}
 
-link_back : (x : Link) → x ≡ F.link_of (O.link_of x)
-link_back L.Nowhere = refl
-link_back (L.To n) = refl
+link_back : (x : Option ℕ) → x ≡ F.link_of (O.link_of x)
+link_back None = refl
+link_back (Some n) = refl
 
 role_back : (x : Role) → x ≡ F.role_of (O.role_of x)
 role_back Rl.Listed = refl

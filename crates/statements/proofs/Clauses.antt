@@ -1,5 +1,7 @@
 -- The clauses that declare nothing: what the answers say, one after the other, is the clause that the definition reads.
 -- Assumes nothing.
+use Rattle.statements.specs.Types.{Read}
+use Rattle.expressions.specs.Types.{Expected}
 use mathlib.Core.Path.{◌≡◌, refl, sym, ◌∙◌}
 use mathlib.Core.Bool.{Bool, true, false, cond, ◌||◌}
 use mathlib.Core.Logic.{◌⊎◌, inl, inr}
@@ -22,8 +24,6 @@ use Rattle.definition.specs.declared.Why.{Why}
 use Rattle.definition.specs.declared.Why.TheVariants.{Syntax}
 use Rattle.tokens.specs.declared.Lexeme.{Lexeme}
 use Rattle.tokens.specs.Answer.{Lexed, is_sign_in, is_word_in}
-use Rattle.expressions.specs.declared.Expected.{Expected}
-use Rattle.expressions.specs.declared.Expected.TheVariants.{Past, Refused}
 use Rattle.expressions.specs.Check.{expect_for, expected, is_worded, expected_word, end_for}
 use Rattle.expressions.proofs.Laws.{told}
 use Rattle.expressions.proofs.Reading.{expected_is, expected_word_is}
@@ -34,8 +34,6 @@ use Rattle.statements.specs.declared.Each.TheVariants as Ea
 use Rattle.statements.specs.declared.Opens.TheVariants as O
 use Rattle.statements.specs.declared.Keyword.{Keyword}
 use Rattle.statements.specs.declared.Keyword.TheVariants as K
-use Rattle.statements.specs.declared.Read.{Read}
-use Rattle.statements.specs.declared.Read.TheVariants as R
 use Rattle.std.specs.Prelude.{Some, None, Ok, Err}
 use Rattle.std.specs.declared.option.Option.{Option}
 use Rattle.statements.specs.Clauses.{opens_for, clause_of, read_for, read_up_to, then_sign, then_word, then_expression, bound_past, bounds_past, name_end, rescan_past, rescanned, member_past, item_past, list_next, list_end, names_end, go_clause, do_kind, plain_for, item_of, item_in, attribute_by, worded, Part, itemized, type_from, head_up_to, head_from}
@@ -105,25 +103,25 @@ module _ (s : List ℕ) (c : ℕ) where
   unfolding D.goto_clause
   goes x y r e f g = rw (g, f, e) (goto_by (name_at mixed s c))
 
-  go_past : (b : Bool) (to from q : ℕ) (r : Read) → cond b (Past to) (Refused Syntax from) ≡ Past q → r ≡ read_for S.Goto q FixedType (D.goto_clause mixed s q) → r ≡ read_for S.Goto to FixedType (then (cond b (read to) (refused Syntax from)) (D.goto_clause mixed s))
+  go_past : (b : Bool) (to from q : ℕ) (r : Read) → cond b (Ok to) (Err (Syntax, from)) ≡ Ok q → r ≡ read_for S.Goto q FixedType (D.goto_clause mixed s q) → r ≡ read_for S.Goto to FixedType (then (cond b (read to) (refused Syntax from)) (D.goto_clause mixed s))
   go_past true to from q r e f = let z : to ≡ q = cc in rw z f
   go_past false to from q r e f = let z : ◌≡◌ {A = ℕ} 0 1 = cc in absurd (omega arith)
 
-  go_none : (b : Bool) (to from : ℕ) (w : Why) (p : ℕ) → cond b (Past to) (Refused Syntax from) ≡ Refused w p → R.Refused w p ≡ read_for S.Goto to FixedType (then (cond b (read to) (refused Syntax from)) (D.goto_clause mixed s))
+  go_none : (b : Bool) (to from : ℕ) (w : Why) (p : ℕ) → cond b (Ok to) (Err (Syntax, from)) ≡ Err (w, p) → Err (w, p) ≡ read_for S.Goto to FixedType (then (cond b (read to) (refused Syntax from)) (D.goto_clause mixed s))
   unfolding read_for
   go_none true to from w p e = let z : ◌≡◌ {A = ℕ} 0 1 = cc in absurd (omega arith)
   go_none false to from w p e = cc
 
   module _ (x : Expected) (h : x ≡ expected_word (84 ∷ 79 ∷ []) s c) where
-    to_is : x ≡ cond (is_word "TO" (token_at mixed s c).token) (Past (token_at mixed s c).to) (Refused Syntax (token_at mixed s c).from)
+    to_is : x ≡ cond (is_word "TO" (token_at mixed s c).token) (Ok (token_at mixed s c).to) (Err (Syntax, (token_at mixed s c).from))
     unfolding expected_word
     to_is = rw (word_spelled "TO" (84 ∷ 79 ∷ []) refl (token_at mixed s c).token) at h
 
-    pub go_to : (q : ℕ) (r : Read) → x ≡ Past q → r ≡ read_for S.Goto q FixedType (D.goto_clause mixed s q) → r ≡ read_for S.Goto (token_at mixed s c).to FixedType (go_clause s c)
+    pub go_to : (q : ℕ) (r : Read) → x ≡ Ok q → r ≡ read_for S.Goto q FixedType (D.goto_clause mixed s q) → r ≡ read_for S.Goto (token_at mixed s c).to FixedType (go_clause s c)
     unfolding go_clause expect_word
     go_to q r e f = go_past (is_word "TO" (token_at mixed s c).token) (token_at mixed s c).to (token_at mixed s c).from q r (sym to_is ∙ e) f
 
-    pub go_refused : (w : Why) (p : ℕ) → x ≡ Refused w p → R.Refused w p ≡ read_for S.Goto (token_at mixed s c).to FixedType (go_clause s c)
+    pub go_refused : (w : Why) (p : ℕ) → x ≡ Err (w, p) → Err (w, p) ≡ read_for S.Goto (token_at mixed s c).to FixedType (go_clause s c)
     unfolding go_clause expect_word
     go_refused w p e = go_none (is_word "TO" (token_at mixed s c).token) (token_at mixed s c).to (token_at mixed s c).from w p (sym to_is ∙ e)
 
@@ -157,23 +155,23 @@ module _ (s : List ℕ) (c : ℕ) where
   group_by x at = rw (expected_is ";" (59 ∷ []) refl s at) (up_to_is S.Iterated D.opens_group c x (expect_sign mixed ";" s at))
 
   -- what stands behind a bound that is there, or that is not
-  module _ (h : Expected → Read) (strict : (w : Why) (p : ℕ) → h (Refused w p) ≡ R.Refused w p) where
-    tree_by : (F : Parsed → Reading D.Clause) → ((r : Parsed) → h (Past r.to) ≡ read_for S.Iterated c FixedType (F r)) → (R : Reading Parsed) → h (end_for R) ≡ read_for S.Iterated c FixedType (then R F)
+  module _ (h : Expected → Read) (strict : (w : Why) (p : ℕ) → h (Err (w, p)) ≡ Err (w, p)) where
+    tree_by : (F : Parsed → Reading D.Clause) → ((r : Parsed) → h (Ok r.to) ≡ read_for S.Iterated c FixedType (F r)) → (R : Reading Parsed) → h (end_for R) ≡ read_for S.Iterated c FixedType (then R F)
     unfolding end_for read_for
     tree_by F k (read r) = k r
     tree_by F k (refused w p) = strict w p
 
     bound_by : (mk : Tree → P.Bound) (bs : List P.Bound) (q : ℕ) (found : List P.Bound → ℕ → Reading D.Clause) (absent : Unit {0} → Reading D.Clause) (b : Bool)
-        → ((cs : List P.Bound) (e : ℕ) → h (Past e) ≡ read_for S.Iterated c FixedType (found cs e))
-        → (b ≡ false → h (Past q) ≡ read_for S.Iterated c FixedType (absent tt))
-        → h (cond b (end_for (whole_expression mixed s (token_at mixed s q).to)) (Past q)) ≡ read_for S.Iterated c FixedType (when b (λ _. then (whole_expression mixed s (token_at mixed s q).to) λ r. found (bs ++ mk r.tree ∷ []) r.to) absent)
+        → ((cs : List P.Bound) (e : ℕ) → h (Ok e) ≡ read_for S.Iterated c FixedType (found cs e))
+        → (b ≡ false → h (Ok q) ≡ read_for S.Iterated c FixedType (absent tt))
+        → h (cond b (end_for (whole_expression mixed s (token_at mixed s q).to)) (Ok q)) ≡ read_for S.Iterated c FixedType (when b (λ _. then (whole_expression mixed s (token_at mixed s q).to) λ r. found (bs ++ mk r.tree ∷ []) r.to) absent)
     bound_by mk bs q found absent true k l = tree_by (λ r. found (bs ++ mk r.tree ∷ []) r.to) (λ r. k (bs ++ mk r.tree ∷ []) r.to) (whole_expression mixed s (token_at mixed s q).to)
     bound_by mk bs q found absent false k l = l refl
 
     bound_is : (W : Str.String) (w : List ℕ) → bytes_of W ≡ w → (mk : Tree → P.Bound) (bs : List P.Bound) (q : ℕ) (found : List P.Bound → ℕ → Reading D.Clause) (absent : Unit {0} → Reading D.Clause)
-        → ((cs : List P.Bound) (e : ℕ) → h (Past e) ≡ read_for S.Iterated c FixedType (found cs e))
-        → (is_word W (token_at mixed s q).token ≡ false → h (Past q) ≡ read_for S.Iterated c FixedType (absent tt))
-        → h (bound_past w s (Past q)) ≡ read_for S.Iterated c FixedType (D.bound_at mixed W mk s bs q found absent)
+        → ((cs : List P.Bound) (e : ℕ) → h (Ok e) ≡ read_for S.Iterated c FixedType (found cs e))
+        → (is_word W (token_at mixed s q).token ≡ false → h (Ok q) ≡ read_for S.Iterated c FixedType (absent tt))
+        → h (bound_past w s (Ok q)) ≡ read_for S.Iterated c FixedType (D.bound_at mixed W mk s bs q found absent)
     unfolding bound_past D.bound_at
     bound_is W w e mk bs q found absent k l = rw (word_spelled W w e (token_at mixed s q).token) (bound_by mk bs q found absent (is_word W (token_at mixed s q).token) k l)
 
@@ -184,50 +182,50 @@ module _ (s : List ℕ) (c : ℕ) where
     abbrev last : Expected → Read
     last e = read_up_to S.Iterated O.Group c (then_sign (59 ∷ []) s e)
 
-    last_strict : (w : Why) (p : ℕ) → last (Refused w p) ≡ R.Refused w p
+    last_strict : (w : Why) (p : ℕ) → last (Err (w, p)) ≡ Err (w, p)
     unfolding read_up_to then_sign
     last_strict w p = refl
 
-    last_finish : (bs : List P.Bound) (e : ℕ) → last (Past e) ≡ read_for S.Iterated c FixedType (finish bs e)
+    last_finish : (bs : List P.Bound) (e : ℕ) → last (Ok e) ≡ read_for S.Iterated c FixedType (finish bs e)
     unfolding then_sign
     last_finish bs e = group_by (make bs) e
 
-    to_last : (bs : List P.Bound) (e : ℕ) → last (bound_past (84 ∷ 79 ∷ []) s (Past e)) ≡ read_for S.Iterated c FixedType (D.bound_at mixed "TO" P.upto s bs e finish (λ _. finish bs e))
+    to_last : (bs : List P.Bound) (e : ℕ) → last (bound_past (84 ∷ 79 ∷ []) s (Ok e)) ≡ read_for S.Iterated c FixedType (D.bound_at mixed "TO" P.upto s bs e finish (λ _. finish bs e))
     to_last bs e = bound_is last last_strict "TO" (84 ∷ 79 ∷ []) refl P.upto bs e finish (λ _. finish bs e) last_finish (λ _. last_finish bs e)
 
-    by_last : (bs : List P.Bound) (e : ℕ) → last (bound_past (66 ∷ 89 ∷ []) s (Past e)) ≡ read_for S.Iterated c FixedType (D.bound_at mixed "BY" P.by s bs e finish (λ _. finish bs e))
+    by_last : (bs : List P.Bound) (e : ℕ) → last (bound_past (66 ∷ 89 ∷ []) s (Ok e)) ≡ read_for S.Iterated c FixedType (D.bound_at mixed "BY" P.by s bs e finish (λ _. finish bs e))
     by_last bs e = bound_is last last_strict "BY" (66 ∷ 89 ∷ []) refl P.by bs e finish (λ _. finish bs e) last_finish (λ _. last_finish bs e)
 
     abbrev then_by_word : Expected → Read
     then_by_word e = last (bound_past (66 ∷ 89 ∷ []) s e)
 
-    by_strict : (w : Why) (p : ℕ) → then_by_word (Refused w p) ≡ R.Refused w p
+    by_strict : (w : Why) (p : ℕ) → then_by_word (Err (w, p)) ≡ Err (w, p)
     unfolding read_up_to then_sign bound_past
     by_strict w p = refl
 
-    no_by : (q : ℕ) → is_word "BY" (token_at mixed s q).token ≡ false → then_by_word (Past q) ≡ read_for S.Iterated c FixedType (finish [] q)
+    no_by : (q : ℕ) → is_word "BY" (token_at mixed s q).token ≡ false → then_by_word (Ok q) ≡ read_for S.Iterated c FixedType (finish [] q)
     unfolding bound_past
     no_by q e = rw (word_spelled "BY" (66 ∷ 89 ∷ []) refl (token_at mixed s q).token, e) (last_finish [] q)
 
-    to_strict : (w : Why) (p : ℕ) → last (bound_past (84 ∷ 79 ∷ []) s (Refused w p)) ≡ R.Refused w p
+    to_strict : (w : Why) (p : ℕ) → last (bound_past (84 ∷ 79 ∷ []) s (Err (w, p))) ≡ Err (w, p)
     unfolding read_up_to then_sign bound_past
     to_strict w p = refl
 
     bounds_cases : (q : ℕ) (b : Bool) → is_word "BY" (token_at mixed s q).token ≡ b
-        → last (cond b (bound_past (84 ∷ 79 ∷ []) s (end_for (whole_expression mixed s (token_at mixed s q).to))) (bound_past (66 ∷ 89 ∷ []) s (bound_past (84 ∷ 79 ∷ []) s (Past q))))
+        → last (cond b (bound_past (84 ∷ 79 ∷ []) s (end_for (whole_expression mixed s (token_at mixed s q).to))) (bound_past (66 ∷ 89 ∷ []) s (bound_past (84 ∷ 79 ∷ []) s (Ok q))))
         ≡ read_for S.Iterated c FixedType (when b (λ _. then (whole_expression mixed s (token_at mixed s q).to) λ r. D.bound_at mixed "TO" P.upto s ([] ++ P.by r.tree ∷ []) r.to finish (λ _. finish ([] ++ P.by r.tree ∷ []) r.to))
         (λ _. D.bound_at mixed "TO" P.upto s [] q (λ bs e. D.bound_at mixed "BY" P.by s bs e finish (λ _. finish bs e)) (λ _. finish [] q)))
     bounds_cases q true e = tree_by (λ x. last (bound_past (84 ∷ 79 ∷ []) s x)) to_strict (λ r. D.bound_at mixed "TO" P.upto s ([] ++ P.by r.tree ∷ []) r.to finish (λ _. finish ([] ++ P.by r.tree ∷ []) r.to)) (λ r. to_last ([] ++ P.by r.tree ∷ []) r.to) (whole_expression mixed s (token_at mixed s q).to)
     bounds_cases q false e = bound_is then_by_word by_strict "TO" (84 ∷ 79 ∷ []) refl P.upto [] q (λ bs e. D.bound_at mixed "BY" P.by s bs e finish (λ _. finish bs e)) (λ _. finish [] q) by_last (λ _. no_by q e)
 
-    bounds_is : (q : ℕ) → last (bounds_past s (Past q)) ≡ read_for S.Iterated c FixedType (D.do_bounds mixed s make q)
+    bounds_is : (q : ℕ) → last (bounds_past s (Ok q)) ≡ read_for S.Iterated c FixedType (D.do_bounds mixed s make q)
     unfolding bounds_past D.do_bounds D.bound_at
     bounds_is q = rw (word_spelled "BY" (66 ∷ 89 ∷ []) refl (token_at mixed s q).token) (bounds_cases q (is_word "BY" (token_at mixed s q).token) refl)
 
   abbrev behind_all : Expected → Read
   behind_all e = read_up_to S.Iterated O.Group c (then_sign (59 ∷ []) s (bounds_past s e))
 
-  all_strict : (y : Why) (p : ℕ) → behind_all (Refused y p) ≡ R.Refused y p
+  all_strict : (y : Why) (p : ℕ) → behind_all (Err (y, p)) ≡ Err (y, p)
   unfolding read_up_to then_sign bounds_past
   all_strict y p = refl
 
@@ -254,7 +252,7 @@ module _ (s : List ℕ) (c : ℕ) where
   unfolding D.do_clause do_kind
   do_iterated l lex v a b x y z u t r e f g h i j = rw (told s c l lex ";" (59 ∷ []) v false refl a b, j, i, h, g, f, e) (name_bounds (name_at mixed s c))
 
-  pub do_group : (l : Lexeme) → Lexed s c l → (v : Bool) → v ≡ is_sign_in s l (59 ∷ []) → v ≡ true → (r : Read) → r ≡ read_up_to S.Group O.Group c (Past l.to) → r ≡ read_for (do_kind s c) c FixedType (D.do_clause mixed s c)
+  pub do_group : (l : Lexeme) → Lexed s c l → (v : Bool) → v ≡ is_sign_in s l (59 ∷ []) → v ≡ true → (r : Read) → r ≡ read_up_to S.Group O.Group c (Ok l.to) → r ≡ read_for (do_kind s c) c FixedType (D.do_clause mixed s c)
   unfolding D.do_clause do_kind read_up_to read_for
   do_group l lex v a b r e = rw (told s c l lex ";" (59 ∷ []) v true refl a b, ← lex.to) e
 
@@ -268,7 +266,7 @@ module _ (k : Statement) (c : ℕ) (s : List ℕ) where
 
   next_by : (more : ℕ → Reading D.Clause) (again : ℕ → Expected) (x : P.Statement) (e : ℕ)
       → ((q : ℕ) → read_up_to k O.Nothing c (again q) ≡ read_for k c FixedType (more q))
-      → read_up_to k O.Nothing c (list_next (59 ∷ []) s (Past e) again) ≡ read_for k c FixedType (when (is_sign "," (token_at mixed s e).token) (λ _. more (token_at mixed s e).to) (λ _. D.ended mixed s x e))
+      → read_up_to k O.Nothing c (list_next (59 ∷ []) s (Ok e) again) ≡ read_for k c FixedType (when (is_sign "," (token_at mixed s e).token) (λ _. more (token_at mixed s e).to) (λ _. D.ended mixed s x e))
   next_by more again x e h = rw (sign_spelled "," (44 ∷ []) refl (token_at mixed s e).token) (comma_by more again x e (is_sign "," (token_at mixed s e).token) h)
 
 -- behind an item x of a list
@@ -276,7 +274,7 @@ abbrev after : {A : Type 0} → List ℕ → (List A → P.Statement) → List A
 after s make xs more x e = when (is_sign "," (token_at mixed s e).token) (λ _. more (xs ++ x ∷ []) (token_at mixed s e).to) (λ _. D.ended mixed s (make (xs ++ x ∷ [])) e)
 
 module _ {A : Type 0} (k : Statement) (c : ℕ) (s : List ℕ) (make : List A → P.Statement) (xs : List A) (again : ℕ → Expected) (more : List A → ℕ → Reading D.Clause) (h : (ys : List A) (q : ℕ) → read_up_to k O.Nothing c (again q) ≡ read_for k c FixedType (more ys q)) where
-  after_is : (x : A) (e : ℕ) → read_up_to k O.Nothing c (list_next (59 ∷ []) s (Past e) again) ≡ read_for k c FixedType (after s make xs more x e)
+  after_is : (x : A) (e : ℕ) → read_up_to k O.Nothing c (list_next (59 ∷ []) s (Ok e) again) ≡ read_for k c FixedType (after s make xs more x e)
   after_is x e = next_by k c s (more (xs ++ x ∷ [])) again (make (xs ++ x ∷ [])) e (h (xs ++ x ∷ []))
 
 -- DEACTIVATE
@@ -297,11 +295,11 @@ module _ (c : ℕ) (s : List ℕ) (xs : List P.Activation) (again : ℕ → Expe
   abbrev activated : List ℕ → Bool → ℕ → Reading D.Clause
   activated w b e = after s P.activate xs more (record { spelling = w; is_copied = b }) e
 
-  activated_is : (w : List ℕ) (b : Bool) (e : ℕ) → read_up_to S.Activate O.Nothing c (list_next (59 ∷ []) s (Past e) again) ≡ read_for S.Activate c FixedType (activated w b e)
+  activated_is : (w : List ℕ) (b : Bool) (e : ℕ) → read_up_to S.Activate O.Nothing c (list_next (59 ∷ []) s (Ok e) again) ≡ read_for S.Activate c FixedType (activated w b e)
   activated_is w b e = after_is S.Activate c s P.activate xs again more h (record { spelling = w; is_copied = b }) e
 
   rescan_by : (w : List ℕ) (e : ℕ) (a b : Bool)
-      → read_up_to S.Activate O.Nothing c (list_next (59 ∷ []) s (Past (cond (a || b) (token_at mixed s e).to e)) again)
+      → read_up_to S.Activate O.Nothing c (list_next (59 ∷ []) s (Ok (cond (a || b) (token_at mixed s e).to e)) again)
       ≡ read_for S.Activate c FixedType (when a (λ _. activated w true (token_at mixed s e).to) (λ _. when b (λ _. activated w false (token_at mixed s e).to) (λ _. activated w false e)))
   rescan_by w e true b = activated_is w true (token_at mixed s e).to
   rescan_by w e false true = activated_is w false (token_at mixed s e).to
@@ -324,7 +322,7 @@ module _ (c : ℕ) (s : List ℕ) (xs : List Sought) (again : ℕ → Expected) 
   abbrev included : Sought → ℕ → Reading D.Clause
   included x e = after s P.include xs more x e
 
-  included_is : (x : Sought) (e : ℕ) → read_up_to S.Include O.Nothing c (list_next (59 ∷ []) s (Past e) again) ≡ read_for S.Include c FixedType (included x e)
+  included_is : (x : Sought) (e : ℕ) → read_up_to S.Include O.Nothing c (list_next (59 ∷ []) s (Ok e) again) ≡ read_for S.Include c FixedType (included x e)
   included_is x e = after_is S.Include c s P.include xs again more h x e
 
   close_member : (x : Sought) (Q : Reading ℕ) → read_up_to S.Include O.Nothing c (list_next (59 ∷ []) s (expect_for Q) again) ≡ read_for S.Include c FixedType (then Q λ e. included x e)
@@ -342,7 +340,7 @@ module _ (c : ℕ) (s : List ℕ) (xs : List Sought) (again : ℕ → Expected) 
   open_member l (refused w p) = refl
 
   library_by : (w : List ℕ) (e : ℕ) (b : Bool)
-      → read_up_to S.Include O.Nothing c (list_next (59 ∷ []) s (cond b (then_sign (41 ∷ []) s (name_end (name_at mixed s (token_at mixed s e).to))) (Past e)) again)
+      → read_up_to S.Include O.Nothing c (list_next (59 ∷ []) s (cond b (then_sign (41 ∷ []) s (name_end (name_at mixed s (token_at mixed s e).to))) (Ok e)) again)
       ≡ read_for S.Include c FixedType (when b (λ _. then (name_at mixed s (token_at mixed s e).to) λ m. then (expect_sign mixed ")" s m.to) λ q. included (in_library w m.spelling) q) (λ _. included (bare w) e))
   library_by w e true = open_member w (name_at mixed s (token_at mixed s e).to)
   library_by w e false = included_is (bare w) e
@@ -394,7 +392,7 @@ module _ (s : List ℕ) (k : Keyword) (b : Bool) (from at : ℕ) where
     unfolding plain_for D.activate_clause
     plain_activate e x h i = rw (e, i, h) (activations_are at s (length s) [] at)
 
-  pub plain_none : (k ≡ K.Declare) ⊎ ((k ≡ K.Procedure) ⊎ (k ≡ K.Other)) → R.Refused Syntax from ≡ plain_for k b s from at
+  pub plain_none : (k ≡ K.Declare) ⊎ ((k ≡ K.Procedure) ⊎ (k ≡ K.Other)) → Err (Syntax, from) ≡ plain_for k b s from at
   unfolding plain_for
   plain_none (inl e) = rw e
   plain_none (inr (inl e)) = rw e
@@ -416,11 +414,11 @@ unfolding attribute_by
 attribute_same i is js h = rw (h (67 ∷ 72 ∷ 65 ∷ 82 ∷ 65 ∷ 67 ∷ 84 ∷ 69 ∷ 82 ∷ []), h (67 ∷ 72 ∷ 65 ∷ 82 ∷ []), h (70 ∷ 73 ∷ 88 ∷ 69 ∷ 68 ∷ []), h (66 ∷ 85 ∷ 73 ∷ 76 ∷ 84 ∷ 73 ∷ 78 ∷ []), h (69 ∷ 78 ∷ 84 ∷ 82 ∷ 89 ∷ []))
 
 module _ (s : List ℕ) (x : Expected) (i : Bool) where
-  pub itemized_refused : (w : Why) (p : ℕ) → x ≡ Refused w p → Err (w, p) ≡ itemized s x i
+  pub itemized_refused : (w : Why) (p : ℕ) → x ≡ Err (w, p) → Err (w, p) ≡ itemized s x i
   unfolding itemized
   itemized_refused w p e = rw e
 
-  module _ (q : ℕ) (e : x ≡ Past q) (l : Lexeme) (lex : Lexed s q l) (a : Option Meaning) (h : a ≡ attribute_by i (is_word_in s l)) where
+  module _ (q : ℕ) (e : x ≡ Ok q) (l : Lexeme) (lex : Lexed s q l) (a : Option Meaning) (h : a ≡ attribute_by i (is_word_in s l)) where
     attribute_there : attribute_by i (worded (token_at mixed s q).token) ≡ a
     attribute_there = sym (h ∙ attribute_same i (is_word_in s l) (worded (token_at mixed s q).token) (word_in s q l lex))
 
@@ -439,11 +437,11 @@ module _ (s : List ℕ) (e x y : Expected) (f : x ≡ then_word (82 ∷ 69 ∷ 8
   opened : y ≡ wide
   opened = rw f at g
 
-  pub type_refused : (w : Why) (p : ℕ) → y ≡ Refused w p → Err (w, p) ≡ type_from s (then_sign (40 ∷ []) s (then_word (82 ∷ 69 ∷ 84 ∷ 85 ∷ 82 ∷ 78 ∷ 83 ∷ []) s e))
+  pub type_refused : (w : Why) (p : ℕ) → y ≡ Err (w, p) → Err (w, p) ≡ type_from s (then_sign (40 ∷ []) s (then_word (82 ∷ 69 ∷ 84 ∷ 85 ∷ 82 ∷ 78 ∷ 83 ∷ []) s e))
   unfolding type_from
   type_refused w p h = rw (← opened, h)
 
-  module _ (q : ℕ) (h : y ≡ Past q) (l : Lexeme) (lex : Lexed s q l) (a : Bool) (ha : a ≡ (is_word_in s l (67 ∷ 72 ∷ 65 ∷ 82 ∷ 65 ∷ 67 ∷ 84 ∷ 69 ∷ 82 ∷ []) || is_word_in s l (67 ∷ 72 ∷ 65 ∷ 82 ∷ []))) where
+  module _ (q : ℕ) (h : y ≡ Ok q) (l : Lexeme) (lex : Lexed s q l) (a : Bool) (ha : a ≡ (is_word_in s l (67 ∷ 72 ∷ 65 ∷ 82 ∷ 65 ∷ 67 ∷ 84 ∷ 69 ∷ 82 ∷ []) || is_word_in s l (67 ∷ 72 ∷ 65 ∷ 82 ∷ []))) where
     characters : (is_worded (67 ∷ 72 ∷ 65 ∷ 82 ∷ 65 ∷ 67 ∷ 84 ∷ 69 ∷ 82 ∷ []) (token_at mixed s q).token || is_worded (67 ∷ 72 ∷ 65 ∷ 82 ∷ []) (token_at mixed s q).token) ≡ a
     characters = sym (rw (word_in s q l lex (67 ∷ 72 ∷ 65 ∷ 82 ∷ 65 ∷ 67 ∷ 84 ∷ 69 ∷ 82 ∷ []), word_in s q l lex (67 ∷ 72 ∷ 65 ∷ 82 ∷ [])) at ha)
 
@@ -461,15 +459,15 @@ module _ (s : List ℕ) (e x y : Expected) (f : x ≡ then_word (82 ∷ 69 ∷ 8
       type_missing d = rw (← opened, h, characters, na, ← word_in s q l lex (70 ∷ 73 ∷ 88 ∷ 69 ∷ 68 ∷ []), ← hb, d, lex.from)
 
 module _ (s : List ℕ) (c : ℕ) (X t : Part ValueType) (h : t ≡ X) where
-  pub head_refused : (w : Why) (p : ℕ) → t ≡ Err (w, p) → R.Refused w p ≡ head_from s c X
+  pub head_refused : (w : Why) (p : ℕ) → t ≡ Err (w, p) → Err (w, p) ≡ head_from s c X
   unfolding head_from
   head_refused w p e = rw (← h, e)
 
   module _ (v : ValueType) (q : ℕ) (e : t ≡ Ok (v, q)) (x y : Expected) (f : x ≡ expected (41 ∷ []) s q) (g : y ≡ then_sign (59 ∷ []) s x) where
-    pub head_there : (to : ℕ) → y ≡ Past to → R.Is (clause_of S.Procedure O.Body c to v) ≡ head_from s c X
+    pub head_there : (to : ℕ) → y ≡ Ok to → Ok (clause_of S.Procedure O.Body c to v) ≡ head_from s c X
     unfolding head_from head_up_to
     head_there to i = rw (← h, e, ← f, ← g, i)
 
-    pub head_stopped : (w : Why) (p : ℕ) → y ≡ Refused w p → R.Refused w p ≡ head_from s c X
+    pub head_stopped : (w : Why) (p : ℕ) → y ≡ Err (w, p) → Err (w, p) ≡ head_from s c X
     unfolding head_from head_up_to
     head_stopped w p i = rw (← h, e, ← f, ← g, i)

@@ -1,5 +1,8 @@
 -- PROCEDURE: its head as the definition reads it, and the first parameter that is listed twice.
 -- Assumes nothing.
+use Rattle.statements.specs.Types.{Read}
+use Rattle.expressions.specs.Types.{Expected}
+use Rattle.std.proofs.Common.{Option, Some, None, Ok, Err}
 use mathlib.Core.Path.{◌≡◌, refl, sym, ap, ◌∙◌}
 use mathlib.Core.Bool.{Bool, true, false, cond, ◌&&◌}
 use mathlib.Core.List.{List, [], ◌∷◌}
@@ -20,19 +23,13 @@ use Rattle.definition.specs.declared.Why.{Why}
 use Rattle.definition.specs.declared.Why.TheVariants.{Syntax}
 use Rattle.tokens.specs.declared.Lexeme.{Lexeme}
 use Rattle.tokens.specs.Answer.{Lexed, is_sign_in}
-use Rattle.expressions.specs.declared.Expected.{Expected}
-use Rattle.expressions.specs.declared.Expected.TheVariants.{Past, Refused}
 use Rattle.expressions.specs.Check.{expect_for, is_spelled, expected}
 use Rattle.expressions.proofs.Laws.{told}
 use Rattle.expressions.proofs.Reading.{expected_is, expected_word_is}
 use Rattle.statements.specs.declared.Clause.{Clause}
-use Rattle.statements.specs.declared.Read.{Read}
-use Rattle.statements.specs.declared.Read.TheVariants as R
 use Rattle.statements.specs.Clauses.{then_sign, then_word, names_end, names_read, type_by, type_from, head_up_to, head_from, read_procedure, spelled_as, listed_before, parameter_twice, tally_twice, is_read, procedure_tally, Heads}
 use lib.Dec.{leb, eqb}
 use borrow.Author.Tests.{le-leb, lt-leb, eq-eqb, ne_eqb}
-use Rattle.entering.specs.declared.Mark.{Mark}
-use Rattle.entering.specs.declared.Mark.TheVariants.{Unmarked, Marked}
 use Rattle.entering.specs.Book.{tally_second}
 use Rattle.definition.specs.Lists.{part}
 use Rattle.entering.specs.declared.Tally.{Tally}
@@ -67,7 +64,7 @@ module _ (k : P.Scope) (s : List ℕ) (c : ℕ) (ds : List P.Declared) where
   type_by_lem q false true = close_at FixedType (token_at mixed s q).to
   type_by_lem q false false = refl
 
-  type_at : (q : ℕ) → head_from s c (type_from s (Past q)) ≡ read_procedure c (when (D.is_character (token_at mixed s q).token) (λ _. last CharacterType (token_at mixed s q).to) (λ _. D.then_declare ds (expect_word mixed "FIXED" s q) (last FixedType)))
+  type_at : (q : ℕ) → head_from s c (type_from s (Ok q)) ≡ read_procedure c (when (D.is_character (token_at mixed s q).token) (λ _. last CharacterType (token_at mixed s q).to) (λ _. D.then_declare ds (expect_word mixed "FIXED" s q) (last FixedType)))
   unfolding type_from expect_word
   type_at q = rw (word_spelled "CHARACTER" (67 ∷ 72 ∷ 65 ∷ 82 ∷ 65 ∷ 67 ∷ 84 ∷ 69 ∷ 82 ∷ []) refl (token_at mixed s q).token, word_spelled "CHAR" (67 ∷ 72 ∷ 65 ∷ 82 ∷ []) refl (token_at mixed s q).token, word_spelled "FIXED" (70 ∷ 73 ∷ 88 ∷ 69 ∷ 68 ∷ []) refl (token_at mixed s q).token) (type_by_lem q (D.is_character (token_at mixed s q).token) (is_word "FIXED" (token_at mixed s q).token))
 
@@ -84,17 +81,17 @@ module _ (k : P.Scope) (s : List ℕ) (c : ℕ) (ds : List P.Declared) where
   word_by (read e) = open_at e
   word_by (refused w p) = refl
 
-head_at : (k : P.Scope) (s : List ℕ) (c : ℕ) (ns : List Named) (at : ℕ) → head_from s c (type_from s (then_sign (40 ∷ []) s (then_word (82 ∷ 69 ∷ 84 ∷ 85 ∷ 82 ∷ 78 ∷ 83 ∷ []) s (Past at)))) ≡ read_procedure c (D.procedure_head mixed k s ns at)
+head_at : (k : P.Scope) (s : List ℕ) (c : ℕ) (ns : List Named) (at : ℕ) → head_from s c (type_from s (then_sign (40 ∷ []) s (then_word (82 ∷ 69 ∷ 84 ∷ 85 ∷ 82 ∷ 78 ∷ 83 ∷ []) s (Ok at)))) ≡ read_procedure c (D.procedure_head mixed k s ns at)
 unfolding D.procedure_head D.returns_type then_word
 head_at k s c ns at = rw (expected_word_is "RETURNS" (82 ∷ 69 ∷ 84 ∷ 85 ∷ 82 ∷ 78 ∷ 83 ∷ []) refl s at) (word_by k s c (D.means k P.parameter ns) (expect_word mixed "RETURNS" s at))
 
 head_by : (k : P.Scope) (s : List ℕ) (c : ℕ) (ns : List Named) (x : Expected) → head_from s c (type_from s (then_sign (40 ∷ []) s (then_word (82 ∷ 69 ∷ 84 ∷ 85 ∷ 82 ∷ 78 ∷ 83 ∷ []) s x))) ≡ read_procedure c (after_names k P.parameter s [] (D.procedure_head mixed k s) x ns)
 unfolding then_word then_sign type_from head_from read_procedure
-head_by k s c ns (Past e) = head_at k s c ns e
-head_by k s c ns (Refused w p) = refl
+head_by k s c ns (Ok e) = head_at k s c ns e
+head_by k s c ns (Err (w, p)) = refl
 
 module _ (s : List ℕ) (from : ℕ) (l : Lexeme) (lex : Lexed s from l) (v : Bool) (b : v ≡ is_sign_in s l (40 ∷ [])) (k : P.Scope) where
-  pub head_plain : v ≡ false → (r : Read) → r ≡ head_from s from (type_from s (then_sign (40 ∷ []) s (then_word (82 ∷ 69 ∷ 84 ∷ 85 ∷ 82 ∷ 78 ∷ 83 ∷ []) s (Past from)))) → r ≡ read_procedure from (D.procedure_clause mixed k s from)
+  pub head_plain : v ≡ false → (r : Read) → r ≡ head_from s from (type_from s (then_sign (40 ∷ []) s (then_word (82 ∷ 69 ∷ 84 ∷ 85 ∷ 82 ∷ 78 ∷ 83 ∷ []) s (Ok from)))) → r ≡ read_procedure from (D.procedure_clause mixed k s from)
   unfolding D.procedure_clause
   head_plain d r e = rw (told s from l lex "(" (40 ∷ []) v false refl b d, e) (head_at k s from [] from)
 
@@ -105,7 +102,7 @@ module _ (s : List ℕ) (from : ℕ) (l : Lexeme) (lex : Lexed s from l) (v : Bo
       (head_by k s from (names_read s (length s) (token_at mixed s from).to) (names_end (41 ∷ []) s (length s) (token_at mixed s from).to))
 
 module _ (s : List ℕ) (t : Tally) (from : ℕ) (l : Lexeme) (lex : Lexed s from l) (v : Bool) (b : v ≡ is_sign_in s l (40 ∷ [])) where
-  pub heads_plain : v ≡ false → (r : Read) → r ≡ head_from s from (type_from s (then_sign (40 ∷ []) s (then_word (82 ∷ 69 ∷ 84 ∷ 85 ∷ 82 ∷ 78 ∷ 83 ∷ []) s (Past from)))) → Heads s t from (record { tally = t; read = r })
+  pub heads_plain : v ≡ false → (r : Read) → r ≡ head_from s from (type_from s (then_sign (40 ∷ []) s (then_word (82 ∷ 69 ∷ 84 ∷ 85 ∷ 82 ∷ 78 ∷ 83 ∷ []) s (Ok from)))) → Heads s t from (record { tally = t; read = r })
   unfolding procedure_tally
   heads_plain d r e = record { is = λ k. head_plain s from l lex v b k d r e; tally = rw (← sign_in_lem s from l lex (40 ∷ []), ← b, d) (no_tally (is_read r) t (tally_twice (parameter_twice s (token_at mixed s from).to (length s) (token_at mixed s from).to) t)) }
     where
@@ -114,11 +111,11 @@ module _ (s : List ℕ) (t : Tally) (from : ℕ) (l : Lexeme) (lex : Lexed s fro
       no_tally false x y = refl
 
   module _ (d : v ≡ true) (x : Expected) (r : Read) (f : x ≡ names_end (41 ∷ []) s (length s) l.to) (e : r ≡ head_from s from (type_from s (then_sign (40 ∷ []) s (then_word (82 ∷ 69 ∷ 84 ∷ 85 ∷ 82 ∷ 78 ∷ 83 ∷ []) s x)))) where
-    pub heads_refused : (w : Why) (p : ℕ) → r ≡ R.Refused w p → Heads s t from (record { tally = t; read = r })
+    pub heads_refused : (w : Why) (p : ℕ) → r ≡ Err (w, p) → Heads s t from (record { tally = t; read = r })
     unfolding procedure_tally
     heads_refused w p h = record { is = λ k. head_listed s from l lex v b k d x r f e; tally = rw h }
 
-    pub heads_there : (c : Clause) (y : Tally) → r ≡ R.Is c → y ≡ tally_twice (parameter_twice s l.to (length s) l.to) t → Heads s t from (record { tally = y; read = r })
+    pub heads_there : (c : Clause) (y : Tally) → r ≡ Ok c → y ≡ tally_twice (parameter_twice s l.to (length s) l.to) t → Heads s t from (record { tally = y; read = r })
     unfolding procedure_tally
     heads_there c y h g = record { is = λ k. head_listed s from l lex v b k d x r f e; tally = rw (h, ← sign_in_lem s from l lex (40 ∷ []), ← b, d, ← lex.to) g }
 
@@ -169,7 +166,7 @@ pub record Twice (s : List ℕ) (list turns at : ℕ) : Type 0 where
 
 module _ (s : List ℕ) (list : ℕ) where
   twice_turn : (n at : ℕ) → 0 < n → parameter_twice s list n at
-      ≡ when (listed_before s (token_at mixed s at).from (token_at mixed s at).to (length s) list) (λ _. Marked (token_at mixed s at).from) (λ _. when (is_spelled (44 ∷ []) (token_at mixed s (token_at mixed s at).to).token) (λ _. parameter_twice s list (n - 1) (token_at mixed s (token_at mixed s at).to).to) (λ _. Unmarked))
+      ≡ when (listed_before s (token_at mixed s at).from (token_at mixed s at).to (length s) list) (λ _. Some (token_at mixed s at).from) (λ _. when (is_spelled (44 ∷ []) (token_at mixed s (token_at mixed s at).to).token) (λ _. parameter_twice s list (n - 1) (token_at mixed s (token_at mixed s at).to).to) (λ _. None))
   unfolding parameter_twice
   twice_turn zero at h = absurd (omega arith)
   twice_turn (suc n) at h = rw sub-one
@@ -183,18 +180,18 @@ module _ (s : List ℕ) (list : ℕ) where
     twice_end k = let z : turns ≡ 0 = omega arith in rw (← rw z at h.same)
 
     module _ (k : 0 < turns) (l : Lexeme) (lex : Lexed s at l) (b : Bool) (f : b ≡ listed_before s l.from l.to (length s) list) where
-      doubled : when b (λ _. Marked l.from) (λ _. when (is_spelled (44 ∷ []) (token_at mixed s l.to).token) (λ _. parameter_twice s list (turns - 1) (token_at mixed s l.to).to) (λ _. Unmarked)) ≡ parameter_twice s list (length s) list
+      doubled : when b (λ _. Some l.from) (λ _. when (is_spelled (44 ∷ []) (token_at mixed s l.to).token) (λ _. parameter_twice s list (turns - 1) (token_at mixed s l.to).to) (λ _. None)) ≡ parameter_twice s list (length s) list
       doubled = rw (f, lex.from, lex.to) (sym (twice_turn turns at k) ∙ h.same)
 
       pub twice_there : b ≡ true → (y : Tally) → y ≡ tally_second t l.from → y ≡ tally_twice (parameter_twice s list (length s) list) t
-      twice_there c y e = e ∙ ap (λ (z : Mark). tally_twice z t) (rw c at doubled)
+      twice_there c y e = e ∙ ap (λ (z : Option ℕ). tally_twice z t) (rw c at doubled)
 
       module _ (c : b ≡ false) (m : Lexeme) (lem : Lexed s l.to m) (v : Bool) (g : v ≡ is_sign_in s m (44 ∷ [])) where
-        onward : when v (λ _. parameter_twice s list (turns - 1) m.to) (λ _. Unmarked) ≡ parameter_twice s list (length s) list
+        onward : when v (λ _. parameter_twice s list (turns - 1) m.to) (λ _. None) ≡ parameter_twice s list (length s) list
         onward = rw (g, sign_in_lem s l.to m lem (44 ∷ []), lem.to) (rw c at doubled)
 
         pub twice_more : v ≡ true → Twice s list (turns - 1) m.to
         twice_more e = record { same = rw e at onward }
 
         pub twice_none : v ≡ false → t ≡ tally_twice (parameter_twice s list (length s) list) t
-        twice_none e = ap (λ (z : Mark). tally_twice z t) (rw e at onward)
+        twice_none e = ap (λ (z : Option ℕ). tally_twice z t) (rw e at onward)

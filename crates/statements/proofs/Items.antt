@@ -1,5 +1,7 @@
 -- DECLARE: what the code reads of an item is what the definition does with it.
 -- Assumes nothing.
+use Rattle.statements.specs.Types.{Read}
+use Rattle.expressions.specs.Types.{Expected}
 use mathlib.Core.Path.{◌≡◌, refl, sym, ap, ◌∙◌}
 use mathlib.Core.Bool.{Bool, true, false, cond, ◌||◌}
 use mathlib.Core.List.{List, [], ◌∷◌, ◌++◌, append_assoc, append-nil}
@@ -18,16 +20,12 @@ use Rattle.definition.specs.declared.Why.{Why}
 use Rattle.definition.specs.declared.Why.TheVariants.{Syntax}
 use Rattle.tokens.specs.declared.Lexeme.{Lexeme}
 use Rattle.tokens.specs.Answer.{Lexed, is_sign_in}
-use Rattle.expressions.specs.declared.Expected.{Expected}
-use Rattle.expressions.specs.declared.Expected.TheVariants.{Past, Refused}
 use Rattle.expressions.specs.Check.{expect_for, is_spelled, expected, named_for}
 use Rattle.expressions.proofs.Reading.{expected_is}
 use Rattle.rows.specs.declared.Statement.TheVariants as S
 use Rattle.entering.specs.declared.Meaning.{Meaning}
 use Rattle.entering.specs.declared.Meaning.TheVariants as M
 use Rattle.statements.specs.declared.Opens.TheVariants as O
-use Rattle.statements.specs.declared.Read.{Read}
-use Rattle.statements.specs.declared.Read.TheVariants as R
 use Rattle.statements.specs.declared.Item.{Item}
 use Rattle.std.specs.Prelude.{Some, None, Ok, Err}
 use Rattle.std.specs.declared.option.Option.{Option}
@@ -70,8 +68,8 @@ nil_of (x ∷ xs) e = absurd (omega arith)
 
 module _ (k : P.Scope) (g : P.Meaning) (s : List ℕ) (ds : List P.Declared) (cont : List Named → ℕ → D.Declaring) where
   abbrev pub after_names : Expected → List Named → D.Declaring
-  after_names (Past e) all = cont all e
-  after_names (Refused w p) all = D.undeclared w p (ds ++ D.means k g all)
+  after_names (Ok e) all = cont all e
+  after_names (Err (w, p)) all = D.undeclared w p (ds ++ D.means k g all)
 
   closing : (ns : List Named) (Q : Reading ℕ) → D.then_declare (ds ++ D.means k g ns) Q (λ e. cont ns e) ≡ after_names (expect_for Q) ns
   closing ns (read e) = refl
@@ -131,7 +129,7 @@ module _ (o : Owner) (s : List ℕ) (ds : List P.Declared) (next : List P.Declar
   stepped_by (Some m) ns from to = refl
   stepped_by None ns from to = refl
 
-  names_then : (ns : List Named) (e : ℕ) → D.declare_names mixed (scope_of o) s ds ns e next ≡ stepped (itemized s (Past e) (is_inside o)) ns
+  names_then : (ns : List Named) (e : ℕ) → D.declare_names mixed (scope_of o) s ds ns e next ≡ stepped (itemized s (Ok e) (is_inside o)) ns
   unfolding D.declare_names itemized
   names_then ns e =
       attribute_is (token_at mixed s e).token (token_at mixed s e).from (token_at mixed s e).to (λ m q. next (ds ++ D.means (scope_of o) m ns) q) (λ _. D.undeclared Syntax (token_at mixed s e).from (ds ++ D.means (scope_of o) (P.variable FixedType) ns)) o
@@ -139,8 +137,8 @@ module _ (o : Owner) (s : List ℕ) (ds : List P.Declared) (next : List P.Declar
 
   after_is : (x : Expected) (ns : List Named) → after_names (scope_of o) (P.variable FixedType) s ds (λ ms e. D.declare_names mixed (scope_of o) s ds ms e next) x ns ≡ stepped (itemized s x (is_inside o)) ns
   unfolding itemized
-  after_is (Past e) ns = names_then ns e
-  after_is (Refused w p) ns = refl
+  after_is (Ok e) ns = names_then ns e
+  after_is (Err (w, p)) ns = refl
 
   one_name : (b : Bool) (n : Named) → (n ∷ when b (λ _. []) (λ _. [])) ≡ (n ∷ [])
   one_name true n = refl
@@ -185,9 +183,9 @@ module _ (d s t₀ : List ℕ) (o : Owner) (x₀ : Tally) (r : Ready d s t₀ x�
     pub items_ready : Ready d s t x o
     items_ready = record { roomy = h.entered.roomy; lies = rw h.entered.base r.lies; own = rw h.entered.member r.own }
 
-    pub items_none : turns ≤ 0 → Declares d s t₀ x₀ o from t (record { tally = x; read = R.Refused Syntax at })
+    pub items_none : turns ≤ 0 → Declares d s t₀ x₀ o from t (record { tally = x; read = Err (Syntax, at) })
     unfolding D.declare_from read_for
-    items_none k = let z : turns ≡ 0 = omega arith in declares from (D.undeclared Syntax at h.done) t (record { tally = x; read = R.Refused Syntax at }) (rw z at h.left) h.entered refl
+    items_none k = let z : turns ≡ 0 = omega arith in declares from (D.undeclared Syntax at h.done) t (record { tally = x; read = Err (Syntax, at) }) (rw z at h.left) h.entered refl
 
     module _ (k : 0 < turns) (i : Item) (hi : i ≡ item_in s at) (y : Part Meaning) (hy : y ≡ itemized s i.to (is_inside o)) (m : Meaning) (hm : m ≡ meaning_in y)
         (u : List ℕ) (z : Tally) (size : length u ≡ length t) (b : Entered d t x (book_all x.member (D.means (scope_of o) (meaning_of m) (names_read s i.most i.names))) u z) where
@@ -197,9 +195,9 @@ module _ (d s t₀ : List ℕ) (o : Owner) (x₀ : Tally) (r : Ready d s t₀ x�
       more : Entered d t₀ x₀ (book_all x₀.member (h.done ++ D.means (scope_of o) (meaning_of m) (names_read s i.most i.names))) u z
       more = entered_more d t₀ t u x₀ x z h.done (D.means (scope_of o) (meaning_of m) (names_read s i.most i.names)) h.entered b
 
-      pub items_refused : (w : Why) (p : ℕ) → y ≡ Err (w, p) → Declares d s t₀ x₀ o from u (record { tally = z; read = R.Refused w p })
+      pub items_refused : (w : Why) (p : ℕ) → y ≡ Err (w, p) → Declares d s t₀ x₀ o from u (record { tally = z; read = Err (w, p) })
       unfolding read_for
-      items_refused w p e = declares from (D.undeclared w p (h.done ++ D.means (scope_of o) (P.variable FixedType) (names_read s i.most i.names))) u (record { tally = z; read = R.Refused w p }) (rw e at turned) (rw (hm, e) at more) refl
+      items_refused w p e = declares from (D.undeclared w p (h.done ++ D.means (scope_of o) (P.variable FixedType) (names_read s i.most i.names))) u (record { tally = z; read = Err (w, p) }) (rw e at turned) (rw (hm, e) at more) refl
 
       module _ (g : Meaning) (e : ℕ) (j : y ≡ Ok (g, e)) (l : Lexeme) (lex : Lexed s e l) (v : Bool) (c : v ≡ is_sign_in s l (44 ∷ [])) where
         both : Entered d t₀ x₀ (book_all x₀.member (h.done ++ D.means (scope_of o) (meaning_of g) (names_read s i.most i.names))) u z
@@ -231,12 +229,12 @@ module _ (d s t₀ : List ℕ) (o : Owner) (x₀ : Tally) where
   if_start from = record { is = λ r. items_start d s t₀ o x₀ r from; size = refl }
 
   module _ (from : ℕ) (t : List ℕ) (x : Tally) (at turns : ℕ) (h : ItemizingIf d s t₀ o x₀ from t x at turns) where
-    pub if_none : turns ≤ 0 → DeclaresIf d s t₀ x₀ o from t (record { tally = x; read = R.Refused Syntax at })
+    pub if_none : turns ≤ 0 → DeclaresIf d s t₀ x₀ o from t (record { tally = x; read = Err (Syntax, at) })
     if_none k = record { is = λ r. items_none d s t₀ o x₀ r from t x at turns (h.is r) k }
 
     module _ (k : 0 < turns) (i : Item) (hi : i ≡ item_in s at) (y : Part Meaning) (hy : y ≡ itemized s i.to (is_inside o)) (m : Meaning) (hm : m ≡ meaning_in y)
         (u : List ℕ) (z : Tally) (size : length u ≡ length t) (b : NamedIf d s t x o (book_all x.member (D.means (scope_of o) (meaning_of m) (names_read s i.most i.names))) u z) where
-      pub if_refused : (w : Why) (p : ℕ) → y ≡ Err (w, p) → DeclaresIf d s t₀ x₀ o from u (record { tally = z; read = R.Refused w p })
+      pub if_refused : (w : Why) (p : ℕ) → y ≡ Err (w, p) → DeclaresIf d s t₀ x₀ o from u (record { tally = z; read = Err (w, p) })
       if_refused w p e = record { is = λ r. items_refused d s t₀ o x₀ r from t x at turns (h.is r) k i hi y hy m hm u z size (b.is (items_ready d s t₀ o x₀ r from t x at turns (h.is r))) w p e }
 
       module _ (g : Meaning) (e : ℕ) (j : y ≡ Ok (g, e)) (l : Lexeme) (lex : Lexed s e l) (v : Bool) (c : v ≡ is_sign_in s l (44 ∷ [])) where

@@ -1,5 +1,7 @@
 -- A statement is read as the definition reads it: one law for each way out.
 -- Assumes nothing.
+use Rattle.std.proofs.Common.{Ok, Err}
+use Rattle.expressions.specs.Types.{Expected, NamedAt}
 use mathlib.Core.Path.{◌≡◌, refl, sym, ◌∙◌}
 use mathlib.Core.Bool.{Bool, true, false, ◌&&◌, ◌||◌}
 use mathlib.Core.List.{List, [], ◌∷◌}
@@ -21,61 +23,56 @@ use Rattle.tokens.specs.declared.Kind.TheVariants as Kd
 use Rattle.tokens.specs.declared.Lexeme.{Lexeme}
 use Rattle.tokens.specs.Answer.{written, Lexed, content, is_sign_in, is_sign_kind, is_word_in, is_word_kind, token_for}
 use Rattle.tokens.proofs.Lexemes.{token_is}
-use Rattle.expressions.specs.declared.Expected.{Expected}
-use Rattle.expressions.specs.declared.Expected.TheVariants.{Past, Refused}
-use Rattle.expressions.specs.declared.NamedAt.{NamedAt}
-use Rattle.expressions.specs.declared.NamedAt.TheVariants as N
 use Rattle.expressions.specs.Check.{is_spelled, expected, is_worded, expected_word, named_for, end_for}
 use Rattle.rows.specs.declared.Statement.{Statement}
 use Rattle.statements.specs.declared.Opens.{Opens}
-use Rattle.statements.specs.declared.Read.TheVariants as R
 use Rattle.statements.specs.declared.Each.{Each}
 use Rattle.statements.specs.declared.Each.TheVariants as Ea
 use Rattle.statements.specs.Clauses.{clause_of, read_up_to, then_sign, then_word, then_expression, bound_past, bounds_past, name_end, rescan_past, member_past, item_past, list_next, list_end}
 
 -- ---- one answer after the other
-pub name_there : (x : NamedAt) (R : Reading Named) (from to : ℕ) → x ≡ named_for R → x ≡ N.Is from to → Past to ≡ name_end R
+pub name_there : (x : NamedAt) (R : Reading Named) (from to : ℕ) → x ≡ named_for R → x ≡ Ok (from, to) → Ok to ≡ name_end R
 unfolding name_end
 name_there x (read n) from to h k = let z : to ≡ n.to = cc in rw z
 name_there x (refused w p) from to h k = let z : ◌≡◌ {A = ℕ} 0 1 = cc in absurd (omega arith)
 
-pub name_refused : (x : NamedAt) (R : Reading Named) (w : Why) (p : ℕ) → x ≡ named_for R → x ≡ N.Refused w p → Refused w p ≡ name_end R
+pub name_refused : (x : NamedAt) (R : Reading Named) (w : Why) (p : ℕ) → x ≡ named_for R → x ≡ Err (w, p) → Err (w, p) ≡ name_end R
 unfolding name_end
 name_refused x (read n) w p h k = let z : ◌≡◌ {A = ℕ} 0 1 = cc in absurd (omega arith)
 name_refused x (refused v q) w p h k = cc
 
 module _ (k : Statement) (o : Opens) (c : ℕ) (e : Expected) where
-  pub up_past : (to : ℕ) → e ≡ Past to → R.Is (clause_of k o c to FixedType) ≡ read_up_to k o c e
+  pub up_past : (to : ℕ) → e ≡ Ok to → Ok (clause_of k o c to FixedType) ≡ read_up_to k o c e
   unfolding read_up_to
   up_past to h = rw h
 
-  pub up_refused : (w : Why) (p : ℕ) → e ≡ Refused w p → R.Refused w p ≡ read_up_to k o c e
+  pub up_refused : (w : Why) (p : ℕ) → e ≡ Err (w, p) → Err (w, p) ≡ read_up_to k o c e
   unfolding read_up_to
   up_refused w p h = rw h
 
 module _ (s : List ℕ) (e : Expected) where
-  pub expression_past : (q : ℕ) (y : Expected) → e ≡ Past q → y ≡ end_for (whole_expression mixed s q) → y ≡ then_expression s e
+  pub expression_past : (q : ℕ) (y : Expected) → e ≡ Ok q → y ≡ end_for (whole_expression mixed s q) → y ≡ then_expression s e
   unfolding then_expression
   expression_past q y h k = rw h k
 
-  pub expression_refused : (w : Why) (p : ℕ) → e ≡ Refused w p → Refused w p ≡ then_expression s e
+  pub expression_refused : (w : Why) (p : ℕ) → e ≡ Err (w, p) → Err (w, p) ≡ then_expression s e
   unfolding then_expression
   expression_refused w p h = rw h
 
   module _ (v : List ℕ) where
-    pub sign_past : (q : ℕ) (y : Expected) → e ≡ Past q → y ≡ expected v s q → y ≡ then_sign v s e
+    pub sign_past : (q : ℕ) (y : Expected) → e ≡ Ok q → y ≡ expected v s q → y ≡ then_sign v s e
     unfolding then_sign
     sign_past q y h k = rw h k
 
-    pub sign_refused : (w : Why) (p : ℕ) → e ≡ Refused w p → Refused w p ≡ then_sign v s e
+    pub sign_refused : (w : Why) (p : ℕ) → e ≡ Err (w, p) → Err (w, p) ≡ then_sign v s e
     unfolding then_sign
     sign_refused w p h = rw h
 
-    pub word_past : (q : ℕ) (y : Expected) → e ≡ Past q → y ≡ expected_word v s q → y ≡ then_word v s e
+    pub word_past : (q : ℕ) (y : Expected) → e ≡ Ok q → y ≡ expected_word v s q → y ≡ then_word v s e
     unfolding then_word
     word_past q y h k = rw h k
 
-    pub word_refused : (w : Why) (p : ℕ) → e ≡ Refused w p → Refused w p ≡ then_word v s e
+    pub word_refused : (w : Why) (p : ℕ) → e ≡ Err (w, p) → Err (w, p) ≡ then_word v s e
     unfolding then_word
     word_refused w p h = rw h
 
@@ -128,30 +125,30 @@ module _ (W : Str.String) (w : List ℕ) (e : bytes_of W ≡ w) where
 
 -- ---- BY and TO
 module _ (s w : List ℕ) (e : Expected) where
-  pub bound_refused : (y : Why) (p : ℕ) → e ≡ Refused y p → Refused y p ≡ bound_past w s e
+  pub bound_refused : (y : Why) (p : ℕ) → e ≡ Err (y, p) → Err (y, p) ≡ bound_past w s e
   unfolding bound_past
   bound_refused y p h = rw h
 
-  module _ (q : ℕ) (h : e ≡ Past q) (l : Lexeme) (lex : Lexed s q l) (v : Bool) (c : v ≡ is_word_in s l w) where
+  module _ (q : ℕ) (h : e ≡ Ok q) (l : Lexeme) (lex : Lexed s q l) (v : Bool) (c : v ≡ is_word_in s l w) where
     pub bound_there : v ≡ true → (y : Expected) → y ≡ end_for (whole_expression mixed s l.to) → y ≡ bound_past w s e
     unfolding bound_past
     bound_there d y f = rw (h, ← word_in s q l lex w, ← c, d, ← lex.to) f
 
-    pub bound_absent : v ≡ false → Past q ≡ bound_past w s e
+    pub bound_absent : v ≡ false → Ok q ≡ bound_past w s e
     unfolding bound_past
     bound_absent d = rw (h, ← word_in s q l lex w, ← c, d)
 
 module _ (s : List ℕ) (e : Expected) where
-  pub bounds_refused : (y : Why) (p : ℕ) → e ≡ Refused y p → Refused y p ≡ bounds_past s e
+  pub bounds_refused : (y : Why) (p : ℕ) → e ≡ Err (y, p) → Err (y, p) ≡ bounds_past s e
   unfolding bounds_past
   bounds_refused y p h = rw h
 
-  module _ (q : ℕ) (h : e ≡ Past q) (l : Lexeme) (lex : Lexed s q l) (v : Bool) (c : v ≡ is_word_in s l (66 ∷ 89 ∷ [])) where
+  module _ (q : ℕ) (h : e ≡ Ok q) (l : Lexeme) (lex : Lexed s q l) (v : Bool) (c : v ≡ is_word_in s l (66 ∷ 89 ∷ [])) where
     pub bounds_by : v ≡ true → (x y : Expected) → x ≡ end_for (whole_expression mixed s l.to) → y ≡ bound_past (84 ∷ 79 ∷ []) s x → y ≡ bounds_past s e
     unfolding bounds_past
     bounds_by d x y f g = rw (h, ← word_in s q l lex (66 ∷ 89 ∷ []), ← c, d, ← lex.to, ← f) g
 
-    pub bounds_to : v ≡ false → (x y : Expected) → x ≡ bound_past (84 ∷ 79 ∷ []) s (Past q) → y ≡ bound_past (66 ∷ 89 ∷ []) s x → y ≡ bounds_past s e
+    pub bounds_to : v ≡ false → (x y : Expected) → x ≡ bound_past (84 ∷ 79 ∷ []) s (Ok q) → y ≡ bound_past (66 ∷ 89 ∷ []) s x → y ≡ bounds_past s e
     unfolding bounds_past
     bounds_to d x y f g = rw (h, ← word_in s q l lex (66 ∷ 89 ∷ []), ← c, d, ← f) g
 
@@ -169,25 +166,25 @@ module _ (s : List ℕ) (at : ℕ) (l : Lexeme) (lex : Lexed s at l) (v : Bool) 
   rescan_absent d = rw (← either, d)
 
 module _ (s : List ℕ) (e : Expected) where
-  pub member_refused : (w : Why) (p : ℕ) → e ≡ Refused w p → Refused w p ≡ member_past s e
+  pub member_refused : (w : Why) (p : ℕ) → e ≡ Err (w, p) → Err (w, p) ≡ member_past s e
   unfolding member_past
   member_refused w p h = rw h
 
-  module _ (q : ℕ) (h : e ≡ Past q) (l : Lexeme) (lex : Lexed s q l) (v : Bool) (c : v ≡ is_sign_in s l (40 ∷ [])) where
+  module _ (q : ℕ) (h : e ≡ Ok q) (l : Lexeme) (lex : Lexed s q l) (v : Bool) (c : v ≡ is_sign_in s l (40 ∷ [])) where
     pub member_there : v ≡ true → (x y : Expected) → x ≡ name_end (name_at mixed s l.to) → y ≡ then_sign (41 ∷ []) s x → y ≡ member_past s e
     unfolding member_past
     member_there d x y f g = rw (h, ← sign_in_lem s q l lex (40 ∷ []), ← c, d, ← lex.to, ← f) g
 
-    pub member_absent : v ≡ false → Past q ≡ member_past s e
+    pub member_absent : v ≡ false → Ok q ≡ member_past s e
     unfolding member_past
     member_absent d = rw (h, ← sign_in_lem s q l lex (40 ∷ []), ← c, d)
 
 module _ (s : List ℕ) (at : ℕ) (i : Each) (e : Expected) (h : e ≡ name_end (name_at mixed s at)) where
-  pub item_active : i ≡ Ea.Activation → (q x : ℕ) → e ≡ Past q → x ≡ rescan_past s q → Past x ≡ item_past i s at
+  pub item_active : i ≡ Ea.Activation → (q x : ℕ) → e ≡ Ok q → x ≡ rescan_past s q → Ok x ≡ item_past i s at
   unfolding item_past
   item_active d q x f g = rw (d, ← h, f, g)
 
-  pub item_refused : i ≡ Ea.Activation → (w : Why) (p : ℕ) → e ≡ Refused w p → Refused w p ≡ item_past i s at
+  pub item_refused : i ≡ Ea.Activation → (w : Why) (p : ℕ) → e ≡ Err (w, p) → Err (w, p) ≡ item_past i s at
   unfolding item_past
   item_refused d w p f = rw (d, ← h, f)
 
@@ -213,7 +210,7 @@ module _ (w : List ℕ) (j : Each) (s : List ℕ) where
   listing_start from = record { same = refl }
 
   module _ (from turns at : ℕ) (h : Listing w j s from turns at) where
-    pub listing_end : turns ≤ 0 → Refused Syntax at ≡ list_end w j s (length s) from
+    pub listing_end : turns ≤ 0 → Err (Syntax, at) ≡ list_end w j s (length s) from
     unfolding list_end
     listing_end k = let z : turns ≡ 0 = omega arith in rw z at h.same
 
@@ -221,10 +218,10 @@ module _ (w : List ℕ) (j : Each) (s : List ℕ) where
       turned : list_next w s x (list_end w j s (turns - 1)) ≡ list_end w j s (length s) from
       turned = rw a (sym (list_turn turns at k) ∙ h.same)
 
-      pub listing_refused : (y : Why) (p : ℕ) → x ≡ Refused y p → Refused y p ≡ list_end w j s (length s) from
+      pub listing_refused : (y : Why) (p : ℕ) → x ≡ Err (y, p) → Err (y, p) ≡ list_end w j s (length s) from
       listing_refused y p e = rw e at turned
 
-      module _ (e : ℕ) (i : x ≡ Past e) (l : Lexeme) (lex : Lexed s e l) (v : Bool) (c : v ≡ is_sign_in s l (44 ∷ [])) where
+      module _ (e : ℕ) (i : x ≡ Ok e) (l : Lexeme) (lex : Lexed s e l) (v : Bool) (c : v ≡ is_sign_in s l (44 ∷ [])) where
         pub listing_more : v ≡ true → Listing w j s from (turns - 1) l.to
         listing_more d = record { same = rw (i, ← sign_in_lem s e l lex (44 ∷ []), ← c, d, ← lex.to) at turned }
 

@@ -1,5 +1,7 @@
 -- The names of a DECLARE are entered while it is read, and they are those that the definition lists.
 -- Assumes nothing.
+use Rattle.std.proofs.Common.{Ok, Err}
+use Rattle.expressions.specs.Types.{NamedAt}
 use mathlib.Core.Path.{◌≡◌, refl, sym, ap, ◌∙◌}
 use mathlib.Core.Bool.{Bool, true, false, cond}
 use mathlib.Core.List.{List, [], ◌∷◌, ◌++◌, append_assoc, append-nil}
@@ -20,8 +22,6 @@ use Rattle.tokens.specs.declared.Kind.TheVariants as Kd
 use Rattle.tokens.specs.declared.Lexeme.{Lexeme}
 use Rattle.tokens.specs.Answer.{Lexed, written, spelling, content, is_sign_in, token_for}
 use Rattle.tokens.proofs.Lexemes.{token_is}
-use Rattle.expressions.specs.declared.NamedAt.{NamedAt}
-use Rattle.expressions.specs.declared.NamedAt.TheVariants as N
 use Rattle.expressions.specs.Check.{named_for}
 use Rattle.entering.specs.declared.Meaning.{Meaning}
 use Rattle.entering.specs.declared.Meaning.TheVariants as M
@@ -87,7 +87,7 @@ pub record Names (s : List ℕ) (at from to : ℕ) : Type 0 where
   pub high : to ≤ length s
   pub short : to - from ≤ 31
 
-module _ (x : NamedAt) (from to : ℕ) (k : x ≡ N.Is from to) where
+module _ (x : NamedAt) (from to : ℕ) (k : x ≡ Ok (from, to)) where
   record Word (t : Kind) (w : List ℕ) (p q : ℕ) (R : Reading Named) : Type 0 where
     real : is_token t ≡ true
     first : p ≡ from
@@ -111,7 +111,7 @@ module _ (x : NamedAt) (from to : ℕ) (k : x ≡ N.Is from to) where
 lexed : (s : List ℕ) (at : ℕ) → Lexed s at (lexeme_for (token_at mixed s at))
 lexed s at = record { kind = refl; from = refl; to = refl }
 
-pub named_is : (s : List ℕ) (at : ℕ) (x : NamedAt) (from to : ℕ) → x ≡ named_for (name_at mixed s at) → x ≡ N.Is from to → Names s at from to
+pub named_is : (s : List ℕ) (at : ℕ) (x : NamedAt) (from to : ℕ) → x ≡ named_for (name_at mixed s at) → x ≡ Ok (from, to) → Names s at from to
 unfolding name_at written
 named_is s at x from to h k =
     let l : Lexeme = lexeme_for (token_at mixed s at) in
@@ -169,14 +169,14 @@ module _ (d s t₀ : List ℕ) (o : Owner) (g : Meaning) (x₀ : Tally) (r : Rea
     naming_none k = let z : turns ≡ 0 = omega arith in rw (← rw (z, append-nil) at h.left) h.entered
 
     module _ (k : 0 < turns) (n : NamedAt) (hn : n ≡ named_for (name_at mixed s at)) where
-      no_name : (w : Why) (p : ℕ) (R : Reading Named) → n ≡ named_for R → n ≡ N.Refused w p → (again : ℕ → List Named) → names_next s R again ≡ []
+      no_name : (w : Why) (p : ℕ) (R : Reading Named) → n ≡ named_for R → n ≡ Err (w, p) → (again : ℕ → List Named) → names_next s R again ≡ []
       no_name w p (read v) e f again = let z : ◌≡◌ {A = ℕ} 0 1 = cc in absurd (omega arith)
       no_name w p (refused v q) e f again = refl
 
-      pub naming_refused : (w : Why) (p : ℕ) → n ≡ N.Refused w p → Entered d t₀ x₀ (book_all x₀.member (D.means (scope_of o) (meaning_of g) (names_read s most at₀))) t x
+      pub naming_refused : (w : Why) (p : ℕ) → n ≡ Err (w, p) → Entered d t₀ x₀ (book_all x₀.member (D.means (scope_of o) (meaning_of g) (names_read s most at₀))) t x
       naming_refused w p e = rw (← rw (names_turn s turns at k, no_name w p (name_at mixed s at) hn e (names_read s (turns - 1)), append-nil) at h.left) h.entered
 
-      module _ (from to : ℕ) (e : n ≡ N.Is from to) where
+      module _ (from to : ℕ) (e : n ≡ Ok (from, to)) where
         name : Names s at from to
         name = named_is s at n from to hn e
 
@@ -223,10 +223,10 @@ module _ (d s t₀ : List ℕ) (o : Owner) (g : Meaning) (x₀ : Tally) where
     if_none k = record { is = λ r. naming_none d s t₀ o g x₀ r at₀ most t x at turns (h.is r) k }
 
     module _ (k : 0 < turns) (n : NamedAt) (hn : n ≡ named_for (name_at mixed s at)) where
-      pub if_refused : (w : Why) (p : ℕ) → n ≡ N.Refused w p → NamedIf d s t₀ x₀ o (book_all x₀.member (D.means (scope_of o) (meaning_of g) (names_read s most at₀))) t x
+      pub if_refused : (w : Why) (p : ℕ) → n ≡ Err (w, p) → NamedIf d s t₀ x₀ o (book_all x₀.member (D.means (scope_of o) (meaning_of g) (names_read s most at₀))) t x
       if_refused w p e = record { is = λ r. naming_refused d s t₀ o g x₀ r at₀ most t x at turns (h.is r) k n hn w p e }
 
-      module _ (from to : ℕ) (e : n ≡ N.Is from to) (u : List ℕ) (y : Tally) (size : length u ≡ length t)
+      module _ (from to : ℕ) (e : n ≡ Ok (from, to)) (u : List ℕ) (y : Tally) (size : length u ≡ length t)
           (b : EnteredIf d s t x (record { from = from; to = to }) (book_one (identifier_at s (record { from = from; to = to }) o) (denotation_of (new_denotation x.member g)) from) u y)
           (l : Lexeme) (lex : Lexed s to l) (v : Bool) (c : v ≡ is_sign_in s l (44 ∷ [])) where
         pub if_more : v ≡ true → NamingIf d s t₀ o g x₀ at₀ most u y l.to (turns - 1)

@@ -1,5 +1,7 @@
 -- What the answers about a statement stand for: the clause that the definition reads, with the statement itself forgotten.
 -- `Again` reads it again, from where the answer says.
+use Rattle.statements.specs.Types.{Read}
+use Rattle.expressions.specs.Types.{Expected}
 use Rattle.std.specs.Prelude.{ℕ, zero, suc, ◌+◌, ◌-◌, ◌≤◌, Bool, true, false, cond, ◌&&◌, ◌||◌, List, [], ◌∷◌, ◌≡◌, leb, eqb, length, Some, None, Ok, Err}
 use Rattle.std.specs.declared.option.Option.{Option}
 use Rattle.std.specs.declared.result.Result.{Result}
@@ -16,8 +18,6 @@ use Rattle.definition.specs.declared.Why.TheVariants.{Syntax}
 use Rattle.definition.specs.declared.ValueType.{ValueType}
 use Rattle.definition.specs.declared.ValueType.TheVariants.{FixedType, CharacterType}
 use Rattle.expressions.specs.Check.{expected, expected_word, is_worded, is_spelled, end_for}
-use Rattle.expressions.specs.declared.Expected.{Expected}
-use Rattle.expressions.specs.declared.Expected.TheVariants.{Past, Refused}
 use Rattle.rows.specs.declared.Statement.{Statement}
 use Rattle.rows.specs.declared.Statement.TheVariants as S
 use Rattle.names.specs.declared.Owner.{Owner}
@@ -25,16 +25,12 @@ use Rattle.names.specs.declared.Owner.TheVariants.{Everyone, Procedure}
 use Rattle.entering.specs.declared.Meaning.{Meaning}
 use Rattle.entering.specs.declared.Meaning.TheVariants as M
 use Rattle.entering.specs.declared.Tally.{Tally}
-use Rattle.entering.specs.declared.Mark.{Mark}
-use Rattle.entering.specs.declared.Mark.TheVariants.{Unmarked, Marked}
 use Rattle.entering.specs.Book.{Book, Roomy, Entered, book_all, tally_second}
 use Rattle.statements.specs.declared.Opens.{Opens}
 use Rattle.statements.specs.declared.Opens.TheVariants as O
 use Rattle.statements.specs.declared.Keyword.{Keyword}
 use Rattle.statements.specs.declared.Keyword.TheVariants as K
 use Rattle.statements.specs.declared.Clause.{Clause}
-use Rattle.statements.specs.declared.Read.{Read}
-use Rattle.statements.specs.declared.Read.TheVariants as R
 use Rattle.statements.specs.declared.Each.{Each}
 use Rattle.statements.specs.declared.Each.TheVariants as Ea
 use Rattle.statements.specs.declared.Declaring.{Declaring}
@@ -69,55 +65,55 @@ clause_of k o c to v = record { statement = k; opens = o; content = c; to = to; 
 
 -- a statement of kind k that is read again at c, of a procedure with the type v
 unfoldable pub read_for : Statement → ℕ → ValueType → Reading D.Clause → Read
-read_for k c v (read x) = R.Is (clause_of k (opens_for x.opens) c x.to v)
-read_for k c v (refused w p) = R.Refused w p
+read_for k c v (read x) = Ok (clause_of k (opens_for x.opens) c x.to v)
+read_for k c v (refused w p) = Err (w, p)
 
 unfoldable pub read_up_to : Statement → Opens → ℕ → Expected → Read
-read_up_to k o c (Past to) = R.Is (clause_of k o c to FixedType)
-read_up_to k o c (Refused w p) = R.Refused w p
+read_up_to k o c (Ok to) = Ok (clause_of k o c to FixedType)
+read_up_to k o c (Err (w, p)) = Err (w, p)
 
 -- ---- what must follow, one after the other
 unfoldable pub then_sign : List ℕ → List ℕ → Expected → Expected
-then_sign w s (Past q) = expected w s q
-then_sign w s (Refused y p) = Refused y p
+then_sign w s (Ok q) = expected w s q
+then_sign w s (Err (y, p)) = Err (y, p)
 
 unfoldable pub then_word : List ℕ → List ℕ → Expected → Expected
-then_word w s (Past q) = expected_word w s q
-then_word w s (Refused y p) = Refused y p
+then_word w s (Ok q) = expected_word w s q
+then_word w s (Err (y, p)) = Err (y, p)
 
 unfoldable pub then_expression : List ℕ → Expected → Expected
-then_expression s (Past q) = end_for (whole_expression mixed s q)
-then_expression s (Refused y p) = Refused y p
+then_expression s (Ok q) = end_for (whole_expression mixed s q)
+then_expression s (Err (y, p)) = Err (y, p)
 
 -- BY or TO with its expression, if the word stands there
 unfoldable pub bound_past : List ℕ → List ℕ → Expected → Expected
-bound_past w s (Past q) = cond (is_worded w (token_at mixed s q).token) (end_for (whole_expression mixed s (token_at mixed s q).to)) (Past q)
-bound_past w s (Refused y p) = Refused y p
+bound_past w s (Ok q) = cond (is_worded w (token_at mixed s q).token) (end_for (whole_expression mixed s (token_at mixed s q).to)) (Ok q)
+bound_past w s (Err (y, p)) = Err (y, p)
 
 unfoldable pub bounds_past : List ℕ → Expected → Expected
-bounds_past s (Past q) =
+bounds_past s (Ok q) =
     cond (is_worded (bytes_of "BY") (token_at mixed s q).token) (bound_past (bytes_of "TO") s (end_for (whole_expression mixed s (token_at mixed s q).to)))
-    (bound_past (bytes_of "BY") s (bound_past (bytes_of "TO") s (Past q)))
-bounds_past s (Refused y p) = Refused y p
+    (bound_past (bytes_of "BY") s (bound_past (bytes_of "TO") s (Ok q)))
+bounds_past s (Err (y, p)) = Err (y, p)
 
 -- a name
 unfoldable pub name_end : Reading Named → Expected
-name_end (read n) = Past n.to
-name_end (refused w p) = Refused w p
+name_end (read n) = Ok n.to
+name_end (refused w p) = Err (w, p)
 
 -- past NORESCAN or RESCAN
 unfoldable pub rescan_past : List ℕ → ℕ → ℕ
 rescan_past s at = cond (is_worded (bytes_of "NORESCAN") (token_at mixed s at).token || is_worded (bytes_of "RESCAN") (token_at mixed s at).token) (token_at mixed s at).to at
 
 abbrev pub rescanned : List ℕ → Expected → Expected
-rescanned s (Past q) = Past (rescan_past s q)
-rescanned s (Refused w p) = Refused w p
+rescanned s (Ok q) = Ok (rescan_past s q)
+rescanned s (Err (w, p)) = Err (w, p)
 
 -- past the member in parentheses, behind a library's name
 unfoldable pub member_past : List ℕ → Expected → Expected
-member_past s (Past q) =
-    cond (is_spelled (bytes_of "(") (token_at mixed s q).token) (then_sign (bytes_of ")") s (name_end (name_at mixed s (token_at mixed s q).to))) (Past q)
-member_past s (Refused w p) = Refused w p
+member_past s (Ok q) =
+    cond (is_spelled (bytes_of "(") (token_at mixed s q).token) (then_sign (bytes_of ")") s (name_end (name_at mixed s (token_at mixed s q).to))) (Ok q)
+member_past s (Err (w, p)) = Err (w, p)
 
 unfoldable pub item_past : Each → List ℕ → ℕ → Expected
 item_past Ea.Name s at = name_end (name_at mixed s at)
@@ -126,11 +122,11 @@ item_past Ea.Member s at = member_past s (name_end (name_at mixed s at))
 
 -- items with commas between them and `w` behind; f is more than the turns
 abbrev pub list_next : List ℕ → List ℕ → Expected → (ℕ → Expected) → Expected
-list_next w s (Past e) again = when (is_spelled (bytes_of ",") (token_at mixed s e).token) (λ _. again (token_at mixed s e).to) (λ _. expected w s e)
-list_next w s (Refused y p) again = Refused y p
+list_next w s (Ok e) again = when (is_spelled (bytes_of ",") (token_at mixed s e).token) (λ _. again (token_at mixed s e).to) (λ _. expected w s e)
+list_next w s (Err (y, p)) again = Err (y, p)
 
 unfoldable pub list_end : List ℕ → Each → List ℕ → ℕ → ℕ → Expected
-list_end w i s zero at = Refused Syntax at
+list_end w i s zero at = Err (Syntax, at)
 list_end w i s (suc f) at = list_next w s (item_past i s at) (list_end w i s f)
 
 -- names alone
@@ -156,9 +152,9 @@ plain_for K.Include b s from at = read_for S.Include at FixedType (D.include_cla
 plain_for K.Activate b s from at = read_for S.Activate at FixedType (D.activate_clause mixed s at)
 plain_for K.Deactivate b s from at = read_for S.Deactivate at FixedType (D.deactivate_clause mixed s at)
 plain_for K.Return b s from at = read_for S.Return at FixedType (D.return_clause mixed s at)
-plain_for K.Declare b s from at = R.Refused Syntax from
-plain_for K.Procedure b s from at = R.Refused Syntax from
-plain_for K.Other b s from at = R.Refused Syntax from
+plain_for K.Declare b s from at = Err (Syntax, from)
+plain_for K.Procedure b s from at = Err (Syntax, from)
+plain_for K.Other b s from at = Err (Syntax, from)
 
 -- ---- DECLARE
 abbrev pub scope_of : Owner → P.Scope
@@ -208,8 +204,8 @@ itemized_by (Some m) from to = Ok (m, to)
 itemized_by None from to = Err (Syntax, from)
 
 unfoldable pub itemized : List ℕ → Expected → Bool → Part Meaning
-itemized s (Past e) inside = itemized_by (attribute_by inside (worded (token_at mixed s e).token)) (token_at mixed s e).from (token_at mixed s e).to
-itemized s (Refused w p) inside = Err (w, p)
+itemized s (Ok e) inside = itemized_by (attribute_by inside (worded (token_at mixed s e).token)) (token_at mixed s e).from (token_at mixed s e).to
+itemized s (Err (w, p)) inside = Err (w, p)
 
 abbrev pub meaning_in : Part Meaning → Meaning
 meaning_in (Ok x) = x.0
@@ -220,16 +216,16 @@ abbrev pub type_by : Bool → Bool → ℕ → ℕ → Part ValueType
 type_by character fixed from to = cond character (Ok (CharacterType, to)) (cond fixed (Ok (FixedType, to)) (Err (Syntax, from)))
 
 unfoldable pub type_from : List ℕ → Expected → Part ValueType
-type_from s (Past q) = type_by (is_worded (bytes_of "CHARACTER") (token_at mixed s q).token || is_worded (bytes_of "CHAR") (token_at mixed s q).token) (is_worded (bytes_of "FIXED") (token_at mixed s q).token) (token_at mixed s q).from (token_at mixed s q).to
-type_from s (Refused w p) = Err (w, p)
+type_from s (Ok q) = type_by (is_worded (bytes_of "CHARACTER") (token_at mixed s q).token || is_worded (bytes_of "CHAR") (token_at mixed s q).token) (is_worded (bytes_of "FIXED") (token_at mixed s q).token) (token_at mixed s q).from (token_at mixed s q).to
+type_from s (Err (w, p)) = Err (w, p)
 
 unfoldable pub head_up_to : ValueType → ℕ → Expected → Read
-head_up_to v c (Past to) = R.Is (clause_of S.Procedure O.Body c to v)
-head_up_to v c (Refused w p) = R.Refused w p
+head_up_to v c (Ok to) = Ok (clause_of S.Procedure O.Body c to v)
+head_up_to v c (Err (w, p)) = Err (w, p)
 
 unfoldable pub head_from : List ℕ → ℕ → Part ValueType → Read
 head_from s c (Ok (v, q)) = head_up_to v c (then_sign (bytes_of ";") s (expected (bytes_of ")") s q))
-head_from s c (Err (w, p)) = R.Refused w p
+head_from s c (Err (w, p)) = Err (w, p)
 
 -- ---- what the definition's answer about a declaration says
 abbrev pub clause_in : D.Declaring → Reading D.Clause
@@ -283,8 +279,8 @@ type_in (P.deactivate ns) = FixedType
 type_in (P.return t) = FixedType
 
 unfoldable pub read_procedure : ℕ → D.Declaring → Read
-read_procedure c (D.declared x ds) = R.Is (clause_of S.Procedure (opens_for x.opens) c x.to (type_in x.statement))
-read_procedure c (D.undeclared w p ds) = R.Refused w p
+read_procedure c (D.declared x ds) = Ok (clause_of S.Procedure (opens_for x.opens) c x.to (type_in x.statement))
+read_procedure c (D.undeclared w p ds) = Err (w, p)
 
 -- whether the bytes from p to q spell the name from `from` to `to`
 unfoldable pub spelled_as : List ℕ → ℕ → ℕ → ℕ → ℕ → Bool
@@ -299,19 +295,19 @@ listed_before s from to (suc f) at =
     (λ _. listed_before s from to f (token_at mixed s (token_at mixed s at).to).to))
 
 -- the first parameter that is listed twice
-unfoldable pub parameter_twice : List ℕ → ℕ → ℕ → ℕ → Mark
-parameter_twice s list zero at = Unmarked
+unfoldable pub parameter_twice : List ℕ → ℕ → ℕ → ℕ → Option ℕ
+parameter_twice s list zero at = None
 parameter_twice s list (suc f) at =
-    when (listed_before s (token_at mixed s at).from (token_at mixed s at).to (length s) list) (λ _. Marked (token_at mixed s at).from)
-    (λ _. when (is_spelled (bytes_of ",") (token_at mixed s (token_at mixed s at).to).token) (λ _. parameter_twice s list f (token_at mixed s (token_at mixed s at).to).to) (λ _. Unmarked))
+    when (listed_before s (token_at mixed s at).from (token_at mixed s at).to (length s) list) (λ _. Some (token_at mixed s at).from)
+    (λ _. when (is_spelled (bytes_of ",") (token_at mixed s (token_at mixed s at).to).token) (λ _. parameter_twice s list f (token_at mixed s (token_at mixed s at).to).to) (λ _. None))
 
-abbrev pub tally_twice : Mark → Tally → Tally
-tally_twice Unmarked t = t
-tally_twice (Marked p) t = tally_second t p
+abbrev pub tally_twice : Option ℕ → Tally → Tally
+tally_twice None t = t
+tally_twice (Some p) t = tally_second t p
 
 abbrev pub is_read : Read → Bool
-is_read (R.Is c) = true
-is_read (R.Refused w p) = false
+is_read (Ok c) = true
+is_read (Err (w, p)) = false
 
 unfoldable pub procedure_tally : List ℕ → ℕ → Read → Tally → Tally
 procedure_tally s at r t = cond (is_read r && is_spelled (bytes_of "(") (token_at mixed s at).token) (tally_twice (parameter_twice s (token_at mixed s at).to (length s) (token_at mixed s at).to) t) t

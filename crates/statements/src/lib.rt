@@ -16,7 +16,7 @@ ghost use Rattle.entering.specs.Book.{book_all, meaning_of};
 ghost use Rattle.statements.specs.Clauses as C;
 
 use chars::is_one_name;
-use definition::{ValueType, Why};
+use definition::{Fault, ValueType, Why};
 use entering::{Meaning, Spelling, Tally, declare, length_of, with_second};
 use expressions::{Expected, NamedAt, check, expect_sign, expect_word, name_at};
 use names::Owner;
@@ -58,11 +58,7 @@ pub struct Clause {
     pub value_type: ValueType,
 }
 
-#[derive(Clone, Copy)]
-pub enum Read {
-    Is(Clause),
-    Refused(Why, usize),
-}
+pub type Read = Result<Clause, Fault>;
 
 // What the items of a list are.
 #[derive(Clone, Copy)]
@@ -134,14 +130,14 @@ fn read_up_to(statement: Statement, opens: Opens, content: usize, e: Expected) -
     ensures { result ≡ C.read_up_to statement opens content e }
 {
     match e {
-        Expected::Past(to) => Read::Is(Clause {
+        Ok(to) => Ok(Clause {
             statement,
             opens,
             content,
             to,
             value_type: ValueType::FixedType,
         }),
-        Expected::Refused(w, p) => Read::Refused(w, p),
+        Err((w, p)) => Err((w, p)),
     }
 }
 
@@ -150,8 +146,8 @@ fn then_sign(s: &[u8], e: Expected, w: &[u8]) -> Expected
     ensures { result ≡ C.then_sign w.now s.now e }
 {
     match e {
-        Expected::Past(q) => expect_sign(s, q, w),
-        Expected::Refused(y, p) => Expected::Refused(y, p),
+        Ok(q) => expect_sign(s, q, w),
+        Err((y, p)) => Err((y, p)),
     }
 }
 
@@ -159,8 +155,8 @@ fn then_word(s: &[u8], e: Expected, w: &[u8]) -> Expected
     ensures { result ≡ C.then_word w.now s.now e }
 {
     match e {
-        Expected::Past(q) => expect_word(s, q, w),
-        Expected::Refused(y, p) => Expected::Refused(y, p),
+        Ok(q) => expect_word(s, q, w),
+        Err((y, p)) => Err((y, p)),
     }
 }
 
@@ -168,8 +164,8 @@ fn then_expression(s: &[u8], e: Expected) -> Expected
     ensures { result ≡ C.then_expression s.now e }
 {
     match e {
-        Expected::Past(q) => check(s, q),
-        Expected::Refused(y, p) => Expected::Refused(y, p),
+        Ok(q) => check(s, q),
+        Err((y, p)) => Err((y, p)),
     }
 }
 
@@ -199,14 +195,14 @@ fn bound_at(s: &[u8], e: Expected, w: &[u8]) -> Expected
     ensures { result ≡ C.bound_past w.now s.now e }
 {
     match e {
-        Expected::Past(q) => {
+        Ok(q) => {
             let t = token_at(s, q);
             if is_word(s, t, w) {
                 return check(s, t.to);
             }
-            Expected::Past(q)
+            Ok(q)
         }
-        Expected::Refused(y, p) => Expected::Refused(y, p),
+        Err((y, p)) => Err((y, p)),
     }
 }
 
@@ -215,14 +211,14 @@ fn do_bounds(s: &[u8], e: Expected) -> Expected
     ensures { result ≡ C.bounds_past s.now e }
 {
     match e {
-        Expected::Past(q) => {
+        Ok(q) => {
             let t = token_at(s, q);
             if is_word(s, t, b"BY") {
                 return bound_at(s, check(s, t.to), b"TO");
             }
-            bound_at(s, bound_at(s, Expected::Past(q), b"TO"), b"BY")
+            bound_at(s, bound_at(s, Ok(q), b"TO"), b"BY")
         }
-        Expected::Refused(y, p) => Expected::Refused(y, p),
+        Err((y, p)) => Err((y, p)),
     }
 }
 
@@ -230,8 +226,8 @@ fn name_past(s: &[u8], at: usize) -> Expected
     ensures { result ≡ C.name_end (name_at mixed s.now at) }
 {
     match name_at(s, at) {
-        NamedAt::Is(_, to) => Expected::Past(to),
-        NamedAt::Refused(w, p) => Expected::Refused(w, p),
+        Ok((_, to)) => Ok(to),
+        Err((w, p)) => Err((w, p)),
     }
 }
 
@@ -240,7 +236,7 @@ fn do_clause(s: &[u8], at: usize) -> Read
 {
     let t = token_at(s, at);
     if is_sign(s, t, b";") {
-        return read_up_to(Statement::Group, Opens::Group, at, Expected::Past(t.to));
+        return read_up_to(Statement::Group, Opens::Group, at, Ok(t.to));
     }
     let start = then_expression(s, then_sign(s, name_past(s, at), b"="));
     let e = then_sign(s, do_bounds(s, start), b";");
@@ -259,8 +255,8 @@ fn go_clause(s: &[u8], at: usize) -> Read
     ensures { result ≡ C.read_for S.Goto (token_at mixed s.now at).to FixedType (C.go_clause s.now at) }
 {
     match expect_word(s, at, b"TO") {
-        Expected::Past(q) => goto_clause(s, q),
-        Expected::Refused(w, p) => Read::Refused(w, p),
+        Ok(q) => goto_clause(s, q),
+        Err((w, p)) => Err((w, p)),
     }
 }
 
@@ -269,14 +265,14 @@ fn member_past(s: &[u8], e: Expected) -> Expected
     ensures { result ≡ C.member_past s.now e }
 {
     match e {
-        Expected::Past(q) => {
+        Ok(q) => {
             let t = token_at(s, q);
             if is_sign(s, t, b"(") {
                 return then_sign(s, name_past(s, t.to), b")");
             }
-            Expected::Past(q)
+            Ok(q)
         }
-        Expected::Refused(w, p) => Expected::Refused(w, p),
+        Err((w, p)) => Err((w, p)),
     }
 }
 
@@ -288,8 +284,8 @@ fn list_item(s: &[u8], at: usize, each: Each) -> Expected
     match each {
         Each::Name => e,
         Each::Activation => match e {
-            Expected::Past(q) => Expected::Past(past_rescan(s, q)),
-            Expected::Refused(w, p) => Expected::Refused(w, p),
+            Ok(q) => Ok(past_rescan(s, q)),
+            Err((w, p)) => Err((w, p)),
         },
         Each::Member => member_past(s, e),
     }
@@ -313,17 +309,17 @@ fn name_list(s: &[u8], from: usize, each: Each, close: &[u8]) -> Expected
     let mut at = from;
     for left in (0..s.len()).rev() {
         match list_item(s, at, each) {
-            Expected::Past(q) => {
+            Ok(q) => {
                 let t = token_at(s, q);
                 if !is_sign(s, t, b",") {
                     return expect_sign(s, q, close);
                 }
                 at = t.to;
             }
-            Expected::Refused(w, p) => return Expected::Refused(w, p),
+            Err((w, p)) => return Err((w, p)),
         }
     }
-    Expected::Refused(Why::Syntax, at)
+    Err((Why::Syntax, at))
 }
 
 // RETURN's own parenthesis is not part of the expression.
@@ -364,9 +360,7 @@ pub fn plain_clause(s: &[u8], k: Keyword, t: Lexeme, in_body: bool) -> Read
             name_list(s, at, Each::Name, b";"),
         ),
         Keyword::Return => return_clause(s, at),
-        Keyword::Declare | Keyword::Procedure | Keyword::Other => {
-            Read::Refused(Why::Syntax, t.from)
-        }
+        Keyword::Declare | Keyword::Procedure | Keyword::Other => { Err((Why::Syntax, t.from)) }
     }
 }
 
@@ -388,7 +382,7 @@ fn declare_names(
     let mut at = x.names;
     for left in (0..x.most).rev() {
         match name_at(s, at) {
-            NamedAt::Is(from, to) => {
+            Ok((from, to)) => {
                 tally = declare(deck, s, names, tally, Spelling { from, to }, owner, meaning);
                 let t = token_at(s, to);
                 if !is_sign(s, t, b",") {
@@ -396,7 +390,7 @@ fn declare_names(
                 }
                 at = t.to;
             }
-            NamedAt::Refused(_, _) => return tally,
+            Err((_, _)) => return tally,
         }
     }
     tally
@@ -464,14 +458,14 @@ fn item_means(s: &[u8], x: Item, owner: Owner) -> Result<(Meaning, usize), (Why,
     ensures { result ≡ C.itemized s.now x.to (C.is_inside owner) }
 {
     match x.to {
-        Expected::Past(e) => {
+        Ok(e) => {
             let t = token_at(s, e);
             let Some(m) = attribute_at(s, t, owner) else {
                 return Err((Why::Syntax, t.from));
             };
             Ok((m, t.to))
         }
-        Expected::Refused(w, p) => Err((w, p)),
+        Err((w, p)) => Err((w, p)),
     }
 }
 
@@ -519,14 +513,14 @@ pub fn declare_clause(
             Err((w, p)) => {
                 return Declaring {
                     tally,
-                    read: Read::Refused(w, p),
+                    read: Err((w, p)),
                 };
             }
         }
     }
     Declaring {
         tally,
-        read: Read::Refused(Why::Syntax, at),
+        read: Err((Why::Syntax, at)),
     }
 }
 
@@ -586,7 +580,7 @@ fn returned_type(s: &[u8], e: Expected) -> Result<(ValueType, usize), (Why, usiz
     ensures { result ≡ C.type_from s.now (C.then_sign (bytes_of "(") s.now (C.then_word (bytes_of "RETURNS") s.now e)) }
 {
     match then_sign(s, then_word(s, e, b"RETURNS"), b"(") {
-        Expected::Past(q) => {
+        Ok(q) => {
             let t = token_at(s, q);
             if is_either(s, t, b"CHARACTER", b"CHAR") {
                 return Ok((ValueType::CharacterType, t.to));
@@ -596,7 +590,7 @@ fn returned_type(s: &[u8], e: Expected) -> Result<(ValueType, usize), (Why, usiz
             }
             Err((Why::Syntax, t.from))
         }
-        Expected::Refused(w, p) => Err((w, p)),
+        Err((w, p)) => Err((w, p)),
     }
 }
 
@@ -606,16 +600,16 @@ fn procedure_head(s: &[u8], e: Expected, from: usize) -> Read
 {
     match returned_type(s, e) {
         Ok((value_type, q)) => match then_sign(s, expect_sign(s, q, b")"), b";") {
-            Expected::Past(to) => Read::Is(Clause {
+            Ok(to) => Ok(Clause {
                 statement: Statement::Procedure,
                 opens: Opens::Body,
                 content: from,
                 to,
                 value_type,
             }),
-            Expected::Refused(w, p) => Read::Refused(w, p),
+            Err((w, p)) => Err((w, p)),
         },
-        Err((w, p)) => Read::Refused(w, p),
+        Err((w, p)) => Err((w, p)),
     }
 }
 
@@ -627,15 +621,15 @@ pub fn procedure_clause(s: &[u8], tally: Tally, from: usize) -> Declaring
     if is_sign(s, t, b"(") {
         let read = procedure_head(s, name_list(s, t.to, Each::Name, b")"), from);
         return match read {
-            Read::Is(_) => Declaring {
+            Ok(_) => Declaring {
                 tally: parameters(s, tally, t.to),
                 read,
             },
-            Read::Refused(_, _) => Declaring { tally, read },
+            Err((_, _)) => Declaring { tally, read },
         };
     }
     Declaring {
         tally,
-        read: procedure_head(s, Expected::Past(from), from),
+        read: procedure_head(s, Ok(from), from),
     }
 }

@@ -1,5 +1,8 @@
 -- The statements of a member that evaluate, groups, and what does nothing: each leads where the definition's does.
 -- Assumes nothing.
+use Rattle.texts.specs.declared.Stop.{Stop}
+use Rattle.std.proofs.Common.{Ok, Err, Result}
+use Rattle.bodies.specs.Types.{Done, Tested, Started}
 use mathlib.Core.Path.{◌≡◌, refl, sym, ap, subst, ◌∙◌}
 use mathlib.Core.Bool.{Bool, true, false}
 use mathlib.Core.Logic.{◌⊎◌, inl, inr}
@@ -40,12 +43,6 @@ use Rattle.operands.specs.declared.Scene.{Scene}
 use Rattle.operands.specs.Shown.{Stated, Shows}
 use Rattle.operands.specs.Answer.{run_in, value_of}
 use Rattle.operands.proofs.Trees.{clash}
-use Rattle.bodies.specs.declared.Done.{Done}
-use Rattle.bodies.specs.declared.Done.TheVariants as Dn
-use Rattle.bodies.specs.declared.Tested.{Tested}
-use Rattle.bodies.specs.declared.Tested.TheVariants as Te
-use Rattle.bodies.specs.declared.Started.{Started}
-use Rattle.bodies.specs.declared.Started.TheVariants as Sd
 use Rattle.bodies.specs.Deeds.{Serves, scene_machine, Leaves, done_in, done_meter, tested_in, tested_meter}
 use Rattle.bodies.proofs.Doing.{truth_same, assigned_same, start_same}
 use Rattle.evaluating.specs.Statements.{AssignIs, TestIs, StartsAs, started_meter, StartIs}
@@ -166,7 +163,7 @@ module _ (deck s part rows names c l h w t ls : List ℕ) (fs : Frames) (n : ℕ
   walk_here fs' G' x a = subst (λ (p : List ℕ). AtWalk machine p B.denotations fs' G' x) k.part_is a
 
   -- the world is B itself
-  same_world : (c' l' h' w' t' ls' : List ℕ) (fs' : Frames) (R : Res Run.Stop F.Turn) (x : Step) → StepNow machine (below_of below) deck rows names c' l' h' w' t' ls' here fs' R B x → StepIs machine (below_of below) deck rows names c' l' h' w' t' ls' here fs' R B x
+  same_world : (c' l' h' w' t' ls' : List ℕ) (fs' : Frames) (R : Res Run.Stop F.Turn) (x : Result Step (Stop × Progress)) → StepNow machine (below_of below) deck rows names c' l' h' w' t' ls' here fs' R B x → StepIs machine (below_of below) deck rows names c' l' h' w' t' ls' here fs' R B x
   same_world c' l' h' w' t' ls' fs' R x y = record { world = B; later = later_same B B refl refl refl; sentences = refl; now = y }
 
   -- a refusal has the place of the row
@@ -188,27 +185,27 @@ module _ (deck s part rows names c l h w t ls : List ℕ) (fs : Frames) (n : ℕ
   stage_after c' l' h' w' m zc zw lv = stage_values deck rows names c l h w t ls here.starts g B k.stage c' l' h' w' m lv.slots zc zw lv.limit
 
   walks_up : (c' l' h' w' t' ls' : List ℕ) (g' : Progress) → Stage deck rows names c' l' h' w' t' ls' here.starts g' B
-      → StepIs machine (below_of below) deck rows names c' l' h' w' t' ls' here fs (F.onward machine G (F.behind machine G n (world_in B c' l' h' g'.meter.used))) B (St.On (Up n) g')
-  walks_up c' l' h' w' t' ls' g' st = same_world c' l' h' w' t' ls' fs (F.onward machine G (F.behind machine G n (world_in B c' l' h' g'.meter.used))) (St.On (Up n) g')
+      → StepIs machine (below_of below) deck rows names c' l' h' w' t' ls' here fs (F.onward machine G (F.behind machine G n (world_in B c' l' h' g'.meter.used))) B (Ok (St.On (Up n) g'))
+  walks_up c' l' h' w' t' ls' g' st = same_world c' l' h' w' t' ls' fs (F.onward machine G (F.behind machine G n (world_in B c' l' h' g'.meter.used))) (Ok (St.On (Up n) g'))
       (record { stage = st; frames = G; is = refl; at = walk_here fs G (Up n) (walk_up machine part B.denotations fs G n k.at) })
 
   -- a refusal, which leaves no world
   refuses : (c' l' h' w' t' ls' : List ℕ) (R : Res Run.Stop F.Turn) (e : Why) (g' : Progress) → R ≡ bad (record { why = e; member = here.member; place = (row_in part n).place }) g'.meter.used
-      → StepIs machine (below_of below) deck rows names c' l' h' w' t' ls' here fs R B (St.Bad (record { why = e; member = here.member; place = (row_in part n).place }) g')
-  refuses c' l' h' w' t' ls' R e g' q = same_world c' l' h' w' t' ls' fs R (St.Bad (record { why = e; member = here.member; place = (row_in part n).place }) g') q
+      → StepIs machine (below_of below) deck rows names c' l' h' w' t' ls' here fs R B (Err ((record { why = e; member = here.member; place = (row_in part n).place }), g'))
+  refuses c' l' h' w' t' ls' R e g' q = same_world c' l' h' w' t' ls' fs R (Err ((record { why = e; member = here.member; place = (row_in part n).place }), g')) q
 
   -- ---- assignment
   done_step : (c' l' h' w' : List ℕ) → length c' ≡ length c → length w' ≡ length w → (d : Done) (R : Res Why (Unit {0})) → done_in B c' l' h' d ≡ R → Leaves B 0 w c' l' h' w' (done_meter d) → (r : Turned)
       → r ≡ done_to fs n d g here.member (row_in part n).place
       → StepIs machine (below_of below) deck rows names c' l' h' w' t ls here r.frames (bind (F.in_row machine n R) (λ _ v. F.onward machine G (F.behind machine G n v))) B r.step
-  done_step c' l' h' w' zc zw (Dn.Good m) R e lv r er = rw (er, ← e) (walks_up c' l' h' w' t ls (with_meter g m) (stage_after c' l' h' w' m zc zw lv))
-  done_step c' l' h' w' zc zw (Dn.Bad f m) R e lv r er = rw (er, ← e) (refuses c' l' h' w' t ls (bind {A = Unit {0}} (F.in_row machine n (bad f m.used)) (λ _ v. F.onward machine G (F.behind machine G n v))) f (with_meter g m)
+  done_step c' l' h' w' zc zw (Ok m) R e lv r er = rw (er, ← e) (walks_up c' l' h' w' t ls (with_meter g m) (stage_after c' l' h' w' m zc zw lv))
+  done_step c' l' h' w' zc zw (Err (f, m)) R e lv r er = rw (er, ← e) (refuses c' l' h' w' t ls (bind {A = Unit {0}} (F.in_row machine n (bad f m.used)) (λ _ v. F.onward machine G (F.behind machine G n v))) f (with_meter g m)
       (ap (λ (i : Res Run.Stop (Unit {0})). bind i (λ _ v. F.onward machine G (F.behind machine G n v))) (fault_is f m.used)))
 
   -- ---- IF
   chosen_step : (c' l' h' w' : List ℕ) (b : Bool) (m : Meter) → Stage deck rows names c' l' h' w' t ls here.starts (with_meter g m) B → D.is_iterated (F.at machine n).statement ≡ false
-      → StepIs machine (below_of below) deck rows names c' l' h' w' t ls here fs (F.chosen machine (F.alternative_of machine b n) G n (world_in B c' l' h' m.used)) B (St.On (chosen_walk part n b) (with_meter g m))
-  chosen_step c' l' h' w' b m st i = same_world c' l' h' w' t ls fs (F.chosen machine (F.alternative_of machine b n) G n (world_in B c' l' h' m.used)) (St.On (chosen_walk part n b) (with_meter g m)) (record {
+      → StepIs machine (below_of below) deck rows names c' l' h' w' t ls here fs (F.chosen machine (F.alternative_of machine b n) G n (world_in B c' l' h' m.used)) B (Ok (St.On (chosen_walk part n b) (with_meter g m)))
+  chosen_step c' l' h' w' b m st i = same_world c' l' h' w' t ls fs (F.chosen machine (F.alternative_of machine b n) G n (world_in B c' l' h' m.used)) (Ok (St.On (chosen_walk part n b) (with_meter g m))) (record {
     stage = st;
     frames = G;
     is = chosen_is machine part shown fs G (world_in B c' l' h' m.used) n b k.at.within;
@@ -218,8 +215,8 @@ module _ (deck s part rows names c l h w t ls : List ℕ) (fs : Frames) (n : ℕ
   test_step : (c' l' h' w' : List ℕ) → length c' ≡ length c → length w' ≡ length w → (y : Tested) (R : Res Why Bool) → tested_in B c' l' h' y ≡ R → Leaves B 0 w c' l' h' w' (tested_meter y)
       → D.is_iterated (F.at machine n).statement ≡ false → (r : Turned) → r ≡ tested_to part fs n y g here.member (row_in part n).place
       → StepIs machine (below_of below) deck rows names c' l' h' w' t ls here r.frames (bind (F.in_row machine n R) (λ b v. F.chosen machine (F.alternative_of machine b n) G n v)) B r.step
-  test_step c' l' h' w' zc zw (Te.Is b m) R e lv i r er = rw (er, ← e) (chosen_step c' l' h' w' b m (stage_after c' l' h' w' m zc zw lv) i)
-  test_step c' l' h' w' zc zw (Te.Bad f m) R e lv i r er = rw (er, ← e) (refuses c' l' h' w' t ls (bind {A = Bool} (F.in_row machine n (bad f m.used)) (λ b v. F.chosen machine (F.alternative_of machine b n) G n v)) f (with_meter g m)
+  test_step c' l' h' w' zc zw (Ok (b, m)) R e lv i r er = rw (er, ← e) (chosen_step c' l' h' w' b m (stage_after c' l' h' w' m zc zw lv) i)
+  test_step c' l' h' w' zc zw (Err (f, m)) R e lv i r er = rw (er, ← e) (refuses c' l' h' w' t ls (bind {A = Bool} (F.in_row machine n (bad f m.used)) (λ b v. F.chosen machine (F.alternative_of machine b n) G n v)) f (with_meter g m)
       (ap (λ (j : Res Run.Stop Bool). bind j (λ b v. F.chosen machine (F.alternative_of machine b n) G n v)) (fault_is f m.used)))
 
   -- ---- DO: a frame is the group's
@@ -228,10 +225,10 @@ module _ (deck s part rows names c l h w t ls : List ℕ) (fs : Frames) (n : ℕ
 
   starts_now : (c' l' h' w' : List ℕ) → length c' ≡ length c → length w' ≡ length w → (y : Started) (R : Res Why F.Started) → StartsAs B c' l' h' R y → Leaves B 0 w c' l' h' w' (started_meter y)
       → ((d : F.Frame) (b : Bool) (v : World) → R ≡ good (record { frame = d; begins = b }) v → Controls n d B) → StartNow deck rows names c' l' h' w' t ls here n g R B y
-  starts_now c' l' h' w' zc zw (Sd.Is f b m) R e lv co =
+  starts_now c' l' h' w' zc zw (Ok (f, b, m)) R e lv co =
       let x : Controls n e.0 B = co e.0 b (world_in B c' l' h' m.used) e.2 in
       (stage_after c' l' h' w' m zc zw lv, (e.0, e.1, x.group, x.variable, e.2))
-  starts_now c' l' h' w' zc zw (Sd.Bad f m) R e lv co = e
+  starts_now c' l' h' w' zc zw (Err (f, m)) R e lv co = e
 
   -- ---- each kind
   shows : (sc : Scene) → SceneIs here.starts g sc → Shows deck rows names c l h w 0 sc g.meter B
@@ -292,19 +289,19 @@ module _ (deck s part rows names c l h w t ls : List ℕ) (fs : Frames) (n : ℕ
   unfolding member_machine
   act_is x e = ap (λ (y : D.Statement). Run.act_as mixed y inner deck (F.at machine n).place here.member n (below_of below) now) e
 
-  passes_on : (r : Turned) → r ≡ turned_by fs (St.On (Up n) g) → (R : Res Run.Stop F.Turn) → R ≡ F.onward machine G (F.behind machine G n now)
+  passes_on : (r : Turned) → r ≡ turned_by fs (Ok (St.On (Up n) g)) → (R : Res Run.Stop F.Turn) → R ≡ F.onward machine G (F.behind machine G n now)
       → StepIs machine (below_of below) deck rows names c l h w t ls here r.frames R B r.step
   passes_on r er R e = rw (er, e) (walks_up c l h w t ls g k.stage)
 
-  pub null_step : (row_in part n).statement ≡ S.Null → (r : Turned) → r ≡ turned_by fs (St.On (Up n) g) → Turns c l h w t ls r (F.at machine n).statement
+  pub null_step : (row_in part n).statement ≡ S.Null → (r : Turned) → r ≡ turned_by fs (Ok (St.On (Up n) g)) → Turns c l h w t ls r (F.at machine n).statement
   unfolding F.statement
   null_step e r er = by_kind (λ (x : D.Statement). Turns c l h w t ls r x) S.Null e (passes_on r er (F.onward machine G (F.behind machine G n now)) refl)
 
-  pub procedure_step : (row_in part n).statement ≡ S.Procedure → (r : Turned) → r ≡ turned_by fs (St.On (Up n) g) → Turns c l h w t ls r (F.at machine n).statement
+  pub procedure_step : (row_in part n).statement ≡ S.Procedure → (r : Turned) → r ≡ turned_by fs (Ok (St.On (Up n) g)) → Turns c l h w t ls r (F.at machine n).statement
   unfolding F.statement
   procedure_step e r er = by_kind (λ (x : D.Statement). Turns c l h w t ls r x) S.Procedure e (λ ns v. passes_on r er (F.onward machine G (F.behind machine G n now)) refl)
 
-  pub return_step : (row_in part n).statement ≡ S.Return → (r : Turned) → r ≡ turned_by fs (St.On (Up n) g) → Turns c l h w t ls r (F.at machine n).statement
+  pub return_step : (row_in part n).statement ≡ S.Return → (r : Turned) → r ≡ turned_by fs (Ok (St.On (Up n) g)) → Turns c l h w t ls r (F.at machine n).statement
   unfolding F.statement
   return_step e r er = by_kind (λ (x : D.Statement). (F.at machine n).statement ≡ x → Turns c l h w t ls r x) S.Return e
       (λ x q. passes_on r er (bind (machine.act n now) (λ d v. F.done machine d G n v)) (ap (λ (i : Res Run.Stop F.Deed). bind i (λ d v. F.done machine d G n v)) (act_is (D.return x) q))) refl
@@ -354,7 +351,7 @@ module _ (deck s part rows names c l h w t ls : List ℕ) (fs : Frames) (n : ℕ
         group_step deck s part rows names c l h w t ls fs n below here g inner B G k (kind_of_lem S.Group e) c' l' h' w' t' ls' r ii)
 
     -- what does nothing; INCLUDE does not come here
-    pub row_idle : (q.statement ≡ S.Null) ⊎ ((q.statement ≡ S.Procedure) ⊎ ((q.statement ≡ S.Include) ⊎ (q.statement ≡ S.Return))) → (r : Turned) → r ≡ turned_by fs (St.On (Up n) g)
+    pub row_idle : (q.statement ≡ S.Null) ⊎ ((q.statement ≡ S.Procedure) ⊎ ((q.statement ≡ S.Include) ⊎ (q.statement ≡ S.Return))) → (r : Turned) → r ≡ turned_by fs (Ok (St.On (Up n) g))
         → StatementIs deck s part rows names c l h w t ls fs n below here g names c l h w t ls r
     row_idle (inl e) r er = statement_by names c l h w t ls r (λ inner B G k. null_step deck s part rows names c l h w t ls fs n below here g inner B G k (kind_of_lem S.Null e) r er)
     row_idle (inr (inl e)) r er = statement_by names c l h w t ls r (λ inner B G k. procedure_step deck s part rows names c l h w t ls fs n below here g inner B G k (kind_of_lem S.Procedure e) r er)

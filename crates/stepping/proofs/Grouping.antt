@@ -1,5 +1,8 @@
 -- INTO A GROUP with the text that it begins with: a group that is entered, one that starts, one that is tested again.
 -- Assumes nothing.
+use Rattle.texts.specs.Types.{Ran}
+use Rattle.std.proofs.Common.{Ok, Err}
+use Rattle.bodies.specs.Types.{Tested, Started}
 use mathlib.Core.Path.{◌≡◌, refl, sym, ap, subst, ◌∙◌}
 use mathlib.Core.Bool.{Bool, true, false}
 use mathlib.Core.List.{List, ◌∷◌}
@@ -27,17 +30,11 @@ use Rattle.flow.proofs.Flows.{end_is}
 use Rattle.flow.proofs.Framing.{once_of, stepped_own, has_entered}
 use Rattle.flow.proofs.Arriving.{walk_up, entered_walk_stands, tested_walk_stands}
 use Rattle.callees.specs.Shown.{world_in, Slots}
-use Rattle.bodies.specs.declared.Started.{Started}
-use Rattle.bodies.specs.declared.Started.TheVariants as Sd
-use Rattle.bodies.specs.declared.Tested.{Tested}
-use Rattle.bodies.specs.declared.Tested.TheVariants as Te
 use Rattle.bodies.specs.Deeds.{tested_in, tested_meter}
 use Rattle.bodies.specs.Groups.{Framing, SteppedIs}
 use Rattle.texts.specs.declared.Progress.{Progress}
 use Rattle.texts.specs.declared.Here.{Here}
 use Rattle.texts.specs.declared.Stop.{Stop}
-use Rattle.texts.specs.declared.Ran.{Ran}
-use Rattle.texts.specs.declared.Ran.TheVariants as Rn
 use Rattle.texts.specs.Shown.{with_meter, stretch_for, stop_for, After, RanAs}
 use Rattle.texts.specs.Promises.{lead_text, LeadIs}
 use Rattle.texts.proofs.Looping.{lead_is}
@@ -98,12 +95,12 @@ module _ (deck s part rows names c l h w t ls : List ℕ) (fs : Frames) (n : ℕ
     unfolding F.into
     turn_is = refl
 
-    bad_on : (z : Stop) (k : Progress) → x ≡ Rn.Bad z k → StepIs M on deck rows names c' l' h' w' t' ls' here fs whole B (St.Bad z k)
+    bad_on : (z : Stop) (k : Progress) → x ≡ Err (z, k) → StepIs M on deck rows names c' l' h' w' t' ls' here fs whole B (Err (z, k))
     bad_on z k e =
         let q : lead ≡ bad (stop_for z) k.meter.used = subst (λ (v : Ran). RanAs deck rows names here.starts g B c' l' h' w' t' ls' v lead) e ran in
         record { world = B; later = later_none B; sentences = refl; now = turn_is ∙ ap (λ (v : Res Run.Stop (Unit {0})). F.onward M G (bind v (λ _ u. F.first_in M (F.at M n).child n G u))) q }
 
-    good_on : (k : Progress) → x ≡ Rn.Good k → length c' ≡ length c → StepIs M on deck rows names c' l' h' w' t' ls' here fs whole B (St.On (first_walk part fs n) k)
+    good_on : (k : Progress) → x ≡ Ok k → length c' ≡ length c → StepIs M on deck rows names c' l' h' w' t' ls' here fs whole B (Ok (St.On (first_walk part fs n) k))
     good_on k e ec =
         let q : After (Unit {0}) deck rows names here.starts g B c' l' h' w' t' ls' k tt lead = subst (λ (v : Ran). RanAs deck rows names here.starts g B c' l' h' w' t' ls' v lead) e ran in
         let later = later_after deck rows names c l h w t ls here.starts g B st c' l' h' w' t' ls' k tt lead q in
@@ -120,10 +117,10 @@ module _ (deck s part rows names c l h w t ls : List ℕ) (fs : Frames) (n : ℕ
           };
         }
 
-  pub into_good : (k : Progress) → x ≡ Rn.Good k → length c' ≡ length c → (y : Walk) → y ≡ first_walk part fs n → (z : Turned) → z ≡ turned_by fs (St.On y k) → IntoIs deck s part rows names c l h w t ls fs n here g c' l' h' w' t' ls' z
+  pub into_good : (k : Progress) → x ≡ Ok k → length c' ≡ length c → (y : Walk) → y ≡ first_walk part fs n → (z : Turned) → z ≡ turned_by fs (Ok (St.On y k)) → IntoIs deck s part rows names c l h w t ls fs n here g c' l' h' w' t' ls' z
   into_good k e ec y ey z ez = rw (ez, ey) record { is = λ B st i f inner on G en. good_on B st i f inner on G en k e ec }
 
-  pub into_bad : (y : Stop) (k : Progress) → x ≡ Rn.Bad y k → (z : Turned) → z ≡ turned_by fs (St.Bad y k) → IntoIs deck s part rows names c l h w t ls fs n here g c' l' h' w' t' ls' z
+  pub into_bad : (y : Stop) (k : Progress) → x ≡ Err (y, k) → (z : Turned) → z ≡ turned_by fs (Err (y, k)) → IntoIs deck s part rows names c l h w t ls fs n here g c' l' h' w' t' ls' z
   into_bad y k e z ez = rw ez record { is = λ B st i f inner on G en. bad_on B st i f inner on G en y k e }
 
 -- ---- behind the group n, or a refusal in its row
@@ -132,7 +129,7 @@ module _ (deck rows names c l h w t ls : List ℕ) (here : Here) (g : Progress) 
   its = machine_of inner deck here.member on
 
   behind_step : Stage deck rows names c l h w t ls here.starts g B → (part : List ℕ) → part ≡ part_here rows here → AtRow its part B.denotations fs G n → R ≡ F.onward its G (F.behind its G n (world_in B c l h g.meter.used))
-      → StepIs its on deck rows names c l h w t ls here fs R B (St.On (Up n) g)
+      → StepIs its on deck rows names c l h w t ls here fs R B (Ok (St.On (Up n) g))
   behind_step st part f a e = record {
     world = B;
     later = later_none B;
@@ -140,7 +137,7 @@ module _ (deck rows names c l h w t ls : List ℕ) (here : Here) (g : Progress) 
     now = record { stage = st; frames = G; is = e; at = subst (λ (v : List ℕ). AtWalk its v B.denotations fs G (Up n)) f (walk_up its part B.denotations fs G n a) };
   }
 
-  fault_step : (e : Why) (p : ℕ) → (F.at its n).place ≡ p → R ≡ bad (its.fault (F.at its n) e) g.meter.used → StepIs its on deck rows names c l h w t ls here fs R B (St.Bad (record { why = e; member = here.member; place = p }) g)
+  fault_step : (e : Why) (p : ℕ) → (F.at its n).place ≡ p → R ≡ bad (its.fault (F.at its n) e) g.meter.used → StepIs its on deck rows names c l h w t ls here fs R B (Err ((record { why = e; member = here.member; place = p }), g))
   unfolding member_machine
   fault_step e p q z = record { world = B; later = later_none B; sentences = refl; now = z ∙ ap (λ (k : ℕ). bad (Run.stop here.member k e) g.meter.used) q }
 
@@ -153,8 +150,8 @@ module _ (M : F.Machine Run.Stop) (G : List F.Frame) (n : ℕ) (d : F.Frame) (v 
   passes_on b e = rw e
 
 module _ (deck s part rows names c l h w t ls : List ℕ) (fs : Frames) (n : ℕ) (x : Started) (here : Here) (place : ℕ) (g : Progress) where
-  module _ (f : Frame) (b : Bool) (m : Meter) (ex : x ≡ Sd.Is f b m) (k : Progress) (ek : k ≡ with_meter g m) where
-    start_at_lem : (R : Res Why F.Started) (B : World) → StartNow deck rows names c l h w t ls here n g R B x → StartNow deck rows names c l h w t ls here n g R B (Sd.Is f b m)
+  module _ (f : Frame) (b : Bool) (m : Meter) (ex : x ≡ Ok (f, b, m)) (k : Progress) (ek : k ≡ with_meter g m) where
+    start_at_lem : (R : Res Why F.Started) (B : World) → StartNow deck rows names c l h w t ls here n g R B x → StartNow deck rows names c l h w t ls here n g R B (Ok (f, b, m))
     start_at_lem R B = subst (StartNow deck rows names c l h w t ls here n g R B) ex
 
     pub started_in : b ≡ true → (fs' : Frames) → fs' ≡ frames_with part fs n f → (c' l' h' w' t' ls' : List ℕ) (r : Turned) → IntoIs deck s part rows names c l h w t ls fs' n here k c' l' h' w' t' ls' r
@@ -162,7 +159,7 @@ module _ (deck s part rows names c l h w t ls : List ℕ) (fs : Frames) (n : ℕ
     started_in eb fs' ef c' l' h' w' t' ls' r it = record {
       is = λ B R sn i e inner on G a j q.
           let M : F.Machine Run.Stop = machine_of inner deck here.member on in
-          let now : StartNow deck rows names c l h w t ls here n g R B (Sd.Is f b m) = start_at_lem R B sn in
+          let now : StartNow deck rows names c l h w t ls here n g R B (Ok (f, b, m)) = start_at_lem R B sn in
           let st : Stage deck rows names c l h w t ls here.starts (with_meter g m) B = now.0 in
           let d : F.Frame = now.1.0 in
           let sh : Shown part M.rows = subst (λ (v : List ℕ). Shown v M.rows) (sym e) (machine_shown deck s rows names c l h w t ls here (with_meter g m) B st i inner on) in
@@ -177,15 +174,15 @@ module _ (deck s part rows names c l h w t ls : List ℕ) (fs : Frames) (n : ℕ
           subst (λ (v : Res Run.Stop F.Turn). StepIs M on deck rows names c' l' h' w' t' ls' here r.frames v B r.step) R₁ (into.is B st i e inner on (d ∷ G) en);
     }
 
-    pub started_out : b ≡ false → (r : Turned) → r ≡ turned_by fs (St.On (Up n) k) → StartedIs deck s part rows names c l h w t ls fs n x here place g c l h w t ls r
+    pub started_out : b ≡ false → (r : Turned) → r ≡ turned_by fs (Ok (St.On (Up n) k)) → StartedIs deck s part rows names c l h w t ls fs n x here place g c l h w t ls r
     started_out eb r er = rw (er, ek) record {
       is = λ B R sn i e inner on G a j q.
-          let now : StartNow deck rows names c l h w t ls here n g R B (Sd.Is f b m) = start_at_lem R B sn in
+          let now : StartNow deck rows names c l h w t ls here n g R B (Ok (f, b, m)) = start_at_lem R B sn in
           let M : F.Machine Run.Stop = machine_of inner deck here.member on in
           behind_step deck rows names c l h w t ls here (with_meter g m) B inner on G fs n _ now.0 part e a (ap (started_on M G n) now.1.4 ∙ passes_on M G n now.1.0 (world_in B c l h m.used) b eb);
     }
 
-  pub started_bad : (v : Why) (m : Meter) → x ≡ Sd.Bad v m → (k : Progress) → k ≡ with_meter g m → (r : Turned) → r ≡ refused_at fs k v here.member place → StartedIs deck s part rows names c l h w t ls fs n x here place g c l h w t ls r
+  pub started_bad : (v : Why) (m : Meter) → x ≡ Err (v, m) → (k : Progress) → k ≡ with_meter g m → (r : Turned) → r ≡ refused_at fs k v here.member place → StartedIs deck s part rows names c l h w t ls fs n x here place g c l h w t ls r
   started_bad v m ex k ek r er = rw (er, ek) record {
     is = λ B R sn i e inner on G a j q.
         let now : R ≡ bad v m.used = subst (StartNow deck rows names c l h w t ls here n g R B) ex sn in
@@ -228,26 +225,26 @@ module _ (deck s part rows names c l h w t ls : List ℕ) (fs : Frames) (n : ℕ
       walks = tested_walk_stands tested part B.denotations fs G shown_on (machine_linked deck s rows names c l h w t ls here g B st i inner on) n at;
     }
 
-    in_on : (b : Bool) (m : Meter) → x ≡ Te.Is b m → b ≡ true → (c' l' h' w' t' ls' : List ℕ) (r : Turned) → IntoIs deck s part rows names c₁ l h w t ls fs n here (with_meter g m) c' l' h' w' t' ls' r
+    in_on : (b : Bool) (m : Meter) → x ≡ Ok (b, m) → b ≡ true → (c' l' h' w' t' ls' : List ℕ) (r : Turned) → IntoIs deck s part rows names c₁ l h w t ls fs n here (with_meter g m) c' l' h' w' t' ls' r
         → StepIs tested on deck rows names c' l' h' w' t' ls' here r.frames again B r.step
     in_on b m ex eb c' l' h' w' t' ls' r it =
         let z : F.onward tested G (F.into tested G n (world_in B c₁ l h m.used)) ≡ again = sym (again_is ∙ rw (ex, eb)) in
         subst (λ (v : Res Run.Stop F.Turn). StepIs tested on deck rows names c' l' h' w' t' ls' here r.frames v B r.step) z (it.is B (stage_on m (ap tested_meter ex)) i e inner on G entering)
 
-    out_on : (b : Bool) (m : Meter) → x ≡ Te.Is b m → b ≡ false → StepIs tested on deck rows names c₁ l h w t ls here fs again B (St.On (Up n) (with_meter g m))
+    out_on : (b : Bool) (m : Meter) → x ≡ Ok (b, m) → b ≡ false → StepIs tested on deck rows names c₁ l h w t ls here fs again B (Ok (St.On (Up n) (with_meter g m)))
     out_on b m ex eb = behind_step deck rows names c₁ l h w t ls here (with_meter g m) B inner on G fs n again (stage_on m (ap tested_meter ex)) part e (record { within = at.within; framed = at.framed }) (again_is ∙ rw (ex, eb))
 
-    bad_again : (v : Why) (m : Meter) → x ≡ Te.Bad v m → (p : ℕ) → (row_in part n).place ≡ p → StepIs tested on deck rows names c₁ l h w t ls here fs again B (St.Bad (record { why = v; member = here.member; place = p }) (with_meter g m))
+    bad_again : (v : Why) (m : Meter) → x ≡ Err (v, m) → (p : ℕ) → (row_in part n).place ≡ p → StepIs tested on deck rows names c₁ l h w t ls here fs again B (Err ((record { why = v; member = here.member; place = p }), (with_meter g m)))
     bad_again v m ex p ep =
         let q : (F.at tested n).place ≡ p = sym (machine_written deck s rows names c l h w t ls here g B st i inner on n at.within).place ∙ ap (λ (k : List ℕ). (row_in k n).place) (sym e) ∙ ep in
         fault_step deck rows names c₁ l h w t ls here (with_meter g m) B inner on G fs n again v p q (again_is ∙ rw ex)
 
-  pub again_in_lem : (b : Bool) (m : Meter) → x ≡ Te.Is b m → b ≡ true → (k : Progress) → k ≡ with_meter g m → (c' l' h' w' t' ls' : List ℕ) (r : Turned) → IntoIs deck s part rows names c₁ l h w t ls fs n here k c' l' h' w' t' ls' r
+  pub again_in_lem : (b : Bool) (m : Meter) → x ≡ Ok (b, m) → b ≡ true → (k : Progress) → k ≡ with_meter g m → (c' l' h' w' t' ls' : List ℕ) (r : Turned) → IntoIs deck s part rows names c₁ l h w t ls fs n here k c' l' h' w' t' ls' r
       → AgainIs deck s part rows names c l h w t ls fs n here g c' l' h' w' t' ls' r
   again_in_lem b m ex eb k ek c' l' h' w' t' ls' r it = record { is = λ B st i e inner on G at. in_on B st i e inner on G at b m ex eb c' l' h' w' t' ls' r (rw ek at it) }
 
-  pub again_out : (b : Bool) (m : Meter) → x ≡ Te.Is b m → b ≡ false → (k : Progress) → k ≡ with_meter g m → (r : Turned) → r ≡ turned_by fs (St.On (Up n) k) → AgainIs deck s part rows names c l h w t ls fs n here g c₁ l h w t ls r
+  pub again_out : (b : Bool) (m : Meter) → x ≡ Ok (b, m) → b ≡ false → (k : Progress) → k ≡ with_meter g m → (r : Turned) → r ≡ turned_by fs (Ok (St.On (Up n) k)) → AgainIs deck s part rows names c l h w t ls fs n here g c₁ l h w t ls r
   again_out b m ex eb k ek r er = rw (er, ek) record { is = λ B st i e inner on G at. out_on B st i e inner on G at b m ex eb }
 
-  pub again_bad : (v : Why) (m : Meter) → x ≡ Te.Bad v m → (k : Progress) → k ≡ with_meter g m → (y : Row) → y ≡ row_in part n → (r : Turned) → r ≡ refused_at fs k v here.member y.place → AgainIs deck s part rows names c l h w t ls fs n here g c₁ l h w t ls r
+  pub again_bad : (v : Why) (m : Meter) → x ≡ Err (v, m) → (k : Progress) → k ≡ with_meter g m → (y : Row) → y ≡ row_in part n → (r : Turned) → r ≡ refused_at fs k v here.member y.place → AgainIs deck s part rows names c l h w t ls fs n here g c₁ l h w t ls r
   again_bad v m ex k ek y ey r er = rw (er, ek) record { is = λ B st i e inner on G at. bad_again B st i e inner on G at v m ex y.place (ap (λ (z : Row). z.place) (sym ey)) }

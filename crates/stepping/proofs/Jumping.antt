@@ -1,5 +1,6 @@
 -- GOTO outside procedures: it leads to a row of this member where it may, or out to a member below.
 -- Assumes nothing.
+use Rattle.std.proofs.Common.{Some, Result, Ok, Err}
 use mathlib.Core.Path.{◌≡◌, refl, sym, ap, subst, ◌∙◌}
 use mathlib.Core.Bool.{Bool, true, false}
 use mathlib.Core.List.{List, [], ◌∷◌}
@@ -17,7 +18,6 @@ use Rattle.definition.specs.Run.{member_machine, landing, jump_away, jump_label,
 use Rattle.definition.specs.declared.Why.{Why}
 use Rattle.definition.proofs.Choices.{when_has}
 use Rattle.deck.specs.Answer.{body_in}
-use Rattle.rows.specs.declared.Link.TheVariants.{To}
 use Rattle.rows.specs.declared.Row.{Row}
 use Rattle.rows.specs.declared.Statement.TheVariants as S
 use Rattle.rows.specs.Table.{row_in}
@@ -48,7 +48,7 @@ use Rattle.stepping.proofs.Acting.{Ready, rows_are, within_here, shown, linked, 
 -- ---- where the definition's jump leads: a row that is there, and may be gone to
 pub record Reaching (on : List Place) (W₁ : World) (x : F.Target) : Type 0 where
   pub at : ℕ
-  pub stands : row_for on x.member ≡ To at
+  pub stands : row_for on x.member ≡ Some at
   pub may : F.may_go (rows_of x.member W₁) at x.row x.is_end ≡ true
   pub there : x.row < length (rows_of x.member W₁)
 
@@ -117,7 +117,7 @@ module _ (deck s part rows names c l h w t ls : List ℕ) (fs : Frames) (n : ℕ
     here = within_here deck s part rows names c l h w t ls fs n below here g inner B G k;
   }
 
-  module _ (v : List ℕ) (j : Jump) (ji : JumpIs deck s rows names g.names below here.member here.starts n (row_in part n).content j) (sp : spelled_at s (row_in part n).content ≡ v) where
+  module _ (v : List ℕ) (j : Result Jump Why) (ji : JumpIs deck s rows names g.names below here.member here.starts n (row_in part n).content j) (sp : spelled_at s (row_in part n).content ≡ v) where
     jump_is : ask (jump_for j) now ≡ jump_from (address_of v everyone now) here.member (rows_of here.member now) (below_of below) n now
     jump_is = ji.is now (record { identifiers = k.stage.onstage.shows.named.identifiers; denotations = k.stage.onstage.shows.named.denotations }) all_there
         ∙ ap (λ (x : List ℕ). jump_from (address_of x everyone now) here.member (rows_of here.member now) (below_of below) n now) sp
@@ -151,9 +151,9 @@ module _ (deck s part rows names c l h w t ls : List ℕ) (fs : Frames) (n : ℕ
   abbrev Jumps : Turned → Res Run.Stop F.Turn → Type 0
   Jumps r R = StepIs machine (below_of below) deck rows names c l h w t ls here r.frames R B r.step
 
-  jump_step : (j : Jump) → LeadsAs (rows_of here.member now) (below_of below) n now (ask (jump_for j) now)
+  jump_step : (j : Result Jump Why) → LeadsAs (rows_of here.member now) (below_of below) n now (ask (jump_for j) now)
       → Jumps (jumped_to part fs j g here.member (row_in part n).place) (bind (placed (Run.stop here.member (F.at machine n).place) (ask (jump_for j) now)) (λ x y. F.follow machine x G y))
-  jump_step (J.Here x) q =
+  jump_step (Ok (J.Here x)) q =
       let y : (x.place.row < length machine.rows) × (F.may_go machine.rows n x.place.row x.is_end ≡ true) = landed_at_lem x.place.row x.is_end q in
       record {
         world = B;
@@ -168,20 +168,20 @@ module _ (deck s part rows names c l h w t ls : List ℕ) (fs : Frames) (n : ℕ
               n x.place.row x.is_end k.at.within y.0 k.at.framed y.1);
         };
       }
-  jump_step (J.Away x) q = record {
+  jump_step (Ok (J.Away x)) q = record {
     world = B;
     later = later_same B B refl refl refl;
     sentences = refl;
     now = record { stage = k.stage; is = refl; reaches = record { at = q.at; stands = q.stands; may = q.may; there = q.there } };
   }
-  jump_step (J.Bad e) q = record {
+  jump_step (Err e) q = record {
     world = B;
     later = later_same B B refl refl refl;
     sentences = refl;
     now = ap (λ (p : ℕ). bad (Run.stop here.member p e) g.meter.used) (place_is deck s part rows names c l h w t ls fs n below here g inner B G k);
   }
 
-  pub goto_step : (row_in part n).statement ≡ S.Goto → (j : Jump) → JumpIs deck s rows names g.names below here.member here.starts n (row_in part n).content j → (r : Turned)
+  pub goto_step : (row_in part n).statement ≡ S.Goto → (j : Result Jump Why) → JumpIs deck s rows names g.names below here.member here.starts n (row_in part n).content j → (r : Turned)
       → r ≡ jumped_to part fs j g here.member (row_in part n).place → Jumps r (F.statement machine (F.at machine n).statement G n now)
   unfolding F.statement
   goto_step e j ji r er = by_kind deck s part rows names c l h w t ls fs n below here g inner B G k
@@ -193,7 +193,7 @@ module _ (deck s part rows names c l h w t ls : List ℕ) (fs : Frames) (n : ℕ
 
 -- ---- by the row q that was read from the table
 pub row_goto : (deck s part rows names c l h w t ls : List ℕ) (fs : Frames) (n : ℕ) (below : Below) (here : Here) (g : Progress) (q : Row) → q ≡ row_in part n → q.statement ≡ S.Goto
-    → (j : Jump) → JumpIs deck s rows names g.names below here.member here.starts n q.content j → (r : Turned) → r ≡ jumped_to part fs j g here.member q.place
+    → (j : Result Jump Why) → JumpIs deck s rows names g.names below here.member here.starts n q.content j → (r : Turned) → r ≡ jumped_to part fs j g here.member q.place
     → StatementIs deck s part rows names c l h w t ls fs n below here g names c l h w t ls r
 row_goto deck s part rows names c l h w t ls fs n below here g q eq e j ji r er = statement_by deck s part rows names c l h w t ls fs n below here g names c l h w t ls r (λ inner B G k.
     goto_step deck s part rows names c l h w t ls fs n below here g inner B G k (ap (λ (i : Row). i.statement) (sym eq) ∙ e) j

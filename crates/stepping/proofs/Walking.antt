@@ -1,6 +1,9 @@
 -- A WALK with the texts on the way: the text behind a row, and one row after the other, each before the one that it stands around, so
 -- that the turns do not run out.
 -- Assumes nothing.
+use Rattle.stepping.specs.Types.{Onward}
+use Rattle.std.proofs.Common.{Ok, Err}
+use Rattle.texts.specs.Types.{Ran}
 use mathlib.Core.Path.{◌≡◌, refl, sym, ap, subst, ◌∙◌}
 use mathlib.Core.Logic.{◌⊎◌, inl, inr}
 use mathlib.Core.List.{List}
@@ -31,14 +34,10 @@ use Rattle.callees.specs.Shown.{world_in}
 use Rattle.texts.specs.declared.Progress.{Progress}
 use Rattle.texts.specs.declared.Here.{Here}
 use Rattle.texts.specs.declared.Stop.{Stop}
-use Rattle.texts.specs.declared.Ran.{Ran}
-use Rattle.texts.specs.declared.Ran.TheVariants as Rn
 use Rattle.texts.specs.Shown.{stretch_for, stop_for, Goes, After, RanAs}
 use Rattle.texts.specs.Promises.{TextIs}
 use Rattle.texts.proofs.Common.{goes_none, goes_on_lem}
 use Rattle.texts.proofs.Looping.{out_is}
-use Rattle.stepping.specs.declared.Onward.{Onward}
-use Rattle.stepping.specs.declared.Onward.TheVariants as On
 use Rattle.stepping.specs.Stage.{Stage, InMember, part_here, machine_of, goes}
 use Rattle.stepping.specs.Steps.{TextBehindIs, FollowIs}
 use Rattle.stepping.proofs.Staging.{stage_after, member_goes, machine_shown, machine_linked, machine_few, machine_written, text_lies, its_body}
@@ -72,7 +71,7 @@ module _ (deck s part rows names c l h w t ls : List ℕ) (n : ℕ) (here : Here
           ∙ ap (λ (y : P.Stretch). Run.text_out mixed here.member (body_of deck here.member) y v) same ∙ sym (out_is inner deck here.member on _ (F.at M n).text v) ∙ sym (out_listed M (F.at M n).text v (row_in part n).role (ap (λ (y : Row). y.role) (sym er) ∙ q)) in
           subst (λ (R : Res Run.Stop (Unit {0})). RanAs deck rows names here.starts g B c' l' h' w' t' ls' z R) f o
 
-  pub behind_no_text : (r.role ≡ ThenPart) ⊎ (r.role ≡ ElsePart) → TextBehindIs deck s part rows names c l h w t ls n here g c l h w t ls (Rn.Good g)
+  pub behind_no_text : (r.role ≡ ThenPart) ⊎ (r.role ≡ ElsePart) → TextBehindIs deck s part rows names c l h w t ls n here g c l h w t ls (Ok g)
   behind_no_text q = record {
     is = λ B st i e inner on lt.
         let M : F.Machine Run.Stop = machine_of inner deck here.member on in
@@ -140,7 +139,7 @@ height_behind t fs rs n (Up p) s h e = let k : p < n = s.tabled.before n p h (be
 module _ (deck s part rows names c₀ l₀ h₀ w₀ t₀ ls₀ : List ℕ) (fs : Frames) (first : Walk) (here : Here) (g₀ : Progress) (turn : ℕ) (x : Walk) (g : Progress) (c l h w t ls : List ℕ)
     (i : Following deck s part rows names c₀ l₀ h₀ w₀ t₀ ls₀ fs first here g₀ turn x g c l h w t ls) where
   -- it arrives
-  pub follow_arrived : (y : Next) → x ≡ Arrives y → FollowIs deck s part rows names c₀ l₀ h₀ w₀ t₀ ls₀ fs first here g₀ c l h w t ls (On.Good y g)
+  pub follow_arrived : (y : Next) → x ≡ Arrives y → FollowIs deck s part rows names c₀ l₀ h₀ w₀ t₀ ls₀ fs first here g₀ c l h w t ls (Ok (y, g))
   follow_arrived y e = record {
     is = λ B st m f inner on G a.
         let z = i.so B st m f inner on G a in (
@@ -191,12 +190,12 @@ module _ (deck s part rows names c₀ l₀ h₀ w₀ t₀ ls₀ : List ℕ) (fs 
       turn_is : bind out (λ _ v. goes M G (behind_walk part fs n) v) ≡ whole
       turn_is = sym (behind_walks M G part shown fs n (world_in now_is.world c l h g.meter.used) row_at.within row_at.framed) ∙ ap (λ (k : Walk). goes M G k (world_in now_is.world c l h g.meter.used)) (sym ex) ∙ now_is.same
 
-      bad_on : (z : Stop) (k : Progress) → r ≡ Rn.Bad z k → whole ≡ bad (stop_for z) k.meter.used
+      bad_on : (z : Stop) (k : Progress) → r ≡ Err (z, k) → whole ≡ bad (stop_for z) k.meter.used
       bad_on z k e =
           let q : out ≡ bad (stop_for z) k.meter.used = subst (λ (v : Ran). RanAs deck rows names here.starts g now_is.world c' l' h' w' t' ls' v out) e ran in
           sym turn_is ∙ ap (λ (v : Res Run.Stop (Unit {0})). bind v (λ _ u. goes M G (behind_walk part fs n) u)) q
 
-      good_on : (k : Progress) → r ≡ Rn.Good k → length c' ≡ length c → (y : Walk) → y ≡ behind_walk part fs n → Passing deck rows names M part fs G here g₀ B whole (turn + 1) y k c' l' h' w' t' ls'
+      good_on : (k : Progress) → r ≡ Ok k → length c' ≡ length c → (y : Walk) → y ≡ behind_walk part fs n → Passing deck rows names M part fs G here g₀ B whole (turn + 1) y k c' l' h' w' t' ls'
       good_on k e ec y ey =
           let q : After (Unit {0}) deck rows names here.starts g now_is.world c' l' h' w' t' ls' k tt out = subst (λ (v : Ran). RanAs deck rows names here.starts g now_is.world c' l' h' w' t' ls' v out) e ran in
           let up : height y < suc n = height_behind part fs M.rows n y shown row_at.within (sym ey) in
@@ -212,10 +211,10 @@ module _ (deck s part rows names c₀ l₀ h₀ w₀ t₀ ls₀ : List ℕ) (fs 
             named = q.named ∙ now_is.named;
           }
 
-    pub follow_bad : (z : Stop) (k : Progress) → r ≡ Rn.Bad z k → FollowIs deck s part rows names c₀ l₀ h₀ w₀ t₀ ls₀ fs first here g₀ c' l' h' w' t' ls' (On.Bad z k)
+    pub follow_bad : (z : Stop) (k : Progress) → r ≡ Err (z, k) → FollowIs deck s part rows names c₀ l₀ h₀ w₀ t₀ ls₀ fs first here g₀ c' l' h' w' t' ls' (Err (z, k))
     follow_bad z k e = record { is = λ B st m f inner on G a. bad_on B st m f inner on G a z k e }
 
-    pub follow_more : (k : Progress) → r ≡ Rn.Good k → (y : Walk) → y ≡ behind_walk part fs n
+    pub follow_more : (k : Progress) → r ≡ Ok k → (y : Walk) → y ≡ behind_walk part fs n
         → length c' ≡ length c → length l' ≡ length l → length h' ≡ length h → length w' ≡ length w → length t' ≡ length t → length ls' ≡ length ls
         → Following deck s part rows names c₀ l₀ h₀ w₀ t₀ ls₀ fs first here g₀ (turn + 1) y k c' l' h' w' t' ls'
     follow_more k e y ey d₁ d₂ d₃ d₄ d₅ d₆ = record {

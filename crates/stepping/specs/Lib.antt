@@ -2,3 +2,4 @@
 pub mod Stage
 pub mod Ways
 pub mod Steps
+pub mod Types

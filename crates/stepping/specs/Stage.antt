@@ -1,6 +1,6 @@
 -- HOW THE ROOMS SHOW A RUN OF MEMBERS: the world B, with what was put out, and the rows of its members in the table. And the member that
 -- runs.
-use Rattle.std.specs.Prelude.{ℕ, ◌<◌, ◌≤◌, ◌≡◌, true, List, length}
+use Rattle.std.specs.Prelude.{ℕ, ◌<◌, ◌≤◌, ◌≡◌, true, List, length, Some}
 use Rattle.definition.specs.Bytes.{mixed}
 use Rattle.definition.specs.Reading.{read_member}
 use Rattle.definition.specs.World.{World, Res, rows_of}
@@ -11,7 +11,6 @@ use Rattle.definition.specs.Run.{body_of, member_machine}
 use Rattle.deck.specs.Answer.{body_in}
 use Rattle.names.specs.declared.Label.{Label}
 use Rattle.rows.specs.Parts.{part_in}
-use Rattle.rows.specs.declared.Link.TheVariants.{To}
 use Rattle.rows.specs.declared.Starts.{Starts}
 use Rattle.flow.specs.declared.Walk.{Walk}
 use Rattle.flow.specs.Shown.{walked}
@@ -61,6 +60,6 @@ target_for l = record { member = l.place.member; row = l.place.row; is_end = l.i
 
 pub record Reaches (on : List Place) (l : Label) (B : World) : Type 0 where
   pub at : ℕ
-  pub stands : row_for on l.place.member ≡ To at
+  pub stands : row_for on l.place.member ≡ Some at
   pub may : F.may_go (rows_of l.place.member B) at l.place.row l.is_end ≡ true
   pub there : l.place.row < length (rows_of l.place.member B)

@@ -1,5 +1,9 @@
 -- THE CONTRACTS of a member's statements: what an answer stands for, in a world that the rooms show.
-use Rattle.std.specs.Prelude.{ℕ, ◌<◌, true, false, ◌≡◌, List, ◌∷◌, length, get_or}
+use Rattle.texts.specs.declared.Stop.{Stop}
+use Rattle.stepping.specs.Types.{Onward}
+use Rattle.texts.specs.Types.{Ran}
+use Rattle.bodies.specs.Types.{Started}
+use Rattle.std.specs.Prelude.{ℕ, ◌<◌, true, false, ◌≡◌, List, ◌∷◌, length, get_or, Ok, Err, Result}
 use Rattle.definition.specs.Choice.{when}
 use Rattle.definition.specs.Program as P
 use Rattle.definition.specs.World.{World, Denotation, variable_of, builtin_name, Res, good, bad, bind, row_of}
@@ -16,17 +20,12 @@ use Rattle.flow.specs.declared.Walk.{Walk}
 use Rattle.flow.specs.Walks.{frame_in, first_walk}
 use Rattle.flow.specs.Shown.{FrameShown, FrameOf, next_from, out_behind, AtRow, AtTest, AtNext, AtWalk}
 use Rattle.callees.specs.Shown.{world_in}
-use Rattle.bodies.specs.declared.Started.{Started}
-use Rattle.bodies.specs.declared.Started.TheVariants as Sd
 use Rattle.showing.specs.Later.{Later}
 use Rattle.leaving.specs.declared.Below.{Below}
 use Rattle.leaving.specs.Places.{below_of, Stand}
 use Rattle.texts.specs.declared.Progress.{Progress}
 use Rattle.texts.specs.declared.Here.{Here}
-use Rattle.texts.specs.declared.Ran.{Ran}
 use Rattle.texts.specs.Shown.{with_meter, stop_for, After, RanAs}
-use Rattle.stepping.specs.declared.Onward.{Onward}
-use Rattle.stepping.specs.declared.Onward.TheVariants as On
 use Rattle.stepping.specs.declared.Step.{Step}
 use Rattle.stepping.specs.declared.Step.TheVariants as St
 use Rattle.stepping.specs.declared.Turned.{Turned}
@@ -46,8 +45,8 @@ pub record TextBehindIs (deck s part rows names c l h w t ls : List ℕ) (n : �
 
 -- ---- a walk with the texts on the way: only values, steps and what is put out change
 abbrev pub OnwardAs : F.Machine Run.Stop → List ℕ → List ℕ → List ℕ → Here → Frames → List F.Frame → Progress → World → List ℕ → List ℕ → List ℕ → List ℕ → List ℕ → List ℕ → Onward → Res Run.Stop F.Next → Type 0
-OnwardAs M deck rows names here fs G g B c l h w t ls (On.Good x g') R = After F.Next deck rows names here.starts g B c l h w t ls g' (next_from x) R × AtNext M (part_here rows here) B.denotations fs G x
-OnwardAs M deck rows names here fs G g B c l h w t ls (On.Bad x g') R = R ≡ bad (stop_for x) g'.meter.used
+OnwardAs M deck rows names here fs G g B c l h w t ls (Ok (x, g')) R = After F.Next deck rows names here.starts g B c l h w t ls g' (next_from x) R × AtNext M (part_here rows here) B.denotations fs G x
+OnwardAs M deck rows names here fs G g B c l h w t ls (Err (x, g')) R = R ≡ bad (stop_for x) g'.meter.used
 
 pub record FollowIs (deck s part rows names c l h w t ls : List ℕ) (fs : Frames) (x : Walk) (here : Here) (g : Progress) (c' l' h' w' t' ls' : List ℕ) (r : Onward) : Type 0 where
   pub is : (B : World) → Stage deck rows names c l h w t ls here.starts g B → InMember deck s rows here B → part ≡ part_here rows here → (inner : Run.Level) (on : List Place) (G : List F.Frame)
@@ -68,13 +67,13 @@ pub record Departs (on : List Place) (deck rows names c l h w t ls : List ℕ) (
   pub is : R ≡ good (F.ended (F.went (target_for x))) (world_in B c l h g.meter.used)
   pub reaches : Reaches on x B
 
-abbrev pub StepNow : F.Machine Run.Stop → List Place → List ℕ → List ℕ → List ℕ → List ℕ → List ℕ → List ℕ → List ℕ → List ℕ → List ℕ → Here → Frames → Res Run.Stop F.Turn → World → Step → Type 0
-StepNow M on deck rows names c l h w t ls here fs R B (St.On x g) = Walks M deck rows names c l h w t ls here fs x g R B
-StepNow M on deck rows names c l h w t ls here fs R B (St.Went x g) = Departs on deck rows names c l h w t ls here x g R B
-StepNow M on deck rows names c l h w t ls here fs R B (St.Bad x g) = R ≡ bad (stop_for x) g.meter.used
+abbrev pub StepNow : F.Machine Run.Stop → List Place → List ℕ → List ℕ → List ℕ → List ℕ → List ℕ → List ℕ → List ℕ → List ℕ → List ℕ → Here → Frames → Res Run.Stop F.Turn → World → Result Step (Stop × Progress) → Type 0
+StepNow M on deck rows names c l h w t ls here fs R B (Ok (St.On x g)) = Walks M deck rows names c l h w t ls here fs x g R B
+StepNow M on deck rows names c l h w t ls here fs R B (Ok (St.Went x g)) = Departs on deck rows names c l h w t ls here x g R B
+StepNow M on deck rows names c l h w t ls here fs R B (Err (x, g)) = R ≡ bad (stop_for x) g.meter.used
 
 -- in a world later than B; no member was entered
-pub record StepIs (M : F.Machine Run.Stop) (on : List Place) (deck rows names c l h w t ls : List ℕ) (here : Here) (fs : Frames) (R : Res Run.Stop F.Turn) (B : World) (x : Step) : Type 0 where
+pub record StepIs (M : F.Machine Run.Stop) (on : List Place) (deck rows names c l h w t ls : List ℕ) (here : Here) (fs : Frames) (R : Res Run.Stop F.Turn) (B : World) (x : Result Step (Stop × Progress)) : Type 0 where
   pub world : World
   pub later : Later B world
   pub sentences : world.sentences ≡ B.sentences
@@ -94,10 +93,10 @@ pub record IntoIs (deck s part rows names c l h w t ls : List ℕ) (fs : Frames)
 
 -- the iterated group n, which starts as x says: R is the definition's start, from which it goes on
 abbrev pub StartNow : List ℕ → List ℕ → List ℕ → List ℕ → List ℕ → List ℕ → List ℕ → List ℕ → List ℕ → Here → ℕ → Progress → Res Why F.Started → World → Started → Type 0
-StartNow deck rows names c l h w t ls here n g R B (Sd.Is f b m) =
+StartNow deck rows names c l h w t ls here n g R B (Ok (f, b, m)) =
     Stage deck rows names c l h w t ls here.starts (with_meter g m) B
     × ((d : F.Frame) × FrameShown f d × (d.group ≡ n) × (get_or B.denotations d.at builtin_name ≡ variable_of FixedType) × (R ≡ good (record { frame = d; begins = b }) (world_in B c l h m.used)))
-StartNow deck rows names c l h w t ls here n g R B (Sd.Bad e m) = R ≡ bad e m.used
+StartNow deck rows names c l h w t ls here n g R B (Err (e, m)) = R ≡ bad e m.used
 
 abbrev pub started_on : F.Machine Run.Stop → List F.Frame → ℕ → Res Why F.Started → Res Run.Stop F.Turn
 started_on M G n R = bind (F.in_row M n R) λ x v. when x.begins (λ _. F.onward M (x.frame ∷ G) (F.into M (x.frame ∷ G) n v)) (λ _. F.onward M G (F.behind M G n v))
@@ -131,10 +130,10 @@ pub record Gone (on : List Place) (deck rows names c l h w t ls : List ℕ) (her
   pub is : R ≡ good (F.went (target_for x)) (world_in B c l h g.meter.used)
   pub reaches : Reaches on x B
 
-abbrev pub EndNow : List Place → List ℕ → List ℕ → List ℕ → List ℕ → List ℕ → List ℕ → List ℕ → List ℕ → List ℕ → Here → Res Run.Stop F.End → World → Ended → Type 0
-EndNow on deck rows names c l h w t ls here R B (En.Ran g) = Done deck rows names c l h w t ls here g R B
-EndNow on deck rows names c l h w t ls here R B (En.Went x g) = Gone on deck rows names c l h w t ls here x g R B
-EndNow on deck rows names c l h w t ls here R B (En.Bad x g) = R ≡ bad (stop_for x) g.meter.used
+abbrev pub EndNow : List Place → List ℕ → List ℕ → List ℕ → List ℕ → List ℕ → List ℕ → List ℕ → List ℕ → List ℕ → Here → Res Run.Stop F.End → World → Result Ended (Stop × Progress) → Type 0
+EndNow on deck rows names c l h w t ls here R B (Ok (En.Ran g)) = Done deck rows names c l h w t ls here g R B
+EndNow on deck rows names c l h w t ls here R B (Ok (En.Went x g)) = Gone on deck rows names c l h w t ls here x g R B
+EndNow on deck rows names c l h w t ls here R B (Err (x, g)) = R ≡ bad (stop_for x) g.meter.used
 
 -- ---- what comes of a step: the next turn, or the end
 pub record Nexts (M : F.Machine Run.Stop) (deck rows names c l h w t ls : List ℕ) (here : Here) (fs : Frames) (x : Next) (g : Progress) (R : Res Run.Stop F.Turn) (B : World) : Type 0 where
@@ -158,6 +157,6 @@ pub record SettlesAs (M : F.Machine Run.Stop) (on : List Place) (deck rows names
   pub sentences : world.sentences ≡ B.sentences
   pub now : SettledNow M on deck rows names c l h w t ls here fs R world x
 
-pub record SettleIs (deck s rows names c l h w t ls : List ℕ) (fs : Frames) (x : Step) (here : Here) (c' l' h' w' t' ls' : List ℕ) (r : Settled) : Type 0 where
+pub record SettleIs (deck s rows names c l h w t ls : List ℕ) (fs : Frames) (x : Result Step (Stop × Progress)) (here : Here) (c' l' h' w' t' ls' : List ℕ) (r : Settled) : Type 0 where
   pub is : (B : World) → InMember deck s rows here B → (inner : Run.Level) (on : List Place) (R : Res Run.Stop F.Turn) → StepNow (machine_of inner deck here.member on) on deck rows names c l h w t ls here fs R B x
       → SettlesAs (machine_of inner deck here.member on) on deck rows names c' l' h' w' t' ls' here fs R B r

@@ -15,7 +15,7 @@ use flow::{Frames, Next, Walk};
 use leaving::{Below, Jump, jump_from};
 use names::Label;
 use rows::{Role, Row, Statement, part_of, row_at};
-use texts::{Here, Progress, Ran, Stop, lead_out, scene, text_out, with_meter};
+use texts::{Halted, Here, Progress, Ran, Stop, lead_out, scene, text_out, with_meter};
 
 // The rows of the member that runs.
 pub fn part_here(rows: &[u16], here: Here) -> &[u16]
@@ -27,11 +27,7 @@ pub fn part_here(rows: &[u16], here: Here) -> &[u16]
 // ---- where control goes, and what is put out on the way
 
 // What comes next in a member, or a refusal.
-#[derive(Clone, Copy)]
-enum Onward {
-    Good(Next, Progress),
-    Bad(Stop, Progress),
-}
+type Onward = Result<(Next, Progress), Halted>;
 
 // The text behind the row n, if it is one of a list.
 fn text_behind(
@@ -57,7 +53,7 @@ fn text_behind(
         Role::Listed => text_out(
             deck, s, rows, names, cells, low, high, work, text, list, r.text, here, g,
         ),
-        Role::ThenPart | Role::ElsePart => Ran::Good(g),
+        Role::ThenPart | Role::ElsePart => Ok(g),
     }
 }
 
@@ -86,22 +82,22 @@ fn follow(
     // a turn for each row of a member, since what is around a row is before it, and one that finds the end
     for _ in 0..2_049usize {
         match w {
-            Walk::To(x) => return Onward::Good(x, g),
+            Walk::To(x) => return Ok((x, g)),
             Walk::Up(n) => {
                 let r = text_behind(
                     deck, s, part, rows, names, cells, low, high, work, text, list, n, here, g,
                 );
                 match r {
-                    Ran::Good(h) => {
+                    Ok(h) => {
                         g = h;
                         w = flow::walk_behind(part, fs, n);
                     }
-                    Ran::Bad(stop, h) => return Onward::Bad(stop, h),
+                    Err((stop, h)) => return Err((stop, h)),
                 }
             }
         }
     }
-    Onward::Good(Next::Over, g)
+    Ok((Next::Over, g))
 }
 
 // ---- statements
@@ -111,16 +107,15 @@ fn follow(
 pub enum Step {
     On(Walk, Progress),
     Went(Label, Progress),
-    Bad(Stop, Progress),
 }
 
 #[derive(Clone, Copy)]
 pub struct Turned {
     pub frames: Frames,
-    pub step: Step,
+    pub step: Result<Step, Halted>,
 }
 
-pub fn with_step(frames: Frames, step: Step) -> Turned
+pub fn with_step(frames: Frames, step: Result<Step, Halted>) -> Turned
     ensures { result ≡ turned_by frames step }
 {
     Turned { frames, step }
@@ -129,15 +124,15 @@ pub fn with_step(frames: Frames, step: Step) -> Turned
 pub fn refused(fs: Frames, g: Progress, why: Why, member: u16, place: usize) -> Turned
     ensures { result ≡ refused_at fs g why member place }
 {
-    with_step(fs, Step::Bad(Stop { why, member, place }, g))
+    with_step(fs, Err((Stop { why, member, place }, g)))
 }
 
 fn on_done(fs: Frames, n: u16, d: Done, g: Progress, member: u16, place: usize) -> Turned
     ensures { result ≡ done_to fs n d g member place }
 {
     match d {
-        Done::Good(m) => with_step(fs, Step::On(Walk::Up(n), with_meter(g, m))),
-        Done::Bad(w, m) => refused(fs, with_meter(g, m), w, member, place),
+        Ok(m) => with_step(fs, Ok(Step::On(Walk::Up(n), with_meter(g, m)))),
+        Err((w, m)) => refused(fs, with_meter(g, m), w, member, place),
     }
 }
 
@@ -153,18 +148,25 @@ fn on_test(
     ensures { result ≡ tested_to part.now fs n t g member place }
 {
     match t {
-        Tested::Is(b, m) => with_step(fs, Step::On(flow::chosen(part, n, b), with_meter(g, m))),
-        Tested::Bad(w, m) => refused(fs, with_meter(g, m), w, member, place),
+        Ok((b, m)) => with_step(fs, Ok(Step::On(flow::chosen(part, n, b), with_meter(g, m)))),
+        Err((w, m)) => refused(fs, with_meter(g, m), w, member, place),
     }
 }
 
-fn on_jump(part: &[u16], fs: Frames, j: Jump, g: Progress, member: u16, place: usize) -> Turned
+fn on_jump(
+    part: &[u16],
+    fs: Frames,
+    j: Result<Jump, Why>,
+    g: Progress,
+    member: u16,
+    place: usize,
+) -> Turned
     ensures { result ≡ jumped_to part.now fs j g member place }
 {
     match j {
-        Jump::Here(l) => with_step(fs, Step::On(flow::landing(part, fs, l), g)),
-        Jump::Away(l) => with_step(fs, Step::Went(l, g)),
-        Jump::Bad(w) => refused(fs, g, w, member, place),
+        Ok(Jump::Here(l)) => with_step(fs, Ok(Step::On(flow::landing(part, fs, l), g))),
+        Ok(Jump::Away(l)) => with_step(fs, Ok(Step::Went(l, g))),
+        Err(w) => refused(fs, g, w, member, place),
     }
 }
 
@@ -172,7 +174,7 @@ fn on_activated(fs: Frames, n: u16, is_good: bool, g: Progress, member: u16, pla
     ensures { result ≡ activated_to fs n is_good g member place }
 {
     if is_good {
-        return with_step(fs, Step::On(Walk::Up(n), g));
+        return with_step(fs, Ok(Step::On(Walk::Up(n), g)));
     }
     refused(fs, g, Why::WrongName, member, place)
 }
@@ -202,8 +204,8 @@ fn into(
         deck, s, rows, names, cells, low, high, work, text, list, r.lead, here, g,
     );
     match x {
-        Ran::Good(h) => with_step(fs, Step::On(flow::first_in(part, fs, n), h)),
-        Ran::Bad(stop, h) => with_step(fs, Step::Bad(stop, h)),
+        Ok(h) => with_step(fs, Ok(Step::On(flow::first_in(part, fs, n), h))),
+        Err((stop, h)) => with_step(fs, Err((stop, h))),
     }
 }
 
@@ -230,7 +232,7 @@ fn into_started(
     ensures { StartedIs deck.now s.now part.now rows.now names.now cells.old low.old high.old work.old text.old list.old fs n x here place g cells.new low.new high.new work.new text.new list.new result }
 {
     match x {
-        Started::Is(f, begins, m) => {
+        Ok((f, begins, m)) => {
             let h = with_meter(g, m);
             if begins {
                 let inner = flow::with_frame(part, fs, n, f);
@@ -239,9 +241,9 @@ fn into_started(
                     h,
                 );
             }
-            with_step(fs, Step::On(Walk::Up(n), h))
+            with_step(fs, Ok(Step::On(Walk::Up(n), h)))
         }
-        Started::Bad(w, m) => refused(fs, with_meter(g, m), w, here.member, place),
+        Err((w, m)) => refused(fs, with_meter(g, m), w, here.member, place),
     }
 }
 
@@ -268,16 +270,16 @@ pub fn into_again(
     let r = row_at(part, n);
     let t = stepped(cells, flow::frame_of(part, fs, n), g.meter);
     match t {
-        Tested::Is(b, m) => {
+        Ok((b, m)) => {
             let h = with_meter(g, m);
             if b {
                 return into(
                     deck, s, part, rows, names, cells, low, high, work, text, list, fs, n, here, h,
                 );
             }
-            with_step(fs, Step::On(Walk::Up(n), h))
+            with_step(fs, Ok(Step::On(Walk::Up(n), h)))
         }
-        Tested::Bad(w, m) => refused(fs, with_meter(g, m), w, here.member, r.place as usize),
+        Err((w, m)) => refused(fs, with_meter(g, m), w, here.member, r.place as usize),
     }
 }
 
@@ -394,7 +396,7 @@ pub fn statement(
             on_activated(fs, n, b, g, member, place)
         }
         Statement::Null | Statement::Procedure | Statement::Include | Statement::Return => {
-            with_step(fs, Step::On(Walk::Up(n), g))
+            with_step(fs, Ok(Step::On(Walk::Up(n), g)))
         }
     }
 }
@@ -404,9 +406,12 @@ pub fn went_to(rows: &[u16], fs: Frames, here: Here, l: Label, g: Progress) -> T
     ensures { result ≡ went_to (part_here rows.now here) fs here.member l g }
 {
     if l.place.member == here.member {
-        return with_step(fs, Step::On(flow::landing(part_here(rows, here), fs, l), g));
+        return with_step(
+            fs,
+            Ok(Step::On(flow::landing(part_here(rows, here), fs, l), g)),
+        );
     }
-    with_step(fs, Step::Went(l, g))
+    with_step(fs, Ok(Step::Went(l, g)))
 }
 
 pub fn is_include(r: Row) -> bool
@@ -422,14 +427,13 @@ pub fn is_include(r: Row) -> bool
 pub enum Ended {
     Ran(Progress),
     Went(Label, Progress),
-    Bad(Stop, Progress),
 }
 
 // What a turn gives, with the texts that come behind it.
 #[derive(Clone, Copy)]
 pub enum Settled {
     On(Next, Progress),
-    End(Ended),
+    End(Result<Ended, Halted>),
 }
 
 pub fn settle(
@@ -444,13 +448,13 @@ pub fn settle(
     text: &mut [u8],
     list: &mut [u8],
     fs: Frames,
-    step: Step,
+    step: Result<Step, Halted>,
     here: Here,
 ) -> Settled
     ensures { SettleIs deck.now s.now rows.now names.now cells.old low.old high.old work.old text.old list.old fs step here cells.new low.new high.new work.new text.new list.new result }
 {
     match step {
-        Step::On(w, g) => {
+        Ok(Step::On(w, g)) => {
             let o = follow(
                 deck,
                 s,
@@ -469,12 +473,12 @@ pub fn settle(
                 g,
             );
             match o {
-                Onward::Good(next, h) => Settled::On(next, h),
-                Onward::Bad(stop, h) => Settled::End(Ended::Bad(stop, h)),
+                Ok((next, h)) => Settled::On(next, h),
+                Err((stop, h)) => Settled::End(Err((stop, h))),
             }
         }
-        Step::Went(l, g) => Settled::End(Ended::Went(l, g)),
-        Step::Bad(stop, g) => Settled::End(Ended::Bad(stop, g)),
+        Ok(Step::Went(l, g)) => Settled::End(Ok(Ended::Went(l, g))),
+        Err((stop, g)) => Settled::End(Err((stop, g))),
     }
 }
 

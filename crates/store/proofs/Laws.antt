@@ -1,5 +1,8 @@
 -- One law for each way out of a function on values; what is stored is read back.
 -- Assumes nothing.
+use Rattle.fixed.specs.declared.FixedError.TheVariants.{OutOfRange, ZeroDivisor}
+use Rattle.fixed.specs.declared.FixedError.{FixedError}
+use Rattle.std.proofs.Common.{Some, None, Result, Ok, Err}
 use mathlib.Core.Path.{◌≡◌, refl, sym, ap, ◌∙◌}
 use mathlib.Core.Logic.{◌⊎◌, inl, inr}
 use mathlib.Core.Bool.{true}
@@ -18,25 +21,21 @@ use Rattle.definition.specs.declared.ValueType.TheVariants.{FixedType}
 use Rattle.definition.proofs.Parts.{length_part}
 use Rattle.definition.proofs.Rooms.{get_d_over_at}
 use Rattle.fixed.specs.declared.Fixed.{Fixed}
-use Rattle.fixed.specs.declared.Answer.{Answer}
-use Rattle.fixed.specs.declared.Answer.TheVariants.{Is, OutOfRange, ZeroDivisor}
 use Rattle.fixed.specs.Answer.{result_of}
 use Rattle.fixed.specs.Signed.{stored_of, from_stored}
 use Rattle.fixed.proofs.Magnitude.{stored_back}
-use Rattle.store.specs.declared.Number.TheVariants.{NoNumber, Holds}
-use Rattle.store.specs.declared.Length.TheVariants.{NoCharacters, Bytes}
 use Rattle.store.specs.Cells.{slot, half, fixed_cell, character_cell, cell_in, number_cell, length_cell, LengthAt, Stored}
 
 -- ---- FIXED: the stored number tells the value
-module _ (c : List ℕ) (a k n : ℕ) (r : Answer) (h : k ≡ a) (e : n ≡ get_or c (k + 0) 0) (f : result_of r ≡ from_stored n) where
+module _ (c : List ℕ) (a k n : ℕ) (r : Result Fixed FixedError) (h : k ≡ a) (e : n ≡ get_or c (k + 0) 0) (f : result_of r ≡ from_stored n) where
   number_is : fixed_cell (result_of r) ≡ cell_in c [] [] FixedType a
   unfolding cell_in
   number_is = ap fixed_cell f ∙ rw (e, h, add-zero)
 
-  pub number_held : (x : Fixed) → r ≡ Is x → number_cell (Holds x) ≡ cell_in c [] [] FixedType a
+  pub number_held : (x : Fixed) → r ≡ Ok x → number_cell (Some x) ≡ cell_in c [] [] FixedType a
   number_held x g = sym (ap (λ t. fixed_cell (result_of t)) g) ∙ number_is
 
-  pub number_none : (r ≡ OutOfRange) ⊎ (r ≡ ZeroDivisor) → number_cell NoNumber ≡ cell_in c [] [] FixedType a
+  pub number_none : (r ≡ (Err OutOfRange)) ⊎ (r ≡ (Err ZeroDivisor)) → number_cell None ≡ cell_in c [] [] FixedType a
   number_none (inl g) = sym (ap (λ t. fixed_cell (result_of t)) g) ∙ number_is
   number_none (inr g) = sym (ap (λ t. fixed_cell (result_of t)) g) ∙ number_is
 
@@ -45,15 +44,15 @@ module _ (c : List ℕ) (a k n : ℕ) (h : k ≡ a) (e : n ≡ get_or c (k + 0) 
   cell : get_or c a 0 ≡ n
   cell = sym (rw (add-zero, h) at e)
 
-  pub no_length : n ≡ 0 → LengthAt c a NoCharacters
+  pub no_length : n ≡ 0 → LengthAt c a None
   unfolding cell_in
   no_length z = record { is = λ low high. rw (cell, z) }
 
-  pub some_length : (n ≡ 0 → ⊥) → LengthAt c a (Bytes (n - 1))
+  pub some_length : (n ≡ 0 → ⊥) → LengthAt c a (Some (n - 1))
   unfolding cell_in
   some_length z = record { is = λ low high. by n cell z low high }
     where
-      by : (m : ℕ) → get_or c a 0 ≡ m → (m ≡ 0 → ⊥) → (low high : List ℕ) → length_cell (Bytes (m - 1)) (slot a) (half a low high) ≡ character_cell (get_or c a 0) (slot a) (half a low high)
+      by : (m : ℕ) → get_or c a 0 ≡ m → (m ≡ 0 → ⊥) → (low high : List ℕ) → length_cell (Some (m - 1)) (slot a) (half a low high) ≡ character_cell (get_or c a 0) (slot a) (half a low high)
       by zero f g low high = absurd (g refl)
       by (suc m) f g low high = let d : suc m - 1 ≡ m = omega arith in rw (f, d)
 

@@ -1,5 +1,5 @@
 -- What the rooms of values hold at an address: `cells` a number for each address, `low` and `high` 512 bytes for each of 128.
-use Rattle.std.specs.Prelude.{ℕ, zero, suc, ◌+◌, ◌*◌, ◌-◌, cond, ◌≡◌, List, [], ◌∷◌, ltb, length, get_or}
+use Rattle.std.specs.Prelude.{ℕ, zero, suc, ◌+◌, ◌*◌, ◌-◌, cond, ◌≡◌, List, [], ◌∷◌, ltb, length, get_or, Option, Some, None}
 use Rattle.definition.specs.Lists.{part}
 use Rattle.definition.specs.Room.{over}
 use Rattle.definition.specs.Limits.{value_length}
@@ -9,10 +9,6 @@ use Rattle.definition.specs.World as W
 use Rattle.definition.specs.declared.ValueType.{ValueType}
 use Rattle.definition.specs.declared.ValueType.TheVariants.{FixedType, CharacterType}
 use Rattle.fixed.specs.Signed.{from_stored}
-use Rattle.store.specs.declared.Number.{Number}
-use Rattle.store.specs.declared.Number.TheVariants.{NoNumber, Holds}
-use Rattle.store.specs.declared.Length.{Length}
-use Rattle.store.specs.declared.Length.TheVariants.{NoCharacters, Bytes}
 
 -- where the characters of an address stand: in low or in high
 abbrev pub slot : ℕ → ℕ
@@ -37,16 +33,16 @@ cell_in cells low high FixedType a = fixed_cell (from_stored (get_or cells a 0))
 cell_in cells low high CharacterType a = character_cell (get_or cells a 0) (slot a) (half a low high)
 
 -- what the answers stand for
-abbrev pub number_cell : Number → W.Cell
-number_cell NoNumber = W.no_value
-number_cell (Holds x) = W.holds (fixed x.value)
+abbrev pub number_cell : Option Fixed → W.Cell
+number_cell None = W.no_value
+number_cell (Some x) = W.holds (fixed x.value)
 
-abbrev pub length_cell : Length → ℕ → List ℕ → W.Cell
-length_cell NoCharacters at l = W.no_value
-length_cell (Bytes n) at l = W.holds (characters (part n at l))
+abbrev pub length_cell : Option ℕ → ℕ → List ℕ → W.Cell
+length_cell None at l = W.no_value
+length_cell (Some n) at l = W.holds (characters (part n at l))
 
 -- the length of a CHARACTER value, whatever the rooms of bytes are
-pub record LengthAt (cells : List ℕ) (a : ℕ) (r : Length) : Type 0 where
+pub record LengthAt (cells : List ℕ) (a : ℕ) (r : Option ℕ) : Type 0 where
   pub is : (low high : List ℕ) → length_cell r (slot a) (half a low high) ≡ cell_in cells low high CharacterType a
 
 -- the characters l were stored at an address: one more than their length, and they themselves in low or in high

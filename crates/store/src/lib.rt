@@ -9,39 +9,27 @@ ghost use Rattle.definition.specs.declared.ValueType.TheVariants.{FixedType};
 ghost use Rattle.fixed.specs.Signed.{stored_of};
 ghost use Rattle.store.specs.Cells.{cell_in, number_cell, slot, half, LengthAt, Stored};
 
-use fixed::{Answer, Fixed};
+use fixed::{Fixed, FixedError};
 use limits::Value;
 use rooms::{copy, number32, put_number32};
 
-#[derive(Clone, Copy)]
-pub enum Number {
-    NoNumber,
-    Holds(Fixed),
-}
-
-#[derive(Clone, Copy)]
-pub enum Length {
-    NoCharacters,
-    Bytes(u32),
-}
-
 // The value of a FIXED variable.
-pub fn number_at(cells: &[u32], a: u16) -> Number
+pub fn number_at(cells: &[u32], a: u16) -> Option<Fixed>
     ensures { number_cell result ≡ cell_in cells.now [] [] FixedType a }
 {
     match Fixed::from_stored(number32(cells, usize::from(a), 0)) {
-        Answer::Is(x) => Number::Holds(x),
-        Answer::OutOfRange | Answer::ZeroDivisor => Number::NoNumber,
+        Ok(x) => Some(x),
+        Err(FixedError::OutOfRange) | Err(FixedError::ZeroDivisor) => None,
     }
 }
 
 // The length of the value of a CHARACTER variable.
-pub fn characters_at(cells: &[u32], a: u16) -> Length
+pub fn characters_at(cells: &[u32], a: u16) -> Option<u32>
     ensures { LengthAt cells.now a result }
 {
     match number32(cells, usize::from(a), 0) {
-        0 => Length::NoCharacters,
-        n => Length::Bytes(n - 1),
+        0 => None,
+        n => Some(n - 1),
     }
 }
 

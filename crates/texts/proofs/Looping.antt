@@ -1,5 +1,7 @@
 -- The tokens of a text one after the other, behind their blank.
 -- Assumes nothing.
+use Rattle.std.proofs.Common.{Ok, Err}
+use Rattle.texts.specs.Types.{Ran, Passed}
 use mathlib.Core.Path.{◌≡◌, refl, sym, ap, subst, ◌∙◌}
 use mathlib.Core.Bool.{false}
 use mathlib.Core.List.{List}
@@ -28,10 +30,6 @@ use Rattle.sums.proofs.Laws.{sum_fits}
 use Rattle.texts.specs.declared.Progress.{Progress}
 use Rattle.texts.specs.declared.Here.{Here}
 use Rattle.texts.specs.declared.Stop.{Stop}
-use Rattle.texts.specs.declared.Ran.{Ran}
-use Rattle.texts.specs.declared.Ran.TheVariants as Rn
-use Rattle.texts.specs.declared.Passed.{Passed}
-use Rattle.texts.specs.declared.Passed.TheVariants as Ps
 use Rattle.texts.specs.Shown.{stretch_for, stop_for, Onstage, Goes, After, RanAs, PassedAs, Lies}
 use Rattle.texts.specs.Promises.{PutIs, turn_here, TokenIs, TokensAre, TextIs, lead_text, LeadIs}
 use Rattle.texts.proofs.Common.{body_text, body_still, goes_none, goes_on_lem}
@@ -53,8 +51,8 @@ turn_out m from t p v = refl
 -- ---- what comes behind what
 pub ran_on : (deck rows names c l h w t ls : List ℕ) (starts : Starts) (g k : Progress) (B B₁ : World) (r : Ran) (R : Res Run.Stop (Unit {0})) → Goes B B₁ → k.rows ≡ g.rows → k.names ≡ g.names
     → RanAs deck rows names starts k B₁ c l h w t ls r R → RanAs deck rows names starts g B c l h w t ls r R
-ran_on deck rows names c l h w t ls starts g k B B₁ (Rn.Good j) R e a b x = record { world = x.world; stage = x.stage; goes = goes_on_lem B B₁ x.world e x.goes; is = x.is; tabled = x.tabled ∙ a; named = x.named ∙ b }
-ran_on deck rows names c l h w t ls starts g k B B₁ (Rn.Bad y j) R e a b x = x
+ran_on deck rows names c l h w t ls starts g k B B₁ (Ok j) R e a b x = record { world = x.world; stage = x.stage; goes = goes_on_lem B B₁ x.world e x.goes; is = x.is; tabled = x.tabled ∙ a; named = x.named ∙ b }
+ran_on deck rows names c l h w t ls starts g k B B₁ (Err (y, j)) R e a b x = x
 
 -- ---- THE INVARIANT: what is left of the text gives what all of it gives
 pub record Along (deck s rows names c₀ l₀ h₀ w₀ : List ℕ) (x : Src) (here : Here) (g₀ : Progress) (B : World) (turns p : ℕ) (g : Progress) (c l h w t ls : List ℕ) : Type 0 where
@@ -98,7 +96,7 @@ module _ (deck s rows names c₀ l₀ h₀ w₀ t₀ ls₀ : List ℕ) (x : Src)
   abbrev text : List ℕ
   text = text_of s w₀ x
 
-  end_by : (f : ℕ) → turns ≡ f → ((v : ℕ) → f ≡ suc v → x.to - x.from ≤ p) → TokensAre deck s rows names c₀ l₀ h₀ w₀ t₀ ls₀ x here g₀ c l h w t ls (Rn.Good g)
+  end_by : (f : ℕ) → turns ≡ f → ((v : ℕ) → f ≡ suc v → x.to - x.from ≤ p) → TokensAre deck s rows names c₀ l₀ h₀ w₀ t₀ ls₀ x here g₀ c l h w t ls (Ok g)
   end_by zero e j = record {
     is = λ B st li wk mm.
         let z = i.so B st li wk mm in
@@ -110,10 +108,10 @@ module _ (deck s rows names c₀ l₀ h₀ w₀ t₀ ls₀ : List ℕ) (x : Src)
         record { world = z.world; stage = z.stage; goes = z.goes; is = sym (rw e at z.same) ∙ turn_end here.member x.from text f p (world_in z.world c l h g.meter.used) (omega (arith, text_length s w₀ x, j f refl)); tabled = z.tabled; named = z.named };
   }
 
-  pub texting_end : (size : ℕ) → size ≡ x.to - x.from → size ≤ p → TokensAre deck s rows names c₀ l₀ h₀ w₀ t₀ ls₀ x here g₀ c l h w t ls (Rn.Good g)
+  pub texting_end : (size : ℕ) → size ≡ x.to - x.from → size ≤ p → TokensAre deck s rows names c₀ l₀ h₀ w₀ t₀ ls₀ x here g₀ c l h w t ls (Ok g)
   texting_end size e f = end_by turns refl (λ v _. omega arith)
 
-  pub texting_out : turns ≤ 0 → TokensAre deck s rows names c₀ l₀ h₀ w₀ t₀ ls₀ x here g₀ c l h w t ls (Rn.Good g)
+  pub texting_out : turns ≤ 0 → TokensAre deck s rows names c₀ l₀ h₀ w₀ t₀ ls₀ x here g₀ c l h w t ls (Ok g)
   texting_out f = end_by turns refl (λ v e. absurd (omega arith))
 
   module _ (size : ℕ) (e : size ≡ x.to - x.from) (lt : p < size) (left : ℕ) (go : turns ≡ suc left) (c' l' h' w' t' ls' : List ℕ) (r : Passed) (tk : TokenIs deck s rows names c l h w t ls x p here g c' l' h' w' t' ls' r) where
@@ -136,12 +134,12 @@ module _ (deck s rows names c₀ l₀ h₀ w₀ t₀ ls₀ : List ℕ) (x : Src)
       passed = subst (λ (k : List ℕ). PassedAs deck rows names here.starts g now_is.world c' l' h' w' t' ls' r (turn_here here.member x.from k p (world_in now_is.world c l h g.meter.used))) (body_still s w₀ w x wk)
           (tk.is now_is.world now_is.stage li wk (omega (arith, e)) mm)
 
-      bad_on : (y : Stop) (k : Progress) → r ≡ Ps.Bad y k → all ≡ bad (stop_for y) k.meter.used
+      bad_on : (y : Stop) (k : Progress) → r ≡ Err (y, k) → all ≡ bad (stop_for y) k.meter.used
       bad_on y k j =
           let z : turn ≡ bad (stop_for y) k.meter.used = subst (λ (v : Passed). PassedAs deck rows names here.starts g now_is.world c' l' h' w' t' ls' v turn) j passed in
           sym turn_is ∙ ap (λ (v : Res Run.Stop ℕ). bind v (λ q u. text_on mixed here.member x.from text left q u)) z
 
-      good_on : (q : ℕ) (k : Progress) → r ≡ Ps.Good q k → Along deck s rows names c₀ l₀ h₀ w₀ x here g₀ B left q k c' l' h' w' t' ls'
+      good_on : (q : ℕ) (k : Progress) → r ≡ Ok (q, k) → Along deck s rows names c₀ l₀ h₀ w₀ x here g₀ B left q k c' l' h' w' t' ls'
       good_on q k j =
           let z : After ℕ deck rows names here.starts g now_is.world c' l' h' w' t' ls' k q turn = subst (λ (v : Passed). PassedAs deck rows names here.starts g now_is.world c' l' h' w' t' ls' v turn) j passed in
           record {
@@ -153,10 +151,10 @@ module _ (deck s rows names c₀ l₀ h₀ w₀ t₀ ls₀ : List ℕ) (x : Src)
             named = z.named ∙ now_is.named;
           }
 
-    pub texting_bad : (y : Stop) (k : Progress) → r ≡ Ps.Bad y k → TokensAre deck s rows names c₀ l₀ h₀ w₀ t₀ ls₀ x here g₀ c' l' h' w' t' ls' (Rn.Bad y k)
+    pub texting_bad : (y : Stop) (k : Progress) → r ≡ Err (y, k) → TokensAre deck s rows names c₀ l₀ h₀ w₀ t₀ ls₀ x here g₀ c' l' h' w' t' ls' (Err (y, k))
     texting_bad y k j = record { is = λ B st li wk mm. bad_on B st li wk mm y k j }
 
-    pub texting_more : (q : ℕ) (k : Progress) → r ≡ Ps.Good q k → length c' ≡ length c → length l' ≡ length l → length h' ≡ length h → length w' ≡ length w → length t' ≡ length t → length ls' ≡ length ls
+    pub texting_more : (q : ℕ) (k : Progress) → r ≡ Ok (q, k) → length c' ≡ length c → length l' ≡ length l → length h' ≡ length h → length w' ≡ length w → length t' ≡ length t → length ls' ≡ length ls
         → Texting deck s rows names c₀ l₀ h₀ w₀ t₀ ls₀ x here g₀ left q k c' l' h' w' t' ls'
     texting_more q k j d₁ d₂ d₃ d₄ d₅ d₆ = record {
       cells = d₁ ∙ i.cells;
@@ -184,7 +182,7 @@ module _ (deck s rows names c l h w t ls : List ℕ) (x : Stretch) (here : Here)
     unfolding text_out
     text_is = refl
 
-    refused_on : (y : Stop) (k : Progress) → b ≡ Rn.Bad y k → text_out mixed here.member s (stretch_for x) (world_in B c l h g.meter.used) ≡ bad (stop_for y) k.meter.used
+    refused_on : (y : Stop) (k : Progress) → b ≡ Err (y, k) → text_out mixed here.member s (stretch_for x) (world_in B c l h g.meter.used) ≡ bad (stop_for y) k.meter.used
     refused_on y k e =
         let z : put ≡ bad (stop_for y) k.meter.used = subst (λ (v : Ran). RanAs deck rows names here.starts g B c l h w t₁ ls₁ v put) e blank_ran in
         text_is ∙ ap (λ (v : Res Run.Stop (Unit {0})). bind v (λ _ u. text_on mixed here.member x.from (part (x.to - x.from) x.from s) (suc (x.to - x.from)) 0 u)) z
@@ -192,7 +190,7 @@ module _ (deck s rows names c l h w t ls : List ℕ) (x : Stretch) (here : Here)
     abbrev source : Src
     source = record { in_work = false; from = x.from; to = x.to }
 
-    begun_on : (k : Progress) (c' l' h' w' t' ls' : List ℕ) (r : Ran) → b ≡ Rn.Good k → TokensAre deck s rows names c l h w t₁ ls₁ source here k c' l' h' w' t' ls' r
+    begun_on : (k : Progress) (c' l' h' w' t' ls' : List ℕ) (r : Ran) → b ≡ Ok k → TokensAre deck s rows names c l h w t₁ ls₁ source here k c' l' h' w' t' ls' r
         → RanAs deck rows names here.starts g B c' l' h' w' t' ls' r (text_out mixed here.member s (stretch_for x) (world_in B c l h g.meter.used))
     begun_on k c' l' h' w' t' ls' r e tk =
         let z : After (Unit {0}) deck rows names here.starts g B c l h w t₁ ls₁ k tt put = subst (λ (v : Ran). RanAs deck rows names here.starts g B c l h w t₁ ls₁ v put) e blank_ran in
@@ -203,10 +201,10 @@ module _ (deck s rows names c l h w t ls : List ℕ) (x : Stretch) (here : Here)
         subst (λ (v : Res Run.Stop (Unit {0})). RanAs deck rows names here.starts g B c' l' h' w' t' ls' r v) j
         (ran_on deck rows names c' l' h' w' t' ls' here.starts g k B z.world r _ z.goes z.tabled z.named a)
 
-  pub text_refused : (y : Stop) (k : Progress) → b ≡ Rn.Bad y k → TextIs deck s rows names c l h w t ls x here g c l h w t₁ ls₁ (Rn.Bad y k)
+  pub text_refused : (y : Stop) (k : Progress) → b ≡ Err (y, k) → TextIs deck s rows names c l h w t ls x here g c l h w t₁ ls₁ (Err (y, k))
   text_refused y k e = record { is = λ B st li mm. refused_on B st li mm y k e }
 
-  pub text_begun : (k : Progress) (c' l' h' w' t' ls' : List ℕ) (r : Ran) → b ≡ Rn.Good k → TokensAre deck s rows names c l h w t₁ ls₁ (record { in_work = false; from = from; to = to }) here k c' l' h' w' t' ls' r → TextIs deck s rows names c l h w t ls x here g c' l' h' w' t' ls' r
+  pub text_begun : (k : Progress) (c' l' h' w' t' ls' : List ℕ) (r : Ran) → b ≡ Ok k → TokensAre deck s rows names c l h w t₁ ls₁ (record { in_work = false; from = from; to = to }) here k c' l' h' w' t' ls' r → TextIs deck s rows names c l h w t ls x here g c' l' h' w' t' ls' r
   text_begun k c' l' h' w' t' ls' r e tk = record { is = λ B st li mm. begun_on B st li mm k c' l' h' w' t' ls' r e (rw (f₁, f₂) at tk) }
 
 -- ---- a leading text
@@ -215,7 +213,7 @@ module _ (deck s rows names c l h w t ls : List ℕ) (x : Stretch) (here : Here)
   unfolding lead_text
   lead_some c' l' h' w' t' ls' r e k = record { is = λ B st li mm. rw (lt-ltb x.from x.to e) (k.is B st li mm) }
 
-  pub lead_none : x.to ≤ x.from → LeadIs deck s rows names c l h w t ls x here g c l h w t ls (Rn.Good g)
+  pub lead_none : x.to ≤ x.from → LeadIs deck s rows names c l h w t ls x here g c l h w t ls (Ok g)
   unfolding lead_text
   lead_none e = record { is = λ B st li mm. record { world = B; stage = st; goes = goes_none B; is = rw (le-ltb x.from x.to e); tabled = refl; named = refl } }
 

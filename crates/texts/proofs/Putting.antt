@@ -1,5 +1,7 @@
 -- Events go out: what the two rooms and the cursor then show.
 -- Assumes nothing.
+use Rattle.texts.specs.Types.{Ran}
+use Rattle.std.proofs.Common.{Option, Some, None, Ok, Err}
 use mathlib.Core.Path.{◌≡◌, refl, sym, ap, subst, ◌∙◌}
 use mathlib.Core.Bool.{Bool, true, false, ◌&&◌}
 use mathlib.Core.List.{List}
@@ -18,39 +20,34 @@ use Rattle.definition.specs.declared.Why.TheVariants.{RoomFull}
 use Rattle.definition.proofs.Rooms.{length_over}
 use Rattle.rows.specs.declared.Starts.{Starts}
 use Rattle.output.specs.declared.Out.{Out}
-use Rattle.output.specs.declared.Put.{Put}
-use Rattle.output.specs.declared.Put.TheVariants.{Done, Full}
 use Rattle.origin.specs.Written.{fits, Answers, Tells, Ends}
 use Rattle.callees.specs.Shown.{world_in}
 use Rattle.texts.specs.declared.Progress.{Progress}
 use Rattle.texts.specs.declared.Stop.{Stop}
-use Rattle.texts.specs.declared.Passed.TheVariants as Ps
-use Rattle.texts.specs.declared.Ran.{Ran}
-use Rattle.texts.specs.declared.Ran.TheVariants as Rn
 use Rattle.texts.specs.Shown.{with_out, bad_at, put_for, pass_for, Onstage, RanAs}
 use Rattle.texts.specs.Promises.{PutAs, PutIs, LineIs}
 use Rattle.texts.proofs.Common.{member_low, size_low, stage_event, goes_event}
 
 -- ---- answers by cases
-pub put_done : (g k : Progress) (q : Put) (o : Out) (m p : ℕ) → q ≡ Done o → k ≡ with_out g o → Rn.Good k ≡ put_for g q m p
-put_done g k q o m p e f = ap Rn.Good f ∙ sym (ap (λ (v : Put). put_for g v m p) e)
+pub put_done : (g k : Progress) (q : Option Out) (o : Out) (m p : ℕ) → q ≡ Some o → k ≡ with_out g o → Ok k ≡ put_for g q m p
+put_done g k q o m p e f = ap Ok f ∙ sym (ap (λ (v : Option Out). put_for g v m p) e)
 
-pub put_full : (g : Progress) (q : Put) (m p : ℕ) (r : Ran) → q ≡ Full → r ≡ bad_at g RoomFull m p → r ≡ put_for g q m p
-put_full g q m p r e f = f ∙ sym (ap (λ (v : Put). put_for g v m p) e)
+pub put_full : (g : Progress) (q : Option Out) (m p : ℕ) (r : Ran) → q ≡ None → r ≡ bad_at g RoomFull m p → r ≡ put_for g q m p
+put_full g q m p r e f = f ∙ sym (ap (λ (v : Option Out). put_for g v m p) e)
 
-pub pass_good : (r : Ran) (g : Progress) (to : ℕ) → r ≡ Rn.Good g → Ps.Good to g ≡ pass_for r to
+pub pass_good : (r : Ran) (g : Progress) (to : ℕ) → r ≡ Ok g → Ok (to, g) ≡ pass_for r to
 pass_good r g to e = sym (ap (λ (v : Ran). pass_for v to) e)
 
-pub pass_bad : (r : Ran) (x : Stop) (g : Progress) (to : ℕ) → r ≡ Rn.Bad x g → Ps.Bad x g ≡ pass_for r to
+pub pass_bad : (r : Ran) (x : Stop) (g : Progress) (to : ℕ) → r ≡ Err (x, g) → Err (x, g) ≡ pass_for r to
 pass_bad r x g to e = sym (ap (λ (v : Ran). pass_for v to) e)
 
 -- ---- the answer of `origin`, by cases
-put_by : (sizes : ℕ → ℕ) (e : Event) (g : Progress) (m p : ℕ) (B : World) (t ls : List ℕ) (q : Put) (r : Ran) → r ≡ put_for g q m p → (b : Bool) → Answers b sizes g.layout e B q t ls → PutAs b sizes e g m p B t ls r
-put_by sizes e g m p B t ls q r i true x = record { out = x.0; is = i ∙ ap (λ (v : Put). put_for g v m p) x.1; written = x.2.written }
-put_by sizes e g m p B t ls q r i false x = i ∙ ap (λ (v : Put). put_for g v m p) x
+put_by : (sizes : ℕ → ℕ) (e : Event) (g : Progress) (m p : ℕ) (B : World) (t ls : List ℕ) (q : Option Out) (r : Ran) → r ≡ put_for g q m p → (b : Bool) → Answers b sizes g.layout e B q t ls → PutAs b sizes e g m p B t ls r
+put_by sizes e g m p B t ls q r i true x = record { out = x.0; is = i ∙ ap (λ (v : Option Out). put_for g v m p) x.1; written = x.2.written }
+put_by sizes e g m p B t ls q r i false x = i ∙ ap (λ (v : Option Out). put_for g v m p) x
 
 -- ---- the ways out; the number of a member is a byte
-module _ (t ls t' ls' : List ℕ) (g : Progress) (m p m8 size q : ℕ) (u : Put) (r : Ran) (i : m8 ≡ m % 256) (e : r ≡ put_for g u m p) (f : ℕ → Event) where
+module _ (t ls t' ls' : List ℕ) (g : Progress) (m p m8 size q : ℕ) (u : Option Out) (r : Ran) (i : m8 ≡ m % 256) (e : r ≡ put_for g u m p) (f : ℕ → Event) where
   pub event_put : Tells g.layout size (f m8) m8 q g.out t ls u t' ls' → PutIs (f m) size q t ls g m p t' ls' r
   event_put k = record {
     is = λ sizes B s w lm lq some short.
@@ -60,13 +57,13 @@ module _ (t ls t' ls' : List ℕ) (g : Progress) (m p m8 size q : ℕ) (u : Put)
 
 -- ---- the line of a replacement
 pub line_put : (t ls ls' : List ℕ) (g : Progress) (m size p n m8 n32 : ℕ) (o : Out) (g' : Progress) → m8 ≡ m % 256 → n32 ≡ n % 4294967296 → g' ≡ with_out g o
-    → Ends g.layout size m8 p n32 g.out (length t) ls o ls' → LineIs t ls g m size p n ls' (Rn.Good g')
+    → Ends g.layout size m8 p n32 g.out (length t) ls o ls' → LineIs t ls g m size p n ls' (Ok g')
 line_put t ls ls' g m size p n m8 n32 o g' i v e k = record {
   is = λ sizes B t₀ bytes s w f len room free lm lp.
       let c : n32 ≡ n = v ∙ size_low n (omega (arith, room, w.fine.most)) in
       let long : length t₀ ≡ length t = sym (ap length f ∙ length_over t₀ g.out.text bytes) in
       let k₁ : Ends g.layout size m p n g.out (length t) ls o ls' = subst (λ (z : ℕ). Ends g.layout size z p n g.out (length t) ls o ls') (i ∙ member_low m lm) (subst (λ (z : ℕ). Ends g.layout size m8 p z g.out (length t) ls o ls') c k) in
-      record { out = o; is = ap Rn.Good e; written = (k₁.is sizes B t₀ t bytes s w long f len free room lp).written };
+      record { out = o; is = ap Ok e; written = (k₁.is sizes B t₀ t bytes s w long f len free room lp).written };
 }
 
 -- ---- AN EVENT in the world of the rooms, with any pass

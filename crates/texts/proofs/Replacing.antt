@@ -1,5 +1,8 @@
 -- The replacement of an active name in program text: its line is asked for before it, and put behind its outcome.
 -- Assumes nothing.
+use Rattle.texts.specs.Types.{Ran, Passed}
+use Rattle.std.proofs.Common.{Ok, Err}
+use Rattle.outcomes.specs.Types.{Replaced}
 use mathlib.Core.Path.{◌≡◌, refl, sym, ap, subst, ◌∙◌}
 use mathlib.Core.Bool.{false}
 use mathlib.Core.List.{List}
@@ -26,8 +29,6 @@ use Rattle.callees.specs.Shown.{world_in}
 use Rattle.operands.specs.declared.Scene.{Scene}
 use Rattle.outcomes.specs.declared.Src.{Src}
 use Rattle.outcomes.specs.declared.Dest.{Dest}
-use Rattle.outcomes.specs.declared.Replaced.{Replaced}
-use Rattle.outcomes.specs.declared.Replaced.TheVariants as Rd
 use Rattle.outcomes.specs.Texts.{text_of}
 use Rattle.outcomes.specs.Places.{into_of, out_in}
 use Rattle.scanning.specs.Cycle.{Stage, replaced_in, ReplacedPut, meter_in, Left, Gone, replacer_in, ReplaceIs}
@@ -36,20 +37,17 @@ use Rattle.sums.specs.Numbers.{greatest, sum_to}
 use Rattle.sums.proofs.Laws.{sum_fits}
 use Rattle.texts.specs.declared.Progress.{Progress}
 use Rattle.texts.specs.declared.Here.{Here}
-use Rattle.texts.specs.declared.Ran.{Ran}
-use Rattle.texts.specs.declared.Passed.{Passed}
-use Rattle.texts.specs.declared.Passed.TheVariants as Ps
 use Rattle.texts.specs.Shown.{with_meter, with_out, bad_at, pass_for, SceneIs, Onstage, PassedAs, Lies}
 use Rattle.texts.specs.Promises.{PutMore, LineIs, ReplacementAs, ReplacementIs, ReplacingIs}
 use Rattle.texts.proofs.Common.{body_sourced, runs_out, stage_event, stage_scene, stage_awake, goes_event}
 
 -- ---- the outcome with its line
 module _ (t ls ls' : List ℕ) (g k : Progress) (m size p : ℕ) (r : Replaced) (j : Meter) (e : k ≡ with_meter g j) where
-  pub replacement_good : (n q : ℕ) (x : Ran) (z : Passed) → r ≡ Rd.Good n q j → LineIs t ls k m size p n ls' x → z ≡ pass_for x q → ReplacementIs t ls g m size p r ls' z
+  pub replacement_good : (n q : ℕ) (x : Ran) (z : Passed) → r ≡ Ok (n, q, j) → LineIs t ls k m size p n ls' x → z ≡ pass_for x q → ReplacementIs t ls g m size p r ls' z
   replacement_good n q x z a i f = record { is = subst (λ (v : Replaced). ReplacementAs v t ls g m size p ls' z) (sym a) (x, subst (λ (v : Progress). LineIs t ls v m size p n ls' x) e i, f) }
 
-  pub replacement_bad : (y : Why) → r ≡ Rd.Bad y j → ReplacementIs t ls g m size p r ls' (Ps.Bad (record { why = y; member = m; place = p }) k)
-  replacement_bad y a = record { is = subst (λ (v : Replaced). ReplacementAs v t ls g m size p ls' (Ps.Bad (record { why = y; member = m; place = p }) k)) (sym a) (ap (Ps.Bad (record { why = y; member = m; place = p })) e) }
+  pub replacement_bad : (y : Why) → r ≡ Err (y, j) → ReplacementIs t ls g m size p r ls' (Err ((record { why = y; member = m; place = p }), k))
+  replacement_bad y a = record { is = subst (λ (v : Replaced). ReplacementAs v t ls g m size p ls' (Err ((record { why = y; member = m; place = p }), k))) (sym a) (ap (Err (record { why = y; member = m; place = p })) e) }
 
 -- ---- the definition's replacement
 abbrev finish : ℕ → ℕ → (List ℕ → ℕ → Pass) → D.Replaced → World → Res Why ℕ
@@ -80,18 +78,18 @@ module _ (deck s rows names c l h w t ls : List ℕ) (x : Src) (p to a : ℕ) (y
   replacing_full b r f e i = record {
     is = λ B st li wk lt mm lo on z.
         let none : B.lines_left < 1 = omega (arith, f, st.written.lines) in
-        let is : r ≡ Ps.Bad (record { why = RoomFull; member = here.member; place = x.from + p }) g = i ∙ rw (e, place_is li lt) in
+        let is : r ≡ Err ((record { why = RoomFull; member = here.member; place = x.from + p }), g) = i ∙ rw (e, place_is li lt) in
         rw is (ap (placed (stop here.member (x.from + p))) (here_none here.member (x.from + p) (text_of s w x) to a (activity_of y) z (world_in B c l h g.meter.used) none));
   }
 
   module _ (c' l' h' w' t' ls' : List ℕ) (r : Passed) (B : World) (st : Onstage deck rows names c l h w t ls here.starts g B) (z : List ℕ → ℕ → Pass) (m q : ℕ) (mm : m < 32) (qq : q < 65536) (some : 1 ≤ g.out.free) (sz : size_in deck m ≡ length s) where
     gone_by : (rr : Replaced) (R : Res Why D.Replaced) → replaced_in B dest 0 c' l' h' w' t' rr ≡ R → ReplacedPut B dest 0 t w' t' rr → Left B 0 w t c' l' h' w' t' (meter_in rr) → ReplacementAs rr t' ls g m (length s) q ls' r
         → PassedAs deck rows names here.starts g B c' l' h' w' t' ls' r (placed (stop m q) (bind R (λ v u. finish m q z v u)))
-    gone_by (Rd.Good n k j) R e pt lf ro =
+    gone_by (Ok (n, k, j)) R e pt lf ro =
         let bytes : List ℕ = out_in dest t' w' 0 n in
         let written : t' ≡ over t g.out.text bytes = pt.text ∙ with_text dest bytes t refl in
         let pm : PutMore (size_in deck) (replaced m q bytes) (with_meter g j) B t' ls' ro.0 = ro.1.is (size_in deck) B t bytes sz st.written written (out_length dest t' w' 0 n) pt.room some mm qq in
-        let is : r ≡ Ps.Good k (with_out (with_meter g j) pm.out) = ro.2 ∙ ap (λ (v : Ran). pass_for v k) pm.is in
+        let is : r ≡ Ok (k, (with_out (with_meter g j) pm.out)) = ro.2 ∙ ap (λ (v : Ran). pass_for v k) pm.is in
         rw is (record {
           world = with_event (replaced m q bytes) (z bytes k) 1 B;
           stage = stage_event deck rows names c l h w t ls here.starts g B st c' l' h' w' t' ls' j pm.out (replaced m q bytes) (z bytes k) 1 lf.slots lf.work lf.limit (pm.written (z bytes k));
@@ -100,7 +98,7 @@ module _ (deck s rows names c l h w t ls : List ℕ) (x : Src) (p to a : ℕ) (y
           tabled = refl;
           named = refl;
         })
-    gone_by (Rd.Bad b j) R e pt lf ro = rw ro (ap (λ (v : Res Why D.Replaced). placed (stop m q) (bind v (λ u y₁. finish m q z u y₁))) (sym e))
+    gone_by (Err (b, j)) R e pt lf ro = rw ro (ap (λ (v : Res Why D.Replaced). placed (stop m q) (bind v (λ u y₁. finish m q z u y₁))) (sym e))
 
   pub replacing_done : (sc : Scene) (rr : Replaced) (c' l' h' w' t' ls' : List ℕ) (r : Passed) → 1 ≤ g.out.free → SceneIs here.starts g sc → ReplaceIs deck s rows names c l h w t x to a y dest 0 32 sc g.meter c' l' h' w' t' rr
       → ReplacementIs t' ls g here.member (length s) place rr ls' r → ReplacingIs deck s rows names c l h w t ls x p to a y here g c' l' h' w' t' ls' r

@@ -1,5 +1,7 @@
 -- One token of program text: its step, then its copy or its replacement.
 -- Assumes nothing.
+use Rattle.texts.specs.Types.{Ran, Passed}
+use Rattle.std.proofs.Common.{Option, Some, None, Ok, Err}
 use mathlib.Core.Path.{◌≡◌, refl, sym, ap, subst, ◌∙◌}
 use mathlib.Core.Bool.{true, false}
 use mathlib.Core.List.{List}
@@ -20,8 +22,7 @@ use Rattle.definition.specs.declared.Why.TheVariants.{NoStep}
 use Rattle.definition.proofs.Parts.{length_part, part_of_part}
 use Rattle.definition.proofs.Ends.{piece_at_past}
 use Rattle.meter.specs.declared.Meter.{Meter}
-use Rattle.meter.specs.declared.Charged.{Charged}
-use Rattle.meter.specs.Charges.{Charges}
+use Rattle.meter.specs.Charges.{Charges, Charged, charged_for, ChargedAs}
 use Rattle.names.specs.declared.Activity.{Activity}
 use Rattle.names.specs.declared.Activity.TheVariants as A
 use Rattle.names.specs.declared.Address.{Address}
@@ -32,8 +33,6 @@ use Rattle.definition.specs.declared.Layout.{Layout}
 use Rattle.definition.specs.Cards.{taking}
 use Rattle.callees.specs.Shown.{world_in}
 use Rattle.outcomes.specs.declared.Src.{Src}
-use Rattle.outcomes.specs.declared.Active.{Active}
-use Rattle.outcomes.specs.declared.Active.TheVariants.{NotActive, IsActive}
 use Rattle.outcomes.specs.Texts.{room_of, text_of, PieceIn, active_for, Awake, ActiveHere}
 use Rattle.outcomes.proofs.Sources.{stretch_length}
 use Rattle.scanning.specs.Cycle.{is_on}
@@ -43,10 +42,6 @@ use Rattle.sums.specs.Numbers.{greatest, sum_to}
 use Rattle.sums.proofs.Laws.{sum_fits}
 use Rattle.texts.specs.declared.Progress.{Progress}
 use Rattle.texts.specs.declared.Here.{Here}
-use Rattle.texts.specs.declared.Ran.{Ran}
-use Rattle.texts.specs.declared.Ran.TheVariants as Rn
-use Rattle.texts.specs.declared.Passed.{Passed}
-use Rattle.texts.specs.declared.Passed.TheVariants as Ps
 use Rattle.texts.specs.Shown.{with_meter, bad_at, pass_for, Onstage, RanAs, PassedAs, Lies}
 use Rattle.texts.specs.Promises.{PutIs, ReplacingIs, turn_here, TokenIs}
 use Rattle.texts.proofs.Common.{body_text, body_within, stage_meter}
@@ -73,13 +68,13 @@ passing q R = bind R (λ _ v. good q v)
 module _ (deck rows names c l h w t ls : List ℕ) (starts : Starts) (g : Progress) (B : World) where
   -- something was put out, and the place behind it
   pass_ran : (b : Ran) (q : ℕ) (R : Res Run.Stop (Unit {0})) → RanAs deck rows names starts g B c l h w t ls b R → PassedAs deck rows names starts g B c l h w t ls (pass_for b q) (passing q R)
-  pass_ran (Rn.Good k) q R x = record { world = x.world; stage = x.stage; goes = x.goes; is = ap (passing q) x.is; tabled = x.tabled; named = x.named }
-  pass_ran (Rn.Bad y k) q R x = ap (passing q) x
+  pass_ran (Ok k) q R x = record { world = x.world; stage = x.stage; goes = x.goes; is = ap (passing q) x.is; tabled = x.tabled; named = x.named }
+  pass_ran (Err (y, k)) q R x = ap (passing q) x
 
   -- the step before it is charged
   passed_meter : (m : Meter) (r : Passed) (R : Res Run.Stop ℕ) → PassedAs deck rows names starts (with_meter g m) B c l h w t ls r R → PassedAs deck rows names starts g B c l h w t ls r R
-  passed_meter m (Ps.Good q k) R x = record { world = x.world; stage = x.stage; goes = x.goes; is = x.is; tabled = x.tabled; named = x.named }
-  passed_meter m (Ps.Bad y k) R x = x
+  passed_meter m (Ok (q, k)) R x = record { world = x.world; stage = x.stage; goes = x.goes; is = x.is; tabled = x.tabled; named = x.named }
+  passed_meter m (Err (y, k)) R x = x
 
 module _ (deck s rows names c l h w t ls : List ℕ) (x : Src) (p : ℕ) (here : Here) (g₀ g : Progress) (place : ℕ) (pl : place ≡ sum_to greatest x.from p) (paid : Charged) (ch : Charges g₀.meter paid) (gi : g ≡ with_meter g₀ paid.meter) where
   abbrev text : List ℕ
@@ -106,11 +101,11 @@ module _ (deck s rows names c l h w t ls : List ℕ) (x : Src) (p : ℕ) (here :
   pub turn_none : (b : Ran) (r : Passed) → paid.paid ≡ false → b ≡ bad_at g NoStep here.member place → r ≡ pass_for b p → TokenIs deck s rows names c l h w t ls x p here g₀ c l h w t ls r
   turn_none b r f e i = record {
     is = λ B st li wk lt mm.
-        let is : r ≡ Ps.Bad (record { why = NoStep; member = here.member; place = x.from + p }) (with_meter g₀ paid.meter) = i ∙ rw (e, gi, place_is li lt) in
+        let is : r ≡ Err ((record { why = NoStep; member = here.member; place = x.from + p }), (with_meter g₀ paid.meter)) = i ∙ rw (e, gi, place_is li lt) in
         rw is (none_is B st f);
   }
 
-  module _ (y : Piece) (act : Active) (pi : PieceIn (room_of s w x) x.from x.to p y) (ah : ActiveHere deck names g.names (room_of s w x) x p y act) (f : paid.paid ≡ true) where
+  module _ (y : Piece) (act : Option (Address × Activity)) (pi : PieceIn (room_of s w x) x.from x.to p y) (ah : ActiveHere deck names g.names (room_of s w x) x p y act) (f : paid.paid ≡ true) where
     module _ (B : World) (st : Onstage deck rows names c l h w t ls here.starts g₀ B) (li : Lies deck here.member s x.from x.to) (wk : x.in_work ≡ false) (lt : p < x.to - x.from) where
       abbrev world : World
       world = world_in B c l h paid.meter.used
@@ -154,7 +149,7 @@ module _ (deck s rows names c l h w t ls : List ℕ) (x : Src) (p : ℕ) (here :
       unfolding copy_here
       copied_is = ap (λ (v : Layout). bind (put_out (copied here.member (x.from + p) bytes) (pass bytes y.to) (taking v (copied here.member (x.from + p) bytes) B.events) world) (λ _ v₁. good y.to v₁)) st.written.layout
 
-      copied_on : (to : ℕ) (t' ls' : List ℕ) (b : Ran) (r : Passed) → act ≡ NotActive → to ≡ sum_to greatest x.from y.to → here.member < 32 → PutIs (copied here.member place (part (to - place) place s)) (length s) to t ls g here.member place t' ls' b → r ≡ pass_for b y.to
+      copied_on : (to : ℕ) (t' ls' : List ℕ) (b : Ran) (r : Passed) → act ≡ None → to ≡ sum_to greatest x.from y.to → here.member < 32 → PutIs (copied here.member place (part (to - place) place s)) (length s) to t ls g here.member place t' ls' b → r ≡ pass_for b y.to
           → PassedAs deck rows names here.starts g₀ B c l h w t' ls' r (turn_here here.member x.from text p (world_in B c l h g₀.meter.used))
       copied_on to t' ls' b r e i mm pt j =
           let g₁ : Progress = with_meter g₀ paid.meter in
@@ -167,7 +162,7 @@ module _ (deck s rows names c l h w t ls : List ℕ) (x : Src) (p : ℕ) (here :
           rw (a, copied_is, placed_pass (stop here.member (x.from + p)) (put_out (copied here.member (x.from + p) bytes) (pass bytes y.to) (taking g₀.layout (copied here.member (x.from + p) bytes) B.events) world) y.to, j)
           (passed_meter deck rows names c l h w t' ls' here.starts g₀ B paid.meter (pass_for b y.to) _ n)
 
-      replaced_on : (a : Address) (v : Activity) (c' l' h' w' t' ls' : List ℕ) (r : Passed) → act ≡ IsActive a v → here.member < 32 → ReplacingIs deck s rows names c l h w t ls x p y.to a.0 v here g c' l' h' w' t' ls' r
+      replaced_on : (a : Address) (v : Activity) (c' l' h' w' t' ls' : List ℕ) (r : Passed) → act ≡ Some (a, v) → here.member < 32 → ReplacingIs deck s rows names c l h w t ls x p y.to a.0 v here g c' l' h' w' t' ls' r
           → PassedAs deck rows names here.starts g₀ B c' l' h' w' t' ls' r (turn_here here.member x.from text p (world_in B c l h g₀.meter.used))
       replaced_on a v c' l' h' w' t' ls' r e mm ri =
           let g₁ : Progress = with_meter g₀ paid.meter in
@@ -178,10 +173,10 @@ module _ (deck s rows names c l h w t ls : List ℕ) (x : Src) (p : ℕ) (here :
           rw (turn_is (D.active a.0 (activity_of v)) i)
           (passed_meter deck rows names c' l' h' w' t' ls' here.starts g₀ B paid.meter r _ (k.is B (stage_now B st) li wk lt mm low (on_is v aw.on) pass))
 
-    pub turn_copied : (to : ℕ) (t' ls' : List ℕ) (b : Ran) (r : Passed) → act ≡ NotActive → to ≡ sum_to greatest x.from y.to → PutIs (copied here.member place (part (to - place) place s)) (length s) to t ls g here.member place t' ls' b → r ≡ pass_for b y.to
+    pub turn_copied : (to : ℕ) (t' ls' : List ℕ) (b : Ran) (r : Passed) → act ≡ None → to ≡ sum_to greatest x.from y.to → PutIs (copied here.member place (part (to - place) place s)) (length s) to t ls g here.member place t' ls' b → r ≡ pass_for b y.to
         → TokenIs deck s rows names c l h w t ls x p here g₀ c l h w t' ls' r
     turn_copied to t' ls' b r e i pt j = record { is = λ B st li wk lt mm. copied_on B st li wk lt to t' ls' b r e i mm pt j }
 
-    pub turn_replaced : (a : Address) (v : Activity) (c' l' h' w' t' ls' : List ℕ) (r : Passed) → act ≡ IsActive a v → ReplacingIs deck s rows names c l h w t ls x p y.to a.0 v here g c' l' h' w' t' ls' r
+    pub turn_replaced : (a : Address) (v : Activity) (c' l' h' w' t' ls' : List ℕ) (r : Passed) → act ≡ Some (a, v) → ReplacingIs deck s rows names c l h w t ls x p y.to a.0 v here g c' l' h' w' t' ls' r
         → TokenIs deck s rows names c l h w t ls x p here g₀ c' l' h' w' t' ls' r
     turn_replaced a v c' l' h' w' t' ls' r e ri = record { is = λ B st li wk lt mm. replaced_on B st li wk lt a v c' l' h' w' t' ls' r e mm ri }

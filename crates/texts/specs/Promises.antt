@@ -1,5 +1,7 @@
 -- THE CONTRACTS OF PROGRAM TEXT.
-use Rattle.std.specs.Prelude.{ℕ, suc, ◌+◌, ◌-◌, ◌<◌, ◌≤◌, Bool, true, false, ◌≡◌, List, ltb, length}
+use Rattle.texts.specs.Types.{Ran, Passed}
+use Rattle.outcomes.specs.Types.{Replaced}
+use Rattle.std.specs.Prelude.{ℕ, suc, ◌+◌, ◌-◌, ◌<◌, ◌≤◌, Bool, true, false, ◌≡◌, List, ltb, length, Ok, Err}
 use Rattle.definition.specs.Bytes.{mixed}
 use Rattle.definition.specs.Choice.{when}
 use Rattle.definition.specs.Room.{over}
@@ -18,23 +20,17 @@ use Rattle.output.specs.declared.Out.{Out}
 use Rattle.origin.specs.Written.{Written, fits}
 use Rattle.callees.specs.Shown.{world_in}
 use Rattle.outcomes.specs.declared.Src.{Src}
-use Rattle.outcomes.specs.declared.Replaced.{Replaced}
-use Rattle.outcomes.specs.declared.Replaced.TheVariants as Rd
 use Rattle.outcomes.specs.Texts.{text_of}
 use Rattle.scanning.specs.Cycle.{is_on}
 use Rattle.texts.specs.declared.Progress.{Progress}
 use Rattle.texts.specs.declared.Here.{Here}
-use Rattle.texts.specs.declared.Ran.{Ran}
-use Rattle.texts.specs.declared.Ran.TheVariants as Rn
-use Rattle.texts.specs.declared.Passed.{Passed}
-use Rattle.texts.specs.declared.Passed.TheVariants as Ps
 use Rattle.texts.specs.Shown.{with_meter, with_out, bad_at, pass_for, stretch_for, Onstage, RanAs, PassedAs, Lies}
 
 -- ---- an event goes out, if both rooms hold it
 -- it did, whatever its pass
 pub record PutMore (sizes : ℕ → ℕ) (e : Event) (g : Progress) (B : World) (t ls : List ℕ) (r : Ran) : Type 0 where
   pub out : Out
-  pub is : r ≡ Rn.Good (with_out g out)
+  pub is : r ≡ Ok (with_out g out)
   pub written : (z : Pass) → Written sizes g.layout t ls out (with_event e z (taking g.layout e B.events) B)
 
 abbrev pub PutAs : Bool → (ℕ → ℕ) → Event → Progress → ℕ → ℕ → World → List ℕ → List ℕ → Ran → Type 0
@@ -52,8 +48,8 @@ pub record LineIs (t' ls : List ℕ) (g : Progress) (m size p n : ℕ) (ls' : Li
       → PutMore sizes (replaced m p bytes) g B t' ls' r
 
 abbrev pub ReplacementAs : Replaced → List ℕ → List ℕ → Progress → ℕ → ℕ → ℕ → List ℕ → Passed → Type 0
-ReplacementAs (Rd.Good n q k) t ls g m size p ls' z = (x : Ran) × LineIs t ls (with_meter g k) m size p n ls' x × (z ≡ pass_for x q)
-ReplacementAs (Rd.Bad e k) t ls g m size p ls' z = z ≡ Ps.Bad (record { why = e; member = m; place = p }) (with_meter g k)
+ReplacementAs (Ok (n, q, k)) t ls g m size p ls' z = (x : Ran) × LineIs t ls (with_meter g k) m size p n ls' x × (z ≡ pass_for x q)
+ReplacementAs (Err (e, k)) t ls g m size p ls' z = z ≡ Err ((record { why = e; member = m; place = p }), (with_meter g k))
 
 pub record ReplacementIs (t ls : List ℕ) (g : Progress) (m size p : ℕ) (r : Replaced) (ls' : List ℕ) (z : Passed) : Type 0 where
   pub is : ReplacementAs r t ls g m size p ls' z

@@ -1,5 +1,6 @@
 -- HOW THE ROOMS SHOW A RUN: the world B of the scene, with what was put out. And what an answer with the rooms at exit stands for.
-use Rattle.std.specs.Prelude.{ℕ, ◌<◌, ◌≤◌, ◌≡◌, List, length}
+use Rattle.texts.specs.Types.{Ran, Passed}
+use Rattle.std.specs.Prelude.{ℕ, ◌<◌, ◌≤◌, ◌≡◌, List, length, Option, Some, None, Ok, Err}
 use Rattle.definition.specs.Room.{zeros}
 use Rattle.definition.specs.Program as Program
 use Rattle.definition.specs.World.{World, Res, good, bad}
@@ -12,8 +13,6 @@ use Rattle.names.specs.declared.Owner.TheVariants.{Everyone}
 use Rattle.rows.specs.declared.Starts.{Starts}
 use Rattle.rows.specs.declared.Stretch.{Stretch}
 use Rattle.output.specs.declared.Out.{Out}
-use Rattle.output.specs.declared.Put.{Put}
-use Rattle.output.specs.declared.Put.TheVariants.{Done, Full}
 use Rattle.origin.specs.Written.{Written}
 use Rattle.callees.specs.declared.Running.{Running}
 use Rattle.callees.specs.Shown.{world_in}
@@ -22,10 +21,6 @@ use Rattle.operands.specs.Shown.{Shows}
 use Rattle.outcomes.specs.Texts.{Awake}
 use Rattle.texts.specs.declared.Progress.{Progress}
 use Rattle.texts.specs.declared.Stop.{Stop}
-use Rattle.texts.specs.declared.Ran.{Ran}
-use Rattle.texts.specs.declared.Ran.TheVariants as Rn
-use Rattle.texts.specs.declared.Passed.{Passed}
-use Rattle.texts.specs.declared.Passed.TheVariants as Ps
 
 -- ---- what is made of numbers and answers
 abbrev pub with_meter : Progress → Meter → Progress
@@ -35,15 +30,15 @@ abbrev pub with_out : Progress → Out → Progress
 with_out g o = record { meter = g.meter; layout = g.layout; out = o; rows = g.rows; names = g.names }
 
 abbrev pub bad_at : Progress → Why → ℕ → ℕ → Ran
-bad_at g e m p = Rn.Bad (record { why = e; member = m; place = p }) g
+bad_at g e m p = Err ((record { why = e; member = m; place = p }), g)
 
-abbrev pub put_for : Progress → Put → ℕ → ℕ → Ran
-put_for g (Done o) m p = Rn.Good (with_out g o)
-put_for g Full m p = bad_at g RoomFull m p
+abbrev pub put_for : Progress → Option Out → ℕ → ℕ → Ran
+put_for g (Some o) m p = Ok (with_out g o)
+put_for g None m p = bad_at g RoomFull m p
 
 abbrev pub pass_for : Ran → ℕ → Passed
-pass_for (Rn.Good g) to = Ps.Good to g
-pass_for (Rn.Bad x g) to = Ps.Bad x g
+pass_for (Ok g) to = Ok (to, g)
+pass_for (Err (x, g)) to = Err (x, g)
 
 abbrev pub stretch_for : Stretch → Program.Stretch
 stretch_for x = record { from = x.from; to = x.to }
@@ -90,12 +85,12 @@ pub record After (A : Type 0) (deck rows names : List ℕ) (starts : Starts) (g 
   pub named : g'.names ≡ g.names
 
 abbrev pub RanAs : List ℕ → List ℕ → List ℕ → Starts → Progress → World → List ℕ → List ℕ → List ℕ → List ℕ → List ℕ → List ℕ → Ran → Res Run.Stop (Unit {0}) → Type 0
-RanAs deck rows names starts g B c l h w t ls (Rn.Good g') R = After (Unit {0}) deck rows names starts g B c l h w t ls g' tt R
-RanAs deck rows names starts g B c l h w t ls (Rn.Bad x g') R = R ≡ bad (stop_for x) g'.meter.used
+RanAs deck rows names starts g B c l h w t ls (Ok g') R = After (Unit {0}) deck rows names starts g B c l h w t ls g' tt R
+RanAs deck rows names starts g B c l h w t ls (Err (x, g')) R = R ≡ bad (stop_for x) g'.meter.used
 
 abbrev pub PassedAs : List ℕ → List ℕ → List ℕ → Starts → Progress → World → List ℕ → List ℕ → List ℕ → List ℕ → List ℕ → List ℕ → Passed → Res Run.Stop ℕ → Type 0
-PassedAs deck rows names starts g B c l h w t ls (Ps.Good q g') R = After ℕ deck rows names starts g B c l h w t ls g' q R
-PassedAs deck rows names starts g B c l h w t ls (Ps.Bad x g') R = R ≡ bad (stop_for x) g'.meter.used
+PassedAs deck rows names starts g B c l h w t ls (Ok (q, g')) R = After ℕ deck rows names starts g B c l h w t ls g' q R
+PassedAs deck rows names starts g B c l h w t ls (Err (x, g')) R = R ≡ bad (stop_for x) g'.meter.used
 
 -- a text lies in the body s of member m
 pub record Lies (deck : List ℕ) (m : ℕ) (s : List ℕ) (from to : ℕ) : Type 0 where

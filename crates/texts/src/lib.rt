@@ -15,8 +15,8 @@ use meter::Meter;
 use names::{Activity, Address, Owner};
 use operands::Scene;
 use origin::{tell_blank, tell_copied, tell_replaced};
-use outcomes::{Active, Dest, Replaced, Src, active_in, piece_of};
-use output::{Out, Put};
+use outcomes::{Dest, Replaced, Src, active_in, piece_of};
+use output::Out;
 use rows::{Starts, Stretch};
 use scanning::replace;
 use sums::{less, sum};
@@ -46,12 +46,11 @@ pub struct Stop {
     pub place: usize,
 }
 
+// What was done when a run was refused.
+pub type Halted = (Stop, Progress);
+
 // What a part of the run gives.
-#[derive(Clone, Copy)]
-pub enum Ran {
-    Good(Progress),
-    Bad(Stop, Progress),
-}
+pub type Ran = Result<Progress, Halted>;
 
 pub fn with_meter(g: Progress, m: Meter) -> Progress
     ensures { result ≡ with_meter g m }
@@ -68,7 +67,7 @@ fn with_out(g: Progress, out: Out) -> Progress
 fn bad(g: Progress, why: Why, member: u16, place: usize) -> Ran
     ensures { result ≡ bad_at g why member place }
 {
-    Ran::Bad(Stop { why, member, place }, g)
+    Err((Stop { why, member, place }, g))
 }
 
 // Outside procedures every name is seen that is global.
@@ -97,12 +96,12 @@ pub fn size32(n: usize) -> u32
     (n % 4_294_967_296) as u32
 }
 
-fn put_result(g: Progress, p: Put, member: u16, place: usize) -> Ran
+fn put_result(g: Progress, p: Option<Out>, member: u16, place: usize) -> Ran
     ensures { result ≡ put_for g p member place }
 {
     match p {
-        Put::Done(o) => Ran::Good(with_out(g, o)),
-        Put::Full => bad(g, Why::RoomFull, member, place),
+        Some(o) => Ok(with_out(g, o)),
+        None => bad(g, Why::RoomFull, member, place),
     }
 }
 
@@ -159,22 +158,18 @@ fn replaced_out(
         place,
         size32(n),
     );
-    Ran::Good(with_out(g, after))
+    Ok(with_out(g, after))
 }
 
 // A token of program text that was put out: the place behind it.
-#[derive(Clone, Copy)]
-pub enum Passed {
-    Good(usize, Progress),
-    Bad(Stop, Progress),
-}
+pub type Passed = Result<(usize, Progress), Halted>;
 
 fn pass_to(r: Ran, to: usize) -> Passed
     ensures { result ≡ pass_for r to }
 {
     match r {
-        Ran::Good(g) => Passed::Good(to, g),
-        Ran::Bad(x, g) => Passed::Bad(x, g),
+        Ok(g) => Ok((to, g)),
+        Err((x, g)) => Err((x, g)),
     }
 }
 
@@ -191,18 +186,18 @@ fn replacement_out(
     ensures { ReplacementIs text.now list.old g member size place r list.new result }
 {
     match r {
-        Replaced::Good(n, to, m) => {
+        Ok((n, to, m)) => {
             let x = replaced_out(text, list, with_meter(g, m), member, size, place, n);
             pass_to(x, to)
         }
-        Replaced::Bad(w, m) => Passed::Bad(
+        Err((w, m)) => Err((
             Stop {
                 why: w,
                 member,
                 place,
             },
             with_meter(g, m),
-        ),
+        )),
     }
 }
 
@@ -280,19 +275,18 @@ fn token_here(
     ensures { TokenIs deck.now s.now rows.now names.now cells.old low.old high.old work.old text.old list.old x p here g0 cells.new low.new high.new work.new text.new list.new result }
 {
     let place = sum(x.from, p);
-    let paid = g0.meter.charged();
-    let g = with_meter(g0, paid.meter);
-    if !paid.paid {
-        return pass_to(bad(g, Why::NoStep, here.member, place), p);
-    }
+    let g = match g0.meter.charged() {
+        Ok(m) => with_meter(g0, m),
+        Err((w, m)) => return pass_to(bad(with_meter(g0, m), w, here.member, place), p),
+    };
     let y = piece_of(s, work, x, p);
     let active = active_in(deck, s, work, names, g.names, x, p, y);
     match active {
-        Active::NotActive => {
+        None => {
             let r = token_out(s, text, list, g, here.member, place, sum(x.from, y.to));
             pass_to(r, y.to)
         }
-        Active::IsActive(a, act) => {
+        Some((a, act)) => {
             replace_here(
                 deck, s, rows, names, cells, low, high, work, text, list, x, p, y.to, a, act, here,
                 g,
@@ -326,20 +320,20 @@ fn text_on(
     let turns = sum(size, 1);
     for _ in 0..turns {
         if size <= p {
-            return Ran::Good(g);
+            return Ok(g);
         }
         let t = token_here(
             deck, s, rows, names, cells, low, high, work, text, list, x, p, here, g,
         );
         match t {
-            Passed::Good(q, h) => {
+            Ok((q, h)) => {
                 p = q;
                 g = h;
             }
-            Passed::Bad(stop, h) => return Ran::Bad(stop, h),
+            Err((stop, h)) => return Err((stop, h)),
         }
     }
-    Ran::Good(g)
+    Ok(g)
 }
 
 // One blank, then the text.
@@ -368,10 +362,10 @@ pub fn text_out(
     };
     let b = blank_out(text, list, g, here.member, s.len(), from);
     match b {
-        Ran::Good(h) => text_on(
+        Ok(h) => text_on(
             deck, s, rows, names, cells, low, high, work, text, list, src, here, h,
         ),
-        Ran::Bad(stop, h) => Ran::Bad(stop, h),
+        Err((stop, h)) => Err((stop, h)),
     }
 }
 
@@ -398,5 +392,5 @@ pub fn lead_out(
             deck, s, rows, names, cells, low, high, work, text, list, x, here, g,
         );
     }
-    Ran::Good(g)
+    Ok(g)
 }

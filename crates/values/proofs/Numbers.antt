@@ -1,5 +1,10 @@
 -- CHARACTER and BIT to FIXED: the digits are read up to what no FIXED has, and what is left of them decides.
 -- Assumes nothing.
+use Rattle.values.specs.declared.NumberError.TheVariants.{NoConversion, OutOfRange}
+use Rattle.values.specs.declared.NumberError.{NumberError}
+use Rattle.fixed.specs.declared.FixedError.TheVariants.{ZeroDivisor}
+use Rattle.std.proofs.Common.{Result, Ok, Err}
+use Rattle.fixed.specs.declared.FixedError.{FixedError}
 use mathlib.Core.Path.{◌≡◌, refl, sym, ap, ◌∙◌}
 use mathlib.Core.Logic.{◌⊎◌, inl, inr}
 use mathlib.Core.Bool.{Bool, true, false, cond, ◌&&◌}
@@ -19,14 +24,10 @@ use Rattle.definition.specs.Fixed as F
 use Rattle.definition.specs.Values.{gives, from_fixed, signed_by, written, unsigned, number_in, to_fixed, characters, bit_value, constant}
 use Rattle.definition.proofs.Parts.{length_part}
 use Rattle.fixed.specs.Answer.{result_of}
-use Rattle.fixed.specs.declared.Answer as A
-use Rattle.fixed.specs.declared.Answer.TheVariants as W
 use Rattle.fixed.specs.declared.Fixed.{Fixed}
 use Rattle.fixed.proofs.Magnitude.{in_range_lem, signed_size}
 use Rattle.values.specs.declared.Base.{Base}
 use Rattle.values.specs.declared.Base.TheVariants.{Two, Ten}
-use Rattle.values.specs.declared.NumberAnswer.{NumberAnswer}
-use Rattle.values.specs.declared.NumberAnswer.TheVariants.{Is, NoConversion, OutOfRange}
 use Rattle.values.specs.Answers.{answer_of}
 use Rattle.values.specs.Digits.{base_of, capped, digits_in, Run}
 use Rattle.values.proofs.Bytes.{next, nothing, from_first}
@@ -100,14 +101,14 @@ ranged_capped negative n = go (leb n 99999) refl
     go true e = refl
     go false e = rw (range_of negative 100000, range_of negative n, e)
 
-module _ (negative : Bool) (m : ℕ) (a : A.Answer) (g : result_of a ≡ F.ranged (signed_by negative m)) where
+module _ (negative : Bool) (m : ℕ) (a : Result Fixed FixedError) (g : result_of a ≡ F.ranged (signed_by negative m)) where
   given : result_of a ≡ F.ranged (signed_by negative m)
   given = g
 
-  pub number_is : (x : Fixed) → a ≡ W.Is x → answer_of (Is x) ≡ from_fixed (F.ranged (signed_by negative m))
+  pub number_is : (x : Fixed) → a ≡ Ok x → answer_of (Ok x) ≡ from_fixed (F.ranged (signed_by negative m))
   number_is x e = ap from_fixed (rw e at given)
 
-  pub number_past : (a ≡ W.OutOfRange) ⊎ (a ≡ W.ZeroDivisor) → answer_of OutOfRange ≡ from_fixed (F.ranged (signed_by negative m))
+  pub number_past : (a ≡ (Err (Err OutOfRange))) ⊎ (a ≡ (Err ZeroDivisor)) → answer_of (Err OutOfRange) ≡ from_fixed (F.ranged (signed_by negative m))
   number_past (inl e) = ap from_fixed (rw e at given)
   number_past (inr e) = absurd (never_zero _ (sym (rw e at given)))
 
@@ -120,16 +121,16 @@ module _ (negative : Bool) (s : List ℕ) (at i n e : ℕ) (run : Run is_digit s
   count : length (leading is_digit (part (n - i) (at + i) s)) ≡ e - i
   count = ap length (sym run.passed) ∙ length_part (e - i) (at + i) s
 
-  pub digits_none : e ≡ i → answer_of NoConversion ≡ digits_in negative (part (n - i) (at + i) s)
+  pub digits_none : e ≡ i → answer_of (Err NoConversion) ≡ digits_in negative (part (n - i) (at + i) s)
   unfolding digits_in
   digits_none h = let k : e - i ≡ 0 = omega arith in rw (count, k)
 
   module _ (t : Bool) (f : t ≡ all is_blank (part (n - e) (at + e) s)) where
-    pub digits_wrong : t ≡ false → answer_of NoConversion ≡ digits_in negative (part (n - i) (at + i) s)
+    pub digits_wrong : t ≡ false → answer_of (Err NoConversion) ≡ digits_in negative (part (n - i) (at + i) s)
     unfolding digits_in
     digits_wrong h = rw (← run.rest, ← f, h, and_false)
 
-    pub digits_read : (e ≡ i → ⊥) → t ≡ true → (m : ℕ) (r : NumberAnswer) → m ≡ capped (written 10 0 (part (e - i) (at + i) s))
+    pub digits_read : (e ≡ i → ⊥) → t ≡ true → (m : ℕ) (r : Result Fixed NumberError) → m ≡ capped (written 10 0 (part (e - i) (at + i) s))
         → answer_of r ≡ from_fixed (F.ranged (signed_by negative m)) → answer_of r ≡ digits_in negative (part (n - i) (at + i) s)
     unfolding digits_in
     digits_read g h m r p q =
@@ -150,7 +151,7 @@ module _ (s : List ℕ) (at n i : ℕ) (run : Run is_blank s at 0 n i) where
   unfolding to_fixed number_in
   blank_number h = rw (past_is, nothing s at n i h)
 
-  module _ (h : i < n) (b : ℕ) (e : b ≡ get_or s (at + i) 0) (r : NumberAnswer) where
+  module _ (h : i < n) (b : ℕ) (e : b ≡ get_or s (at + i) 0) (r : Result Fixed NumberError) where
     begins : to_fixed (characters (part n at s)) ≡ digits_in (eqb b 45) (unsigned (b ∷ part (n - (i + 1)) (at + (i + 1)) s))
     unfolding to_fixed
     begins = rw (past_is, next s at n i h, ← e, rest_number)
@@ -167,13 +168,13 @@ module _ (s : List ℕ) (at n i : ℕ) (run : Run is_blank s at 0 n i) where
         rw (begins, ne_eqb b 45 k, ne_eqb b 43 f, ← q) g
 
 -- ---- BIT to FIXED, and a constant
-all_read : (base : ℕ) (s : List ℕ) (at n m : ℕ) (r : NumberAnswer) → m ≡ capped (written base 0 (part (n - 0) (at + 0) s))
+all_read : (base : ℕ) (s : List ℕ) (at n m : ℕ) (r : Result Fixed NumberError) → m ≡ capped (written base 0 (part (n - 0) (at + 0) s))
     → answer_of r ≡ from_fixed (F.ranged (signed_by false m)) → answer_of r ≡ from_fixed (F.ranged (pos (written base 0 (part n at s))))
 all_read base s at n m r p q =
     let v : F.ranged (pos m) ≡ F.ranged (pos (written base 0 (part n at s))) = rw (p, from_first) (ranged_capped false _) in
     q ∙ ap from_fixed v
 
-module _ (s : List ℕ) (at n m : ℕ) (r : NumberAnswer) where
+module _ (s : List ℕ) (at n m : ℕ) (r : Result Fixed NumberError) where
   pub bits_read : m ≡ capped (written 2 0 (part (n - 0) (at + 0) s)) → answer_of r ≡ from_fixed (F.ranged (signed_by false m)) → answer_of r ≡ to_fixed (bit_value (part n at s))
   unfolding to_fixed
   bits_read = all_read 2 s at n m r

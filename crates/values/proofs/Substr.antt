@@ -1,5 +1,6 @@
 -- SUBSTR's test, and that it is the definition's.
 -- Assumes nothing.
+use Rattle.std.proofs.Common.{Option, Some, None}
 use mathlib.Core.Path.{◌≡◌, refl, sym, ap, ◌∙◌}
 use mathlib.Core.Logic.{inl, inr}
 use mathlib.Core.Bool.{Bool, true, false, not, cond}
@@ -16,29 +17,27 @@ use Rattle.std.proofs.lemmas.Bool.{cases_lt}
 use Rattle.definition.specs.Lists.{part}
 use Rattle.definition.specs.declared.Why.TheVariants.{SubstrOutside as substr_outside}
 use Rattle.definition.specs.Values.{Value, gives, fails, size_of, as_number, piece, cut_out, start_from, length_from, substr}
-use Rattle.values.specs.declared.Cut.{Cut}
-use Rattle.values.specs.declared.Cut.TheVariants.{Stretch, Outside}
 use Rattle.values.specs.Substr.{stretch, cut_at, cut_part, cut_rest, piece_for}
 
 -- ---- by places counted from 1
 module _ (size : ℕ) where
-  pub cut_not : (i n : ℕ) → (0 < i → i - 1 + n ≤ size → ⊥) → Outside ≡ cut_at size i n
+  pub cut_not : (i n : ℕ) → (0 < i → i - 1 + n ≤ size → ⊥) → None ≡ cut_at size i n
   unfolding cut_at stretch
   cut_not zero n h = refl
   cut_not (suc i) n h = rw (lt-leb (i + n) size (elim (cases_lt size (i + n)) [ inl l ↦ l | inr l ↦ absurd (h (omega arith) (omega arith)) ]))
 
-  pub cut_in : (i n : ℕ) → 0 < i → i - 1 + n ≤ size → Stretch (i - 1) n ≡ cut_at size i n
+  pub cut_in : (i n : ℕ) → 0 < i → i - 1 + n ≤ size → Some ((i - 1), n) ≡ cut_at size i n
   unfolding cut_at stretch
   cut_in zero n h l = absurd (omega arith)
   cut_in (suc i) n h l = let e : suc i - 1 ≡ i = omega arith in rw (e, le-leb (i + n) size (omega arith))
 
 -- ---- by numbers
-from_below : (size : ℕ) (z w : ℤ) → not (non_neg z) ≡ true → Outside ≡ cut_part size z w
+from_below : (size : ℕ) (z w : ℤ) → not (non_neg z) ≡ true → None ≡ cut_part size z w
 unfolding cut_part
 from_below size (pos i) w e = cc
 from_below size (negsuc i) w e = refl
 
-count_below : (size : ℕ) (z w : ℤ) → not (non_neg w) ≡ true → Outside ≡ cut_part size z w
+count_below : (size : ℕ) (z w : ℤ) → not (non_neg w) ≡ true → None ≡ cut_part size z w
 unfolding cut_part
 count_below size (pos i) (pos n) e = cc
 count_below size (pos i) (negsuc n) e = refl
@@ -50,7 +49,7 @@ both_above size (pos i) (pos n) e f = refl
 both_above size (pos i) (negsuc n) e f = cc
 both_above size (negsuc i) w e f = cc
 
-rest_under : (size : ℕ) (z : ℤ) → not (non_neg z) ≡ true → Outside ≡ cut_rest size z
+rest_under : (size : ℕ) (z : ℤ) → not (non_neg z) ≡ true → None ≡ cut_rest size z
 unfolding cut_rest
 rest_under size (pos i) e = cc
 rest_under size (negsuc i) e = refl
@@ -61,24 +60,24 @@ rest_above size (pos i) e = refl
 rest_above size (negsuc i) e = cc
 
 module _ (size : ℕ) (z : ℤ) (t : Bool) (e : t ≡ not (non_neg z)) where
-  pub part_from : (w : ℤ) → t ≡ true → Outside ≡ cut_part size z w
+  pub part_from : (w : ℤ) → t ≡ true → None ≡ cut_part size z w
   part_from w f = from_below size z w (sym e ∙ f)
 
-  pub rest_from : t ≡ true → Outside ≡ cut_rest size z
+  pub rest_from : t ≡ true → None ≡ cut_rest size z
   rest_from f = rest_under size z (sym e ∙ f)
 
-  pub rest_is : (i k n : ℕ) (c : Cut) → t ≡ false → i ≡ nat_abs z → k ≡ i - 1 → n ≡ size - k → c ≡ cut_at size i n → c ≡ cut_rest size z
+  pub rest_is : (i k n : ℕ) (c : Option (ℕ × ℕ)) → t ≡ false → i ≡ nat_abs z → k ≡ i - 1 → n ≡ size - k → c ≡ cut_at size i n → c ≡ cut_rest size z
   rest_is i k n c f p q r g = g ∙ rw (r, q, p) (sym (rest_above size z (sym e ∙ f)))
 
   module _ (w : ℤ) (u : Bool) (d : u ≡ not (non_neg w)) where
-    pub part_count : u ≡ true → Outside ≡ cut_part size z w
+    pub part_count : u ≡ true → None ≡ cut_part size z w
     part_count f = count_below size z w (sym d ∙ f)
 
-    pub part_is : (i n : ℕ) (c : Cut) → t ≡ false → u ≡ false → i ≡ nat_abs z → n ≡ nat_abs w → c ≡ cut_at size i n → c ≡ cut_part size z w
+    pub part_is : (i n : ℕ) (c : Option (ℕ × ℕ)) → t ≡ false → u ≡ false → i ≡ nat_abs z → n ≡ nat_abs w → c ≡ cut_at size i n → c ≡ cut_part size z w
     part_is i n c f g p q k = k ∙ rw (p, q) (sym (both_above size z w (sym e ∙ f) (sym d ∙ g)))
 
 -- ---- the definition's SUBSTR takes what the cut takes
-either : (v : Value) (i n : ℕ) (t : Bool) → cond t (gives (piece v i n)) (fails substr_outside) ≡ piece_for v (cond t (Stretch i n) Outside)
+either : (v : Value) (i n : ℕ) (t : Bool) → cond t (gives (piece v i n)) (fails substr_outside) ≡ piece_for v (cond t (Some (i, n)) None)
 either v i n true = refl
 either v i n false = refl
 

@@ -1,5 +1,8 @@
 -- What the answers of this crate stand for in the definition.
-use Rattle.std.specs.Prelude.{Bool, not, ℤ}
+use Rattle.values.specs.declared.NumberError.TheVariants.{NoConversion, OutOfRange}
+use Rattle.values.specs.declared.NumberError.{NumberError}
+use Rattle.fixed.specs.declared.Fixed.{Fixed}
+use Rattle.std.specs.Prelude.{Bool, not, ℤ, Result, Ok, Err}
 use Rattle.definition.specs.declared.Why.TheVariants.{NoConversion as no_conversion, OutOfRange as out_of_range}
 use Rattle.definition.specs.declared.Operator as E
 use Rattle.definition.specs.Values as D
@@ -7,8 +10,6 @@ use Rattle.values.specs.declared.Order.{Order}
 use Rattle.values.specs.declared.Order.TheVariants.{Below, Alike, Above}
 use Rattle.values.specs.declared.Comparison.{Comparison}
 use Rattle.values.specs.declared.Comparison.TheVariants.{Greater, GreaterEqual, Equal, Less, LessEqual, NotGreater, NotEqual, NotLess}
-use Rattle.values.specs.declared.NumberAnswer.{NumberAnswer}
-use Rattle.values.specs.declared.NumberAnswer.TheVariants.{Is, NoConversion, OutOfRange}
 
 abbrev pub order_for : D.Order → Order
 order_for D.below = Below
@@ -41,7 +42,7 @@ operator_of NotGreater = E.TheVariants.NotGreater
 operator_of NotEqual = E.TheVariants.NotEqual
 operator_of NotLess = E.TheVariants.NotLess
 
-abbrev pub answer_of : NumberAnswer → D.Answer ℤ
-answer_of (Is x) = D.gives x.value
-answer_of NoConversion = D.fails no_conversion
-answer_of OutOfRange = D.fails out_of_range
+abbrev pub answer_of : Result Fixed NumberError → D.Answer ℤ
+answer_of (Ok x) = D.gives x.value
+answer_of (Err NoConversion) = D.fails no_conversion
+answer_of (Err OutOfRange) = D.fails out_of_range

@@ -16,7 +16,7 @@ ghost use Rattle.values.specs.Bits.{logic_of};
 ghost use Rattle.values.specs.Substr.{cut_at, cut_part, cut_rest};
 
 use chars::{is_bit, is_blank, is_digit};
-use fixed::{Answer, Fixed};
+use fixed::{Fixed, FixedError};
 use rooms::{byte, put_byte};
 
 // How two values lie to each other.
@@ -41,9 +41,8 @@ pub enum Comparison {
 }
 
 // What conversion to FIXED gives.
-#[derive(Clone, Copy)]
-pub enum NumberAnswer {
-    Is(Fixed),
+#[derive(Clone, Copy, PartialEq, Eq)]
+pub enum NumberError {
     NoConversion,
     OutOfRange,
 }
@@ -60,13 +59,6 @@ enum Base {
 pub enum Logic {
     And,
     Or,
-}
-
-// What SUBSTR takes: so many places from a place on, counted from 0.
-#[derive(Clone, Copy)]
-pub enum Cut {
-    Stretch(usize, usize),
-    Outside,
 }
 
 // The least magnitude that no FIXED has.
@@ -201,34 +193,40 @@ fn capped_number(base: Base, s: &[u8], at: usize, i: usize, n: usize) -> u32
 }
 
 // A magnitude divides nothing, so the third answer never comes.
-fn number_of(negative: bool, magnitude: u32) -> NumberAnswer
+fn number_of(negative: bool, magnitude: u32) -> Result<Fixed, NumberError>
     ensures { answer_of result ≡ from_fixed (ranged (signed_by negative magnitude)) }
 {
     match Fixed::of_magnitude(negative, magnitude) {
-        Answer::Is(x) => NumberAnswer::Is(x),
-        Answer::OutOfRange | Answer::ZeroDivisor => NumberAnswer::OutOfRange,
+        Ok(x) => Ok(x),
+        Err(FixedError::OutOfRange) | Err(FixedError::ZeroDivisor) => Err(NumberError::OutOfRange),
     }
 }
 
 // The number that the bytes from i to n past a place write: the form of them all first, and then the range.
-fn unsigned_number(negative: bool, s: &[u8], at: usize, i: usize, n: usize) -> NumberAnswer
+fn unsigned_number(
+    negative: bool,
+    s: &[u8],
+    at: usize,
+    i: usize,
+    n: usize,
+) -> Result<Fixed, NumberError>
     requires { i ≤ n }
     ensures { answer_of result ≡ digits_in negative (part (n - i) (at + i) s.now) }
 {
     let end = past_digits(s, at, i, n);
     if end == i || !are_blanks(s, at, end, n) {
-        return NumberAnswer::NoConversion;
+        return Err(NumberError::NoConversion);
     }
     number_of(negative, capped_number(Base::Ten, s, at, i, end))
 }
 
 // CHARACTER to FIXED.
-pub fn number_in(s: &[u8], at: usize, n: usize) -> NumberAnswer
+pub fn number_in(s: &[u8], at: usize, n: usize) -> Result<Fixed, NumberError>
     ensures { answer_of result ≡ to_fixed (characters (part n at s.now)) }
 {
     let i = past_blanks(s, at, 0, n);
     if n <= i {
-        return NumberAnswer::Is(Fixed { value: 0 });
+        return Ok(Fixed { value: 0 });
     }
     match byte(s, at, i) {
         b'-' => unsigned_number(true, s, at, i + 1, n),
@@ -238,14 +236,14 @@ pub fn number_in(s: &[u8], at: usize, n: usize) -> NumberAnswer
 }
 
 // BIT to FIXED.
-pub fn bits_number(s: &[u8], at: usize, n: usize) -> NumberAnswer
+pub fn bits_number(s: &[u8], at: usize, n: usize) -> Result<Fixed, NumberError>
     ensures { answer_of result ≡ to_fixed (bit_value (part n at s.now)) }
 {
     number_of(false, capped_number(Base::Two, s, at, 0, n))
 }
 
 // The number of a constant, whose digits stand at a place.
-pub fn constant_number(s: &[u8], at: usize, n: usize) -> NumberAnswer
+pub fn constant_number(s: &[u8], at: usize, n: usize) -> Result<Fixed, NumberError>
     ensures { answer_of result ≡ constant (part n at s.now) }
 {
     number_of(false, capped_number(Base::Ten, s, at, 0, n))
@@ -374,31 +372,31 @@ pub fn combine(op: Logic, room: &mut [u8], at: usize, n: usize, m: usize) -> usi
 // ---- SUBSTR
 
 // `count` places from place `from` on, counted from 1, where a value is `size` long.
-fn cut_at(size: usize, from: usize, count: usize) -> Cut
+fn cut_at(size: usize, from: usize, count: usize) -> Option<(usize, usize)>
     ensures { result ≡ cut_at size from count }
 {
     if from == 0 || size < from - 1 || size - (from - 1) < count {
-        return Cut::Outside;
+        return None;
     }
-    Cut::Stretch(from - 1, count)
+    Some((from - 1, count))
 }
 
 // What SUBSTR with a third argument takes.
-pub fn cut_part(size: usize, from: Fixed, count: Fixed) -> Cut
+pub fn cut_part(size: usize, from: Fixed, count: Fixed) -> Option<(usize, usize)>
     ensures { result ≡ cut_part size from.value count.value }
 {
     if from.is_negative() || count.is_negative() {
-        return Cut::Outside;
+        return None;
     }
     cut_at(size, from.magnitude() as usize, count.magnitude() as usize)
 }
 
 // What SUBSTR without a third argument takes: all places from one on, counted from 1.
-pub fn cut_rest(size: usize, from: Fixed) -> Cut
+pub fn cut_rest(size: usize, from: Fixed) -> Option<(usize, usize)>
     ensures { result ≡ cut_rest size from.value }
 {
     if from.is_negative() {
-        return Cut::Outside;
+        return None;
     }
     let first = from.magnitude() as usize;
     cut_at(size, first, size.saturating_sub(first.saturating_sub(1)))

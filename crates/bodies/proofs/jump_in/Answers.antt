@@ -8,5 +8,5 @@ returns-then-may_go c = search jump_done
 pub returns-else-may_go : goal.returns-else-may_go
 returns-else-may_go c = search jump_wrong
 
-pub returns-in-Bad : goal.returns-in-Bad
-returns-in-Bad c = search jump_bad
+pub returns-in-Err : goal.returns-in-Err
+returns-in-Err c = search jump_bad

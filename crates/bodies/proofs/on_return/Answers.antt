@@ -2,11 +2,11 @@
 use Rattle.bodies.proofs.Doing.{return_some, return_fails, return_none}
 use Rattle.bodies.proofs.on_return.Goals as goal
 
-pub returns-in-Gives : goal.returns-in-Gives
-returns-in-Gives c = search return_some
+pub returns-in-Ok : goal.returns-in-Ok
+returns-in-Ok c = search return_some
 
-pub returns-in-Fails : goal.returns-in-Fails
-returns-in-Fails c = search return_fails
+pub returns-in-Err : goal.returns-in-Err
+returns-in-Err c = search return_fails
 
-pub returns-in-Failed : goal.returns-in-Failed
-returns-in-Failed c = search return_none
+pub returns-in-Err : goal.returns-in-Err
+returns-in-Err c = search return_none

@@ -8,5 +8,5 @@ returns-then-begins c = search start_in_lem
 pub returns-else-begins : goal.returns-else-begins
 returns-else-begins c = search start_out
 
-pub returns-in-Bad : goal.returns-in-Bad
-returns-in-Bad c = search start_bad
+pub returns-in-Err : goal.returns-in-Err
+returns-in-Err c = search start_bad

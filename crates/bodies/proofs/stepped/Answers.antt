@@ -2,11 +2,11 @@
 use Rattle.bodies.proofs.Stepping.{stepped_nowhere, stepped_some, stepped_none}
 use Rattle.bodies.proofs.stepped.Goals as goal
 
-pub returns-in-Nowhere : goal.returns-in-Nowhere
-returns-in-Nowhere c = search stepped_nowhere
+pub returns-in-None : goal.returns-in-None
+returns-in-None c = search stepped_nowhere
 
-pub returns-in-Holds : goal.returns-in-Holds
-returns-in-Holds c = search stepped_some
+pub returns-in-Some : goal.returns-in-Some
+returns-in-Some c = search stepped_some
 
-pub returns-in-NoNumber : goal.returns-in-NoNumber
-returns-in-NoNumber c = search stepped_none
+pub returns-in-None : goal.returns-in-None
+returns-in-None c = search stepped_none

@@ -8,5 +8,5 @@ returns-then-paid c = search added_paid
 pub returns-else-paid : goal.returns-else-paid
 returns-else-paid c = search added_due
 
-pub returns-in-OutOfRange : goal.returns-in-OutOfRange
-returns-in-OutOfRange c = search added_none
+pub returns-in-Err-OutOfRange : goal.returns-in-Err-OutOfRange
+returns-in-Err-OutOfRange c = search added_none

@@ -2,11 +2,11 @@
 use Rattle.bodies.proofs.Doing.{stored_some, stored_fails, stored_none}
 use Rattle.bodies.proofs.stored.Goals as goal
 
-pub returns-in-Gives : goal.returns-in-Gives
-returns-in-Gives c = search stored_some
+pub returns-in-Ok : goal.returns-in-Ok
+returns-in-Ok c = search stored_some
 
-pub returns-in-Fails : goal.returns-in-Fails
-returns-in-Fails c = search stored_fails
+pub returns-in-Err : goal.returns-in-Err
+returns-in-Err c = search stored_fails
 
-pub returns-in-Failed : goal.returns-in-Failed
-returns-in-Failed c = search stored_none
+pub returns-in-Err : goal.returns-in-Err
+returns-in-Err c = search stored_none

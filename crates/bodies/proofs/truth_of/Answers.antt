@@ -2,11 +2,11 @@
 use Rattle.bodies.proofs.Doing.{truth_some, truth_fails, truth_none}
 use Rattle.bodies.proofs.truth_of.Goals as goal
 
-pub returns-in-Is-holds : goal.returns-in-Is-holds
-returns-in-Is-holds c = search truth_some
+pub returns-in-Ok-holds : goal.returns-in-Ok-holds
+returns-in-Ok-holds c = search truth_some
 
-pub returns-in-Fails : goal.returns-in-Fails
-returns-in-Fails c = search truth_fails
+pub returns-in-Err : goal.returns-in-Err
+returns-in-Err c = search truth_fails
 
-pub returns-in-Failed : goal.returns-in-Failed
-returns-in-Failed c = search truth_none
+pub returns-in-Err : goal.returns-in-Err
+returns-in-Err c = search truth_none

@@ -12,7 +12,7 @@ pub loop-at-smaller : goal.loop-at-smaller
 loop-at-smaller c = omega (arith, c.loop-at-test.true, c.piece-n.ensures.within c.loop-at-test.true, c.piece-n.ensures.some c.loop-at-test.true)
 
 pub loop-at-preserved : goal.loop-at-preserved
-loop-at-preserved c = piecing_more _ _ _ _ _ _ _ _ _ _ _ c.loop-at.invariant c.loop-at-test.true _ c.piece-n.ensures _ c.column.ensures _ _ _ c.put_copied.ensures _ c.in-Done.is c.put_copied.auto.text c.put_copied.auto.list
+loop-at-preserved c = piecing_more _ _ _ _ _ _ _ _ _ _ _ c.loop-at.invariant c.loop-at-test.true _ c.piece-n.ensures _ c.column.ensures _ _ _ c.put_copied.ensures _ c.in-Some.is c.put_copied.auto.text c.put_copied.auto.list
 
 pub shape_of-text-in_default : goal.shape_of-text-in_default
 shape_of-text-in_default c = c.put_copied.auto.text ∙ c.loop-at.invariant.long

@@ -2,8 +2,8 @@
 use Rattle.entering.proofs.Laws.{declares_known, declares_unknown}
 use Rattle.entering.proofs.declare.Goals as goal
 
-pub returns-in-Known : goal.returns-in-Known
-returns-in-Known c = search declares_known
+pub returns-in-Some : goal.returns-in-Some
+returns-in-Some c = search declares_known
 
-pub returns-in-Unknown : goal.returns-in-Unknown
-returns-in-Unknown c = search declares_unknown
+pub returns-in-None : goal.returns-in-None
+returns-in-None c = search declares_unknown

@@ -13,11 +13,11 @@ use Rattle.evaluating.proofs.+evaluation.Goals as goal
 pub arguments-loop-i-init : goal.arguments-loop-i-init
 arguments-loop-i-init t c = search (rules, taking_start)
 
-pub arguments-returns-in-Failed : goal.arguments-returns-in-Failed
-arguments-returns-in-Failed t c = taking_failed _ _ _ _ _ _ _ _ _ _ _ _ _ _ _ _ _ _ _ _ _ _ _ _ _ c.loop-i.invariant (omega (arith, c.loop-i-test.true, c.wanted_count-i-end.ensures)) _ c.wish_for-w.ensures _ _ _ _ c.inside-x.auto.work _ c.inside-x.ensures _ _ c.with_wish.ensures _ _ c.in-Failed.is
+pub arguments-returns-in-Err : goal.arguments-returns-in-Err
+arguments-returns-in-Err t c = taking_failed _ _ _ _ _ _ _ _ _ _ _ _ _ _ _ _ _ _ _ _ _ _ _ _ _ c.loop-i.invariant (omega (arith, c.loop-i-test.true, c.wanted_count-i-end.ensures)) _ c.wish_for-w.ensures _ _ _ _ c.inside-x.auto.work _ c.inside-x.ensures _ _ c.with_wish.ensures _ _ c.in-Err.is
 
 pub arguments-loop-i-preserved : goal.arguments-loop-i-preserved
-arguments-loop-i-preserved t c = taking_more _ _ _ _ _ _ _ _ _ _ _ _ _ _ _ _ _ _ _ _ _ _ _ _ _ c.loop-i.invariant (omega (arith, c.loop-i-test.true, c.wanted_count-i-end.ensures)) _ c.wish_for-w.ensures _ _ _ _ c.inside-x.auto.work _ c.inside-x.ensures _ _ c.with_wish.ensures _ _ _ c.in-Is.is _ c.with_held-held.ensures _ c.first_kept-first.ensures _ _ c.size_of.ensures c.above-top.ensures _ c.token_at-at.ensures _ refl c.with_wish.auto.work
+arguments-loop-i-preserved t c = taking_more _ _ _ _ _ _ _ _ _ _ _ _ _ _ _ _ _ _ _ _ _ _ _ _ _ c.loop-i.invariant (omega (arith, c.loop-i-test.true, c.wanted_count-i-end.ensures)) _ c.wish_for-w.ensures _ _ _ _ c.inside-x.auto.work _ c.inside-x.ensures _ _ c.with_wish.ensures _ _ _ c.in-Ok.is _ c.with_held-held.ensures _ c.first_kept-first.ensures _ _ c.size_of.ensures c.above-top.ensures _ c.token_at-at.ensures _ refl c.with_wish.auto.work
 
 pub arguments-returns : goal.arguments-returns
 arguments-returns t c = taking_end _ _ _ _ _ _ _ _ _ _ _ _ _ _ _ _ _ _ _ _ _ _ _ _ _ c.loop-i.invariant (omega (arith, c.loop-i-test.false, c.wanted_count-i-end.ensures))
@@ -37,17 +37,17 @@ chain-loop-init t c = chaining_start _ _ _ _ _ _ _ _ _ _ _ _ _ _ _ _ (omega arit
 pub chain-loop-preserved : goal.chain-loop-preserved
 chain-loop-preserved t c = chaining_more _ _ _ _ _ _ _ _ _ _ _ _ _ _ _ _ _ _ _ _ _ _ _ c.loop.invariant (omega (arith, c.loop-test.true)) _ c.infix_at.ensures _ _ c.in-Is.is _ _ c.size_of.ensures c.above-top.ensures _ _ _ _ c.levels-y.auto.work _ c.levels-y.ensures _ _ c.with_infix.ensures _ _ _ c.in-Is-with_infix.is c.with_infix.auto.work _ (omega arith)
 
-pub chain-returns-in-Failed : goal.chain-returns-in-Failed
-chain-returns-in-Failed t c = chaining_failed _ _ _ _ _ _ _ _ _ _ _ _ _ _ _ _ _ _ _ _ _ _ _ c.loop.invariant (omega (arith, c.loop-test.true)) _ c.infix_at.ensures _ _ c.in-Is.is _ _ c.size_of.ensures c.above-top.ensures _ _ _ _ c.levels-y.auto.work _ c.levels-y.ensures _ _ c.with_infix.ensures _ _ c.in-Failed.is
+pub chain-returns-in-Err : goal.chain-returns-in-Err
+chain-returns-in-Err t c = chaining_failed _ _ _ _ _ _ _ _ _ _ _ _ _ _ _ _ _ _ _ _ _ _ _ c.loop.invariant (omega (arith, c.loop-test.true)) _ c.infix_at.ensures _ _ c.in-Is.is _ _ c.size_of.ensures c.above-top.ensures _ _ _ _ c.levels-y.auto.work _ c.levels-y.ensures _ _ c.with_infix.ensures _ _ c.in-Err.is
 
-pub chain-returns-in-Other : goal.chain-returns-in-Other
-chain-returns-in-Other t c = chaining_done _ _ _ _ _ _ _ _ _ _ _ _ _ _ _ _ _ _ _ _ _ _ _ c.loop.invariant (omega (arith, c.loop-test.true)) _ c.infix_at.ensures (search c.in-Other)
+pub chain-returns-in-None : goal.chain-returns-in-None
+chain-returns-in-None t c = chaining_done _ _ _ _ _ _ _ _ _ _ _ _ _ _ _ _ _ _ _ _ _ _ _ c.loop.invariant (omega (arith, c.loop-test.true)) _ c.infix_at.ensures (search c.in-None)
 
 pub chain-returns : goal.chain-returns
 chain-returns t c = chaining_end _ _ _ _ _ _ _ _ _ _ _ _ _ _ _ _ _ _ _ _ _ _ _ c.loop.invariant (omega (arith, c.loop-test.false)) _
 
-pub deeds::assign-returns-in-At : goal.deeds::assign-returns-in-At
-deeds::assign-returns-in-At t c = assign_done _ _ _ _ _ _ _ _ _ _ _ _ _ c.token_at-t.ensures _ c.target_at.ensures _ _ c.in-At.is _ c.token_at-sign.ensures _ _ _ _ c.evaluate-x.auto.work _ c.evaluate-x.ensures _ _ _ _ _ c.stored.ensures
+pub deeds::assign-returns-in-Some : goal.deeds::assign-returns-in-Some
+deeds::assign-returns-in-Some t c = assign_done _ _ _ _ _ _ _ _ _ _ _ _ _ c.token_at-t.ensures _ c.target_at.ensures _ _ c.in-Some.is _ c.token_at-sign.ensures _ _ _ _ c.evaluate-x.auto.work _ c.evaluate-x.ensures _ _ _ _ _ c.stored.ensures
 
 pub deeds::assign-returns-in-None : goal.deeds::assign-returns-in-None
 deeds::assign-returns-in-None t c = search (assign_none, c.token_at-t.ensures, c.target_at.ensures, c.in-None)
@@ -85,41 +85,41 @@ deeds::body_turn-returns-in-Again t c = turn_again _ _ _ _ _ _ _ _ _ _ _ _ _ _ _
 pub deeds::body_turn-returns-in-Over : goal.deeds::body_turn-returns-in-Over
 deeds::body_turn-returns-in-Over t c = turn_over _ _ _ _ _ _ _ _ _ _ _ _ _ _ _ (search c.in-Over) _ c.with_step-in-Over.ensures
 
-pub deeds::bounded-returns-in-Of : goal.deeds::bounded-returns-in-Of
-deeds::bounded-returns-in-Of t c = bounded_some _ _ _ _ _ _ _ _ _ _ _ _ _ _ c.in-Is.is _ c.bound_word.ensures _ _ c.in-Of.is _ _ _ _ _ c.evaluate-e.ensures _ c.bound_of.ensures _ c.bounded_by.ensures
+pub deeds::bounded-returns-in-Some : goal.deeds::bounded-returns-in-Some
+deeds::bounded-returns-in-Some t c = bounded_some _ _ _ _ _ _ _ _ _ _ _ _ _ _ c.in-Ok.is _ c.bound_word.ensures _ _ c.in-Some.is _ _ _ _ _ c.evaluate-e.ensures _ c.bound_of.ensures _ c.bounded_by.ensures
 
-pub deeds::bounded-returns-in-Neither : goal.deeds::bounded-returns-in-Neither
-deeds::bounded-returns-in-Neither t c = search (bounded_none, c.in-Is.is, c.bound_word.ensures, c.in-Neither)
+pub deeds::bounded-returns-in-None : goal.deeds::bounded-returns-in-None
+deeds::bounded-returns-in-None t c = search (bounded_none, c.in-Ok.is, c.bound_word.ensures, c.in-None)
 
-pub deeds::bounded-returns-in-Bad : goal.deeds::bounded-returns-in-Bad
-deeds::bounded-returns-in-Bad t c = search (bounded_bad, c.in-Bad.is)
+pub deeds::bounded-returns-in-Err : goal.deeds::bounded-returns-in-Err
+deeds::bounded-returns-in-Err t c = search (bounded_bad, c.in-Err.is)
 
-pub deeds::bounds-returns-in-Is : goal.deeds::bounds-returns-in-Is
-deeds::bounds-returns-in-Is t c = bounds_done _ _ _ _ _ _ _ _ _ _ _ _ _ _ _ c.in-Is.is _ _ _ _ c.bounded-one.auto.work _ c.bounded-one.ensures _ _ _ _ _ c.bounded-two.ensures _ _ c.set_off.ensures
+pub deeds::bounds-returns-in-Ok : goal.deeds::bounds-returns-in-Ok
+deeds::bounds-returns-in-Ok t c = bounds_done _ _ _ _ _ _ _ _ _ _ _ _ _ _ _ c.in-Ok.is _ _ _ _ c.bounded-one.auto.work _ c.bounded-one.ensures _ _ _ _ _ c.bounded-two.ensures _ _ c.set_off.ensures
 
-pub deeds::bounds-returns-in-Bad : goal.deeds::bounds-returns-in-Bad
-deeds::bounds-returns-in-Bad t c = search (bounds_bad, c.in-Bad.is)
+pub deeds::bounds-returns-in-Err : goal.deeds::bounds-returns-in-Err
+deeds::bounds-returns-in-Err t c = search (bounds_bad, c.in-Err.is)
 
 pub deeds::run_body-loop-init : goal.deeds::run_body-loop-init
 deeds::run_body-loop-init t c = runs_start _ _ _ _ _ _ _ _ _ _ _ _ _ _ c.row_at.ensures _ c.first_of-next.ensures _ c.no_frames-fs.ensures _ (omega (arith, c.turns_left-end.ensures))
 
 pub deeds::run_body-loop-preserved : goal.deeds::run_body-loop-preserved
-deeds::run_body-loop-preserved t c = runs_more _ _ _ _ _ _ _ _ _ _ _ _ _ _ _ _ _ _ _ _ _ c.loop.invariant _ _ _ _ _ c.body_turn-t.ensures _ _ c.in-On.is c.body_turn-t.auto.work _ (omega arith)
+deeds::run_body-loop-preserved t c = runs_more _ _ _ _ _ _ _ _ _ _ _ _ _ _ _ _ _ _ _ _ _ c.loop.invariant _ _ _ _ _ c.body_turn-t.ensures _ _ c.in-Ok-On.is c.body_turn-t.auto.work _ (omega arith)
 
-pub deeds::run_body-returns-in-Gave : goal.deeds::run_body-returns-in-Gave
-deeds::run_body-returns-in-Gave t c = runs_gave _ _ _ _ _ _ _ _ _ _ _ _ _ _ _ _ _ _ _ _ _ c.loop.invariant _ _ _ _ _ c.body_turn-t.ensures _ _ c.in-Gave.is
+pub deeds::run_body-returns-in-Ok-Gave : goal.deeds::run_body-returns-in-Ok-Gave
+deeds::run_body-returns-in-Ok-Gave t c = runs_gave _ _ _ _ _ _ _ _ _ _ _ _ _ _ _ _ _ _ _ _ _ c.loop.invariant _ _ _ _ _ c.body_turn-t.ensures _ _ c.in-Ok-Gave.is
 
-pub deeds::run_body-returns-in-Bad : goal.deeds::run_body-returns-in-Bad
-deeds::run_body-returns-in-Bad t c = runs_bad _ _ _ _ _ _ _ _ _ _ _ _ _ _ _ _ _ _ _ _ _ c.loop.invariant _ _ _ _ _ c.body_turn-t.ensures _ _ c.in-Bad.is
+pub deeds::run_body-returns-in-Err : goal.deeds::run_body-returns-in-Err
+deeds::run_body-returns-in-Err t c = runs_bad _ _ _ _ _ _ _ _ _ _ _ _ _ _ _ _ _ _ _ _ _ c.loop.invariant _ _ _ _ _ c.body_turn-t.ensures _ _ c.in-Err.is
 
 pub deeds::run_body-returns : goal.deeds::run_body-returns
 deeds::run_body-returns t c = runs_end _ _ _ _ _ _ _ _ _ _ _ _ _ _ _ _ _ _ _ _ _ c.loop.invariant (omega (arith, c.loop-test.false)) _
 
-pub deeds::start-returns-in-To : goal.deeds::start-returns-in-To
-deeds::start-returns-in-To t c = start_done _ _ _ _ _ _ _ _ _ _ _ _ _ _ c.token_at-t.ensures _ c.target_at.ensures _ c.control_address.ensures _ c.in-To.is _ c.token_at-sign.ensures _ _ _ _ c.evaluate-e.auto.work _ c.evaluate-e.ensures _ c.bound_of-b.ensures _ c.new_frame.ensures _ _ _ _ _ c.bounds.ensures
+pub deeds::start-returns-in-Some : goal.deeds::start-returns-in-Some
+deeds::start-returns-in-Some t c = start_done _ _ _ _ _ _ _ _ _ _ _ _ _ _ c.token_at-t.ensures _ c.target_at.ensures _ c.control_address.ensures _ c.in-Some.is _ c.token_at-sign.ensures _ _ _ _ c.evaluate-e.auto.work _ c.evaluate-e.ensures _ c.bound_of-b.ensures _ c.new_frame.ensures _ _ _ _ _ c.bounds.ensures
 
-pub deeds::start-returns-in-Nowhere : goal.deeds::start-returns-in-Nowhere
-deeds::start-returns-in-Nowhere t c = search (start_none, c.token_at-t.ensures, c.target_at.ensures, c.control_address.ensures, c.in-Nowhere)
+pub deeds::start-returns-in-None : goal.deeds::start-returns-in-None
+deeds::start-returns-in-None t c = search (start_none, c.token_at-t.ensures, c.target_at.ensures, c.control_address.ensures, c.in-None)
 
 pub deeds::test-returns : goal.deeds::test-returns
 deeds::test-returns t c = search (test_done, c.evaluate-x.ensures, c.evaluate-x.auto.work, c.truth_of.ensures)
@@ -137,34 +137,34 @@ pub levels-returns-then-n-lt1 : goal.levels-returns-then-n-lt1
 levels-returns-then-n-lt1 t c = search (levels_operand, c.if-n-lt1.true, c.operand.ensures)
 
 pub levels-returns : goal.levels-returns
-levels-returns t c = search (levels_chain, c.if-n-lt1.false, c.levels-first.ensures, c.in-Is, c.levels-first.auto.work, c.chain.ensures)
+levels-returns t c = search (levels_chain, c.if-n-lt1.false, c.levels-first.ensures, c.in-Ok, c.levels-first.auto.work, c.chain.ensures)
 
 pub levels-returns-in_default : goal.levels-returns-in_default
 levels-returns-in_default t c = search (levels_failed, c.if-n-lt1.false, c.levels-first.ensures, c.in_default.not-Is)
 
 pub listed-returns-in-Entry : goal.listed-returns-in-Entry
-listed-returns-in-Entry t c = listed_call _ _ _ _ _ _ _ _ _ _ _ _ _ _ _ c.count_arguments-n.ensures _ c.aim_of.ensures _ c.in-At.is _ _ _ _ c.arguments.auto.work _ c.arguments.ensures _ c.in-Ok.is _ c.in-Entry.is _ _ _ _ _ c.call-v.ensures _ c.up_to.ensures
+listed-returns-in-Entry t c = listed_call _ _ _ _ _ _ _ _ _ _ _ _ _ _ _ c.count_arguments-n.ensures _ c.aim_of.ensures _ c.in-Ok.is _ _ _ _ c.arguments.auto.work _ c.arguments.ensures _ c.in-Ok.is _ c.in-Entry.is _ _ _ _ _ c.call-v.ensures _ c.up_to.ensures
 
 pub listed-returns-in-Substr : goal.listed-returns-in-Substr
-listed-returns-in-Substr t c = search (listed_substr, c.count_arguments-n.ensures, c.aim_of.ensures, c.in-At.is, c.arguments.auto.work, c.arguments.ensures, c.in-Ok.is, c.in-Substr, c.substr_of.ensures)
+listed-returns-in-Substr t c = search (listed_substr, c.count_arguments-n.ensures, c.aim_of.ensures, c.in-Ok.is, c.arguments.auto.work, c.arguments.ensures, c.in-Ok.is, c.in-Substr, c.substr_of.ensures)
 
 pub listed-returns-in-Err : goal.listed-returns-in-Err
-listed-returns-in-Err t c = listed_refused _ _ _ _ _ _ _ _ _ _ _ _ _ _ _ c.count_arguments-n.ensures _ c.aim_of.ensures _ c.in-At.is _ _ _ _ c.arguments.auto.work _ c.arguments.ensures _ _ c.in-Err.is
+listed-returns-in-Err t c = listed_refused _ _ _ _ _ _ _ _ _ _ _ _ _ _ _ c.count_arguments-n.ensures _ c.aim_of.ensures _ c.in-Ok.is _ _ _ _ c.arguments.auto.work _ c.arguments.ensures _ _ c.in-Err.is
 
-pub listed-returns-in-Fails : goal.listed-returns-in-Fails
-listed-returns-in-Fails t c = search (listed_fails, c.count_arguments-n.ensures, c.aim_of.ensures, c.in-Fails.is)
+pub listed-returns-in-Err : goal.listed-returns-in-Err
+listed-returns-in-Err t c = search (listed_fails, c.count_arguments-n.ensures, c.aim_of.ensures, c.in-Err.is)
 
 pub operand-returns : goal.operand-returns
 operand-returns t c = search (operand_done, c.past_prefixes-p.ensures, c.primitive-x.ensures, c.primitive-x.auto.work, c.prefixes_done.ensures)
 
 pub plain-returns-then-z-eq0 : goal.plain-returns-then-z-eq0
-plain-returns-then-z-eq0 t c = entry_called _ _ _ _ _ _ _ _ _ _ _ _ c.callee_of.ensures _ c.in-AnEntry.is _ _ c.in-Is.is c.if-z-eq0.true _ _ _ _ _ _ c.call-v.ensures _ c.up_to.ensures
+plain-returns-then-z-eq0 t c = entry_called _ _ _ _ _ _ _ _ _ _ _ _ c.callee_of.ensures _ c.in-AnEntry.is _ _ c.in-Ok.is c.if-z-eq0.true _ _ _ _ _ _ c.call-v.ensures _ c.up_to.ensures
 
 pub plain-returns-else-z-eq0 : goal.plain-returns-else-z-eq0
 plain-returns-else-z-eq0 t c = search entry_many
 
-pub plain-returns-in-Fails : goal.plain-returns-in-Fails
-plain-returns-in-Fails t c = search entry_fails
+pub plain-returns-in-Err : goal.plain-returns-in-Err
+plain-returns-in-Err t c = search entry_fails
 
 pub plain-returns-in-AVariable : goal.plain-returns-in-AVariable
 plain-returns-in-AVariable t c = search (named_other, c.in-AVariable.is)

@@ -11,8 +11,8 @@ arguments-loop-turn-preserved t c = search arguing_more
 pub arguments-returns-then-not-is_sign : goal.arguments-returns-then-not-is_sign
 arguments-returns-then-not-is_sign t c = search arguing_done
 
-pub arguments-returns-in-Refused : goal.arguments-returns-in-Refused
-arguments-returns-in-Refused t c = search arguing_refused
+pub arguments-returns-in-Err : goal.arguments-returns-in-Err
+arguments-returns-in-Err t c = search arguing_refused
 
 pub arguments-returns : goal.arguments-returns
 arguments-returns t c = search arguing_end
@@ -23,11 +23,11 @@ chain-loop-turn-init t c = chaining_start _ _ _ _
 pub chain-loop-turn-preserved : goal.chain-loop-turn-preserved
 chain-loop-turn-preserved t c = search chaining_more
 
-pub chain-returns-in-Refused : goal.chain-returns-in-Refused
-chain-returns-in-Refused t c = search chaining_refused
+pub chain-returns-in-Err : goal.chain-returns-in-Err
+chain-returns-in-Err t c = search chaining_refused
 
-pub chain-returns-in-Other : goal.chain-returns-in-Other
-chain-returns-in-Other t c = search chaining_done
+pub chain-returns-in-None : goal.chain-returns-in-None
+chain-returns-in-None t c = search chaining_done
 
 pub chain-returns : goal.chain-returns
 chain-returns t c = search chaining_end
@@ -41,20 +41,20 @@ inside-returns t c = search inside_some
 pub levels-returns-then-n-lt1 : goal.levels-returns-then-n-lt1
 levels-returns-then-n-lt1 t c = search levels_none
 
-pub levels-returns-in-Past : goal.levels-returns-in-Past
-levels-returns-in-Past t c = search levels_more
+pub levels-returns-in-Ok : goal.levels-returns-in-Ok
+levels-returns-in-Ok t c = search levels_more
 
-pub levels-returns-in-Refused : goal.levels-returns-in-Refused
-levels-returns-in-Refused t c = search levels_refused
+pub levels-returns-in-Err : goal.levels-returns-in-Err
+levels-returns-in-Err t c = search levels_refused
 
 pub operand-returns : goal.operand-returns
 operand-returns t c = search operand_ends
 
-pub parenthesized-returns-in-Past : goal.parenthesized-returns-in-Past
-parenthesized-returns-in-Past t c = search open_closed
+pub parenthesized-returns-in-Ok : goal.parenthesized-returns-in-Ok
+parenthesized-returns-in-Ok t c = search open_closed
 
-pub parenthesized-returns-in-Refused : goal.parenthesized-returns-in-Refused
-parenthesized-returns-in-Refused t c = search open_refused
+pub parenthesized-returns-in-Err : goal.parenthesized-returns-in-Err
+parenthesized-returns-in-Err t c = search open_refused
 
 pub parenthesized-returns : goal.parenthesized-returns
 parenthesized-returns t c = search not_open
@@ -77,5 +77,5 @@ reference-returns-then-is_sign t c = search reference_call
 pub reference-returns-else-is_sign : goal.reference-returns-else-is_sign
 reference-returns-else-is_sign t c = search reference_name
 
-pub reference-returns-in-Refused : goal.reference-returns-in-Refused
-reference-returns-in-Refused t c = search reference_refused
+pub reference-returns-in-Err : goal.reference-returns-in-Err
+reference-returns-in-Err t c = search reference_refused

@@ -7,8 +7,8 @@ loop-count-init c = passing_start _ _
 pub loop-count-preserved : goal.loop-count-preserved
 loop-count-preserved c = search passing_more
 
-pub returns-in-Other : goal.returns-in-Other
-returns-in-Other c = search passing_stop
+pub returns-in-None : goal.returns-in-None
+returns-in-None c = search passing_stop
 
 pub returns : goal.returns
 returns c = search passing_end

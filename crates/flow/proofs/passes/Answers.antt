@@ -8,5 +8,5 @@ returns-then-is_down c = search passes_down
 pub returns-else-is_down : goal.returns-else-is_down
 returns-else-is_down c = search passes_up
 
-pub returns-in-OutOfRange : goal.returns-in-OutOfRange
-returns-in-OutOfRange c = search passes_none
+pub returns-in-Err-OutOfRange : goal.returns-in-Err-OutOfRange
+returns-in-Err-OutOfRange c = search passes_none

@@ -10,8 +10,8 @@ returns-then-is_named_alike c = search seeking_found
 pub loop-left-preserved : goal.loop-left-preserved
 loop-left-preserved c = search seeking_more
 
-pub returns-in-Unmarked : goal.returns-in-Unmarked
-returns-in-Unmarked c = search seeking_none
+pub returns-in-None : goal.returns-in-None
+returns-in-None c = search seeking_none
 
 pub returns : goal.returns
 returns c = search seeking_over

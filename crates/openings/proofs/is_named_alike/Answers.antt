@@ -2,8 +2,8 @@
 use Rattle.openings.proofs.Labelling.{named_so, named_not}
 use Rattle.openings.proofs.is_named_alike.Goals as goal
 
-pub returns-in-Is : goal.returns-in-Is
-returns-in-Is c = search named_so
+pub returns-in-Ok : goal.returns-in-Ok
+returns-in-Ok c = search named_so
 
-pub returns-in-Refused : goal.returns-in-Refused
-returns-in-Refused c = search named_not
+pub returns-in-Err : goal.returns-in-Err
+returns-in-Err c = search named_not

@@ -7,8 +7,8 @@ loop-count-init c = search labelling_start
 pub loop-count-preserved : goal.loop-count-preserved
 loop-count-preserved c = search labelling_more
 
-pub returns-in-Unmarked : goal.returns-in-Unmarked
-returns-in-Unmarked c = search labelling_none
+pub returns-in-None : goal.returns-in-None
+returns-in-None c = search labelling_none
 
 pub returns : goal.returns
 returns c = search labelling_over

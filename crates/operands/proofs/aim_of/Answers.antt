@@ -2,14 +2,14 @@
 use Rattle.operands.proofs.Aiming.{aim_entry, aim_substr, aim_other, aim_fails, aim_wrong, aim_none}
 use Rattle.operands.proofs.aim_of.Goals as goal
 
-pub returns-in-Is : goal.returns-in-Is
-returns-in-Is c = search aim_entry
+pub returns-in-Ok : goal.returns-in-Ok
+returns-in-Ok c = search aim_entry
 
-pub returns-in-Is-2 : goal.returns-in-Is-2
-returns-in-Is-2 c = search aim_other
+pub returns-in-Ok-2 : goal.returns-in-Ok-2
+returns-in-Ok-2 c = search aim_other
 
-pub returns-in-Fails : goal.returns-in-Fails
-returns-in-Fails c = search aim_fails
+pub returns-in-Err : goal.returns-in-Err
+returns-in-Err c = search aim_fails
 
 pub returns-in-TheSubstr : goal.returns-in-TheSubstr
 returns-in-TheSubstr c = search aim_substr

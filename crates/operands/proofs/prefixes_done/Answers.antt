@@ -2,8 +2,8 @@
 use Rattle.operands.proofs.Prefixing.{prefixes_some, prefixes_none}
 use Rattle.operands.proofs.prefixes_done.Goals as goal
 
-pub returns-in-Is : goal.returns-in-Is
-returns-in-Is c = search prefixes_some
+pub returns-in-Ok : goal.returns-in-Ok
+returns-in-Ok c = search prefixes_some
 
-pub returns-in-Failed : goal.returns-in-Failed
-returns-in-Failed c = search prefixes_none
+pub returns-in-Err : goal.returns-in-Err
+returns-in-Err c = search prefixes_none

@@ -7,8 +7,8 @@ loop-i-init c = blocking_start _ _ _ _ _
 pub loop-i-preserved : goal.loop-i-preserved
 loop-i-preserved c = search block_more
 
-pub returns-in-Fails : goal.returns-in-Fails
-returns-in-Fails c = search block_fails
+pub returns-in-Err : goal.returns-in-Err
+returns-in-Err c = search block_fails
 
 pub returns : goal.returns
 returns c = search block_done

@@ -7,8 +7,8 @@ loop-rest-init c = prefixing_start _ _ _ _ _ _
 pub loop-rest-preserved : goal.loop-rest-preserved
 loop-rest-preserved c = search prefixing_next
 
-pub returns-in-Fails : goal.returns-in-Fails
-returns-in-Fails c = search prefixing_stop
+pub returns-in-Err : goal.returns-in-Err
+returns-in-Err c = search prefixing_stop
 
 pub returns : goal.returns
 returns c = search prefixing_done

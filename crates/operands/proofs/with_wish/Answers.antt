@@ -8,5 +8,5 @@ returns-in-As c = search wish_type
 pub returns-in-AsSubject : goal.returns-in-AsSubject
 returns-in-AsSubject c = search wish_subject
 
-pub returns-in-Failed : goal.returns-in-Failed
-returns-in-Failed c = search wish_none
+pub returns-in-Err : goal.returns-in-Err
+returns-in-Err c = search wish_none

@@ -2,8 +2,8 @@
 use Rattle.operators.proofs.Texts.{holds_is, holds_not}
 use Rattle.operators.proofs.holds.Goals as goal
 
-pub returns-in-Gives : goal.returns-in-Gives
-returns-in-Gives c = search holds_is
+pub returns-in-Ok : goal.returns-in-Ok
+returns-in-Ok c = search holds_is
 
-pub returns-in-Fails : goal.returns-in-Fails
-returns-in-Fails c = search holds_not
+pub returns-in-Err : goal.returns-in-Err
+returns-in-Err c = search holds_not

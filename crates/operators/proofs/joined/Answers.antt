@@ -2,8 +2,8 @@
 use Rattle.operators.proofs.Joining.{joined_is, joined_none}
 use Rattle.operators.proofs.joined.Goals as goal
 
-pub returns-in-Gives : goal.returns-in-Gives
-returns-in-Gives c = search joined_is
+pub returns-in-Ok : goal.returns-in-Ok
+returns-in-Ok c = search joined_is
 
-pub returns-in-Fails : goal.returns-in-Fails
-returns-in-Fails c = search joined_none
+pub returns-in-Err : goal.returns-in-Err
+returns-in-Err c = search joined_none

@@ -2,11 +2,11 @@
 use Rattle.operators.proofs.Bitwise.{logical_is, logical_half, logical_none}
 use Rattle.operators.proofs.logical.Goals as goal
 
-pub returns-in-Gives-to_bits : goal.returns-in-Gives-to_bits
-returns-in-Gives-to_bits c = search logical_is
+pub returns-in-Ok-to_bits : goal.returns-in-Ok-to_bits
+returns-in-Ok-to_bits c = search logical_is
 
-pub returns-in-Fails-to_bits : goal.returns-in-Fails-to_bits
-returns-in-Fails-to_bits c = search logical_half
+pub returns-in-Err-to_bits : goal.returns-in-Err-to_bits
+returns-in-Err-to_bits c = search logical_half
 
-pub returns-in-Fails : goal.returns-in-Fails
-returns-in-Fails c = search logical_none
+pub returns-in-Err : goal.returns-in-Err
+returns-in-Err c = search logical_none

@@ -8,8 +8,8 @@ returns-in-Positive c = search prefix_positive
 pub returns-in-Negative : goal.returns-in-Negative
 returns-in-Negative c = search prefix_negative
 
-pub returns-in-Gives : goal.returns-in-Gives
-returns-in-Gives c = search (complement_is, c.to_bits.ensures, c.size_of.ensures, c.invert.ensures, c.in-Gives.is, c.in-Complement.is)
+pub returns-in-Ok : goal.returns-in-Ok
+returns-in-Ok c = search (complement_is, c.to_bits.ensures, c.size_of.ensures, c.invert.ensures, c.in-Ok.is, c.in-Complement.is)
 
-pub returns-in-Fails : goal.returns-in-Fails
-returns-in-Fails c = search complement_not
+pub returns-in-Err : goal.returns-in-Err
+returns-in-Err c = search complement_not

@@ -8,5 +8,5 @@ returns-in-Number c = search result_number
 pub returns-in-Characters : goal.returns-in-Characters
 returns-in-Characters c = search result_text
 
-pub returns-in-Fails : goal.returns-in-Fails
-returns-in-Fails c = search result_none
+pub returns-in-Err : goal.returns-in-Err
+returns-in-Err c = search result_none

@@ -8,5 +8,5 @@ returns-then-d c = search settled_down
 pub returns-else-d : goal.returns-else-d
 returns-else-d c = search settled_there
 
-pub returns-in-Bad : goal.returns-in-Bad
-returns-in-Bad c = search settled_bad
+pub returns-in-Err : goal.returns-in-Err
+returns-in-Err c = search settled_bad

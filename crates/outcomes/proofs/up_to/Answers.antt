@@ -2,8 +2,8 @@
 use Rattle.outcomes.proofs.Putting.{up_good, up_bad}
 use Rattle.outcomes.proofs.up_to.Goals as goal
 
-pub returns-in-Good : goal.returns-in-Good
-returns-in-Good c = search up_good
+pub returns-in-Ok : goal.returns-in-Ok
+returns-in-Ok c = search up_good
 
-pub returns-in-Bad : goal.returns-in-Bad
-returns-in-Bad c = search up_bad
+pub returns-in-Err : goal.returns-in-Err
+returns-in-Err c = search up_bad

@@ -8,5 +8,5 @@ returns-then-depth-le-GROUPS c = search alternative_clause
 pub returns-else-depth-le-GROUPS : goal.returns-else-depth-le-GROUPS
 returns-else-depth-le-GROUPS c = search alternative_deep
 
-pub returns-in-Unmarked : goal.returns-in-Unmarked
-returns-in-Unmarked c = search alternative_wrong
+pub returns-in-None : goal.returns-in-None
+returns-in-None c = search alternative_wrong

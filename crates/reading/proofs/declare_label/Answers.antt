@@ -2,8 +2,8 @@
 use Rattle.reading.proofs.Labelling.{label_one, label_none}
 use Rattle.reading.proofs.declare_label.Goals as goal
 
-pub returns-in-Is : goal.returns-in-Is
-returns-in-Is c = search label_one
+pub returns-in-Ok : goal.returns-in-Ok
+returns-in-Ok c = search label_one
 
-pub returns-in-Refused : goal.returns-in-Refused
-returns-in-Refused c = search label_none
+pub returns-in-Err : goal.returns-in-Err
+returns-in-Err c = search label_none

@@ -7,8 +7,8 @@ loop-left-init c = search labels_start
 pub loop-left-preserved : goal.loop-left-preserved
 loop-left-preserved c = search labels_more
 
-pub returns-in-Unmarked : goal.returns-in-Unmarked
-returns-in-Unmarked c = search labels_end
+pub returns-in-None : goal.returns-in-None
+returns-in-None c = search labels_end
 
 pub returns : goal.returns
 returns c = search labels_last

@@ -2,5 +2,5 @@
 use Rattle.reading.proofs.Adding.{program_next}
 use Rattle.reading.proofs.link_program.Goals as goal
 
-pub returns-in-To : goal.returns-in-To
-returns-in-To c = search program_next
+pub returns-in-Some : goal.returns-in-Some
+returns-in-Some c = search program_next

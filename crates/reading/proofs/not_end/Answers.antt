@@ -2,8 +2,8 @@
 use Rattle.reading.proofs.Closing.{not_end_word, not_end_no_name}
 use Rattle.reading.proofs.not_end.Goals as goal
 
-pub returns-in-Is : goal.returns-in-Is
-returns-in-Is c = search not_end_word
+pub returns-in-Ok : goal.returns-in-Ok
+returns-in-Ok c = search not_end_word
 
-pub returns-in-Refused : goal.returns-in-Refused
-returns-in-Refused c = search not_end_no_name
+pub returns-in-Err : goal.returns-in-Err
+returns-in-Err c = search not_end_no_name

@@ -2,8 +2,8 @@
 use Rattle.reading.proofs.Endings.{takes_read, takes_refused}
 use Rattle.reading.proofs.taken.Goals as goal
 
-pub returns-in-Is : goal.returns-in-Is
-returns-in-Is c = search takes_read
+pub returns-in-Ok : goal.returns-in-Ok
+returns-in-Ok c = search takes_read
 
-pub returns-in-Refused : goal.returns-in-Refused
-returns-in-Refused c = search takes_refused
+pub returns-in-Err : goal.returns-in-Err
+returns-in-Err c = search takes_refused

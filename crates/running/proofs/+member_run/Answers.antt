@@ -15,11 +15,11 @@ begin-returns-then-is_include t c = begin_include _ _ _ _ _ _ _ _ _ _ _ _ _ _ _ 
 pub begin-returns : goal.begin-returns
 begin-returns t c = begin_statement _ _ _ _ _ _ _ _ _ _ _ _ _ _ _ _ _ c.part_here.ensures _ c.row_at-r.ensures _ c.charged-paid.ensures _ c.with_meter-g.ensures (not-false _ c.if-not-paid.false) _ c.is_include.ensures c.if-is_include.false _ c.part_here-2.ensures _ _ _ _ _ _ _ _ c.statement-t.ensures _ c.turned_at-2.ensures
 
-pub enter_and_run-returns-in-Sound : goal.enter_and_run-returns-in-Sound
-enter_and_run-returns-in-Sound t c = enter_runs _ _ _ _ _ _ _ _ _ _ _ _ _ _ _ _ c.read_behind-x.ensures _ _ _ _ _ _ _ _ _ _ _ _ c.in-Sound.is c.forget.ensures c.entered.ensures c.with_source.ensures c.run_source.ensures
+pub enter_and_run-returns-in-Ok : goal.enter_and_run-returns-in-Ok
+enter_and_run-returns-in-Ok t c = enter_runs _ _ _ _ _ _ _ _ _ _ _ _ _ _ _ _ c.read_behind-x.ensures _ _ _ _ _ _ _ _ _ _ _ _ c.in-Ok.is c.forget.ensures c.entered.ensures c.with_source.ensures c.run_source.ensures
 
-pub enter_and_run-returns-in-Faulty : goal.enter_and_run-returns-in-Faulty
-enter_and_run-returns-in-Faulty t c = enter_refused _ _ _ _ _ _ _ _ _ _ _ _ _ _ _ _ c.read_behind-x.ensures _ _ _ _ c.in-Faulty.is c.stopped.ensures c.left_at.ensures
+pub enter_and_run-returns-in-Err : goal.enter_and_run-returns-in-Err
+enter_and_run-returns-in-Err t c = enter_refused _ _ _ _ _ _ _ _ _ _ _ _ _ _ _ _ c.read_behind-x.ensures _ _ _ _ c.in-Err.is c.stopped.ensures c.left_at.ensures
 
 pub include_all-loop-init : goal.include_all-loop-init
 include_all-loop-init t c = going_start _ _ _ _ _ _ _ _ _ _ _ _ _ _ _ _ _ c.body-s.ensures _ (omega arith)
@@ -28,22 +28,22 @@ pub include_all-returns-in_default : goal.include_all-returns-in_default
 include_all-returns-in_default t c = all_left _ _ _ _ _ _ _ _ _ _ _ _ _ _ _ c.with_below-inner.ensures _ c.part_here.ensures _ c.row_at-r.ensures _ c.body-s.ensures _ _ _ _ _ _ _ _ _ _ _ _ (rw (c.from-place.ensures, c.from-at.ensures) at c.loop.invariant) _ c.item_at-item.ensures _ _ _ _ _ _ _ _ _ (rw c.from-place.ensures at c.include_one-x.ensures) _ c.resumed-here.ensures c.in_default.not-Ran _ c.left_at.ensures
 
 pub include_all-loop-preserved : goal.include_all-loop-preserved
-include_all-loop-preserved t c = going_more _ _ _ _ _ _ _ _ _ _ _ _ _ _ _ _ _ c.body-s.ensures _ _ _ _ _ _ _ _ _ _ _ _ c.loop.invariant _ c.item_at-item.ensures _ _ _ _ _ _ _ _ _ c.include_one-x.ensures _ c.resumed-here.ensures _ c.in-Ran.is _ c.token_at-comma.ensures _ c.is_sign.ensures c.if-not-is_sign.false _ (omega arith)
+include_all-loop-preserved t c = going_more _ _ _ _ _ _ _ _ _ _ _ _ _ _ _ _ _ c.body-s.ensures _ _ _ _ _ _ _ _ _ _ _ _ c.loop.invariant _ c.item_at-item.ensures _ _ _ _ _ _ _ _ _ c.include_one-x.ensures _ c.resumed-here.ensures _ c.in-Ok-Ran.is _ c.token_at-comma.ensures _ c.is_sign.ensures c.if-not-is_sign.false _ (omega arith)
 
 pub include_all-returns-then-not-is_sign : goal.include_all-returns-then-not-is_sign
-include_all-returns-then-not-is_sign t c = all_ran _ _ _ _ _ _ _ _ _ _ _ _ _ _ _ c.with_below-inner.ensures _ c.part_here.ensures _ c.row_at-r.ensures _ c.body-s.ensures _ _ _ _ _ _ _ _ _ _ _ _ (rw (c.from-place.ensures, c.from-at.ensures) at c.loop.invariant) _ c.item_at-item.ensures _ _ _ _ _ _ _ _ _ (rw c.from-place.ensures at c.include_one-x.ensures) _ c.resumed-here.ensures _ c.in-Ran.is _ c.token_at-comma.ensures _ c.is_sign.ensures c.if-not-is_sign.true _ c.left_at-then-not-is_sign.ensures
+include_all-returns-then-not-is_sign t c = all_ran _ _ _ _ _ _ _ _ _ _ _ _ _ _ _ c.with_below-inner.ensures _ c.part_here.ensures _ c.row_at-r.ensures _ c.body-s.ensures _ _ _ _ _ _ _ _ _ _ _ _ (rw (c.from-place.ensures, c.from-at.ensures) at c.loop.invariant) _ c.item_at-item.ensures _ _ _ _ _ _ _ _ _ (rw c.from-place.ensures at c.include_one-x.ensures) _ c.resumed-here.ensures _ c.in-Ok-Ran.is _ c.token_at-comma.ensures _ c.is_sign.ensures c.if-not-is_sign.true _ c.left_at-then-not-is_sign.ensures
 
 pub include_all-returns : goal.include_all-returns
 include_all-returns t c = all_turned _ _ _ _ _ _ _ _ _ _ _ _ _ _ _ c.with_below-inner.ensures _ c.part_here.ensures _ c.row_at-r.ensures _ _ _ _ _ _ _ _ _ _ _ _ (rw (c.from-place.ensures, c.from-at.ensures) at c.loop.invariant) (omega (arith, c.loop-test.false)) _
 
 pub include_one-returns-then-left-lt1 : goal.include_one-returns-then-left-lt1
-include_one-returns-then-left-lt1 t c = include_deep _ _ _ _ _ _ _ _ _ _ _ _ _ _ _ _ c.member_named.ensures _ _ _ c.in-Line.is c.if-left-lt1.true c.stopped-then-left-lt1.ensures c.left_at-then-left-lt1.ensures
+include_one-returns-then-left-lt1 t c = include_deep _ _ _ _ _ _ _ _ _ _ _ _ _ _ _ _ c.member_named.ensures _ _ _ c.in-Some.is c.if-left-lt1.true c.stopped-then-left-lt1.ensures c.left_at-then-left-lt1.ensures
 
-pub include_one-returns-in-Nothing : goal.include_one-returns-in-Nothing
-include_one-returns-in-Nothing t c = include_unknown _ _ _ _ _ _ _ _ _ _ _ _ _ _ _ _ c.member_named.ensures _ _ c.in-Nothing.is c.stopped.ensures c.left_at.ensures
+pub include_one-returns-in-None : goal.include_one-returns-in-None
+include_one-returns-in-None t c = include_unknown _ _ _ _ _ _ _ _ _ _ _ _ _ _ _ _ c.member_named.ensures _ _ c.in-None.is c.stopped.ensures c.left_at.ensures
 
 pub include_one-returns-else-left-lt1 : goal.include_one-returns-else-left-lt1
-include_one-returns-else-left-lt1 t c = include_enters _ _ _ _ _ _ _ _ _ _ _ _ _ _ _ _ c.member_named.ensures _ _ _ _ _ _ _ _ _ _ _ c.in-Line.is c.if-left-lt1.false c.in_member.ensures c.enter_and_run.ensures
+include_one-returns-else-left-lt1 t c = include_enters _ _ _ _ _ _ _ _ _ _ _ _ _ _ _ _ c.member_named.ensures _ _ _ _ _ _ _ _ _ _ _ c.in-Some.is c.if-left-lt1.false c.in_member.ensures c.enter_and_run.ensures
 
 pub run_rows-loop-init : goal.run_rows-loop-init
 run_rows-loop-init t c = runs_start _ _ _ _ _ _ _ _ _ _ _ _ _ _ _ c.body-s.ensures _ c.no_frames-fs.ensures _ (omega (arith, c.turns_left-end.ensures))
@@ -60,11 +60,11 @@ run_rows-returns-in-End t c = runs_end _ _ _ _ _ _ _ _ _ _ _ _ _ _ _ _ _ _ _ _ _
 pub run_rows-returns : goal.run_rows-returns
 run_rows-returns t c = runs_out _ _ _ _ _ _ _ _ _ _ _ _ _ _ _ _ _ _ _ _ _ _ _ _ _ _ _ _ c.loop.invariant (omega (arith, c.loop-test.false)) _
 
-pub run_source-returns-in-Good : goal.run_source-returns-in-Good
-run_source-returns-in-Good t c = source_runs _ _ _ _ _ _ _ _ _ _ _ _ _ _ _ c.body-s.ensures _ _ _ _ _ _ _ c.lead_out.ensures _ c.in-Good.is c.lead_out.auto.cells _ c.first_of.ensures _ _ _ _ _ _ _ _ _ c.run_rows.ensures
+pub run_source-returns-in-Ok : goal.run_source-returns-in-Ok
+run_source-returns-in-Ok t c = source_runs _ _ _ _ _ _ _ _ _ _ _ _ _ _ _ c.body-s.ensures _ _ _ _ _ _ _ c.lead_out.ensures _ c.in-Ok.is c.lead_out.auto.cells _ c.first_of.ensures _ _ _ _ _ _ _ _ _ c.run_rows.ensures
 
-pub run_source-returns-in-Bad : goal.run_source-returns-in-Bad
-run_source-returns-in-Bad t c = source_bad _ _ _ _ _ _ _ _ _ _ _ _ _ _ _ c.body-s.ensures _ _ _ _ _ _ _ c.lead_out.ensures _ _ c.in-Bad.is _ c.left_at.ensures
+pub run_source-returns-in-Err : goal.run_source-returns-in-Err
+run_source-returns-in-Err t c = source_bad _ _ _ _ _ _ _ _ _ _ _ _ _ _ _ c.body-s.ensures _ _ _ _ _ _ _ c.lead_out.ensures _ _ c.in-Err.is _ c.left_at.ensures
 
 pub turn-returns-in-Begin : goal.turn-returns-in-Begin
 turn-returns-in-Begin t c = turn_begin _ _ _ _ _ _ _ _ _ _ _ _ _ _ _ _ _ c.in-Begin.is _ _ _ _ _ _ _ _ _ c.begin.ensures

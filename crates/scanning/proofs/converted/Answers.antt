@@ -2,11 +2,11 @@
 use Rattle.scanning.proofs.Converting.{converted_is, converted_fails, converted_bad}
 use Rattle.scanning.proofs.converted.Goals as goal
 
-pub returns-in-Gives : goal.returns-in-Gives
-returns-in-Gives c = search converted_is
+pub returns-in-Ok : goal.returns-in-Ok
+returns-in-Ok c = search converted_is
 
-pub returns-in-Fails : goal.returns-in-Fails
-returns-in-Fails c = search converted_fails
+pub returns-in-Err : goal.returns-in-Err
+returns-in-Err c = search converted_fails
 
-pub returns-in-Bad : goal.returns-in-Bad
-returns-in-Bad c = search converted_bad
+pub returns-in-Err : goal.returns-in-Err
+returns-in-Err c = search converted_bad

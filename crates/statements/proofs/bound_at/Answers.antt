@@ -8,5 +8,5 @@ returns-then-is_word c = search bound_there
 pub returns-else-is_word : goal.returns-else-is_word
 returns-else-is_word c = search bound_absent
 
-pub returns-in-Refused : goal.returns-in-Refused
-returns-in-Refused c = search bound_refused
+pub returns-in-Err : goal.returns-in-Err
+returns-in-Err c = search bound_refused

@@ -10,8 +10,8 @@ loop-left-preserved c = search if_more
 pub returns-then-not-is_sign : goal.returns-then-not-is_sign
 returns-then-not-is_sign c = search if_done
 
-pub returns-in-Refused : goal.returns-in-Refused
-returns-in-Refused c = search if_refused
+pub returns-in-Err : goal.returns-in-Err
+returns-in-Err c = search if_refused
 
 pub returns : goal.returns
 returns c = search if_none

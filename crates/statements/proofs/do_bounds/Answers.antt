@@ -8,5 +8,5 @@ returns-then-is_word c = search bounds_by
 pub returns-else-is_word : goal.returns-else-is_word
 returns-else-is_word c = search bounds_to
 
-pub returns-in-Refused : goal.returns-in-Refused
-returns-in-Refused c = search bounds_refused
+pub returns-in-Err : goal.returns-in-Err
+returns-in-Err c = search bounds_refused

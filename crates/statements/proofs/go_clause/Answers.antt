@@ -2,8 +2,8 @@
 use Rattle.statements.proofs.Clauses.{go_to, go_refused}
 use Rattle.statements.proofs.go_clause.Goals as goal
 
-pub returns-in-Past : goal.returns-in-Past
-returns-in-Past c = search go_to
+pub returns-in-Ok : goal.returns-in-Ok
+returns-in-Ok c = search go_to
 
-pub returns-in-Refused : goal.returns-in-Refused
-returns-in-Refused c = search go_refused
+pub returns-in-Err : goal.returns-in-Err
+returns-in-Err c = search go_refused

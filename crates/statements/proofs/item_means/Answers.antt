@@ -2,8 +2,8 @@
 use Rattle.statements.proofs.Clauses.{itemized_means, itemized_missing, itemized_refused}
 use Rattle.statements.proofs.item_means.Goals as goal
 
-pub returns-in-Refused : goal.returns-in-Refused
-returns-in-Refused c = search itemized_refused
+pub returns-in-Err : goal.returns-in-Err
+returns-in-Err c = search itemized_refused
 
 pub returns-in-Some : goal.returns-in-Some
 returns-in-Some c = search itemized_means

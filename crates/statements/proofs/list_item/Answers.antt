@@ -5,11 +5,11 @@ use Rattle.statements.proofs.list_item.Goals as goal
 pub returns-in-Name : goal.returns-in-Name
 returns-in-Name c = search item_plain
 
-pub returns-in-Past : goal.returns-in-Past
-returns-in-Past c = search item_active
+pub returns-in-Ok : goal.returns-in-Ok
+returns-in-Ok c = search item_active
 
-pub returns-in-Refused : goal.returns-in-Refused
-returns-in-Refused c = search item_refused
+pub returns-in-Err : goal.returns-in-Err
+returns-in-Err c = search item_refused
 
 pub returns-in-Member : goal.returns-in-Member
 returns-in-Member c = search item_member

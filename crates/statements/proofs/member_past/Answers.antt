@@ -8,5 +8,5 @@ returns-then-is_sign c = search member_there
 pub returns-else-is_sign : goal.returns-else-is_sign
 returns-else-is_sign c = search member_absent
 
-pub returns-in-Refused : goal.returns-in-Refused
-returns-in-Refused c = search member_refused
+pub returns-in-Err : goal.returns-in-Err
+returns-in-Err c = search member_refused

@@ -10,8 +10,8 @@ loop-left-preserved c = search listing_more
 pub returns-then-not-is_sign : goal.returns-then-not-is_sign
 returns-then-not-is_sign c = search listing_done
 
-pub returns-in-Refused : goal.returns-in-Refused
-returns-in-Refused c = search listing_refused
+pub returns-in-Err : goal.returns-in-Err
+returns-in-Err c = search listing_refused
 
 pub returns : goal.returns
 returns c = search listing_end

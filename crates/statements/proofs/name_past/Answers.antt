@@ -2,8 +2,8 @@
 use Rattle.statements.proofs.Laws.{name_there, name_refused}
 use Rattle.statements.proofs.name_past.Goals as goal
 
-pub returns-in-Is : goal.returns-in-Is
-returns-in-Is c = search name_there
+pub returns-in-Ok : goal.returns-in-Ok
+returns-in-Ok c = search name_there
 
-pub returns-in-Refused : goal.returns-in-Refused
-returns-in-Refused c = search name_refused
+pub returns-in-Err : goal.returns-in-Err
+returns-in-Err c = search name_refused

@@ -2,11 +2,11 @@
 use Rattle.statements.proofs.Heads.{heads_there, heads_refused, heads_plain}
 use Rattle.statements.proofs.procedure_clause.Goals as goal
 
-pub returns-in-Is : goal.returns-in-Is
-returns-in-Is c = search heads_there
+pub returns-in-Ok : goal.returns-in-Ok
+returns-in-Ok c = search heads_there
 
-pub returns-in-Refused : goal.returns-in-Refused
-returns-in-Refused c = search heads_refused
+pub returns-in-Err : goal.returns-in-Err
+returns-in-Err c = search heads_refused
 
 pub returns : goal.returns
 returns c = search heads_plain

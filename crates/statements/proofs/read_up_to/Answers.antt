@@ -2,8 +2,8 @@
 use Rattle.statements.proofs.Laws.{up_past, up_refused}
 use Rattle.statements.proofs.read_up_to.Goals as goal
 
-pub returns-in-Past : goal.returns-in-Past
-returns-in-Past c = search up_past
+pub returns-in-Ok : goal.returns-in-Ok
+returns-in-Ok c = search up_past
 
-pub returns-in-Refused : goal.returns-in-Refused
-returns-in-Refused c = search up_refused
+pub returns-in-Err : goal.returns-in-Err
+returns-in-Err c = search up_refused

@@ -11,5 +11,5 @@ returns-then-is_word c = search type_fixed
 pub returns-else-is_word : goal.returns-else-is_word
 returns-else-is_word c = search type_missing
 
-pub returns-in-Refused : goal.returns-in-Refused
-returns-in-Refused c = search type_refused
+pub returns-in-Err : goal.returns-in-Err
+returns-in-Err c = search type_refused

@@ -27,28 +27,28 @@ pub returns-in-To : goal.returns-in-To
 returns-in-To c = follow_arrived _ _ _ _ _ _ _ _ _ _ _ _ _ _ _ _ _ _ _ _ _ _ _ _ c.loop.invariant _ c.in-To.is
 
 pub loop-preserved : goal.loop-preserved
-loop-preserved c = follow_more _ _ _ _ _ _ _ _ _ _ _ _ _ _ _ _ _ _ _ _ _ _ _ _ c.loop.invariant _ c.in-Up.is _ _ _ _ _ _ _ c.text_behind-r.ensures _ c.in-Good.is _ c.walk_behind-w.ensures c.text_behind-r.auto.cells c.text_behind-r.auto.low c.text_behind-r.auto.high c.text_behind-r.auto.work c.text_behind-r.auto.text c.text_behind-r.auto.list
+loop-preserved c = follow_more _ _ _ _ _ _ _ _ _ _ _ _ _ _ _ _ _ _ _ _ _ _ _ _ c.loop.invariant _ c.in-Up.is _ _ _ _ _ _ _ c.text_behind-r.ensures _ c.in-Ok.is _ c.walk_behind-w.ensures c.text_behind-r.auto.cells c.text_behind-r.auto.low c.text_behind-r.auto.high c.text_behind-r.auto.work c.text_behind-r.auto.text c.text_behind-r.auto.list
 
-pub shape_of-cells-in-Bad : goal.shape_of-cells-in-Bad
-shape_of-cells-in-Bad c = c.text_behind-r.auto.cells ∙ c.loop.invariant.cells
+pub shape_of-cells-in-Err : goal.shape_of-cells-in-Err
+shape_of-cells-in-Err c = c.text_behind-r.auto.cells ∙ c.loop.invariant.cells
 
-pub shape_of-low-in-Bad : goal.shape_of-low-in-Bad
-shape_of-low-in-Bad c = c.text_behind-r.auto.low ∙ c.loop.invariant.low
+pub shape_of-low-in-Err : goal.shape_of-low-in-Err
+shape_of-low-in-Err c = c.text_behind-r.auto.low ∙ c.loop.invariant.low
 
-pub shape_of-high-in-Bad : goal.shape_of-high-in-Bad
-shape_of-high-in-Bad c = c.text_behind-r.auto.high ∙ c.loop.invariant.high
+pub shape_of-high-in-Err : goal.shape_of-high-in-Err
+shape_of-high-in-Err c = c.text_behind-r.auto.high ∙ c.loop.invariant.high
 
-pub shape_of-work-in-Bad : goal.shape_of-work-in-Bad
-shape_of-work-in-Bad c = c.text_behind-r.auto.work ∙ c.loop.invariant.work
+pub shape_of-work-in-Err : goal.shape_of-work-in-Err
+shape_of-work-in-Err c = c.text_behind-r.auto.work ∙ c.loop.invariant.work
 
-pub shape_of-text-in-Bad : goal.shape_of-text-in-Bad
-shape_of-text-in-Bad c = c.text_behind-r.auto.text ∙ c.loop.invariant.long
+pub shape_of-text-in-Err : goal.shape_of-text-in-Err
+shape_of-text-in-Err c = c.text_behind-r.auto.text ∙ c.loop.invariant.long
 
-pub shape_of-list-in-Bad : goal.shape_of-list-in-Bad
-shape_of-list-in-Bad c = c.text_behind-r.auto.list ∙ c.loop.invariant.list
+pub shape_of-list-in-Err : goal.shape_of-list-in-Err
+shape_of-list-in-Err c = c.text_behind-r.auto.list ∙ c.loop.invariant.list
 
-pub returns-in-Bad : goal.returns-in-Bad
-returns-in-Bad c = follow_bad _ _ _ _ _ _ _ _ _ _ _ _ _ _ _ _ _ _ _ _ _ _ _ _ c.loop.invariant _ c.in-Up.is _ _ _ _ _ _ _ c.text_behind-r.ensures _ _ c.in-Bad.is
+pub returns-in-Err : goal.returns-in-Err
+returns-in-Err c = follow_bad _ _ _ _ _ _ _ _ _ _ _ _ _ _ _ _ _ _ _ _ _ _ _ _ c.loop.invariant _ c.in-Up.is _ _ _ _ _ _ _ c.text_behind-r.ensures _ _ c.in-Err.is
 
 pub shape_of-cells : goal.shape_of-cells
 shape_of-cells c = c.loop.invariant.cells

@@ -2,8 +2,8 @@
 use Rattle.stepping.proofs.Leading.{test_is, test_bad}
 use Rattle.stepping.proofs.on_test.Goals as goal
 
-pub returns-in-Is : goal.returns-in-Is
-returns-in-Is c = search test_is
+pub returns-in-Ok : goal.returns-in-Ok
+returns-in-Ok c = search test_is
 
-pub returns-in-Bad : goal.returns-in-Bad
-returns-in-Bad c = search test_bad
+pub returns-in-Err : goal.returns-in-Err
+returns-in-Err c = search test_bad

@@ -2,8 +2,8 @@
 use Rattle.texts.proofs.Putting.{pass_good, pass_bad}
 use Rattle.texts.proofs.pass_to.Goals as goal
 
-pub returns-in-Good : goal.returns-in-Good
-returns-in-Good c = search pass_good
+pub returns-in-Ok : goal.returns-in-Ok
+returns-in-Ok c = search pass_good
 
-pub returns-in-Bad : goal.returns-in-Bad
-returns-in-Bad c = search pass_bad
+pub returns-in-Err : goal.returns-in-Err
+returns-in-Err c = search pass_bad

@@ -2,8 +2,8 @@
 use Rattle.texts.proofs.Putting.{put_done, put_full}
 use Rattle.texts.proofs.put_result.Goals as goal
 
-pub returns-in-Done : goal.returns-in-Done
-returns-in-Done c = search put_done
+pub returns-in-Some : goal.returns-in-Some
+returns-in-Some c = search put_done
 
-pub returns-in-Full : goal.returns-in-Full
-returns-in-Full c = search put_full
+pub returns-in-None : goal.returns-in-None
+returns-in-None c = search put_full

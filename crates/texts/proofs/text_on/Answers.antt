@@ -27,28 +27,28 @@ pub returns-then-size-p : goal.returns-then-size-p
 returns-then-size-p c = texting_end _ _ _ _ _ _ _ _ _ _ _ _ _ _ _ _ _ _ _ _ _ _ c.loop.invariant _ c.less-size.ensures c.if-size-p.true
 
 pub loop-preserved : goal.loop-preserved
-loop-preserved c = texting_more _ _ _ _ _ _ _ _ _ _ _ _ _ _ _ _ _ _ _ _ _ _ c.loop.invariant _ c.less-size.ensures c.if-size-p.false _ (omega (arith, c.loop-test.true)) _ _ _ _ _ _ _ c.token_here-t.ensures _ _ c.in-Good.is c.token_here-t.auto.cells c.token_here-t.auto.low c.token_here-t.auto.high c.token_here-t.auto.work c.token_here-t.auto.text c.token_here-t.auto.list
+loop-preserved c = texting_more _ _ _ _ _ _ _ _ _ _ _ _ _ _ _ _ _ _ _ _ _ _ c.loop.invariant _ c.less-size.ensures c.if-size-p.false _ (omega (arith, c.loop-test.true)) _ _ _ _ _ _ _ c.token_here-t.ensures _ _ c.in-Ok.is c.token_here-t.auto.cells c.token_here-t.auto.low c.token_here-t.auto.high c.token_here-t.auto.work c.token_here-t.auto.text c.token_here-t.auto.list
 
-pub shape_of-cells-in-Bad : goal.shape_of-cells-in-Bad
-shape_of-cells-in-Bad c = c.token_here-t.auto.cells ∙ c.loop.invariant.cells
+pub shape_of-cells-in-Err : goal.shape_of-cells-in-Err
+shape_of-cells-in-Err c = c.token_here-t.auto.cells ∙ c.loop.invariant.cells
 
-pub shape_of-low-in-Bad : goal.shape_of-low-in-Bad
-shape_of-low-in-Bad c = c.token_here-t.auto.low ∙ c.loop.invariant.low
+pub shape_of-low-in-Err : goal.shape_of-low-in-Err
+shape_of-low-in-Err c = c.token_here-t.auto.low ∙ c.loop.invariant.low
 
-pub shape_of-high-in-Bad : goal.shape_of-high-in-Bad
-shape_of-high-in-Bad c = c.token_here-t.auto.high ∙ c.loop.invariant.high
+pub shape_of-high-in-Err : goal.shape_of-high-in-Err
+shape_of-high-in-Err c = c.token_here-t.auto.high ∙ c.loop.invariant.high
 
-pub shape_of-work-in-Bad : goal.shape_of-work-in-Bad
-shape_of-work-in-Bad c = c.token_here-t.auto.work ∙ c.loop.invariant.work
+pub shape_of-work-in-Err : goal.shape_of-work-in-Err
+shape_of-work-in-Err c = c.token_here-t.auto.work ∙ c.loop.invariant.work
 
-pub shape_of-text-in-Bad : goal.shape_of-text-in-Bad
-shape_of-text-in-Bad c = c.token_here-t.auto.text ∙ c.loop.invariant.long
+pub shape_of-text-in-Err : goal.shape_of-text-in-Err
+shape_of-text-in-Err c = c.token_here-t.auto.text ∙ c.loop.invariant.long
 
-pub shape_of-list-in-Bad : goal.shape_of-list-in-Bad
-shape_of-list-in-Bad c = c.token_here-t.auto.list ∙ c.loop.invariant.list
+pub shape_of-list-in-Err : goal.shape_of-list-in-Err
+shape_of-list-in-Err c = c.token_here-t.auto.list ∙ c.loop.invariant.list
 
-pub returns-in-Bad : goal.returns-in-Bad
-returns-in-Bad c = texting_bad _ _ _ _ _ _ _ _ _ _ _ _ _ _ _ _ _ _ _ _ _ _ c.loop.invariant _ c.less-size.ensures c.if-size-p.false (c.sum-turns.result - (c.loop.counter + 1)) (omega (arith, c.loop-test.true)) _ _ _ _ _ _ _ c.token_here-t.ensures _ _ c.in-Bad.is
+pub returns-in-Err : goal.returns-in-Err
+returns-in-Err c = texting_bad _ _ _ _ _ _ _ _ _ _ _ _ _ _ _ _ _ _ _ _ _ _ c.loop.invariant _ c.less-size.ensures c.if-size-p.false (c.sum-turns.result - (c.loop.counter + 1)) (omega (arith, c.loop-test.true)) _ _ _ _ _ _ _ c.token_here-t.ensures _ _ c.in-Err.is
 
 pub shape_of-cells : goal.shape_of-cells
 shape_of-cells c = c.loop.invariant.cells

@@ -2,8 +2,8 @@
 use Rattle.values.proofs.Numbers.{number_is, number_past}
 use Rattle.values.proofs.number_of.Goals as goal
 
-pub returns-in-Is : goal.returns-in-Is
-returns-in-Is c = search number_is
+pub returns-in-Ok : goal.returns-in-Ok
+returns-in-Ok c = search number_is
 
-pub returns-in-OutOfRange : goal.returns-in-OutOfRange
-returns-in-OutOfRange c = search number_past
+pub returns-in-Err-OutOfRange : goal.returns-in-Err-OutOfRange
+returns-in-Err-OutOfRange c = search number_past

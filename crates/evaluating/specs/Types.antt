@@ -1,0 +1,7 @@
+-- What answers of the code are, as the library has them.
+use Rattle.std.specs.Prelude.{ℕ, Result}
+use Rattle.definition.specs.declared.Why.{Why}
+use Rattle.meter.specs.declared.Meter.{Meter}
+
+abbrev pub Outcome : Type 0
+Outcome = Result (ℕ × Meter) (Why × Meter)
