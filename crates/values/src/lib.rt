@@ -192,14 +192,14 @@ fn capped_number(base: Base, s: &[u8], at: usize, i: usize, n: usize) -> u32
     value
 }
 
-// A magnitude divides nothing, so the third answer never comes.
+// A magnitude divides nothing, so out of range is all that can be wrong.
 fn number_of(negative: bool, magnitude: u32) -> Result<Fixed, NumberError>
     ensures { answer_of result ≡ from_fixed (ranged (signed_by negative magnitude)) }
 {
-    match Fixed::of_magnitude(negative, magnitude) {
-        Ok(x) => Ok(x),
-        Err(FixedError::OutOfRange) | Err(FixedError::ZeroDivisor) => Err(NumberError::OutOfRange),
-    }
+    let Ok(x) = Fixed::of_magnitude(negative, magnitude) else {
+        return Err(NumberError::OutOfRange);
+    };
+    Ok(x)
 }
 
 // The number that the bytes from i to n past a place write: the form of them all first, and then the range.
