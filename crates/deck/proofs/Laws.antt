@@ -1,6 +1,5 @@
 -- One law for each way out of a function on the deck; the loops' invariants are records, and say that what is left decides.
 -- Assumes nothing.
-use Rattle.deck.specs.declared.Deck.{Deck}
 use Rattle.std.proofs.Common.{Some, None}
 use mathlib.Core.Path.{◌≡◌, refl, sym, ap, ◌∙◌}
 use mathlib.Core.Bool.{Bool, true, false, cond, ◌&&◌}

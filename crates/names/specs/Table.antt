@@ -21,8 +21,8 @@ owner_of Everyone = W.everyone
 owner_of (Procedure p) = W.procedure_at p.member p.row
 
 abbrev pub body_of : Option Place → W.Body
-body_of Body.Nothing = W.no_body
-body_of (Body.At p) = W.body_at p.member p.row
+body_of None = W.no_body
+body_of (Some p) = W.body_at p.member p.row
 
 abbrev pub denotation_of : Denotation → W.Denotation
 denotation_of (Variable t) = W.variable_of t
@@ -73,12 +73,12 @@ abbrev pub owner_numbers : Owner → List ℕ
 owner_numbers o = owner_tag o ∷ (owner_place o).member ∷ (owner_place o).row ∷ []
 
 abbrev pub body_tag : Option Place → ℕ
-body_tag Body.Nothing = 0
-body_tag (Body.At p) = 1
+body_tag None = 0
+body_tag (Some p) = 1
 
 abbrev pub body_place : Option Place → Place
-body_place Body.Nothing = place_in 0 0
-body_place (Body.At p) = p
+body_place None = place_in 0 0
+body_place (Some p) = p
 
 abbrev pub body_numbers : Option Place → List ℕ
 body_numbers b = body_tag b ∷ (body_place b).member ∷ (body_place b).row ∷ []
@@ -97,10 +97,10 @@ denotation_flag Builtin = 0
 
 -- the body of an entry; the place of a label stands where that of a body would
 abbrev pub denotation_body : Denotation → Option Place
-denotation_body (Variable t) = Body.Nothing
+denotation_body (Variable t) = None
 denotation_body (EntryName e) = e.body
-denotation_body (LabelName l) = Body.Nothing
-denotation_body Builtin = Body.Nothing
+denotation_body (LabelName l) = None
+denotation_body Builtin = None
 
 abbrev pub denotation_place : Denotation → Place
 denotation_place (Variable t) = place_in 0 0
@@ -119,7 +119,7 @@ abbrev pub owner_in : ℕ → ℕ → ℕ → Owner
 owner_in k m r = cond (eqb k 0) Everyone (Procedure (place_in m r))
 
 abbrev pub body_in : ℕ → ℕ → ℕ → Option Place
-body_in k m r = cond (eqb k 0) Body.Nothing (Body.At (place_in m r))
+body_in k m r = cond (eqb k 0) None (Some (place_in m r))
 
 abbrev pub denotation_in : ℕ → ℕ → ℕ → ℕ → ℕ → Denotation
 denotation_in k x b m r =
