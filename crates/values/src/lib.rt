@@ -15,12 +15,11 @@ ghost use Rattle.values.specs.Digits.{base_of, capped, last_digits, digits_in, R
 ghost use Rattle.values.specs.Bits.{logic_of};
 ghost use Rattle.values.specs.Substr.{cut_at, cut_part, cut_rest};
 
-use std::cmp::Ordering;
-
 use chars::{is_bit, is_blank, is_digit};
 use definition::Why;
 use fixed::Fixed;
 use rooms::{byte, put_byte};
+use std::cmp::Ordering;
 
 // The comparisons that a statement can ask for.
 #[derive(Clone, Copy)]
