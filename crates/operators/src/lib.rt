@@ -18,9 +18,10 @@ use definition::{Operator, Prefix, ValueType, Why};
 use fixed::{Fixed, FixedError};
 use limits::Filling;
 use rooms::{byte, put_byte};
+use std::cmp::Ordering;
 use values::{
-    Comparison, Logic, NumberError, Order, any_one, are_bits, bit_of, bits_number, bytes_order,
-    combine, cut_part, cut_rest, invert, is_wanted, number_in, numbers_order, put_bits, put_fixed,
+    Comparison, Logic, NumberError, any_one, are_bits, bit_of, bits_number, bytes_order, combine,
+    cut_part, cut_rest, invert, is_wanted, number_in, numbers_order, put_bits, put_fixed,
 };
 
 // A number, or so many bytes of the work room.
@@ -297,7 +298,7 @@ fn calculated(work: &[u8], u: usize, o: Operator, x: Value, y: Value) -> Result<
     }
 }
 
-fn numeric_order(work: &[u8], u: usize, x: Value, y: Value) -> Result<Order, Why>
+fn numeric_order(work: &[u8], u: usize, x: Value, y: Value) -> Result<Ordering, Why>
     ensures { order_answer result ≡ numeric_of (value_in work.now u x) (value_in work.now (top_of u (size_for x)) y) }
 {
     let (a, b) = numbers_of(work, u, x, y)?;
@@ -305,14 +306,14 @@ fn numeric_order(work: &[u8], u: usize, x: Value, y: Value) -> Result<Order, Why
 }
 
 // Where they stand: n bytes at u, and m above them.
-fn order_at(work: &[u8], u: usize, n: usize, m: usize, pad: u8) -> Order
+fn order_at(work: &[u8], u: usize, n: usize, m: usize, pad: u8) -> Ordering
     ensures { order_in result ≡ D.bytes_order pad (part n u work.now) (part m (top_of u n) work.now) }
 {
     bytes_order(work, u, n, work, above(u, n), m, pad)
 }
 
 // "numeric if one side is FIXED; else as characters if one is CHARACTER; else bits padded with zeros"
-fn compared(work: &[u8], u: usize, x: Value, y: Value) -> Result<Order, Why>
+fn compared(work: &[u8], u: usize, x: Value, y: Value) -> Result<Ordering, Why>
     ensures { order_answer result ≡ D.compared (value_in work.now u x) (value_in work.now (top_of u (size_for x)) y) }
 {
     // stays: a match in a match; tried on the pair (x, y), but where two pairs share an arm no answer can name its facts
