@@ -27,6 +27,10 @@ use Rattle.tokens.specs.Answer.{written, Lexed, spelling, is_sign_in, is_word_in
 use Rattle.tokens.proofs.Lexemes as L
 use Rattle.expressions.specs.Check.{infix_for, infix_at, single_for, prefix_for, is_spelled, expected, is_worded, expected_word, named_for}
 
+-- equal pairs have equal parts
+pub parts : {A B : Type 0} {p q : A × B} → p ≡ q → (p.0 ≡ q.0) × (p.1 ≡ q.1)
+parts {A} {B} h = (ap (λ (x : A × B). x.0) h, ap (λ (x : A × B). x.1) h)
+
 module _ (s : List ℕ) (at : ℕ) (l : Lexeme) (lex : Lexed s at l) where
   -- a test on a sign, as the definition has it
   pub told : (W : S.String) (w : List ℕ) (r b : Bool) → bytes_of W ≡ w → r ≡ is_sign_in s l w → r ≡ b → T.is_sign W (T.token_at mixed s at).token ≡ b

@@ -32,7 +32,7 @@ use Rattle.tokens.proofs.Lexemes.{token_is}
 use Rattle.tokens.proofs.Reach.{token_low, token_past, token_inside}
 use Rattle.expressions.specs.declared.Prefixes.{Prefixes}
 use Rattle.expressions.specs.Check.{infix_for, infix_at, single_for, prefix_for, expect_for, is_spelled, expected, is_worded, expected_word, named_for, prefixes_of, with_prefix, prefixes, end_for, inside_of, referred, primitive_at, levels_in}
-use Rattle.expressions.proofs.Laws.{told}
+use Rattle.expressions.proofs.Laws.{told, parts}
 
 -- ---- the tokens that must follow, spelled by text
 module _ (W : S.String) (w : List ℕ) (e : bytes_of W ≡ w) where
@@ -98,7 +98,7 @@ module _ (x : Expected) where
   pub refused_is : (w : Why) (p : ℕ) (R : Reading Parsed) → x ≡ end_for R → x ≡ Err (w, p) → R ≡ refused w p
   unfolding end_for
   refused_is w p (read r) h k = let z : ◌≡◌ {A = ℕ} 0 1 = cc in absurd (omega arith)
-  refused_is w p (refused v q) h k = cc
+  refused_is w p (refused v q) h k = let z : (w, p) ≡ (v, q) = cc in let y : (w ≡ v) × (p ≡ q) = parts z in rw (y.0, y.1)
 
   module _ (f : Parsed → Reading Parsed) (R : Reading Parsed) (h : x ≡ end_for R) where
     then_past : (y : Expected) (e : ℕ) → x ≡ Ok e → ((t : Tree) → y ≡ end_for (f (parsed t e))) → y ≡ end_for (then R f)
@@ -131,7 +131,7 @@ chained_same g h a b i j (is o) = i o
 chained_same g h a b i j no_operator = j
 
 infix_is : (x : Option (Operator × ℕ)) (o : Operator) (q to : ℕ) (m : Maybe Operator) → x ≡ infix_for m to → x ≡ Some (o, q) → (m ≡ is o) × (to ≡ q)
-infix_is x o q to (is v) h k = (cc, cc)
+infix_is x o q to (is v) h k = let z : (o, q) ≡ (v, to) = cc in let y : (o ≡ v) × (q ≡ to) = parts z in (rw y.0, sym y.1)
 infix_is x o q to no_operator h k = let z : ◌≡◌ {A = ℕ} 0 1 = cc in absurd (omega arith)
 
 infix_none : (x : Option (Operator × ℕ)) (to : ℕ) (m : Maybe Operator) → x ≡ infix_for m to → x ≡ None → m ≡ no_operator
@@ -264,7 +264,7 @@ module _ (inside : Reader) (s : List ℕ) where
 -- ---- a reference
 module _ (g : Named → Reading Parsed) (x : NamedAt) where
   named_then : (R : Reading Named) (y : Expected) (from to : ℕ) → x ≡ named_for R → x ≡ Ok (from, to) → ((n : Named) → n.to ≡ to → y ≡ end_for (g n)) → y ≡ end_for (then R g)
-  named_then (read n) y from to h k f = f n (cc)
+  named_then (read n) y from to h k f = let z : (from, to) ≡ (n.place, n.to) = cc in f n (sym (parts z).1)
   named_then (refused w p) y from to h k f = let z : ◌≡◌ {A = ℕ} 0 1 = cc in absurd (omega arith)
 
   named_refused : (R : Reading Named) (w : Why) (p : ℕ) → x ≡ named_for R → x ≡ Err (w, p) → Err (w, p) ≡ end_for (then R g)
@@ -399,7 +399,7 @@ pub record Passing (s : List ℕ) (from count at : ℕ) : Type 0 where
   pub same : prefixes_of (count + (prefixes turns s at).count) (prefixes turns s at).to ≡ prefixes (length s) s from
 
 prefix_is : (x : Option (Prefix × ℕ)) (o : Prefix) (q to : ℕ) (m : Maybe Prefix) → x ≡ prefix_for m to → x ≡ Some (o, q) → (m ≡ is o) × (to ≡ q)
-prefix_is x o q to (is v) h k = (cc, cc)
+prefix_is x o q to (is v) h k = let z : (o, q) ≡ (v, to) = cc in let y : (o ≡ v) × (q ≡ to) = parts z in (rw y.0, sym y.1)
 prefix_is x o q to no_operator h k = let z : ◌≡◌ {A = ℕ} 0 1 = cc in absurd (omega arith)
 
 prefix_none : (x : Option (Prefix × ℕ)) (to : ℕ) (m : Maybe Prefix) → x ≡ prefix_for m to → x ≡ None → m ≡ no_operator

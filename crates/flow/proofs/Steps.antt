@@ -37,6 +37,12 @@ not_less_lem (pos a) (negsuc b) = refl
 not_less_lem (negsuc a) (pos b) = refl
 not_less_lem (negsuc a) (negsuc b) = less b a
 
+no_limit : (s : F.Result) (z : ℤ) (x : Result Fixed FixedError) → ((n : Fixed) → x ≡ Ok n → ⊥) → true ≡ passes_by (result_of x) s z
+unfolding passes_by
+no_limit s z (Ok n) h = absurd (h n refl)
+no_limit s z (Err OutOfRange) h = refl
+no_limit s z (Err ZeroDivisor) h = refl
+
 module _ (l s : F.Result) (z : ℤ) (to by : Result Fixed FixedError) (p : result_of to ≡ l) where
   module _ (limit : Fixed) (e : to ≡ Ok limit) (q : result_of by ≡ s) (d : Bool) (f : d ≡ is_down (result_of by)) (b : Bool) where
     is : F.is limit.value ≡ l
@@ -50,10 +56,8 @@ module _ (l s : F.Result) (z : ℤ) (to by : Result Fixed FixedError) (p : resul
     unfolding passes_by
     passes_up g h = let k : is_down s ≡ false = rw (← q) (sym f ∙ g) in rw (← is, k, h) (not_less_lem limit.value z)
 
-  pub passes_none : (to ≡ (Err OutOfRange)) ⊎ (to ≡ (Err ZeroDivisor)) → true ≡ passes_by l s z
-  unfolding passes_by
-  passes_none (inl e) = let k : F.out_of_range ≡ l = rw e at p in rw (← k)
-  passes_none (inr e) = let k : F.zero_divisor ≡ l = rw e at p in rw (← k)
+  pub passes_none : ((n : Fixed) → to ≡ Ok n → ⊥) → true ≡ passes_by l s z
+  passes_none h = rw (← p) (no_limit s z to h)
 
 -- ---- turns: after k of m, what is left from here is the whole
 pub record Walking (t : List ℕ) (fs : Frames) (whole : Next) (at m k : ℕ) : Type 0 where

@@ -138,7 +138,7 @@ unfoldable pub parent_at : List ℕ → ℕ → Option ℕ
 parent_at t n = (row_in t n).parent
 
 -- whether the row g is among a row and those around it, so many turns
-abbrev pub around_link : List ℕ → ℕ → ((Option ℕ) → Bool) → Option ℕ → Bool
+abbrev pub around_link : List ℕ → ℕ → (Option ℕ → Bool) → Option ℕ → Bool
 around_link t g up None = false
 around_link t g up (Some p) = cond (eqb p g) true (up (parent_at t p))
 
@@ -149,7 +149,7 @@ around_on t g (suc f) x = around_link t g (λ y. around_on t g f y) x
 unfoldable pub may_stand : List ℕ → ℕ → ℕ → Bool
 may_stand t g n = cond (iterated_at t g) (around_on t g 2048 (parent_at t n)) true
 
-abbrev pub may_go_link : List ℕ → ℕ → ((Option ℕ) → Bool) → Option ℕ → Bool
+abbrev pub may_go_link : List ℕ → ℕ → (Option ℕ → Bool) → Option ℕ → Bool
 may_go_link t n up None = true
 may_go_link t n up (Some g) = cond (may_stand t g n) (up (parent_at t g)) false
 

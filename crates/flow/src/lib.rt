@@ -102,15 +102,13 @@ pub fn passes(f: Frame, x: Fixed) -> bool
     ensures { result ≡ passes_by (from_stored f.limit) (from_stored f.step) x.value }
 {
     let by = Fixed::from_stored(f.step);
-    match Fixed::from_stored(f.limit) {
-        Ok(limit) => {
-            if is_down(by) {
-                return !x.is_less(limit);
-            }
-            !limit.is_less(x)
-        }
-        Err(FixedError::OutOfRange) | Err(FixedError::ZeroDivisor) => true,
+    let Ok(limit) = Fixed::from_stored(f.limit) else {
+        return true;
+    };
+    if is_down(by) {
+        return !x.is_less(limit);
     }
+    !limit.is_less(x)
 }
 
 #[tactic(auto, unfolding(crate::specs::Walks::is_down))]

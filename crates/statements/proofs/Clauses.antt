@@ -25,7 +25,7 @@ use Rattle.definition.specs.declared.Why.TheVariants.{Syntax}
 use Rattle.tokens.specs.declared.Lexeme.{Lexeme}
 use Rattle.tokens.specs.Answer.{Lexed, is_sign_in, is_word_in}
 use Rattle.expressions.specs.Check.{expect_for, expected, is_worded, expected_word, end_for}
-use Rattle.expressions.proofs.Laws.{told}
+use Rattle.expressions.proofs.Laws.{told, parts}
 use Rattle.expressions.proofs.Reading.{expected_is, expected_word_is}
 use Rattle.rows.specs.declared.Statement.{Statement}
 use Rattle.rows.specs.declared.Statement.TheVariants as S
@@ -103,14 +103,14 @@ module _ (s : List ℕ) (c : ℕ) where
   unfolding D.goto_clause
   goes x y r e f g = rw (g, f, e) (goto_by (name_at mixed s c))
 
-  go_past : (b : Bool) (to from q : ℕ) (r : Read) → cond b (Ok to) (Err (Syntax, from)) ≡ Ok q → r ≡ read_for S.Goto q FixedType (D.goto_clause mixed s q) → r ≡ read_for S.Goto to FixedType (then (cond b (read to) (refused Syntax from)) (D.goto_clause mixed s))
+  go_past : (b : Bool) (to from q : ℕ) (r : Read) → cond {A = Expected} b (Ok to) (Err (Syntax, from)) ≡ Ok q → r ≡ read_for S.Goto q FixedType (D.goto_clause mixed s q) → r ≡ read_for S.Goto to FixedType (then (cond b (read to) (refused Syntax from)) (D.goto_clause mixed s))
   go_past true to from q r e f = let z : to ≡ q = cc in rw z f
   go_past false to from q r e f = let z : ◌≡◌ {A = ℕ} 0 1 = cc in absurd (omega arith)
 
-  go_none : (b : Bool) (to from : ℕ) (w : Why) (p : ℕ) → cond b (Ok to) (Err (Syntax, from)) ≡ Err (w, p) → Err (w, p) ≡ read_for S.Goto to FixedType (then (cond b (read to) (refused Syntax from)) (D.goto_clause mixed s))
+  go_none : (b : Bool) (to from : ℕ) (w : Why) (p : ℕ) → cond {A = Expected} b (Ok to) (Err (Syntax, from)) ≡ Err (w, p) → Err (w, p) ≡ read_for S.Goto to FixedType (then (cond b (read to) (refused Syntax from)) (D.goto_clause mixed s))
   unfolding read_for
   go_none true to from w p e = let z : ◌≡◌ {A = ℕ} 0 1 = cc in absurd (omega arith)
-  go_none false to from w p e = cc
+  go_none false to from w p e = let z : ◌≡◌ {A = Why × ℕ} (Syntax, from) (w, p) = cc in let y : (Syntax ≡ w) × (from ≡ p) = parts z in rw (← y.0, ← y.1)
 
   module _ (x : Expected) (h : x ≡ expected_word (84 ∷ 79 ∷ []) s c) where
     to_is : x ≡ cond (is_word "TO" (token_at mixed s c).token) (Ok (token_at mixed s c).to) (Err (Syntax, (token_at mixed s c).from))

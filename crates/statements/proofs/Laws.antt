@@ -24,6 +24,7 @@ use Rattle.tokens.specs.declared.Lexeme.{Lexeme}
 use Rattle.tokens.specs.Answer.{written, Lexed, content, is_sign_in, is_sign_kind, is_word_in, is_word_kind, token_for}
 use Rattle.tokens.proofs.Lexemes.{token_is}
 use Rattle.expressions.specs.Check.{is_spelled, expected, is_worded, expected_word, named_for, end_for}
+use Rattle.expressions.proofs.Laws.{parts}
 use Rattle.rows.specs.declared.Statement.{Statement}
 use Rattle.statements.specs.declared.Opens.{Opens}
 use Rattle.statements.specs.declared.Each.{Each}
@@ -33,13 +34,13 @@ use Rattle.statements.specs.Clauses.{clause_of, read_up_to, then_sign, then_word
 -- ---- one answer after the other
 pub name_there : (x : NamedAt) (R : Reading Named) (from to : ℕ) → x ≡ named_for R → x ≡ Ok (from, to) → Ok to ≡ name_end R
 unfolding name_end
-name_there x (read n) from to h k = let z : to ≡ n.to = cc in rw z
+name_there x (read n) from to h k = let z : (from, to) ≡ (n.place, n.to) = cc in let y : (from ≡ n.place) × (to ≡ n.to) = parts z in rw y.1
 name_there x (refused w p) from to h k = let z : ◌≡◌ {A = ℕ} 0 1 = cc in absurd (omega arith)
 
 pub name_refused : (x : NamedAt) (R : Reading Named) (w : Why) (p : ℕ) → x ≡ named_for R → x ≡ Err (w, p) → Err (w, p) ≡ name_end R
 unfolding name_end
 name_refused x (read n) w p h k = let z : ◌≡◌ {A = ℕ} 0 1 = cc in absurd (omega arith)
-name_refused x (refused v q) w p h k = cc
+name_refused x (refused v q) w p h k = let z : (w, p) ≡ (v, q) = cc in let y : (w ≡ v) × (p ≡ q) = parts z in rw (y.0, y.1)
 
 module _ (k : Statement) (o : Opens) (c : ℕ) (e : Expected) where
   pub up_past : (to : ℕ) → e ≡ Ok to → Ok (clause_of k o c to FixedType) ≡ read_up_to k o c e

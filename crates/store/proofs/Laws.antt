@@ -2,9 +2,9 @@
 -- Assumes nothing.
 use Rattle.fixed.specs.declared.FixedError.TheVariants.{OutOfRange, ZeroDivisor}
 use Rattle.fixed.specs.declared.FixedError.{FixedError}
-use Rattle.std.proofs.Common.{Some, None, Result, Ok, Err}
-use mathlib.Core.Path.{◌≡◌, refl, sym, ap, ◌∙◌}
-use mathlib.Core.Logic.{◌⊎◌, inl, inr}
+use Rattle.std.proofs.Common.{Option, Some, None, Result, Ok, Err}
+use Rattle.std.specs.Result.{result_ok}
+use mathlib.Core.Path.{◌≡◌, refl, sym, ◌∙◌}
 use mathlib.Core.Bool.{true}
 use mathlib.Core.List.{List, [], ◌∷◌}
 use Prim.Native.Nat.{ℕ, zero, suc, ◌+◌, ◌-◌, ◌<◌, ◌≤◌}
@@ -27,17 +27,15 @@ use Rattle.fixed.proofs.Magnitude.{stored_back}
 use Rattle.store.specs.Cells.{slot, half, fixed_cell, character_cell, cell_in, number_cell, length_cell, LengthAt, Stored}
 
 -- ---- FIXED: the stored number tells the value
-module _ (c : List ℕ) (a k n : ℕ) (r : Result Fixed FixedError) (h : k ≡ a) (e : n ≡ get_or c (k + 0) 0) (f : result_of r ≡ from_stored n) where
-  number_is : fixed_cell (result_of r) ≡ cell_in c [] [] FixedType a
-  unfolding cell_in
-  number_is = ap fixed_cell f ∙ rw (e, h, add-zero)
+cell_of : (r : Result Fixed FixedError) → number_cell (result_ok r) ≡ fixed_cell (result_of r)
+cell_of (Ok x) = refl
+cell_of (Err OutOfRange) = refl
+cell_of (Err ZeroDivisor) = refl
 
-  pub number_held : (x : Fixed) → r ≡ Ok x → number_cell (Some x) ≡ cell_in c [] [] FixedType a
-  number_held x g = sym (ap (λ t. fixed_cell (result_of t)) g) ∙ number_is
-
-  pub number_none : (r ≡ (Err OutOfRange)) ⊎ (r ≡ (Err ZeroDivisor)) → number_cell None ≡ cell_in c [] [] FixedType a
-  number_none (inl g) = sym (ap (λ t. fixed_cell (result_of t)) g) ∙ number_is
-  number_none (inr g) = sym (ap (λ t. fixed_cell (result_of t)) g) ∙ number_is
+pub number_is : (c : List ℕ) (a k n : ℕ) (r : Result Fixed FixedError) (o : Option Fixed) → k ≡ a → n ≡ get_or c (k + 0) 0 → result_of r ≡ from_stored n → o ≡ result_ok r
+    → number_cell o ≡ cell_in c [] [] FixedType a
+unfolding cell_in
+number_is c a k n r o h e f g = rw (g, cell_of, f, e, h, add-zero)
 
 -- ---- CHARACTER: one more than the length, or 0
 module _ (c : List ℕ) (a k n : ℕ) (h : k ≡ a) (e : n ≡ get_or c (k + 0) 0) where

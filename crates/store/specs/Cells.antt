@@ -3,12 +3,13 @@ use Rattle.std.specs.Prelude.{ℕ, zero, suc, ◌+◌, ◌*◌, ◌-◌, cond, �
 use Rattle.definition.specs.Lists.{part}
 use Rattle.definition.specs.Room.{over}
 use Rattle.definition.specs.Limits.{value_length}
-use Rattle.definition.specs.Fixed as Fixed
+use Rattle.definition.specs.Fixed as F
 use Rattle.definition.specs.Values.{fixed, characters}
 use Rattle.definition.specs.World as W
 use Rattle.definition.specs.declared.ValueType.{ValueType}
 use Rattle.definition.specs.declared.ValueType.TheVariants.{FixedType, CharacterType}
 use Rattle.fixed.specs.Signed.{from_stored}
+use Rattle.fixed.specs.declared.Fixed.{Fixed}
 
 -- where the characters of an address stand: in low or in high
 abbrev pub slot : ℕ → ℕ
@@ -18,10 +19,10 @@ abbrev pub half : ℕ → List ℕ → List ℕ → List ℕ
 half a low high = cond (ltb a 128) low high
 
 -- a FIXED variable: the stored number, 0 without a value
-abbrev pub fixed_cell : Fixed.Result → W.Cell
-fixed_cell (Fixed.is z) = W.holds (fixed z)
-fixed_cell Fixed.out_of_range = W.no_value
-fixed_cell Fixed.zero_divisor = W.no_value
+abbrev pub fixed_cell : F.Result → W.Cell
+fixed_cell (F.is z) = W.holds (fixed z)
+fixed_cell F.out_of_range = W.no_value
+fixed_cell F.zero_divisor = W.no_value
 
 -- a CHARACTER variable: one more than the length, 0 without a value
 abbrev pub character_cell : ℕ → ℕ → List ℕ → W.Cell

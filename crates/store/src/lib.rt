@@ -9,7 +9,7 @@ ghost use Rattle.definition.specs.declared.ValueType.TheVariants.{FixedType};
 ghost use Rattle.fixed.specs.Signed.{stored_of};
 ghost use Rattle.store.specs.Cells.{cell_in, number_cell, slot, half, LengthAt, Stored};
 
-use fixed::{Fixed, FixedError};
+use fixed::Fixed;
 use limits::Value;
 use rooms::{copy, number32, put_number32};
 
@@ -17,10 +17,7 @@ use rooms::{copy, number32, put_number32};
 pub fn number_at(cells: &[u32], a: u16) -> Option<Fixed>
     ensures { number_cell result ≡ cell_in cells.now [] [] FixedType a }
 {
-    match Fixed::from_stored(number32(cells, usize::from(a), 0)) {
-        Ok(x) => Some(x),
-        Err(FixedError::OutOfRange) | Err(FixedError::ZeroDivisor) => None,
-    }
+    Fixed::from_stored(number32(cells, usize::from(a), 0)).ok()
 }
 
 // The length of the value of a CHARACTER variable.

@@ -2,11 +2,10 @@
 -- Assumes nothing.
 use Rattle.values.specs.declared.NumberError.TheVariants.{NoConversion, OutOfRange}
 use Rattle.values.specs.declared.NumberError.{NumberError}
-use Rattle.fixed.specs.declared.FixedError.TheVariants.{ZeroDivisor}
+use Rattle.fixed.specs.declared.FixedError.TheVariants as X
 use Rattle.std.proofs.Common.{Result, Ok, Err}
 use Rattle.fixed.specs.declared.FixedError.{FixedError}
 use mathlib.Core.Path.{◌≡◌, refl, sym, ap, ◌∙◌}
-use mathlib.Core.Logic.{◌⊎◌, inl, inr}
 use mathlib.Core.Bool.{Bool, true, false, cond, ◌&&◌}
 use mathlib.Core.List.{List, [], ◌∷◌}
 use Prim.Native.Nat.{ℕ, ◌+◌, ◌*◌, ◌-◌, ◌<◌, ◌≤◌}
@@ -108,9 +107,13 @@ module _ (negative : Bool) (m : ℕ) (a : Result Fixed FixedError) (g : result_o
   pub number_is : (x : Fixed) → a ≡ Ok x → answer_of (Ok x) ≡ from_fixed (F.ranged (signed_by negative m))
   number_is x e = ap from_fixed (rw e at given)
 
-  pub number_past : (a ≡ (Err (Err OutOfRange))) ⊎ (a ≡ (Err ZeroDivisor)) → answer_of (Err OutOfRange) ≡ from_fixed (F.ranged (signed_by negative m))
-  number_past (inl e) = ap from_fixed (rw e at given)
-  number_past (inr e) = absurd (never_zero _ (sym (rw e at given)))
+  pub number_past : ((x : Fixed) → a ≡ Ok x → ⊥) → answer_of (Err OutOfRange) ≡ from_fixed (F.ranged (signed_by negative m))
+  number_past none = go a given none
+    where
+      go : (b : Result Fixed FixedError) → result_of b ≡ F.ranged (signed_by negative m) → ((x : Fixed) → b ≡ Ok x → ⊥) → answer_of (Err OutOfRange) ≡ from_fixed (F.ranged (signed_by negative m))
+      go (Ok x) e n = absurd (n x refl)
+      go (Err X.OutOfRange) e n = ap from_fixed e
+      go (Err X.ZeroDivisor) e n = absurd (never_zero _ (sym e))
 
 -- ---- digits and blanks
 and_false : (t : Bool) → (t && false) ≡ false

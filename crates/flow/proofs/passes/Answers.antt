@@ -5,8 +5,8 @@ use Rattle.flow.proofs.passes.Goals as goal
 pub returns-then-is_down : goal.returns-then-is_down
 returns-then-is_down c = search passes_down
 
-pub returns-else-is_down : goal.returns-else-is_down
-returns-else-is_down c = search passes_up
+pub returns : goal.returns
+returns c = search passes_up
 
-pub returns-in-Err-OutOfRange : goal.returns-in-Err-OutOfRange
-returns-in-Err-OutOfRange c = search passes_none
+pub returns-in_default : goal.returns-in_default
+returns-in_default c = search passes_none

@@ -2,8 +2,8 @@
 use Rattle.values.proofs.Numbers.{number_is, number_past}
 use Rattle.values.proofs.number_of.Goals as goal
 
-pub returns-in-Ok : goal.returns-in-Ok
-returns-in-Ok c = search number_is
+pub returns : goal.returns
+returns c = search number_is
 
-pub returns-in-Err-OutOfRange : goal.returns-in-Err-OutOfRange
-returns-in-Err-OutOfRange c = search number_past
+pub returns-in_default : goal.returns-in_default
+returns-in_default c = number_past _ _ _ c.of_magnitude.ensures c.in_default.not-Ok
