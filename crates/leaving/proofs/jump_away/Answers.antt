@@ -10,4 +10,4 @@ pub returns : goal.returns
 returns c = search away_not
 
 pub returns-in_default : goal.returns-in_default
-returns-in_default c = let u = nowhere_if _ c.in_default.not-To in search away_none
+returns-in_default c = let u = nowhere_if _ c.in_default.not-Some in search away_none

@@ -5,7 +5,7 @@ use Rattle.callees.proofs.Naming.{unknown_if}
 use Rattle.leaving.proofs.jump_from.Goals as goal
 
 pub returns-in_default : goal.returns-in_default
-returns-in_default c = let u = unknown_if _ c.in_default.not-Known in search from_unknown
+returns-in_default c = let u = unknown_if _ c.in_default.not-Some in search from_unknown
 
 pub returns-in-LabelName : goal.returns-in-LabelName
 returns-in-LabelName c = search from_label
