@@ -145,28 +145,22 @@ fn read_up_to(statement: Statement, opens: Opens, content: usize, e: Expected) -
 fn then_sign(s: &[u8], e: Expected, w: &[u8]) -> Expected
     ensures { result ≡ C.then_sign w.now s.now e }
 {
-    match e {
-        Ok(q) => expect_sign(s, q, w),
-        Err((y, p)) => Err((y, p)),
-    }
+    let q = e?;
+    expect_sign(s, q, w)
 }
 
 fn then_word(s: &[u8], e: Expected, w: &[u8]) -> Expected
     ensures { result ≡ C.then_word w.now s.now e }
 {
-    match e {
-        Ok(q) => expect_word(s, q, w),
-        Err((y, p)) => Err((y, p)),
-    }
+    let q = e?;
+    expect_word(s, q, w)
 }
 
 fn then_expression(s: &[u8], e: Expected) -> Expected
     ensures { result ≡ C.then_expression s.now e }
 {
-    match e {
-        Ok(q) => check(s, q),
-        Err((y, p)) => Err((y, p)),
-    }
+    let q = e?;
+    check(s, q)
 }
 
 // The assignment from behind `=`; its target is the first token behind the place `content`.
@@ -194,41 +188,31 @@ fn if_clause(s: &[u8], at: usize, in_body: bool) -> Read
 fn bound_at(s: &[u8], e: Expected, w: &[u8]) -> Expected
     ensures { result ≡ C.bound_past w.now s.now e }
 {
-    match e {
-        Ok(q) => {
-            let t = token_at(s, q);
-            if is_word(s, t, w) {
-                return check(s, t.to);
-            }
-            Ok(q)
-        }
-        Err((y, p)) => Err((y, p)),
+    let q = e?;
+    let t = token_at(s, q);
+    if is_word(s, t, w) {
+        return check(s, t.to);
     }
+    Ok(q)
 }
 
 // BY and TO in either order, each at most once.
 fn do_bounds(s: &[u8], e: Expected) -> Expected
     ensures { result ≡ C.bounds_past s.now e }
 {
-    match e {
-        Ok(q) => {
-            let t = token_at(s, q);
-            if is_word(s, t, b"BY") {
-                return bound_at(s, check(s, t.to), b"TO");
-            }
-            bound_at(s, bound_at(s, Ok(q), b"TO"), b"BY")
-        }
-        Err((y, p)) => Err((y, p)),
+    let q = e?;
+    let t = token_at(s, q);
+    if is_word(s, t, b"BY") {
+        return bound_at(s, check(s, t.to), b"TO");
     }
+    bound_at(s, bound_at(s, Ok(q), b"TO"), b"BY")
 }
 
 fn name_past(s: &[u8], at: usize) -> Expected
     ensures { result ≡ C.name_end (name_at mixed s.now at) }
 {
-    match name_at(s, at) {
-        Ok((_, to)) => Ok(to),
-        Err((w, p)) => Err((w, p)),
-    }
+    let (_, to) = name_at(s, at)?;
+    Ok(to)
 }
 
 fn do_clause(s: &[u8], at: usize) -> Read
@@ -264,16 +248,12 @@ fn go_clause(s: &[u8], at: usize) -> Read
 fn member_past(s: &[u8], e: Expected) -> Expected
     ensures { result ≡ C.member_past s.now e }
 {
-    match e {
-        Ok(q) => {
-            let t = token_at(s, q);
-            if is_sign(s, t, b"(") {
-                return then_sign(s, name_past(s, t.to), b")");
-            }
-            Ok(q)
-        }
-        Err((w, p)) => Err((w, p)),
+    let q = e?;
+    let t = token_at(s, q);
+    if is_sign(s, t, b"(") {
+        return then_sign(s, name_past(s, t.to), b")");
     }
+    Ok(q)
 }
 
 // An item of a list: a name, and what may stand behind it.
@@ -308,16 +288,12 @@ fn name_list(s: &[u8], from: usize, each: Each, close: &[u8]) -> Expected
 {
     let mut at = from;
     for left in (0..s.len()).rev() {
-        match list_item(s, at, each) {
-            Ok(q) => {
-                let t = token_at(s, q);
-                if !is_sign(s, t, b",") {
-                    return expect_sign(s, q, close);
-                }
-                at = t.to;
-            }
-            Err((w, p)) => return Err((w, p)),
+        let q = list_item(s, at, each)?;
+        let t = token_at(s, q);
+        if !is_sign(s, t, b",") {
+            return expect_sign(s, q, close);
         }
+        at = t.to;
     }
     Err((Why::Syntax, at))
 }
