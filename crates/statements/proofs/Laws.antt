@@ -47,9 +47,9 @@ module _ (k : Statement) (o : Opens) (c : ℕ) (e : Expected) where
   unfolding read_up_to
   up_past to h = rw h
 
-  pub up_refused : (w : Why) (p : ℕ) → e ≡ Err (w, p) → Err (w, p) ≡ read_up_to k o c e
+  pub up_refused : (d : Why × ℕ) → e ≡ Err d → Err d ≡ read_up_to k o c e
   unfolding read_up_to
-  up_refused w p h = rw h
+  up_refused d h = rw h
 
 module _ (s : List ℕ) (e : Expected) where
   pub expression_past : (q : ℕ) (y : Expected) → e ≡ Ok q → y ≡ end_for (whole_expression mixed s q) → y ≡ then_expression s e

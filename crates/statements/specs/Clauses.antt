@@ -70,7 +70,7 @@ read_for k c v (refused w p) = Err (w, p)
 
 unfoldable pub read_up_to : Statement → Opens → ℕ → Expected → Read
 read_up_to k o c (Ok to) = Ok (clause_of k o c to FixedType)
-read_up_to k o c (Err (w, p)) = Err (w, p)
+read_up_to k o c (Err d) = Err d
 
 -- ---- what must follow, one after the other
 unfoldable pub then_sign : List ℕ → List ℕ → Expected → Expected
@@ -205,7 +205,7 @@ itemized_by None from to = Err (Syntax, from)
 
 unfoldable pub itemized : List ℕ → Expected → Bool → Part Meaning
 itemized s (Ok e) inside = itemized_by (attribute_by inside (worded (token_at mixed s e).token)) (token_at mixed s e).from (token_at mixed s e).to
-itemized s (Err (w, p)) inside = Err (w, p)
+itemized s (Err d) inside = Err d
 
 abbrev pub meaning_in : Part Meaning → Meaning
 meaning_in (Ok x) = x.0
@@ -217,15 +217,15 @@ type_by character fixed from to = cond character (Ok (CharacterType, to)) (cond 
 
 unfoldable pub type_from : List ℕ → Expected → Part ValueType
 type_from s (Ok q) = type_by (is_worded (bytes_of "CHARACTER") (token_at mixed s q).token || is_worded (bytes_of "CHAR") (token_at mixed s q).token) (is_worded (bytes_of "FIXED") (token_at mixed s q).token) (token_at mixed s q).from (token_at mixed s q).to
-type_from s (Err (w, p)) = Err (w, p)
+type_from s (Err d) = Err d
 
 unfoldable pub head_up_to : ValueType → ℕ → Expected → Read
 head_up_to v c (Ok to) = Ok (clause_of S.Procedure O.Body c to v)
-head_up_to v c (Err (w, p)) = Err (w, p)
+head_up_to v c (Err d) = Err d
 
 unfoldable pub head_from : List ℕ → ℕ → Part ValueType → Read
 head_from s c (Ok (v, q)) = head_up_to v c (then_sign (bytes_of ";") s (expected (bytes_of ")") s q))
-head_from s c (Err (w, p)) = Err (w, p)
+head_from s c (Err d) = Err d
 
 -- ---- what the definition's answer about a declaration says
 abbrev pub clause_in : D.Declaring → Reading D.Clause
