@@ -20,17 +20,17 @@ use Rattle.definition.specs.declared.Operator.{Operator}
 use Rattle.definition.specs.Values as D
 use Rattle.definition.proofs.Rooms.{over_nil}
 use Rattle.fixed.specs.declared.Fixed.{Fixed}
-use Rattle.fixed.specs.Answer.{result_of}
+use Rattle.fixed.specs.Answer.{result_of, why_of}
 use Rattle.std.specs.declared.cmp.Ordering.{Ordering}
 use Rattle.values.specs.declared.Comparison.{Comparison}
 use Rattle.values.specs.declared.Comparison.TheVariants.{Greater, GreaterEqual, Equal, Less, LessEqual, NotGreater, NotEqual, NotLess}
 use Rattle.values.specs.Answers.{order_for, order_in, is_wanted}
 use Rattle.operators.specs.declared.Value.{Value}
 use Rattle.operators.specs.declared.Value.TheVariants.{Number, Characters, Bits}
-use Rattle.operators.specs.Stands.{value_in, given_in, number_for, size_for, stacked, Ready, Gave, top_of, number_value}
+use Rattle.operators.specs.Stands.{value_in, given_in, size_for, stacked, Ready, Gave, top_of}
 use Rattle.operators.specs.Sides.{calc_of, numbers, numbers_in, pair_for, order_answer, numeric_of, wanted_by, bits_given, Judged}
 use Rattle.operators.proofs.Room.{part_written, below_over, top_in_lem}
-use Rattle.operators.proofs.Answers.{value_number}
+use Rattle.operators.proofs.Answers.{wrong_is, gave_number, gave_wrong}
 use Rattle.operators.proofs.Texts.{never}
 
 -- ---- what follows two numbers, or none
@@ -62,32 +62,31 @@ top_of_lem : (w : List ℕ) (u : ℕ) (x y : Value) → Ready w u (size_for x + 
 top_of_lem w u x y h = top_in_lem u (size_for x) (omega (arith, h.top))
 
 -- ---- arithmetic
-module _ (w : List ℕ) (u : ℕ) (o : Operator) (x y : Value) (p : Result (Fixed × Fixed) Why) (h : pair_for p ≡ numbers_in (value_in w u x) (value_in w (top_of u (size_for x)) y)) where
-  pub calculated_is : (a b : Fixed) (r : Result Fixed FixedError) (k : Result Fixed Why) (g : Result Value Why) → p ≡ Ok (a, b) → result_of r ≡ calc_of o a.value b.value
-      → number_for k ≡ D.from_fixed (result_of r) → g ≡ number_value k
-      → Gave w u (size_for x + size_for y) (stacked u (D.arithmetic (calc_of o) (value_in w u x) (value_in w (u + size_for x) y))) w g
-  unfolding D.arithmetic pair_for
-  calculated_is a b r k g e f i j = record {
-    so = λ d.
-        let q : D.gives (numbers a.value b.value) ≡ numbers_in (value_in w u x) (value_in w (u + size_for x) y) = rw (e, top_of_lem w u x y d) at h in
-        let s : number_for k ≡ D.from_fixed (calc_of o a.value b.value) = i ∙ ap D.from_fixed f in
-        record {
-          is = rw (both_are (value_in w u x) (value_in w (u + size_for x) y) a.value b.value q D.Value (λ a b. D.and_then (D.from_fixed (calc_of o a b)) λ z. D.gives (D.fixed z)), ← s, j)
-              (value_number w u k (omega (arith, d.top)));
-          below = refl;
-        };
-  }
+module _ (w : List ℕ) (u : ℕ) (o : Operator) (x y : Value) where
+  module _ (a b : Fixed) (h : pair_for (Ok (a, b)) ≡ numbers_in (value_in w u x) (value_in w (top_of u (size_for x)) y)) where
+    calculated_from : Ready w u (size_for x + size_for y)
+        → D.arithmetic (calc_of o) (value_in w u x) (value_in w (u + size_for x) y) ≡ D.and_then (D.from_fixed (calc_of o a.value b.value)) (λ z. D.gives (D.fixed z))
+    unfolding D.arithmetic pair_for
+    calculated_from d =
+        let q : D.gives (numbers a.value b.value) ≡ numbers_in (value_in w u x) (value_in w (u + size_for x) y) = rw (top_of_lem w u x y d) at h in
+        both_are (value_in w u x) (value_in w (u + size_for x) y) a.value b.value q D.Value (λ a b. D.and_then (D.from_fixed (calc_of o a b)) λ z. D.gives (D.fixed z))
 
-  pub calculated_not : (e : Why) → p ≡ Err e
-      → Gave w u (size_for x + size_for y) (stacked u (D.arithmetic (calc_of o) (value_in w u x) (value_in w (u + size_for x) y))) w (Err e)
-  unfolding D.arithmetic pair_for given_in stacked
-  calculated_not r e = record {
+    pub calculated_is : (z : Fixed) → result_of (Ok z) ≡ calc_of o a.value b.value
+        → Gave w u (size_for x + size_for y) (stacked u (D.arithmetic (calc_of o) (value_in w u x) (value_in w (u + size_for x) y))) w (Ok (Number z))
+    calculated_is z f = record { so = λ d. (gave_number w u (size_for x + size_for y) z _ (rw (calculated_from d, ← f))).so d }
+
+    pub calculated_out : (e : FixedError) → result_of (Err e) ≡ calc_of o a.value b.value
+        → Gave w u (size_for x + size_for y) (stacked u (D.arithmetic (calc_of o) (value_in w u x) (value_in w (u + size_for x) y))) w (Err (why_of e))
+    calculated_out e f = record { so = λ d. (gave_wrong w u (size_for x + size_for y) (why_of e) _ (rw (calculated_from d, ← f, wrong_is))).so d }
+
+  pub calculated_not : (r : Why) → pair_for (Err r) ≡ numbers_in (value_in w u x) (value_in w (top_of u (size_for x)) y)
+      → Gave w u (size_for x + size_for y) (stacked u (D.arithmetic (calc_of o) (value_in w u x) (value_in w (u + size_for x) y))) w (Err r)
+  unfolding D.arithmetic pair_for
+  calculated_not r h = record {
     so = λ d.
-        let q : D.fails r ≡ numbers_in (value_in w u x) (value_in w (u + size_for x) y) = rw (e, top_of_lem w u x y d) at h in
-        record {
-          is = rw (not_both (value_in w u x) (value_in w (u + size_for x) y) r q D.Value (λ a b. D.and_then (D.from_fixed (calc_of o a b)) λ z. D.gives (D.fixed z)));
-          below = refl;
-        };
+        let q : D.fails r ≡ numbers_in (value_in w u x) (value_in w (u + size_for x) y) = rw (top_of_lem w u x y d) at h in
+        let f : ℤ → ℤ → D.Answer D.Value = λ a b. D.and_then (D.from_fixed (calc_of o a b)) (λ z. D.gives (D.fixed z)) in
+        (gave_wrong w u (size_for x + size_for y) r _ (sym (not_both (value_in w u x) (value_in w (u + size_for x) y) r q D.Value f))).so d;
   }
 
 -- ---- comparison

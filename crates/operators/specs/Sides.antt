@@ -19,9 +19,6 @@ use Rattle.operators.specs.declared.Value.TheVariants.{Number, Characters, Bits}
 use Rattle.operators.specs.Stands.{value_in, given_in, size_for, stacked, as_bit, Ready, Stood}
 
 -- ---- numbers
-unfoldable pub negated_for : D.Answer ℤ → D.Answer ℤ
-negated_for a = D.and_then a λ z. D.from_fixed (F.negative z)
-
 unfoldable pub calc_of : Operator → ℤ → ℤ → F.Result
 calc_of O.Plus a b = F.sum a b
 calc_of O.Minus a b = F.difference a b

@@ -194,10 +194,7 @@ fn capped_number(base: Base, s: &[u8], at: usize, i: usize, n: usize) -> u32
 fn number_of(negative: bool, magnitude: u32) -> Result<Fixed, NumberError>
     ensures { answer_of result ≡ from_fixed (ranged (signed_by negative magnitude)) }
 {
-    let Ok(x) = Fixed::of_magnitude(negative, magnitude) else {
-        return Err(NumberError::OutOfRange);
-    };
-    Ok(x)
+    Fixed::of_magnitude(negative, magnitude).map_err(|_| NumberError::OutOfRange)
 }
 
 // The number that the bytes from i to n past a place write: the form of them all first, and then the range.
