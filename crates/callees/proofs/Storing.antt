@@ -4,6 +4,7 @@ use Rattle.fixed.specs.declared.FixedError.TheVariants.{OutOfRange, ZeroDivisor}
 use Rattle.fixed.specs.declared.FixedError.{FixedError}
 use Rattle.definition.specs.declared.Why.{Why}
 use Rattle.std.proofs.Common.{Option, Some, None, Result, Ok, Err}
+use Rattle.std.specs.Result.{result_unwrap_or}
 use mathlib.Core.Path.{◌≡◌, refl, sym, ap, subst, ◌∙◌}
 use mathlib.Core.Bool.{Bool, true, false, cond}
 use mathlib.Core.List.{List, [], ◌∷◌}
@@ -64,14 +65,14 @@ module _ (h : Held) (i n : ℕ) (x : Result Fixed FixedError) (e : n ≡ held_at
   unfolding fixed_in
   fixed_is = rw (← e, ← f)
 
-  pub fixed_number : (m : Fixed) → x ≡ Ok m → FixedHeld h i m
-  unfolding from_stored
-  fixed_number m g = record { is = sym (fixed_is ∙ rw g); small = ranged_is _ m.value (sym f ∙ rw g) }
+  held_or : (y : Result Fixed FixedError) → x ≡ y → FixedHeld h i (result_unwrap_or y (record { value = pos 0 }))
+  unfolding from_stored F.in_range
+  held_or (Ok m) g = record { is = sym (fixed_is ∙ rw g); small = ranged_is _ m.value (sym f ∙ rw g) }
+  held_or (Err OutOfRange) g = record { is = sym (fixed_is ∙ rw g); small = refl }
+  held_or (Err ZeroDivisor) g = record { is = sym (fixed_is ∙ rw g); small = refl }
 
-  pub fixed_none : (x ≡ (Err OutOfRange)) ⊎ (x ≡ (Err ZeroDivisor)) → FixedHeld h i (record { value = pos 0 })
-  unfolding F.in_range
-  fixed_none (inl g) = record { is = sym (fixed_is ∙ rw g); small = refl }
-  fixed_none (inr g) = record { is = sym (fixed_is ∙ rw g); small = refl }
+  pub fixed_or_zero : (r : Fixed) → r ≡ result_unwrap_or x (record { value = pos 0 }) → FixedHeld h i r
+  fixed_or_zero r g = rw g (held_or x refl)
 
 pub value_number : (h : Held) (i : ℕ) (t : ValueType) (x : Fixed) → t ≡ FixedType → FixedHeld h i x → HeldIs h i t (O.Number x)
 unfolding value_in size_for

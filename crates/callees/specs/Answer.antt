@@ -42,15 +42,19 @@ meant_for M.TheSubstr = E.the_substr
 meant_for M.NoSuch = E.no_such
 
 -- ---- procedures that are running: those from number i on
-unfoldable pub on_from : List ℕ → List ℕ → ℕ → ℕ → List C.Place
-on_from ms rs i zero = []
-on_from ms rs i (suc k) = record { member = get_or ms i 0; row = get_or rs i 0 } ∷ on_from ms rs (suc i) k
-
-abbrev pub on_of : Running → List C.Place
-on_of g = on_from g.members g.rows g.left (16 - g.left)
-
 abbrev pub place_of : Place → C.Place
 place_of p = record { member = p.member; row = p.row }
+
+-- what no array has at a place within it
+abbrev pub blank : Place
+blank = record { member = 0; row = 0 }
+
+unfoldable pub on_from : List Place → ℕ → ℕ → List C.Place
+on_from ps i zero = []
+on_from ps i (suc k) = place_of (get_or ps i blank) ∷ on_from ps (suc i) k
+
+abbrev pub on_of : Running → List C.Place
+on_of g = on_from g.places g.left (16 - g.left)
 
 -- the procedure at p started
 pub record StartedIs (g : Running) (p : Place) (r : Running) : Type 0 where

@@ -17,7 +17,7 @@ ghost use Rattle.callees.specs.declared.Meant.TheVariants.{TheSubstr, NoSuch};
 use chars::spells;
 use deck::body;
 use definition::{ValueType, Why};
-use fixed::{Fixed, FixedError};
+use fixed::Fixed;
 use limits::Levels;
 use names::{Denotation, Owner, Place, find, name_at, seen_from};
 use operators::{Value, above, size_of};
@@ -81,9 +81,7 @@ pub fn meant_by(
 pub struct Running {
     // how many may still be started
     pub left: usize,
-    // stays: two arrays, as the specification none_on of texts names both
-    pub members: [u16; 16],
-    pub rows: [u16; 16],
+    pub places: [Place; 16],
 }
 
 pub fn none_running() -> Running
@@ -91,8 +89,7 @@ pub fn none_running() -> Running
 {
     Running {
         left: Levels::PROCEDURES,
-        members: [0; 16],
-        rows: [0; 16],
+        places: [Place { member: 0, row: 0 }; 16],
     }
 }
 
@@ -100,19 +97,19 @@ pub fn none_running() -> Running
 pub fn is_running(g: Running, p: Place) -> bool
     ensures { result ≡ is_running p.member p.row (on_of g) }
 {
-    // stays: a loop, as the two arrays are read at one place
+    // stays: a loop; a chain of skip and any is no plainer
     for i in g.left..16 {
-        if is_here(g.members[i], g.rows[i], p) {
+        if is_here(g.places[i], p) {
             return true;
         }
     }
     false
 }
 
-fn is_here(member: u16, row: u16, p: Place) -> bool
-    ensures { result ≡ (eqb member p.member && eqb row p.row) }
+fn is_here(q: Place, p: Place) -> bool
+    ensures { result ≡ (eqb q.member p.member && eqb q.row p.row) }
 {
-    member == p.member && row == p.row
+    q.member == p.member && q.row == p.row
 }
 
 // The procedure at p started.
@@ -126,8 +123,7 @@ pub fn started(g: Running, p: Place) -> Running
     let n = g.left - 1;
     all.left = n;
     if n < 16 {
-        all.members[n] = p.member;
-        all.rows[n] = p.row;
+        all.places[n] = p;
     }
     all
 }
@@ -155,16 +151,14 @@ pub fn parameter_at(
 {
     let t = token_at(s, at);
     let found = find(deck, names, count, s, t.from, width(t), Owner::Procedure(p));
-    let Some(a) = found else {
-        return None;
-    };
+    let a = found?;
     match name_at(names, a).denotation {
         Denotation::Variable(value_type) => Some(Parameter {
             address: a.0,
             value_type,
             to: token_at(s, t.to).to,
         }),
-        Denotation::EntryName(_) | Denotation::LabelName(_) | Denotation::Builtin => { None }
+        Denotation::EntryName(_) | Denotation::LabelName(_) | Denotation::Builtin => None,
     }
 }
 
@@ -285,10 +279,7 @@ pub fn held_at(h: Held, i: usize) -> u32
 pub fn fixed_held(h: Held, i: usize) -> Fixed
     ensures { FixedHeld h i result }
 {
-    match Fixed::from_stored(held_at(h, i)) {
-        Ok(n) => n,
-        Err(FixedError::OutOfRange) | Err(FixedError::ZeroDivisor) => Fixed { value: 0 },
-    }
+    Fixed::from_stored(held_at(h, i)).unwrap_or(Fixed { value: 0 })
 }
 
 // ---- values of variables

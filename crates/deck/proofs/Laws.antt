@@ -1,6 +1,7 @@
 -- One law for each way out of a function on the deck; the loops' invariants are records, and say that what is left decides.
 -- Assumes nothing.
 use Rattle.std.proofs.Common.{Some, None}
+use Rattle.std.specs.Bool.{then_some}
 use mathlib.Core.Path.{◌≡◌, refl, sym, ap, ◌∙◌}
 use mathlib.Core.Bool.{Bool, true, false, cond, ◌&&◌}
 use mathlib.Core.List.{List, [], ◌∷◌, ◌++◌}
@@ -384,9 +385,10 @@ module _ (d : List ℕ) (n at k : ℕ) (i : Following d n at k) where
   following_done h = rw (lines_none d n k h) at i.is
 
 -- ---- the whole deck
-pub of_sound : (d : List ℕ) (t : Bool) (n : ℕ) → t ≡ is_sound mixed d → t ≡ true → n ≡ count d → Some (record { lines = n }) ≡ A.answer_for (contents mixed d)
+pub of_deck : (d : List ℕ) (t : Bool) (n : ℕ) → t ≡ is_sound mixed d → n ≡ count d → then_some t (record { lines = n }) ≡ A.answer_for (contents mixed d)
 unfolding contents
-of_sound d t n e f g = rw (← e, f) (ap (λ (m : ℕ). Some (record { lines = m })) (g ∙ sym (length_lines d 0 (count d))))
+of_deck d true n e f = rw (← e) (ap (λ (m : ℕ). Some (record { lines = m })) (f ∙ sym (length_lines d 0 (count d))))
+of_deck d false n e f = rw (← e)
 
 -- ---- the body of a line
 pub body_line : (d : List ℕ) (k from n : ℕ) → from ≡ (line_at d k).offset → n ≡ (line_at d k).size → (r : List ℕ) → r ≡ body_bytes d from n → r ≡ A.body_in d k

@@ -14,11 +14,6 @@ abbrev pub answer_for : D.Contents → Option Deck
 answer_for D.malformed = None
 answer_for (D.holds ls) = Some (record { lines = length ls })
 
--- the number in 01's table; 0 where there is no refusal
-abbrev pub refusal_of : Option Deck → ℕ
-refusal_of None = 1
-refusal_of (Some d) = 0
-
 abbrev pub found_for : D.Found → Option ℕ
 found_for D.none = None
 found_for (D.line k) = Some k

@@ -7,7 +7,7 @@ ghost use Rattle.definition.specs.Lists.{part, all};
 ghost use Rattle.definition.specs.Bytes.{mixed, is_blank};
 ghost use Rattle.definition.specs.Deck.{has_libraries, library_length, line_place, line_at, lines_from, is_member_name, are_named, is_one, is_repeated, are_distinct, is_padded, is_called, follow};
 ghost use Rattle.definition.specs.Deck as D;
-ghost use Rattle.deck.specs.Answer.{answer_for, found_for, refusal_of, body_in, is_named, spelled, sought_in};
+ghost use Rattle.deck.specs.Answer.{answer_for, found_for, body_in, is_named, spelled, sought_in};
 ghost use Rattle.deck.specs.Word.{Word};
 
 use chars::{is_alphameric, is_letter, is_one_name};
@@ -263,16 +263,12 @@ impl Deck {
     // The first number of a deck whose lines name libraries is its count and this.
     pub const LIBRARIES: u16 = 256;
 
-    // The contents of a deck of any bytes.
+    // The contents of a deck of any bytes; none where it is malformed.
     #[tactic(auto, unfolding(definition::specs::Deck::contents))]
     pub fn of(d: &[u8]) -> Option<Deck>
         ensures { result ≡ answer_for (D.contents mixed d.now) }
     {
-        if is_sound(d) {
-            Some(Deck { lines: count(d) })
-        } else {
-            None
-        }
+        is_sound(d).then_some(Deck { lines: count(d) })
     }
 }
 
@@ -281,14 +277,4 @@ pub fn body(d: &[u8], k: u16) -> &[u8]
     ensures { result.now ≡ body_in d.now k }
 {
     body_of(d, offset(d, k) as usize, size(d, k) as usize)
-}
-
-// 01's number for the contents: 0, or 1 where the deck is malformed.
-pub fn refusal(c: Option<Deck>) -> u8
-    ensures { result ≡ refusal_of c }
-{
-    match c {
-        None => 1,
-        Some(_) => 0,
-    }
 }

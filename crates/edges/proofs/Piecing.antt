@@ -89,17 +89,6 @@ none_fit on p bs o a x b e h k = by (leb a x.free) refl e
         go false = refl
     by false i j = rw (lt-leb (pieces on p bs) o.free (h (leb-false a x.free i))) refl
 
-abbrev is_full : Option Out → Bool
-is_full (Some y) = false
-is_full None = true
-
-abbrev out_of : Out → Option Out → Out
-out_of o (Some y) = y
-out_of o None = o
-
-full_done : {A : Type 0} (r : Option Out) (x : Out) → r ≡ None → r ≡ Some x → A
-full_done r x e f = let z : false ≡ true = ap is_full (sym f ∙ e) in absurd (false≢true z)
-
 module _ (s : List ℕ) (from to m : ℕ) (o₀ : Out) (t₀ l₀ : List ℕ) (at : ℕ) (o : Out) (t l : List ℕ) (i : Piecing s from to m o₀ t₀ l₀ at o t l) (h : at < to) (n : ℕ) (pc : PieceIs at to n) (c : ℕ) (ce : c ≡ column (at % 65536)) (r : Option Out) (t' l' : List ℕ) (put : PutsFine (copied m c (part n at s)) o t l r t' l') where
   abbrev bs : List ℕ
   bs = part n at s
@@ -168,13 +157,13 @@ module _ (s : List ℕ) (from to m : ℕ) (o₀ : Out) (t₀ l₀ : List ℕ) (a
 
     done_by : (x : Out) → r ≡ Some x → (b : Bool) → Output.fits e z.events o ≡ b → Output.Answers b e z.events o r t' l' → Along s from to m o₀ es on (at + n) x t' l'
     done_by x q true b a =
+        let same : a.0 ≡ x = cc (a.1, q) in
         let w = two_true _ _ b in
-        let same : a.0 ≡ x = ap (out_of o) (sym a.1 ∙ q) in
         subst (λ (y : Out). Along s from to m o₀ es on (at + n) y t' l') same (more a.0 a.2 (leb-true taken o.free w.0) (leb-true (length bs) o.room w.1))
-    done_by x q false b a = full_done r x a q
+    done_by x q false b a = cc (a, q)
 
     full_by : r ≡ None → (b : Bool) → Output.fits e z.events o ≡ b → Output.Answers b e z.events o r t' l' → Answers (fits on from all o₀) on m from all es o₀ None t' l'
-    full_by q true b a = full_done r a.0 q a.1
+    full_by q true b a = cc (q, a.1)
     full_by q false b a =
         rw (none_fit on from all o₀ taken o (length bs) b (λ u. omega (arith, u, all_counted, z.free)) (λ u. omega (arith, u, size, left, z.room, length_part (to - from) from s))) refl
 

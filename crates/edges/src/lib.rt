@@ -53,10 +53,7 @@ pub fn put_pieces(
     let mut at = from;
     while at < to {
         let n = piece(at, to);
-        let Some(x) = put_copied(src, at, n, text, list, o, member, column(at)) else {
-            return None;
-        };
-        o = x;
+        o = put_copied(src, at, n, text, list, o, member, column(at))?;
         at += n as usize;
     }
     Some(o)

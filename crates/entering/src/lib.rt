@@ -45,21 +45,12 @@ pub struct Spelling {
     pub to: usize,
 }
 
-// The first place stays.
-fn first_of(m: Option<usize>, p: usize) -> Option<usize>
-    ensures { result ≡ B.first_of m p }
-{
-    match m {
-        None => Some(p),
-        Some(_) => m,
-    }
-}
-
+// In both marks the first place stays.
 pub fn with_past(t: Tally, p: usize) -> Tally
     ensures { result ≡ B.tally_past t p }
 {
     Tally {
-        past: first_of(t.past, p),
+        past: t.past.or(Some(p)),
         ..t
     }
 }
@@ -68,7 +59,7 @@ pub fn with_second(t: Tally, p: usize) -> Tally
     ensures { result ≡ B.tally_second t p }
 {
     Tally {
-        second: first_of(t.second, p),
+        second: t.second.or(Some(p)),
         ..t
     }
 }
@@ -213,20 +204,21 @@ pub fn declare(
 pub fn fault_of(t: Tally, f: Result<(), Fault>) -> Result<(), Fault>
     ensures { result ≡ B.fault_in t.past t.second f }
 {
-    match t.past {
-        None => twice_or(t, f),
-        Some(p) => match f {
-            Err((_, q)) if q <= p => f,
-            Err((_, _)) | Ok(()) => Err((Why::OverLimit, p)),
-        },
+    let Some(p) = t.past else {
+        return twice_or(t, f);
+    };
+    match f {
+        Err((_, q)) if q <= p => f,
+        Err(_) | Ok(()) => Err((Why::OverLimit, p)),
     }
 }
 
 fn twice_or(t: Tally, f: Result<(), Fault>) -> Result<(), Fault>
     ensures { result ≡ B.twice_or t.second f }
 {
-    match (f, t.second) {
-        (Ok(()), Some(p)) => Err((Why::DeclaredTwice, p)),
-        (Ok(()), None) | (Err((_, _)), _) => f,
+    f?;
+    match t.second {
+        Some(p) => Err((Why::DeclaredTwice, p)),
+        None => Ok(()),
     }
 }

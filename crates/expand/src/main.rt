@@ -7,7 +7,7 @@
 use definition::Layout;
 use expander::expand;
 use limits::Rooms;
-use meter::{Meter};
+use meter::Meter;
 use std::io::Read;
 use std::rt::Env;
 use std::str;

@@ -3,7 +3,7 @@ use Prim.Native.Nat.{ℕ, suc, ◌-◌, ◌≤◌, ◌<◌}
 use native.Mathlib.Nat.{mul-le-mul}
 use native.Mathlib.Omega.{arith}
 use mathlib.Core.Bool.{Bool, true, false}
-use mathlib.Core.Path.{◌≡◌, refl, sym, ap, ◌∙◌}
+use mathlib.Core.Path.{◌≡◌, refl, sym, ◌∙◌}
 use borrow.Author.Tests.{eq-eqb, ne_eqb}
 use lib.Dec.{T, eqb, lit≤}
 use lib.IntN.{ℤ, pos, negsuc, neg_ℤ, nat_abs, ◌+ℤ◌, ◌-ℤ◌, ◌*ℤ◌, +ℤ_idl}
@@ -12,9 +12,14 @@ use mir.Syntax.{w32, w64}
 use mir.Val.{Fits, SFits, to_z, of_z}
 use mir.Facts.{to_z-of_z}
 use Rattle.definition.specs.Limits.{least_fixed, most_fixed}
-use Rattle.definition.specs.Fixed.{Result, is, out_of_range, zero_divisor, in_range, ranged, quotient}
-use Rattle.fixed.specs.Signed.{eq_z, stored_zero, stored_of, Narrow, Widened}
-use Rattle.fixed.proofs.Magnitude.{size_mag, size_negative, size_sum, size_product, size_quotient, range_size, stored_is, eq_z_same, eq_z_true}
+use Rattle.definition.specs.Refusal.{number_of}
+use Rattle.definition.specs.Fixed.{refusal, Result, is, out_of_range, zero_divisor, in_range, ranged, quotient}
+use Rattle.std.proofs.Common.{Err}
+use Rattle.fixed.specs.declared.FixedError.{FixedError}
+use Rattle.fixed.specs.declared.FixedError.TheVariants.{OutOfRange, ZeroDivisor}
+use Rattle.fixed.specs.Answer.{result_of, why_of}
+use Rattle.fixed.specs.Signed.{stored_zero, stored_of, Narrow, Widened}
+use Rattle.fixed.proofs.Magnitude.{size_mag, size_negative, size_sum, size_product, size_quotient, range_size, stored_is}
 
 -- ---- 32 bits
 
@@ -140,17 +145,7 @@ module _ {a x : ℤ} {r : Bool} (u : Widened x a) (d : r ≡ in_range (read a)) 
   unfolding stored_of
   stored_out e = rw (in_range_lem e)
 
--- ---- the tests
-
-pub same_bits : (x y : ℤ) → mag x < 2147483648 → mag y < 2147483648 → eqb (of_z w32 x) (of_z w32 y) ≡ eq_z x y
-same_bits x y p q = by (eq_z x y) refl
-  where
-    same : of_z w32 x ≡ of_z w32 y → x ≡ y
-    same e = sym (read_narrow p) ∙ ap (to_z w32) e ∙ read_narrow q
-
-    by : (t : Bool) → eq_z x y ≡ t → eqb (of_z w32 x) (of_z w32 y) ≡ t
-    by true e = eq-eqb _ _ (ap (of_z w32) (eq_z_true x y e))
-    by false e = ne_eqb _ _ (λ d. let k : ◌≡◌ {A = ℕ} 0 1 = cc (same d, eq_z_same x) in omega arith)
+-- ---- zero
 
 zero_bits : (z : ℤ) → Narrow z → eqb (of_z w64 z) 0 ≡ eqb (nat_abs z) 0
 zero_bits (pos n) h = refl
@@ -168,3 +163,8 @@ module _ (x : ℤ) {b y : ℤ} (v : Widened y b) where
   pub divisor_other : {R : Result} → (of_z w64 b ≡ 0 → ⊥) → R ≡ ranged (quot_z x y) → R ≡ quotient x y
   unfolding quotient
   divisor_other n e = rw (← zero_test, ne_eqb _ 0 n) e
+
+-- ---- 01's number of the refusal that an error is
+pub refusal_is : (e : FixedError) → number_of (why_of e) ≡ refusal (result_of (Err e))
+refusal_is OutOfRange = refl
+refusal_is ZeroDivisor = refl

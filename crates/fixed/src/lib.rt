@@ -6,10 +6,12 @@ ghost use Rattle.std.specs.Prelude.{◌≡◌, not, nat_abs};
 ghost use Rattle.std.specs.Int.Signed.{lt_z, non_neg};
 ghost use Rattle.definition.specs.Fixed.{in_range, ranged, sum, difference, product, negative, quotient};
 ghost use Rattle.definition.specs.Values.{signed_by};
-ghost use Rattle.fixed.specs.Answer.{result_of};
-ghost use Rattle.fixed.specs.Signed.{eq_z, stored_of, from_stored, Widened};
+ghost use Rattle.fixed.specs.Answer.{result_of, why_of};
+ghost use Rattle.fixed.specs.Signed.{stored_of, from_stored, Widened};
 
-#[derive(Clone, Copy)]
+use definition::Why;
+
+#[derive(Clone, Copy, PartialEq, Eq, PartialOrd, Ord)]
 pub struct Fixed {
     pub value: i32,
 }
@@ -19,6 +21,17 @@ pub struct Fixed {
 pub enum FixedError {
     OutOfRange,
     ZeroDivisor,
+}
+
+impl From<FixedError> for Why {
+    ghost from_gives = { λ e w. w ≡ why_of e };
+
+    fn from(e: FixedError) -> Why {
+        match e {
+            FixedError::OutOfRange => Why::OutOfRange,
+            FixedError::ZeroDivisor => Why::ZeroDivisor,
+        }
+    }
 }
 
 impl Fixed {
@@ -121,12 +134,6 @@ impl Fixed {
         self.value < other.value
     }
 
-    pub fn is_equal(self, other: Fixed) -> bool
-        ensures { result ≡ eq_z self.value other.value }
-    {
-        self.value == other.value
-    }
-
     // A number as a room of unsigned numbers holds it; 0 for a value out of range.
     pub fn stored(self) -> u32
         ensures { result ≡ stored_of self.value }
@@ -143,16 +150,5 @@ impl Fixed {
         ensures { result_of result ≡ from_stored n }
     {
         Fixed::of(i64::from(n) - Fixed::STORED_ZERO)
-    }
-}
-
-// 01's number of a refusal, and 0 where there is none.
-pub fn refusal(a: Result<Fixed, FixedError>) -> u8
-    ensures { result ≡ Rattle.definition.specs.Fixed.refusal (result_of a) }
-{
-    match a {
-        Ok(_) => 0,
-        Err(FixedError::OutOfRange) => 9,
-        Err(FixedError::ZeroDivisor) => 10,
     }
 }

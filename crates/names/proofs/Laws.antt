@@ -2,6 +2,7 @@
 -- Assumes nothing.
 use Rattle.names.specs.declared.Place.{Place}
 use Rattle.std.proofs.Common.{Option, Some, None}
+use Rattle.std.specs.Option.{MatchOption}
 use mathlib.Core.Path.{◌≡◌, refl, sym, ap, ◌∙◌}
 use mathlib.Core.Bool.{Bool, true, false}
 use mathlib.Core.List.{List, [], ◌∷◌, ◌++◌}
@@ -10,8 +11,7 @@ use native.Mathlib.Numerals.{add-one}
 use native.Mathlib.Omega.{arith}
 use borrow.Author.Tests.{ltb-true, ltb-false, eqb-false}
 use lib.Dec.{eqb, ltb, lit<}
-use lib.ListN.{length, get_or, take}
-use Rattle.std.proofs.lemmas.List.{take_more, length-take-le}
+use lib.ListN.{length, get_or}
 use Rattle.definition.specs.Bytes.{mixed, folded}
 use Rattle.definition.specs.Lists.{part, same}
 use Rattle.definition.specs.World as W
@@ -29,7 +29,7 @@ use Rattle.names.specs.declared.Denotation.TheVariants.{Variable, EntryName, Lab
 use Rattle.names.specs.declared.Activity.{Activity}
 use Rattle.names.specs.declared.Activity.TheVariants.{Inactive, Rescanned, CopiedOnly}
 use Rattle.names.specs.declared.Name.{Name}
-use Rattle.names.specs.Table.{owner_of, owner_tag, owner_place, owner_numbers, body_tag, body_place, body_in, flag, activity_number, denotation_tag, denotation_flag, denotation_body, denotation_place, denotation_numbers, numbers_of, spelled, identifier_of, found_for, owner_in, denotation_in, activity_in, name_in, identifiers_from, or_else, seen_in}
+use Rattle.names.specs.Table.{owner_of, owner_tag, owner_place, owner_numbers, body_tag, body_place, body_in, flag, activity_number, denotation_tag, denotation_flag, denotation_body, denotation_place, denotation_numbers, numbers_of, spelled, identifier_of, found_for, owner_in, denotation_in, activity_in, name_in, identifiers_from, or_else}
 
 -- ---- whether a record is that of an identifier
 module _ (d : List ℕ) (x : Name) (s : List ℕ) (from n : ℕ) (o : Owner) where
@@ -79,43 +79,13 @@ module _ (d t w : List ℕ) (k : W.Owner) (n a : ℕ) (s : Searching d t w k n a
   search_none h = ap found_for (rw (ids_none d t n a h) at s.is)
 
 -- ---- its own names first
-known_first : (f g : W.Address) (a : Address) → found_for f ≡ Some a → Some a ≡ found_for (or_else f g)
-known_first (W.address b) g a e = sym e
-known_first W.unknown g a e = let z : ◌≡◌ {A = ℕ} 0 1 = cc in absurd (omega arith)
+pub seen_is : (f g : W.Address) (r q : Option Address) (P : Type 0) → r ≡ found_for f → MatchOption r P (λ a. q ≡ Some a) → (P → q ≡ found_for g) → q ≡ found_for (or_else f g)
+seen_is (W.address b) g (Some a) q P e m h = m ∙ e
+seen_is W.unknown g None q P e m h = h m
+seen_is (W.address b) g None q P e m h = cc
+seen_is W.unknown g (Some a) q P e m h = cc
 
-unknown_first : (f g : W.Address) → found_for f ≡ None → or_else f g ≡ g
-unknown_first (W.address b) g e = let z : ◌≡◌ {A = ℕ} 0 1 = cc in absurd (omega arith)
-unknown_first W.unknown g e = refl
-
-module _ (d t : List ℕ) (n : ℕ) (l : List ℕ) (k : W.Owner) (r : Option Address) (e : r ≡ found_for (address_in l k 0 (identifiers_from d t 0 n))) where
-  own : W.Address
-  own = address_in l k 0 (identifiers_from d t 0 n)
-
-  global : W.Address
-  global = address_in l W.everyone 0 (identifiers_from d t 0 n)
-
-  pub seen_own : (a : Address) → r ≡ Some a → Some a ≡ found_for (seen_in d t n l k)
-  unfolding own global
-  seen_own a f = known_first own global a (sym e ∙ f)
-
-  pub seen_global : (q : Option Address) → r ≡ None → q ≡ found_for (address_in l W.everyone 0 (identifiers_from d t 0 n)) → q ≡ found_for (seen_in d t n l k)
-  unfolding own global
-  seen_global q f g = g ∙ ap found_for (sym (unknown_first own global (sym e ∙ f)))
-
--- ---- writing: numbers one after the other
-ne_lt : (a b : ℕ) → (a ≡ b → ⊥) → b ≤ a → b < a
-ne_lt a b h l = cases (ltb b a) refl
-  where
-    cases : (g : Bool) → ltb b a ≡ g → b < a
-    cases true e = ltb-true b a e
-    cases false e = let k : a ≤ b = ltb-false b a e in absurd (h (omega arith))
-
-pub numbers_more : (r r₁ r₂ xs : List ℕ) (at k : ℕ) → r₁ ≡ over r at (take k xs) → k < length xs → r₂ ≡ over r₁ (at + k) (get_or xs k 0 ∷ []) → r₂ ≡ over r at (take (k + 1) xs)
-numbers_more r r₁ r₂ xs at k e h f =
-    let l : length (take k xs) ≡ k = length-take-le k xs (omega arith) in
-    f ∙ rw e (over_next_at r at (at + k) (take k xs) (get_or xs k 0 ∷ []) (omega (arith, l))) ∙ ap (over r at) (sym (take_more xs k 0 h))
-
--- the whole record
+-- ---- a record is written
 pub whole : (r r₁ r₂ r₃ r₄ : List ℕ) (a at n0 n1 n10 : ℕ) (o : Owner) (x : Denotation) (os ds : List ℕ) → at ≡ 16 * a → os ≡ owner_numbers o → ds ≡ denotation_numbers x
     → r₁ ≡ over r at (n0 ∷ n1 ∷ []) → r₂ ≡ over r₁ (at + 2) os → r₃ ≡ over r₂ (at + 5) ds → r₄ ≡ over r₃ (at + 10) (n10 ∷ [])
     → r₄ ≡ over r (16 * a) (n0 ∷ n1 ∷ (owner_numbers o ++ (denotation_numbers x ++ (n10 ∷ []))))
@@ -187,5 +157,5 @@ name_other t a b x h =
     apart true e i k = let l : a < b = ltb-true a b e in get_d_over_high t (16 * a) (16 * b + i) (numbers_of x) (omega (arith, l))
     apart false e i k =
         let l : b ≤ a = ltb-false a b e in
-        let n : b < a = ne_lt a b h l in
+        let n : b < a = omega arith in
         get_d_over_low t (16 * a) (16 * b + i) (numbers_of x) (omega (arith, n, k))

@@ -13,7 +13,7 @@ ghost use Rattle.names.specs.Table.{owner_of, found_for, identifier_of, identifi
 
 use chars::is_one_name;
 use definition::ValueType;
-use rooms::{number16, put_number16};
+use rooms::{number16, put_number16, put_numbers16};
 use types::{type_in, type_number};
 
 // Where an identifier is spelled in the deck: its place and its length.
@@ -91,15 +91,10 @@ fn owner_in(k: u16, m: u16, r: u16) -> Owner
     }
 }
 
-// stays: beside `owner_in`, since the two public enums differ (a)
 fn body_in(k: u16, m: u16, r: u16) -> Option<Place>
     ensures { result ≡ T.body_in k m r }
 {
-    if k == 0 {
-        None
-    } else {
-        Some(Place { member: m, row: r })
-    }
+    (k != 0).then_some(Place { member: m, row: r })
 }
 
 fn denotation_in(k: u16, x: u16, b: u16, m: u16, r: u16) -> Denotation
@@ -225,19 +220,15 @@ pub fn seen_from(
 ) -> Option<Address>
     ensures { result ≡ found_for (T.seen_in deck.now names.now n (folded mixed (part len from s.now)) (owner_of owner)) }
 {
-    match find(deck, names, n, s, from, len, owner) {
-        Some(a) => Some(a),
-        None => find(deck, names, n, s, from, len, Owner::Everyone),
-    }
-}
-
-// Writes numbers one after the other.
-fn put_numbers(names: &mut [u16], at: usize, numbers: &[u16])
-    ensures { names.new ≡ over names.old at numbers.now }
-{
-    for (k, x) in numbers.iter().enumerate() {
-        put_number16(names, at, k, *x);
-    }
+    find(deck, names, n, s, from, len, owner).or_else(|| find(
+        deck,
+        names,
+        n,
+        s,
+        from,
+        len,
+        Owner::Everyone,
+    ))
 }
 
 fn owner_numbers(o: Owner) -> [u16; 3]
@@ -269,8 +260,8 @@ pub fn put_name(names: &mut [u16], a: Address, x: Name)
     ensures { names.new ≡ over names.old (16 * a.0) (T.numbers_of x) }
 {
     let at = record_place(a);
-    put_numbers(names, at, &[x.identifier.0, x.identifier.1]);
-    put_numbers(names, at + 2, &owner_numbers(x.owner));
-    put_numbers(names, at + 5, &denotation_numbers(x.denotation));
+    put_numbers16(names, at, &[x.identifier.0, x.identifier.1]);
+    put_numbers16(names, at + 2, &owner_numbers(x.owner));
+    put_numbers16(names, at + 5, &denotation_numbers(x.denotation));
     put_number16(names, at, 10, x.activity.into());
 }

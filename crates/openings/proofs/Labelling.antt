@@ -24,6 +24,7 @@ use Rattle.definition.proofs.Parts.{length_part, same_length}
 use Rattle.tokens.specs.declared.Lexeme.{Lexeme}
 use Rattle.tokens.specs.Answer.{written, spelling}
 use Rattle.expressions.specs.Check.{named_for}
+use Rattle.expressions.proofs.Laws.{parts}
 use Rattle.entering.specs.Book.{first_of}
 use Rattle.statements.proofs.Listed.{named_is}
 use Rattle.openings.specs.declared.Labels.{Labels}
@@ -40,7 +41,7 @@ long_none m x a b (refused w q) e h k = let z : ◌≡◌ {A = ℕ} 0 1 = cc in 
 
 pub long_new : (m : Option ℕ) (x : NamedAt) (w : Why) (p : ℕ) (R : Reading Named) → m ≡ None → x ≡ named_for R → x ≡ Err (w, p) → Some p ≡ long_after m R
 long_new m x w p (read n) e h k = let z : ◌≡◌ {A = ℕ} 0 1 = cc in absurd (omega arith)
-long_new m x w p (refused v q) e h k = let z : p ≡ q = cc in rw (e, z)
+long_new m x w p (refused v q) e h k = let z : (w, p) ≡ (v, q) = cc in let y : (w ≡ v) × (p ≡ q) = parts z in rw (e, y.1)
 
 first_more : (ls : List ℕ) (p : ℕ) → first_of (first_long ls) p ≡ first_long (ls ++ p ∷ [])
 first_more [] p = refl

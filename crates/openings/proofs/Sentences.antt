@@ -29,6 +29,7 @@ use Rattle.tokens.specs.declared.Lexeme.{Lexeme}
 use Rattle.tokens.specs.Answer.{Lexed, written, spelling, content, is_word_kind, is_word_in, is_sign_in, token_for}
 use Rattle.tokens.proofs.Lexemes.{token_is, is_word_lem, is_sign_lem}
 use Rattle.expressions.specs.Check.{expect_for, named_for}
+use Rattle.expressions.proofs.Laws.{parts}
 use Rattle.openings.specs.declared.Where.{Where}
 use Rattle.openings.specs.declared.Where.TheVariants as Wh
 use Rattle.openings.specs.declared.Open.{Open}
@@ -176,12 +177,12 @@ module _ (s : List ℕ) (st : D.State) where
 
   module _ (x : NamedAt) where
     pub not_end_name : (R : Reading Named) (from to : ℕ) → x ≡ named_for R → x ≡ Ok (from, to) → D.not_end mixed R s st ≡ D.stop Syntax (token_at mixed s to).from [] st
-    not_end_name (read n) from to h e = let z : n.to ≡ to = cc in ap (λ (q : ℕ). D.stop Syntax (token_at mixed s q).from [] st) z
+    not_end_name (read n) from to h e = let z : (n.place, n.to) ≡ (from, to) = cc in ap (λ (q : ℕ). D.stop Syntax (token_at mixed s q).from [] st) (parts z).1
     not_end_name (refused w p) from to h e = let z : ◌≡◌ {A = ℕ} 0 1 = cc in absurd (omega arith)
 
     pub not_end_refused : (R : Reading Named) (w : Why) (p : ℕ) → x ≡ named_for R → x ≡ Err (w, p) → D.not_end mixed R s st ≡ D.stop w p [] st
     not_end_refused (read n) w p h e = let z : ◌≡◌ {A = ℕ} 0 1 = cc in absurd (omega arith)
-    not_end_refused (refused v q) w p h e = let y : v ≡ w = cc in let z : q ≡ p = cc in rw (y, z)
+    not_end_refused (refused v q) w p h e = let z : (v, q) ≡ (w, p) = cc in let y : (v ≡ w) × (q ≡ p) = parts z in rw (y.0, y.1)
 
 -- ---- in a procedure
 module _ (s : List ℕ) (at : ℕ) (l : Lexeme) (lex : Lexed s at l) (st : D.State) where
@@ -229,7 +230,7 @@ module _ (s : List ℕ) (ns : List Named) (at : ℕ) (x : Open) (os : List D.Ope
   refused_by : (R : Reading ℕ) (w : Why) (p : ℕ) → r ≡ expect_for R → r ≡ Err (w, p) → D.end_read mixed s ns (open_of s x) os st R ≡ D.stop w p [] (D.with_names (St.means st.scope (P.end_label x.row) ns) st)
   unfolding open_of
   refused_by (read n) w p f g = let z : ◌≡◌ {A = ℕ} 0 1 = cc in absurd (omega arith)
-  refused_by (refused v q) w p f g = let y : v ≡ w = cc in let z : q ≡ p = cc in rw (y, z)
+  refused_by (refused v q) w p f g = let z : (v, q) ≡ (w, p) = cc in let y : (v ≡ w) × (q ≡ p) = parts z in rw (y.0, y.1)
 
   pub end_past : (q : ℕ) → r ≡ Ok q → D.end_at mixed s ns at (open_of s x ∷ os) st
       ≡ D.complete mixed s os x.row q (D.with_opened os (D.scope_out (where_of x.kind) st.scope) (D.with_names (St.means st.scope (P.end_label x.row) ns) st))

@@ -50,9 +50,10 @@ took_piece w u v c i n t w' k g e et d ek eg = rw e (record {
       };
 })
 
-pub took_none : (w : List ℕ) (u : ℕ) (v : Value) (c : Option (ℕ × ℕ)) → c ≡ None → Took w u v c w (Err substr_outside)
+pub took_none : (w : List ℕ) (u : ℕ) (v : Value) (c : Option (ℕ × ℕ)) → ((i n : ℕ) → c ≡ Some (i, n) → ⊥) → Took w u v c w (Err substr_outside)
 unfolding piece_of stacked given_in
-took_none w u v c e = rw e (record { so = λ h r. record { is = refl; below = refl } })
+took_none w u v (Some (i, n)) e = absurd (e i n refl)
+took_none w u v None e = record { so = λ h r. record { is = refl; below = refl } }
 
 -- a cut of the definition's lies within
 within_stretch : (size i n : ℕ) → Within size (stretch size i n)

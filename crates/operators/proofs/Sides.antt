@@ -20,17 +20,17 @@ use Rattle.definition.specs.declared.Operator.{Operator}
 use Rattle.definition.specs.Values as D
 use Rattle.definition.proofs.Rooms.{over_nil}
 use Rattle.fixed.specs.declared.Fixed.{Fixed}
-use Rattle.fixed.specs.Answer.{result_of}
-use Rattle.values.specs.declared.Order.{Order}
+use Rattle.fixed.specs.Answer.{result_of, why_of}
+use Rattle.std.specs.declared.cmp.Ordering.{Ordering}
 use Rattle.values.specs.declared.Comparison.{Comparison}
 use Rattle.values.specs.declared.Comparison.TheVariants.{Greater, GreaterEqual, Equal, Less, LessEqual, NotGreater, NotEqual, NotLess}
 use Rattle.values.specs.Answers.{order_for, order_in, is_wanted}
 use Rattle.operators.specs.declared.Value.{Value}
 use Rattle.operators.specs.declared.Value.TheVariants.{Number, Characters, Bits}
-use Rattle.operators.specs.Stands.{value_in, given_in, number_for, size_for, stacked, Ready, Gave, top_of, number_value}
+use Rattle.operators.specs.Stands.{value_in, given_in, size_for, stacked, Ready, Gave, top_of}
 use Rattle.operators.specs.Sides.{calc_of, numbers, numbers_in, pair_for, order_answer, numeric_of, wanted_by, bits_given, Judged}
 use Rattle.operators.proofs.Room.{part_written, below_over, top_in_lem}
-use Rattle.operators.proofs.Answers.{value_number}
+use Rattle.operators.proofs.Answers.{wrong_is, gave_number, gave_wrong}
 use Rattle.operators.proofs.Texts.{never}
 
 -- ---- what follows two numbers, or none
@@ -62,32 +62,31 @@ top_of_lem : (w : List ℕ) (u : ℕ) (x y : Value) → Ready w u (size_for x + 
 top_of_lem w u x y h = top_in_lem u (size_for x) (omega (arith, h.top))
 
 -- ---- arithmetic
-module _ (w : List ℕ) (u : ℕ) (o : Operator) (x y : Value) (p : Result (Fixed × Fixed) Why) (h : pair_for p ≡ numbers_in (value_in w u x) (value_in w (top_of u (size_for x)) y)) where
-  pub calculated_is : (a b : Fixed) (r : Result Fixed FixedError) (k : Result Fixed Why) (g : Result Value Why) → p ≡ Ok (a, b) → result_of r ≡ calc_of o a.value b.value
-      → number_for k ≡ D.from_fixed (result_of r) → g ≡ number_value k
-      → Gave w u (size_for x + size_for y) (stacked u (D.arithmetic (calc_of o) (value_in w u x) (value_in w (u + size_for x) y))) w g
-  unfolding D.arithmetic pair_for
-  calculated_is a b r k g e f i j = record {
-    so = λ d.
-        let q : D.gives (numbers a.value b.value) ≡ numbers_in (value_in w u x) (value_in w (u + size_for x) y) = rw (e, top_of_lem w u x y d) at h in
-        let s : number_for k ≡ D.from_fixed (calc_of o a.value b.value) = i ∙ ap D.from_fixed f in
-        record {
-          is = rw (both_are (value_in w u x) (value_in w (u + size_for x) y) a.value b.value q D.Value (λ a b. D.and_then (D.from_fixed (calc_of o a b)) λ z. D.gives (D.fixed z)), ← s, j)
-              (value_number w u k (omega (arith, d.top)));
-          below = refl;
-        };
-  }
+module _ (w : List ℕ) (u : ℕ) (o : Operator) (x y : Value) where
+  module _ (a b : Fixed) (h : pair_for (Ok (a, b)) ≡ numbers_in (value_in w u x) (value_in w (top_of u (size_for x)) y)) where
+    calculated_from : Ready w u (size_for x + size_for y)
+        → D.arithmetic (calc_of o) (value_in w u x) (value_in w (u + size_for x) y) ≡ D.and_then (D.from_fixed (calc_of o a.value b.value)) (λ z. D.gives (D.fixed z))
+    unfolding D.arithmetic pair_for
+    calculated_from d =
+        let q : D.gives (numbers a.value b.value) ≡ numbers_in (value_in w u x) (value_in w (u + size_for x) y) = rw (top_of_lem w u x y d) at h in
+        both_are (value_in w u x) (value_in w (u + size_for x) y) a.value b.value q D.Value (λ a b. D.and_then (D.from_fixed (calc_of o a b)) λ z. D.gives (D.fixed z))
 
-  pub calculated_not : (e : Why) → p ≡ Err e
-      → Gave w u (size_for x + size_for y) (stacked u (D.arithmetic (calc_of o) (value_in w u x) (value_in w (u + size_for x) y))) w (Err e)
-  unfolding D.arithmetic pair_for given_in stacked
-  calculated_not r e = record {
+    pub calculated_is : (z : Fixed) → result_of (Ok z) ≡ calc_of o a.value b.value
+        → Gave w u (size_for x + size_for y) (stacked u (D.arithmetic (calc_of o) (value_in w u x) (value_in w (u + size_for x) y))) w (Ok (Number z))
+    calculated_is z f = record { so = λ d. (gave_number w u (size_for x + size_for y) z _ (rw (calculated_from d, ← f))).so d }
+
+    pub calculated_out : (e : FixedError) → result_of (Err e) ≡ calc_of o a.value b.value
+        → Gave w u (size_for x + size_for y) (stacked u (D.arithmetic (calc_of o) (value_in w u x) (value_in w (u + size_for x) y))) w (Err (why_of e))
+    calculated_out e f = record { so = λ d. (gave_wrong w u (size_for x + size_for y) (why_of e) _ (rw (calculated_from d, ← f, wrong_is))).so d }
+
+  pub calculated_not : (r : Why) → pair_for (Err r) ≡ numbers_in (value_in w u x) (value_in w (top_of u (size_for x)) y)
+      → Gave w u (size_for x + size_for y) (stacked u (D.arithmetic (calc_of o) (value_in w u x) (value_in w (u + size_for x) y))) w (Err r)
+  unfolding D.arithmetic pair_for
+  calculated_not r h = record {
     so = λ d.
-        let q : D.fails r ≡ numbers_in (value_in w u x) (value_in w (u + size_for x) y) = rw (e, top_of_lem w u x y d) at h in
-        record {
-          is = rw (not_both (value_in w u x) (value_in w (u + size_for x) y) r q D.Value (λ a b. D.and_then (D.from_fixed (calc_of o a b)) λ z. D.gives (D.fixed z)));
-          below = refl;
-        };
+        let q : D.fails r ≡ numbers_in (value_in w u x) (value_in w (u + size_for x) y) = rw (top_of_lem w u x y d) at h in
+        let f : ℤ → ℤ → D.Answer D.Value = λ a b. D.and_then (D.from_fixed (calc_of o a b)) (λ z. D.gives (D.fixed z)) in
+        (gave_wrong w u (size_for x + size_for y) r _ (sym (not_both (value_in w u x) (value_in w (u + size_for x) y) r q D.Value f))).so d;
   }
 
 -- ---- comparison
@@ -96,7 +95,7 @@ order_back D.below = refl
 order_back D.alike = refl
 order_back D.above = refl
 
-pub numeric_is : (X Y : D.Value) (a b : Fixed) (o : Order) → pair_for (Ok (a, b)) ≡ numbers_in X Y → o ≡ order_for (D.numbers_order a.value b.value) → order_answer (Ok o) ≡ numeric_of X Y
+pub numeric_is : (X Y : D.Value) (a b : Fixed) (o : Ordering) → pair_for (Ok (a, b)) ≡ numbers_in X Y → o ≡ order_for (D.numbers_order a.value b.value) → order_answer (Ok o) ≡ numeric_of X Y
 unfolding pair_for order_answer numeric_of
 numeric_is X Y a b o q f = rw (f, order_back) (sym (both_are X Y a.value b.value q D.Order (λ a b. D.gives (D.numbers_order a b))))
 
@@ -104,11 +103,11 @@ pub numeric_not : (X Y : D.Value) (e : Why) → pair_for (Err e) ≡ numbers_in 
 unfolding pair_for order_answer numeric_of
 numeric_not X Y e q = sym (not_both X Y e q D.Order (λ a b. D.gives (D.numbers_order a b)))
 
-pub order_at : (w : List ℕ) (u n m pad t : ℕ) (o : Order) → t ≡ top_of u n → o ≡ order_for (D.bytes_order pad (part n u w) (part m t w))
+pub order_at : (w : List ℕ) (u n m pad t : ℕ) (o : Ordering) → t ≡ top_of u n → o ≡ order_for (D.bytes_order pad (part n u w) (part m t w))
     → order_in o ≡ D.bytes_order pad (part n u w) (part m (top_of u n) w)
 order_at w u n m pad t o e f = rw (f, order_back, e)
 
-module _ (w : List ℕ) (u : ℕ) (x y : Value) (r : Result Order Why) where
+module _ (w : List ℕ) (u : ℕ) (x y : Value) (r : Result Ordering Why) where
   pub compared_number : (z : Fixed) → x ≡ Number z → order_answer r ≡ numeric_of (value_in w u x) (value_in w (top_of u (size_for x)) y)
       → order_answer r ≡ D.compared (value_in w u x) (value_in w (top_of u (size_for x)) y)
   unfolding numeric_of value_in D.compared
@@ -124,7 +123,7 @@ module _ (w : List ℕ) (u : ℕ) (x y : Value) (r : Result Order Why) where
   unfolding numeric_of value_in D.compared
   compared_bits n z e f h = rw e (h ∙ rw f)
 
-module _ (w : List ℕ) (u : ℕ) (x y : Value) (n m : ℕ) (o : Order) where
+module _ (w : List ℕ) (u : ℕ) (x y : Value) (n m : ℕ) (o : Ordering) where
   pub compared_text : x ≡ Characters n → (y ≡ Characters m) ⊎ (y ≡ Bits m) → order_in o ≡ D.bytes_order 32 (part n u w) (part m (top_of u n) w)
       → order_answer (Ok o) ≡ D.compared (value_in w u x) (value_in w (top_of u (size_for x)) y)
   unfolding order_answer value_in D.compared size_for
@@ -142,7 +141,7 @@ module _ (w : List ℕ) (u : ℕ) (x y : Value) (n m : ℕ) (o : Order) where
   compared_bb e f h = rw (e, f, h)
 
 -- ---- the outcome of a comparison
-wanted_is : (c : Comparison) (o : Order) → is_wanted c o ≡ wanted_by c (order_in o)
+wanted_is : (c : Comparison) (o : Ordering) → is_wanted c o ≡ wanted_by c (order_in o)
 unfolding wanted_by
 wanted_is Greater o = refl
 wanted_is GreaterEqual o = refl
@@ -153,7 +152,7 @@ wanted_is NotGreater o = refl
 wanted_is NotEqual o = refl
 wanted_is NotLess o = refl
 
-module _ (w : List ℕ) (u : ℕ) (c : Comparison) (x y : Value) (q : Result Order Why) (h : order_answer q ≡ D.compared (value_in w u x) (value_in w (top_of u (size_for x)) y)) where
+module _ (w : List ℕ) (u : ℕ) (c : Comparison) (x y : Value) (q : Result Ordering Why) (h : order_answer q ≡ D.compared (value_in w u x) (value_in w (top_of u (size_for x)) y)) where
   pub comparing_not : (e : Why) → q ≡ Err e → Judged w u (size_for x + size_for y) (stacked u (D.comparing (wanted_by c) (value_in w u x) (value_in w (u + size_for x) y))) w (Err e)
   unfolding order_answer D.comparing given_in stacked bits_given
   comparing_not r e = record { so = λ d. record { is = rw (← k d); below = refl }; only = λ d. rw (← k d) (sym (over_nil w u)) }
@@ -161,7 +160,7 @@ module _ (w : List ℕ) (u : ℕ) (c : Comparison) (x y : Value) (q : Result Ord
       k : Ready w u (size_for x + size_for y) → D.fails r ≡ D.compared (value_in w u x) (value_in w (u + size_for x) y)
       k d = rw (e, top_of_lem w u x y d) at h
 
-  module _ (o : Order) (e : q ≡ Ok o) (t : Bool) (f : t ≡ leb (u + 1) 65536) where
+  module _ (o : Ordering) (e : q ≡ Ok o) (t : Bool) (f : t ≡ leb (u + 1) 65536) where
     order_is : Ready w u (size_for x + size_for y) → D.gives (order_in o) ≡ D.compared (value_in w u x) (value_in w (u + size_for x) y)
     unfolding order_answer
     order_is d = rw (e, top_of_lem w u x y d) at h

@@ -9,7 +9,7 @@ use Prim.Native.Nat.{ℕ, zero, suc, ◌+◌, ◌≤◌}
 use native.Mathlib.Omega.{arith}
 use borrow.Author.Tests.{le-leb, leb-true}
 use lib.Dec.{leb}
-use lib.IntN.{ℤ, nat_abs}
+use lib.IntN.{nat_abs}
 use lib.ListN.{length, take}
 use Rattle.definition.specs.Limits.{fixed_width}
 use Rattle.definition.specs.Lists.{part, all}
@@ -26,13 +26,14 @@ use Rattle.definition.proofs.Parts.{length_part}
 use Rattle.definition.proofs.Ranges.{text_wide}
 use Rattle.definition.proofs.Rooms.{length_over, over_nil}
 use Rattle.fixed.specs.declared.Fixed.{Fixed}
+use Rattle.fixed.specs.declared.FixedError.{FixedError}
+use Rattle.fixed.specs.Answer.{result_of, why_of}
 use Rattle.values.proofs.Bits.{length_inverted}
 use Rattle.operators.specs.declared.Value.{Value}
 use Rattle.operators.specs.declared.Value.TheVariants.{Number, Characters, Bits}
-use Rattle.operators.specs.Stands.{value_in, given_in, number_for, truth_for, size_for, stacked, Ready, Gave, Told, Made, among_for, number_value, as_bit, as_subject, text_put, bits_put}
-use Rattle.operators.specs.Sides.{negated_for}
+use Rattle.operators.specs.Stands.{value_in, given_in, number_for, truth_for, size_for, stacked, Ready, Gave, Told, Made, among_for, as_bit, as_subject, text_put, bits_put}
 use Rattle.operators.proofs.Room.{part_written, below_over}
-use Rattle.operators.proofs.Answers.{among_is, gave_number, made_gave}
+use Rattle.operators.proofs.Answers.{among_is, wrong_is, gave_number, gave_wrong, made_gave}
 
 -- ---- a list that goes to u as one value
 
@@ -231,16 +232,24 @@ module _ (w : List ℕ) (u n : ℕ) (l : List ℕ) (a : D.Value) (w₁ : List �
       go (D.fails q) f = f
 
 -- ---- signs
-pub prefix_positive : (w : List ℕ) (u n : ℕ) (o : Prefix) (a : D.Value) (x : Result Fixed Why) (g : Result Value Why) → o ≡ Positive
-    → number_for x ≡ D.to_fixed a → g ≡ number_value x → Gave w u n (stacked u (D.prefixed o a)) w g
-unfolding D.prefixed
-prefix_positive w u n o a x g e f k = rw e (gave_number w u n x g _ k (rw f))
+module _ (w : List ℕ) (u n : ℕ) (o : Prefix) (a : D.Value) (x : Fixed) (f : number_for (Ok x) ≡ D.to_fixed a) where
+  pub prefix_positive : o ≡ Positive → Gave w u n (stacked u (D.prefixed o a)) w (Ok (Number x))
+  unfolding D.prefixed number_for
+  prefix_positive e = rw e (gave_number w u n x _ (rw (← f)))
 
-pub prefix_negative : (w : List ℕ) (u n : ℕ) (o : Prefix) (a : D.Value) (x y : Result Fixed Why) (g : Result Value Why) → o ≡ Negative
-    → number_for x ≡ D.to_fixed a → number_for y ≡ negated_for (number_for x) → g ≡ number_value y → Gave w u n (stacked u (D.prefixed o a)) w g
-unfolding D.prefixed negated_for
-prefix_negative w u n o a x y g e f h k = rw e (gave_number w u n y g _ k (rw (h, f) (go (D.to_fixed a))))
-  where
-    go : (t : D.Answer ℤ) → D.and_then (D.and_then t λ z. D.from_fixed (F.negative z)) (λ z. D.gives (D.fixed z)) ≡ D.and_then t (λ z. D.and_then (D.from_fixed (F.negative z)) λ y. D.gives (D.fixed y))
-    go (D.gives z) = refl
-    go (D.fails y) = refl
+  pub prefix_negative : (y : Fixed) → o ≡ Negative → result_of (Ok y) ≡ F.negative x.value → Gave w u n (stacked u (D.prefixed o a)) w (Ok (Number y))
+  unfolding D.prefixed number_for
+  prefix_negative y e g = rw e (gave_number w u n y _ (rw (← f, ← g)))
+
+  pub prefix_out : (r : FixedError) → o ≡ Negative → result_of (Err r) ≡ F.negative x.value → Gave w u n (stacked u (D.prefixed o a)) w (Err (why_of r))
+  unfolding D.prefixed number_for
+  prefix_out r e g = rw e (gave_wrong w u n (why_of r) _ (rw (← f, ← g, wrong_is)))
+
+module _ (w : List ℕ) (u n : ℕ) (o : Prefix) (a : D.Value) (y : Why) (f : number_for (Err y) ≡ D.to_fixed a) where
+  pub positive_wrong : o ≡ Positive → Gave w u n (stacked u (D.prefixed o a)) w (Err y)
+  unfolding D.prefixed number_for
+  positive_wrong e = rw e (gave_wrong w u n y _ (rw (← f)))
+
+  pub negative_wrong : o ≡ Negative → Gave w u n (stacked u (D.prefixed o a)) w (Err y)
+  unfolding D.prefixed number_for
+  negative_wrong e = rw e (gave_wrong w u n y _ (rw (← f)))

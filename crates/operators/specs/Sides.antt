@@ -11,7 +11,7 @@ use Rattle.definition.specs.declared.Operator.TheVariants as O
 use Rattle.values.specs.declared.Comparison.{Comparison}
 use Rattle.values.specs.declared.Comparison.TheVariants.{Greater, GreaterEqual, Equal, Less, LessEqual, NotGreater, NotEqual, NotLess}
 use Rattle.fixed.specs.declared.Fixed.{Fixed}
-use Rattle.values.specs.declared.Order.{Order}
+use Rattle.std.specs.declared.cmp.Ordering.{Ordering}
 use Rattle.values.specs.Answers.{order_in}
 use Rattle.values.specs.Substr.{piece_for}
 use Rattle.operators.specs.declared.Value.{Value}
@@ -19,9 +19,6 @@ use Rattle.operators.specs.declared.Value.TheVariants.{Number, Characters, Bits}
 use Rattle.operators.specs.Stands.{value_in, given_in, size_for, stacked, as_bit, Ready, Stood}
 
 -- ---- numbers
-unfoldable pub negated_for : D.Answer ℤ → D.Answer ℤ
-negated_for a = D.and_then a λ z. D.from_fixed (F.negative z)
-
 unfoldable pub calc_of : Operator → ℤ → ℤ → F.Result
 calc_of O.Plus a b = F.sum a b
 calc_of O.Minus a b = F.difference a b
@@ -51,7 +48,7 @@ pair_for (Ok p) = D.gives (numbers p.0.value p.1.value)
 pair_for (Err y) = D.fails y
 
 -- ---- comparison
-unfoldable pub order_answer : Result Order Why → D.Answer D.Order
+unfoldable pub order_answer : Result Ordering Why → D.Answer D.Order
 order_answer (Ok o) = D.gives (order_in o)
 order_answer (Err y) = D.fails y
 

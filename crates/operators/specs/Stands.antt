@@ -81,10 +81,6 @@ pub record MovedUp (r : List ℕ) (from n to : ℕ) (r' : List ℕ) : Type 0 whe
   pub is : from ≤ to → r' ≡ over r to (part n from r)
 
 -- ---- conversions
-unfoldable pub number_value : Result Fixed Why → Result Value Why
-number_value (Ok x) = Ok (Number x)
-number_value (Err y) = Err y
-
 unfoldable pub as_bit : D.Value → D.Answer D.Value
 as_bit v = D.and_then (D.to_bits v) λ l. D.gives (D.bit_value l)
 

@@ -9,18 +9,19 @@ ghost use Rattle.definition.specs.Room.{over};
 ghost use Rattle.definition.specs.Limits.{unfinished_bytes};
 ghost use Rattle.definition.specs.Values as D;
 ghost use Rattle.fixed.specs.Answer.{result_of};
-ghost use Rattle.values.specs.Answers.{answer_of, order_in};
+ghost use Rattle.values.specs.Answers.{order_in};
 ghost use Rattle.values.specs.Bits.{logic_of};
-ghost use Rattle.operators.specs.Stands.{value_in, number_for, size_for, stacked, Gave, Told, Made, top_of, among_for, limited_for, MovedDown, MovedUp, number_value, as_bit, as_subject, text_put, bits_put};
-ghost use Rattle.operators.specs.Sides.{negated_for, calc_of, numbers_in, pair_for, order_answer, numeric_of, wanted_by, Judged, Raised, First, text_size, number_text, WroteFirst, both_bits, joined_value, same_kind, Took};
+ghost use Rattle.operators.specs.Stands.{value_in, number_for, size_for, stacked, Gave, Told, Made, top_of, among_for, limited_for, MovedDown, MovedUp, as_bit, as_subject, text_put, bits_put};
+ghost use Rattle.operators.specs.Sides.{calc_of, numbers_in, pair_for, order_answer, numeric_of, wanted_by, Judged, Raised, First, text_size, number_text, WroteFirst, both_bits, joined_value, same_kind, Took};
 
 use definition::{Operator, Prefix, ValueType, Why};
 use fixed::{Fixed, FixedError};
 use limits::Filling;
 use rooms::{byte, put_byte};
+use std::cmp::Ordering;
 use values::{
-    Comparison, Logic, NumberError, Order, any_one, are_bits, bit_of, bits_number, bytes_order,
-    combine, cut_part, cut_rest, invert, is_wanted, number_in, numbers_order, put_bits, put_fixed,
+    Comparison, Logic, any_one, are_bits, bit_of, bits_number, bytes_order, combine, cut_part,
+    cut_rest, invert, is_wanted, number_in, numbers_order, put_bits, put_fixed,
 };
 
 // A number, or so many bytes of the work room.
@@ -109,36 +110,14 @@ pub fn move_up(room: &mut [u8], from: usize, n: usize, to: usize)
 
 // ---- conversions
 
-#[tactic(auto, unfolding(crate::specs::Stands::number_for))]
-fn number_given(x: Result<Fixed, NumberError>) -> Result<Fixed, Why>
-    ensures { number_for result ≡ answer_of x }
-{
-    match x {
-        Ok(n) => Ok(n),
-        Err(NumberError::NoConversion) => Err(Why::NoConversion),
-        Err(NumberError::OutOfRange) => Err(Why::OutOfRange),
-    }
-}
-
-#[tactic(auto, unfolding(crate::specs::Stands::number_for))]
-fn answer_given(x: Result<Fixed, FixedError>) -> Result<Fixed, Why>
-    ensures { number_for result ≡ D.from_fixed (result_of x) }
-{
-    match x {
-        Ok(n) => Ok(n),
-        Err(FixedError::OutOfRange) => Err(Why::OutOfRange),
-        Err(FixedError::ZeroDivisor) => Err(Why::ZeroDivisor),
-    }
-}
-
 #[tactic(auto, unfolding(crate::specs::Stands::number_for, crate::specs::Stands::value_in, definition::specs::Values::to_fixed))]
 pub fn to_fixed(work: &[u8], u: usize, v: Value) -> Result<Fixed, Why>
     ensures { number_for result ≡ D.to_fixed (value_in work.now u v) }
 {
     match v {
         Value::Number(x) => Ok(x),
-        Value::Characters(n) => number_given(number_in(work, u, n)),
-        Value::Bits(n) => number_given(bits_number(work, u, n)),
+        Value::Characters(n) => Ok(number_in(work, u, n)?),
+        Value::Bits(n) => Ok(bits_number(work, u, n)?),
     }
 }
 
@@ -181,22 +160,12 @@ pub fn to_bits(work: &mut [u8], u: usize, v: Value) -> Result<Value, Why>
     }
 }
 
-#[tactic(auto, unfolding(crate::specs::Stands::number_value))]
-fn number_value(x: Result<Fixed, Why>) -> Result<Value, Why>
-    ensures { result ≡ number_value x }
-{
-    match x {
-        Ok(n) => Ok(Value::Number(n)),
-        Err(w) => Err(w),
-    }
-}
-
 // "Assignment, argument and RETURN convert to the declared type."
 pub fn convert(work: &mut [u8], u: usize, t: ValueType, v: Value) -> Result<Value, Why>
     ensures { Gave work.old u (size_for v) (stacked u (D.convert t (value_in work.old u v))) work.new result }
 {
     match t {
-        ValueType::FixedType => number_value(to_fixed(work, u, v)),
+        ValueType::FixedType => Ok(Value::Number(to_fixed(work, u, v)?)),
         ValueType::CharacterType => to_characters(work, u, v),
     }
 }
@@ -215,10 +184,8 @@ pub fn subject(work: &mut [u8], u: usize, v: Value) -> Result<Value, Why>
 pub fn holds(work: &mut [u8], u: usize, v: Value) -> Result<bool, Why>
     ensures { Told work.old u (size_for v) (D.holds u (value_in work.old u v)) work.new result }
 {
-    match to_bits(work, u, v) {
-        Ok(x) => Ok(any_one(work, u, size_of(x))),
-        Err(w) => Err(w),
-    }
+    let bits = to_bits(work, u, v)?;
+    Ok(any_one(work, u, size_of(bits)))
 }
 
 // ---- prefix operators
@@ -227,25 +194,13 @@ pub fn prefixed(work: &mut [u8], u: usize, o: Prefix, v: Value) -> Result<Value,
     ensures { Gave work.old u (size_for v) (stacked u (D.prefixed o (value_in work.old u v))) work.new result }
 {
     match o {
-        Prefix::Positive => number_value(to_fixed(work, u, v)),
-        Prefix::Negative => number_value(negated(to_fixed(work, u, v))),
-        Prefix::Complement => match to_bits(work, u, v) {
-            Ok(x) => {
-                invert(work, u, size_of(x));
-                Ok(x)
-            }
-            Err(w) => Err(w),
-        },
-    }
-}
-
-#[tactic(auto, unfolding(crate::specs::Stands::number_for, crate::specs::Sides::negated_for))]
-fn negated(x: Result<Fixed, Why>) -> Result<Fixed, Why>
-    ensures { number_for result ≡ negated_for (number_for x) }
-{
-    match x {
-        Ok(n) => answer_given(n.negate()),
-        Err(w) => Err(w),
+        Prefix::Positive => Ok(Value::Number(to_fixed(work, u, v)?)),
+        Prefix::Negative => Ok(Value::Number(to_fixed(work, u, v)?.negate()?)),
+        Prefix::Complement => {
+            let bits = to_bits(work, u, v)?;
+            invert(work, u, size_of(bits));
+            Ok(bits)
+        }
     }
 }
 
@@ -279,25 +234,19 @@ fn arithmetic(o: Operator, a: Fixed, b: Fixed) -> Result<Fixed, FixedError>
 fn numbers_of(work: &[u8], u: usize, x: Value, y: Value) -> Result<(Fixed, Fixed), Why>
     ensures { pair_for result ≡ numbers_in (value_in work.now u x) (value_in work.now (top_of u (size_for x)) y) }
 {
-    match to_fixed(work, u, x) {
-        Ok(n) => match to_fixed(work, above(u, size_of(x)), y) {
-            Ok(m) => Ok((n, m)),
-            Err(w) => Err(w),
-        },
-        Err(w) => Err(w),
-    }
+    let a = to_fixed(work, u, x)?;
+    let b = to_fixed(work, above(u, size_of(x)), y)?;
+    Ok((a, b))
 }
 
 fn calculated(work: &[u8], u: usize, o: Operator, x: Value, y: Value) -> Result<Value, Why>
     ensures { Gave work.now u (size_for x + size_for y) (stacked u (D.arithmetic (calc_of o) (value_in work.now u x) (value_in work.now (u + size_for x) y))) work.now result }
 {
-    match numbers_of(work, u, x, y) {
-        Ok((a, b)) => number_value(answer_given(arithmetic(o, a, b))),
-        Err(w) => Err(w),
-    }
+    let (a, b) = numbers_of(work, u, x, y)?;
+    Ok(Value::Number(arithmetic(o, a, b)?))
 }
 
-fn numeric_order(work: &[u8], u: usize, x: Value, y: Value) -> Result<Order, Why>
+fn numeric_order(work: &[u8], u: usize, x: Value, y: Value) -> Result<Ordering, Why>
     ensures { order_answer result ≡ numeric_of (value_in work.now u x) (value_in work.now (top_of u (size_for x)) y) }
 {
     let (a, b) = numbers_of(work, u, x, y)?;
@@ -305,14 +254,14 @@ fn numeric_order(work: &[u8], u: usize, x: Value, y: Value) -> Result<Order, Why
 }
 
 // Where they stand: n bytes at u, and m above them.
-fn order_at(work: &[u8], u: usize, n: usize, m: usize, pad: u8) -> Order
+fn order_at(work: &[u8], u: usize, n: usize, m: usize, pad: u8) -> Ordering
     ensures { order_in result ≡ D.bytes_order pad (part n u work.now) (part m (top_of u n) work.now) }
 {
     bytes_order(work, u, n, work, above(u, n), m, pad)
 }
 
 // "numeric if one side is FIXED; else as characters if one is CHARACTER; else bits padded with zeros"
-fn compared(work: &[u8], u: usize, x: Value, y: Value) -> Result<Order, Why>
+fn compared(work: &[u8], u: usize, x: Value, y: Value) -> Result<Ordering, Why>
     ensures { order_answer result ≡ D.compared (value_in work.now u x) (value_in work.now (top_of u (size_for x)) y) }
 {
     // stays: a match in a match; tried on the pair (x, y), but where two pairs share an arm no answer can name its facts
@@ -334,16 +283,12 @@ fn compared(work: &[u8], u: usize, x: Value, y: Value) -> Result<Order, Why>
 fn comparing(work: &mut [u8], u: usize, c: Comparison, x: Value, y: Value) -> Result<Value, Why>
     ensures { Judged work.old u (size_for x + size_for y) (stacked u (D.comparing (wanted_by c) (value_in work.old u x) (value_in work.old (u + size_for x) y))) work.new result }
 {
-    match compared(work, u, x, y) {
-        Ok(order) => {
-            if fits(u, 1) {
-                put_byte(work, u, 0, bit_of(is_wanted(c, order)));
-                return Ok(Value::Bits(1));
-            }
-            Err(Why::TooLong)
-        }
-        Err(w) => Err(w),
+    let order = compared(work, u, x, y)?;
+    if fits(u, 1) {
+        put_byte(work, u, 0, bit_of(is_wanted(c, order)));
+        return Ok(Value::Bits(1));
     }
+    Err(Why::TooLong)
 }
 
 // Makes room below a second side of m bytes, where the first side, a number, takes k.
@@ -372,16 +317,10 @@ fn first_bits(work: &mut [u8], u: usize, x: Value, m: usize) -> Result<Value, Wh
 fn logical(work: &mut [u8], u: usize, o: Logic, x: Value, y: Value) -> Result<Value, Why>
     ensures { Gave work.old u (size_for x + size_for y) (stacked u (D.logical u (logic_of o) (value_in work.old u x) (value_in work.old (u + size_for x) y))) work.new result }
 {
-    match first_bits(work, u, x, size_of(y)) {
-        Ok(first) => {
-            let n = size_of(first);
-            match to_bits(work, above(u, n), y) {
-                Ok(second) => { Ok(Value::Bits(combine(o, work, u, n, size_of(second)))) }
-                Err(w) => Err(w),
-            }
-        }
-        Err(w) => Err(w),
-    }
+    let first = first_bits(work, u, x, size_of(y))?;
+    let n = size_of(first);
+    let second = to_bits(work, above(u, n), y)?;
+    Ok(Value::Bits(combine(o, work, u, n, size_of(second))))
 }
 
 // The bytes that a value has as CHARACTER.
@@ -437,14 +376,10 @@ fn joined(work: &mut [u8], u: usize, x: Value, y: Value) -> Result<Value, Why>
 {
     let n = text_size(x);
     let m = text_size(y);
-    match limited(u, joined_value(x, y, above(n, m))) {
-        Ok(v) => {
-            write_first(work, u, x, size_of(y));
-            write_number(work, above(u, n), y);
-            Ok(v)
-        }
-        Err(w) => Err(w),
-    }
+    let v = limited(u, joined_value(x, y, above(n, m)))?;
+    write_first(work, u, x, size_of(y));
+    write_number(work, above(u, n), y);
+    Ok(v)
 }
 
 // THE INFIX OPERATORS.
@@ -486,13 +421,11 @@ fn same_kind(v: Value, n: usize) -> Value
 fn taken(work: &mut [u8], u: usize, v: Value, c: Option<(usize, usize)>) -> Result<Value, Why>
     ensures { Took work.old u v c work.new result }
 {
-    match c {
-        Some((from, n)) => {
-            move_down(work, above(u, from), n, u);
-            among(u, same_kind(v, n))
-        }
-        None => Err(Why::SubstrOutside),
-    }
+    let Some((from, n)) = c else {
+        return Err(Why::SubstrOutside);
+    };
+    move_down(work, above(u, from), n, u);
+    among(u, same_kind(v, n))
 }
 
 pub fn substr_rest(work: &mut [u8], u: usize, v: Value, from: Fixed) -> Result<Value, Why>

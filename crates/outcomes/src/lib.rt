@@ -95,10 +95,8 @@ fn active_name(
 ) -> Option<(Address, Activity)>
     ensures { ActiveIs deck.now names.now count (folded mixed (part n from t.now)) result }
 {
-    match find(deck, names, count, t, from, n, Owner::Everyone) {
-        Some(a) => active_as(a, name_at(names, a).activity),
-        None => None,
-    }
+    let a = find(deck, names, count, t, from, n, Owner::Everyone)?;
+    active_as(a, name_at(names, a).activity)
 }
 
 // The same of a token of the text at p.
@@ -309,10 +307,8 @@ fn list_at(t: &[u8], p: usize) -> Listing
 pub fn list_of(s: &[u8], work: &[u8], x: Src, p: usize) -> Listing
     ensures { ListIn (room_of s.now work.now x) x.from x.to p result }
 {
-    match bytes_of(s, work, x) {
-        Some(t) => list_at(t, p),
-        None => None,
-    }
+    let t = bytes_of(s, work, x)?;
+    list_at(t, p)
 }
 
 fn end_place(e: Ending, p: usize) -> usize
@@ -383,15 +379,11 @@ pub fn is_rescanned(y: Activity) -> bool
 pub fn settled(work: &mut [u8], d: Dest, u: usize, n: usize, x: Scanned) -> Scanned
     ensures { Settled work.old d u n x work.new result }
 {
-    match x {
-        Ok((k, m)) => {
-            if d.to_work {
-                move_down(work, above(u, n), k, u);
-            }
-            Ok((k, m))
-        }
-        Err((w, m)) => Err((w, m)),
+    let (k, m) = x?;
+    if d.to_work {
+        move_down(work, above(u, n), k, u);
     }
+    Ok((k, m))
 }
 
 // ---- with NORESCAN a value is copied from where it lies to where it goes, and waits nowhere in between

@@ -1,6 +1,6 @@
 -- What the two rooms and the cursor show after one more event: a new line, or the newest line made longer.
 -- Assumes nothing.
-use Rattle.std.proofs.Common.{Some, None}
+use Rattle.std.proofs.Common.{Option, Some, None}
 use mathlib.Core.Path.{◌≡◌, refl, sym, ap, ◌∙◌}
 use mathlib.Core.Bool.{Bool, true, false, cond, ◌&&◌, false≢true}
 use mathlib.Core.List.{List, [], ◌∷◌}
@@ -14,11 +14,13 @@ use Rattle.definition.specs.Lists.{bytes}
 use Rattle.definition.specs.Room.{over, zeros}
 use Rattle.definition.specs.Events.{Event, blank, copied, replaced, bytes_in, text_of, Line, line, goes_on, joins, longer, lines_of, line_bytes, list_bytes}
 use Rattle.definition.proofs.Rooms.{length_over, over_nil, over_next_at, over_again}
+use Rattle.std.specs.Bool.{then_some}
 use Rattle.sums.specs.Numbers.{greatest, sum_to}
 use Rattle.sums.proofs.Laws.{sum_in}
+use Rattle.output.specs.declared.Kind.TheVariants.{Blank, Copied, Replaced}
 use Rattle.output.specs.declared.Newest.{Newest}
 use Rattle.output.specs.declared.Out.{Out}
-use Rattle.output.specs.Shows.{top, line_in, grows_from, Fine, Shows, taken, More, Puts, PutsFine, EndsFine, Begins}
+use Rattle.output.specs.Shows.{kind_number, top, line_in, newest_line, grows_from, growing, Fine, Shows, taken, More, Puts, PutsFine, EndsFine, Begins}
 use Rattle.output.specs.Line.{line_at, PutsLine, At, Wrote, Writes}
 
 -- ---- the place of a line
@@ -46,19 +48,19 @@ six_parts r r₁ r₂ r₃ r₄ r₅ r₆ at k m p n a b c d e f =
     (over_next_at r at (at + 8) (k ∷ m ∷ 0 ∷ 0 ∷ bytes 4 p) (bytes 4 n) refl)
 
 pub line_put : (r r₁ r₂ r₃ r₄ r₅ r₆ : List ℕ) (at : ℕ) (x : Newest) (i j : ℕ) → i ≡ sum_to greatest at 4 → j ≡ sum_to greatest at 8
-    → r₁ ≡ over r (at + 0) (x.kind ∷ []) → r₂ ≡ over r₁ (at + 1) (x.member ∷ []) → r₃ ≡ over r₂ (at + 2) (0 ∷ []) → r₄ ≡ over r₃ (at + 3) (0 ∷ [])
+    → r₁ ≡ over r (at + 0) (kind_number x.kind ∷ []) → r₂ ≡ over r₁ (at + 1) (x.member ∷ []) → r₃ ≡ over r₂ (at + 2) (0 ∷ []) → r₄ ≡ over r₃ (at + 3) (0 ∷ [])
     → r₅ ≡ over r₄ i (bytes 4 x.offset) → r₆ ≡ over r₅ j (bytes 4 x.size) → PutsLine r at x r₆
 line_put r r₁ r₂ r₃ r₄ r₅ r₆ at x i j u v a b c d e f = record {
   is = λ h.
       let at4 : i ≡ at + 4 = u ∙ sym (sum_in greatest at 4 (omega (arith, h))) in
       let at8 : j ≡ at + 8 = v ∙ sym (sum_in greatest at 8 (omega (arith, h))) in
-      six_parts r r₁ r₂ r₃ r₄ r₅ r₆ at x.kind x.member x.offset x.size a b c d (rw at4 at e) (rw at8 at f);
+      six_parts r r₁ r₂ r₃ r₄ r₅ r₆ at (kind_number x.kind) x.member x.offset x.size a b c d (rw at4 at e) (rw at8 at f);
 }
 
 -- ---- a line and the cursor behind it
 pub line_written : (l l' : List ℕ) (o : Out) (k : ℕ) (x : Newest) (n at lines text room new free : ℕ) → length l ≤ greatest → at ≡ line_at k → PutsLine l at x l'
     → lines ≡ sum_to greatest k 1 → text ≡ sum_to greatest o.text n → room ≡ o.room - n → new ≡ lines - o.lines → free ≡ o.free - new
-    → Writes l o k x n (record { text = text; room = room; lines = lines; free = free; newest = x }) l'
+    → Writes l o k x n (record { text = text; room = room; lines = lines; free = free; newest = Some x }) l'
 line_written l l' o k x n at lines text room new free long e w f g h i j = record {
   is = λ a.
       let place : at ≡ 12 * k = e ∙ sym (at_in k (omega (arith, long, a.place))) in
@@ -108,10 +110,29 @@ joins_line (replaced n q l ∷ es) m p = refl
 joins_line (copied n q l ∷ es) m p = grown (joins es n q) (lines_of es) n q (length l) m p (joins_line es n q)
 
 -- a line that grows is there
-pub lines_some : (o : Out) (m p T L : ℕ) (g : Bool) → Fine o T L → g ≡ grows_from (line_in o.newest) m p → g ≡ true → 1 ≤ o.lines
+pub lines_some : (o : Out) (m p T L : ℕ) (g : Bool) → Fine o T L → g ≡ grows_from (newest_line o.newest) m p → g ≡ true → 1 ≤ o.lines
 unfolding grows_from
 lines_some o m p T L g f e y =
-    f.some (eqb-true _ _ (and3 (eqb o.newest.kind 2) (eqb o.newest.member m) (eqb (o.newest.offset + o.newest.size) p) (sym y ∙ e)).0)
+    let l : Line = newest_line o.newest in
+    f.some (eqb-true _ _ (and3 (eqb l.kind 2) (eqb l.member m) (eqb (l.offset + l.size) p) (sym y ∙ e)).0)
+
+-- a token goes on with the newest line, or not
+grows_with : (n : Option Newest) (m p : ℕ) (x : Newest) → growing n m p ≡ Some x → (n ≡ Some x) × (grows_from (newest_line n) m p ≡ true)
+grows_with None m p x e = cc
+grows_with (Some y) m p x e = by (grows_from (line_in y) m p) refl e
+  where
+    by : (t : Bool) → grows_from (line_in y) m p ≡ t → then_some t y ≡ Some x → (Some y ≡ Some x) × (grows_from (line_in y) m p ≡ true)
+    by true f g = (g, f)
+    by false f g = cc
+
+grows_not : (n : Option Newest) (m p : ℕ) → ((x : Newest) → growing n m p ≡ Some x → ⊥) → grows_from (newest_line n) m p ≡ false
+unfolding grows_from
+grows_not None m p e = refl
+grows_not (Some y) m p e = by (grows_from (line_in y) m p) refl e
+  where
+    by : (t : Bool) → grows_from (line_in y) m p ≡ t → ((x : Newest) → then_some t y ≡ Some x → ⊥) → grows_from (line_in y) m p ≡ false
+    by true f g = absurd (g y refl)
+    by false f g = f
 
 -- two tests of equations that say the same
 eqb_iff : (a b c d : ℕ) (t : Bool) → eqb a b ≡ t → (a ≡ b → c ≡ d) → (c ≡ d → a ≡ b) → eqb a b ≡ eqb c d
@@ -139,6 +160,9 @@ module _ (Z l l' : List ℕ) (k : ℕ) (x : Line) (w : l' ≡ over l (12 * k) (l
       w ∙ rw (e, at) (over_again Z (list_bytes ls) (line_bytes y) (line_bytes x) (le_refl 12))
 
 -- ---- one event more
+abbrev longer_line : ℕ → Line → Line
+longer_line n l = line l.kind l.member l.offset (l.size + n)
+
 module _ (e : Event) (es : List Event) (o : Out) (t l t' l' : List ℕ) (k : ℕ) (x : Newest) (n : ℕ) (r : Out)
     (f : Fine o (length t) (length l)) (s : Shows es o t l) (w : Wrote l o k x n r l')
     (text : t' ≡ over t o.text (bytes_in e)) (size : length (bytes_in e) ≡ n) (room : n ≤ o.room) (small : x.size ≤ o.text + n) where
@@ -174,19 +198,13 @@ module _ (e : Event) (es : List Event) (o : Out) (t l t' l' : List ℕ) (k : ℕ
       (list_new (zeros (length l)) l l' k (line_in x) w.list (lines_of es) s.list (c ∙ s.count))
 
   -- the newest line made longer
-  pub more_longer : (ys : List Line) → lines_of es ≡ ys → (m q : ℕ) → grows_from (line_in o.newest) m q ≡ true
-      → lines_of (e ∷ es) ≡ longer n ys → x ≡ record { kind = 2; member = m; offset = o.newest.offset; size = o.newest.size + n }
+  pub more_longer : (ys : List Line) → lines_of es ≡ ys → (m q : ℕ) → grows_from (newest_line o.newest) m q ≡ true
+      → lines_of (e ∷ es) ≡ longer n ys → line_in x ≡ longer_line n (newest_line o.newest)
       → k + 1 ≡ o.lines → taken e es ≡ 0 → More e es o r t' l'
   unfolding grows_from
   more_longer [] p m q g d y c tk = absurd (false≢true (ap (λ (z : Line). grows_from z m q) (sym (s.newest ∙ ap top p)) ∙ g))
   more_longer (z ∷ zs) p m q g d y c tk =
-      let a : line_in o.newest ≡ z = s.newest ∙ ap top p in
-      let h = and3 (eqb o.newest.kind 2) (eqb o.newest.member m) (eqb (o.newest.offset + o.newest.size) q) (sym g) in
-      let two : o.newest.kind ≡ 2 = eqb-true _ _ h.0 in
-      let same : o.newest.member ≡ m = eqb-true _ _ h.1 in
-      let u : line o.newest.kind o.newest.member o.newest.offset (o.newest.size + n) ≡ line 2 m o.newest.offset (o.newest.size + n) = rw (two, same) in
-      let v : line_in x ≡ line z.kind z.member z.offset (z.size + n) =
-      ap line_in y ∙ sym u ∙ ap (λ (b : Line). line b.kind b.member b.offset (b.size + n)) a in
+      let v : line_in x ≡ longer_line n z = y ∙ ap (longer_line n) (s.newest ∙ ap top p) in
       let len : o.lines ≡ suc (length zs) = s.count ∙ ap length p in
       more_by zs (d ∙ rw v) (omega (arith, c, len)) (omega arith) (omega (arith, c)) (omega (arith, c, tk))
       (list_again (zeros (length l)) l l' k (line_in x) w.list z zs (s.list ∙ ap (λ (u : List Line). over (zeros (length l)) 0 (list_bytes u)) p) (omega (arith, c, len)))
@@ -199,7 +217,7 @@ module _ (o : Out) (m p : ℕ) (t l : List ℕ) where
   pub blank_no_room : 1 ≤ o.free → o.room < 1 → PutsFine (blank m p) o t l None t l
   blank_no_room h g = record { is = λ _. record { is = λ es s. rw (le-leb 1 o.free h, lt-leb 1 o.room g) refl } }
 
-  pub blank_done : (t' l' : List ℕ) (r : Out) (x : Newest) → x ≡ record { kind = 1; member = m; offset = p; size = 1 } → 1 ≤ o.free → 1 ≤ o.room
+  pub blank_done : (t' l' : List ℕ) (r : Out) (x : Newest) → x ≡ record { kind = Blank; member = m; offset = p; size = 1 } → 1 ≤ o.free → 1 ≤ o.room
       → t' ≡ over t (o.text + 0) (32 ∷ []) → Writes l o o.lines x 1 r l' → PutsFine (blank m p) o t l (Some r) t' l'
   unfolding lines_of
   blank_done t' l' r x y h g text w = record {
@@ -210,52 +228,71 @@ module _ (o : Out) (m p : ℕ) (t l : List ℕ) where
     };
   }
 
-  module _ (b : List ℕ) (n : ℕ) (size : length b ≡ n) (g : Bool) (is : g ≡ grows_from (line_in o.newest) m p) where
-    joined : (es : List Event) → Shows es o t l → joins es m p ≡ g
-    joined es s = joins_line es m p ∙ rw (← s.newest) (sym is)
+  module _ (b : List ℕ) (n : ℕ) (size : length b ≡ n) (q : Option Newest) (is : q ≡ growing o.newest m p) where
+    joined : (es : List Event) → Shows es o t l → joins es m p ≡ grows_from (newest_line o.newest) m p
+    joined es s = joins_line es m p ∙ rw (← s.newest) refl
 
-    pub longer_no_room : g ≡ true → o.room < n → PutsFine (copied m p b) o t l None t l
-    longer_no_room y h = record { is = λ _. record { is = λ es s. rw (joined es s, y, size, le-leb 0 o.free (omega arith), lt-leb n o.room h) refl } }
+    goes_on_with : (x : Newest) → q ≡ Some x → (o.newest ≡ Some x) × (grows_from (newest_line o.newest) m p ≡ true)
+    goes_on_with x h = grows_with o.newest m p x (sym is ∙ h)
 
-    pub copied_no_line : g ≡ false → o.free < 1 → PutsFine (copied m p b) o t l None t l
-    copied_no_line y h = record { is = λ _. record { is = λ es s. rw (joined es s, y, lt-leb 1 o.free h) refl } }
+    abbrev IsOther : Type 0
+    IsOther = (x : Newest) → q ≡ Some x → ⊥
 
-    pub copied_no_room : g ≡ false → 1 ≤ o.free → o.room < n → PutsFine (copied m p b) o t l None t l
-    copied_no_room y h i = record { is = λ _. record { is = λ es s. rw (joined es s, y, size, le-leb 1 o.free h, lt-leb n o.room i) refl } }
+    begins_new : IsOther → (es : List Event) → Shows es o t l → joins es m p ≡ false
+    begins_new h es s = joined es s ∙ grows_not o.newest m p (λ x e. h x (is ∙ e))
+
+    pub longer_no_room : (x : Newest) → q ≡ Some x → o.room < n → PutsFine (copied m p b) o t l None t l
+    longer_no_room x y h = record { is = λ _. record { is = λ es s. rw (joined es s, (goes_on_with x y).1, size, le-leb 0 o.free (omega arith), lt-leb n o.room h) refl } }
+
+    pub copied_no_line : IsOther → o.free < 1 → PutsFine (copied m p b) o t l None t l
+    copied_no_line y h = record { is = λ _. record { is = λ es s. rw (begins_new y es s, lt-leb 1 o.free h) refl } }
+
+    pub copied_no_room : IsOther → 1 ≤ o.free → o.room < n → PutsFine (copied m p b) o t l None t l
+    copied_no_room y h i = record { is = λ _. record { is = λ es s. rw (begins_new y es s, size, le-leb 1 o.free h, lt-leb n o.room i) refl } }
 
     module _ (t' l' : List ℕ) (r : Out) (room : n ≤ o.room) (text : t' ≡ over t o.text b) where
-      longer_fine : Fine o (length t) (length l) → (k : ℕ) (x : Newest) → x ≡ record { kind = 2; member = m; offset = o.newest.offset; size = o.newest.size + n } → k ≡ o.lines - 1 → 1 ≤ o.lines
-          → g ≡ true → Wrote l o k x n r l' → Puts (copied m p b) o t l (Some r) t' l'
-      unfolding lines_of
-      longer_fine f k x y c some q w = record {
-        is = λ es s.
-            let j : joins es m p ≡ true = joined es s ∙ q in
-            rw (j, size, le-leb 0 o.free (omega arith), le-leb n o.room room)
-            (r, refl, more_longer (copied m p b) es o t l t' l' k x n r f s w text size room (rw y (omega (arith, f.line))) (lines_of es) refl m p (sym is ∙ q) (rw (j, size) refl) y (omega arith) (rw j refl));
-      }
+      module _ (x : Newest) (y : q ≡ Some x) where
+        at : o.newest ≡ Some x
+        at = (goes_on_with x y).0
 
-      pub longer_done : (k z : ℕ) (x : Newest) → x ≡ record { kind = 2; member = m; offset = o.newest.offset; size = z } → z ≡ sum_to 4294967295 o.newest.size n → k ≡ o.lines - 1
-          → g ≡ true → Writes l o k x n r l' → PutsFine (copied m p b) o t l (Some r) t' l'
-      longer_done k z x y i c q w = record {
-        is = λ f.
-            let some : 1 ≤ o.lines = lines_some o m p (length t) (length l) g f is q in
-            let sizes : z ≡ o.newest.size + n = i ∙ sym (sum_in 4294967295 o.newest.size n (omega (arith, room, f.line, f.most))) in
-            longer_fine f k x (rw sizes at y) c some q (w.is (newest_at o l (length t) n k f c some room));
-      }
+        goes : grows_from (newest_line o.newest) m p ≡ true
+        goes = (goes_on_with x y).1
 
-      pub copied_done : (x : Newest) → x ≡ record { kind = 2; member = m; offset = p; size = n } → g ≡ false → 1 ≤ o.free
+        low : Fine o (length t) (length l) → x.size ≤ o.text
+        low f = rw at at f.line
+
+        longer_fine : Fine o (length t) (length l) → (k : ℕ) → k ≡ o.lines - 1 → 1 ≤ o.lines
+            → Wrote l o k (record { kind = x.kind; member = x.member; offset = x.offset; size = x.size + n }) n r l' → Puts (copied m p b) o t l (Some r) t' l'
+        unfolding lines_of
+        longer_fine f k c some w = record {
+          is = λ es s.
+              let j : joins es m p ≡ true = joined es s ∙ goes in
+              rw (j, size, le-leb 0 o.free (omega arith), le-leb n o.room room)
+              (r, refl, more_longer (copied m p b) es o t l t' l' k (record { kind = x.kind; member = x.member; offset = x.offset; size = x.size + n }) n r f s w text size room (omega (arith, low f)) (lines_of es) refl m p goes (rw (j, size) refl) (rw at refl) (omega arith) (rw j refl));
+        }
+
+        pub longer_done : (k z : ℕ) → z ≡ sum_to 4294967295 x.size n → k ≡ o.lines - 1
+            → Writes l o k (record { kind = x.kind; member = x.member; offset = x.offset; size = z }) n r l' → PutsFine (copied m p b) o t l (Some r) t' l'
+        longer_done k z i c w = record {
+          is = λ f.
+              let some : 1 ≤ o.lines = lines_some o m p (length t) (length l) true f (sym goes) refl in
+              let sizes : z ≡ x.size + n = i ∙ sym (sum_in 4294967295 x.size n (omega (arith, room, low f, f.most))) in
+              longer_fine f k c some (rw sizes at (w.is (newest_at o l (length t) n k f c some room)));
+        }
+
+      pub copied_done : (x : Newest) → x ≡ record { kind = Copied; member = m; offset = p; size = n } → IsOther → 1 ≤ o.free
           → Writes l o o.lines x n r l' → PutsFine (copied m p b) o t l (Some r) t' l'
       unfolding lines_of
-      copied_done x y q h w = record {
+      copied_done x y none h w = record {
         is = λ f. record {
           is = λ es s.
-              let j : joins es m p ≡ false = joined es s ∙ q in
+              let j : joins es m p ≡ false = begins_new none es s in
               rw (j, size, le-leb 1 o.free h, le-leb n o.room room)
               (r, refl, more_new (copied m p b) es o t l t' l' o.lines x n r f s (w.is (next_at o l (length t) n f h room)) text size room (rw y (omega arith)) (rw (j, size, y) refl) refl h (rw j refl));
         };
       }
 
-pub replaced_done : (o : Out) (m p n T : ℕ) (l l' : List ℕ) (r : Out) (x : Newest) → x ≡ record { kind = 3; member = m; offset = p; size = n }
+pub replaced_done : (o : Out) (m p n T : ℕ) (l l' : List ℕ) (r : Out) (x : Newest) → x ≡ record { kind = Replaced; member = m; offset = p; size = n }
     → Writes l o o.lines x n r l' → EndsFine m p n o T l r l'
 unfolding lines_of
 replaced_done o m p n T l l' r x y w = record {
@@ -273,7 +310,7 @@ begin_shows t l o e f b = record {
   at = b.text;
   list = f ∙ sym (over_nil (zeros (length l)) 0);
   count = b.lines;
-  newest = b.newest;
+  newest = ap newest_line b.newest;
 }
 
 capped_low : (g : Bool) (n : ℕ) → leb n 4294967295 ≡ g → (cond g n 4294967295 ≤ n) × (cond g n 4294967295 ≤ 4294967295)
@@ -283,8 +320,8 @@ capped_low false n e = let h : 4294967295 < n = leb-false n 4294967295 e in (ome
 pub begin_fine : (T L : ℕ) (o : Out) → Begins T L o → Fine o T L
 begin_fine T L o b =
     let h = capped_low (leb T 4294967295) T refl in
-    let k : o.newest.kind ≡ 0 = ap (λ (x : Line). x.kind) b.newest in
-    let z : o.newest.size ≡ 0 = ap (λ (x : Line). x.size) b.newest in
+    let k : (newest_line o.newest).kind ≡ 0 = ap (λ (x : Option Newest). (newest_line x).kind) b.newest in
+    let z : (newest_line o.newest).size ≡ 0 = ap (λ (x : Option Newest). (newest_line x).size) b.newest in
     record {
       text = omega (arith, b.text, b.room, h.0);
       most = omega (arith, b.text, b.room, h.1);

@@ -1,5 +1,5 @@
 -- Writing one line: what is ensured of a line and a cursor that lie in the rooms.
-use Rattle.std.specs.Prelude.{ℕ, ◌+◌, ◌*◌, ◌-◌, ◌/◌, ◌≤◌, ◌≡◌, cond, List, leb, length}
+use Rattle.std.specs.Prelude.{ℕ, ◌+◌, ◌*◌, ◌-◌, ◌/◌, ◌≤◌, ◌≡◌, cond, List, leb, length, Some}
 use Rattle.definition.specs.Room.{over}
 use Rattle.definition.specs.Events.{line_bytes}
 use Rattle.sums.specs.Numbers.{greatest}
@@ -25,7 +25,7 @@ pub record At (l : List ℕ) (o : Out) (k n : ℕ) : Type 0 where
 
 pub record Wrote (l : List ℕ) (o : Out) (k : ℕ) (x : Newest) (n : ℕ) (r : Out) (l' : List ℕ) : Type 0 where
   pub list : l' ≡ over l (12 * k) (line_bytes (line_in x))
-  pub out : r ≡ record { text = o.text + n; room = o.room - n; lines = k + 1; free = o.free - (k + 1 - o.lines); newest = x }
+  pub out : r ≡ record { text = o.text + n; room = o.room - n; lines = k + 1; free = o.free - (k + 1 - o.lines); newest = Some x }
 
 -- THE ENSURES, for such a line
 pub record Writes (l : List ℕ) (o : Out) (k : ℕ) (x : Newest) (n : ℕ) (r : Out) (l' : List ℕ) : Type 0 where

@@ -3,8 +3,17 @@
 use Rattle.std.specs.Prelude.{ℕ, ◌+◌, ◌*◌, ◌-◌, ◌/◌, ◌≤◌, ◌≡◌, Bool, true, false, cond, ◌&&◌, List, [], ◌∷◌, leb, eqb, length, Option, Some, None}
 use Rattle.definition.specs.Room.{over, zeros}
 use Rattle.definition.specs.Events.{Event, blank, copied, replaced, bytes_in, joins, text_of, Line, line, lines_of, list_bytes}
+use Rattle.std.specs.Bool.{then_some}
+use Rattle.output.specs.declared.Kind.{Kind}
+use Rattle.output.specs.declared.Kind.TheVariants.{Blank, Copied, Replaced}
 use Rattle.output.specs.declared.Newest.{Newest}
 use Rattle.output.specs.declared.Out.{Out}
+
+-- the number of a kind
+abbrev pub kind_number : Kind → ℕ
+kind_number Blank = 1
+kind_number Copied = 2
+kind_number Replaced = 3
 
 -- the newest line, or one of kind 0
 abbrev pub top : List Line → Line
@@ -12,26 +21,35 @@ top [] = line 0 0 0 0
 top (l ∷ ls) = l
 
 abbrev pub line_in : Newest → Line
-line_in x = line x.kind x.member x.offset x.size
+line_in x = line (kind_number x.kind) x.member x.offset x.size
+
+abbrev pub newest_line : Option Newest → Line
+newest_line None = line 0 0 0 0
+newest_line (Some x) = line_in x
 
 -- whether a token copied from the place p of member m goes on with a line
 unfoldable pub grows_from : Line → ℕ → ℕ → Bool
 grows_from l m p = eqb l.kind 2 && eqb l.member m && eqb (l.offset + l.size) p
+
+-- the newest line, if such a token goes on with it
+abbrev pub growing : Option Newest → ℕ → ℕ → Option Newest
+growing None m p = None
+growing (Some x) m p = then_some (grows_from (line_in x) m p) x
 
 -- the numbers fit rooms of t bytes of text and l bytes of lines
 pub record Fine (o : Out) (t l : ℕ) : Type 0 where
   pub text : o.text + o.room ≤ t
   pub most : o.text + o.room ≤ 4294967295
   pub list : 12 * (o.lines + o.free) ≤ l
-  pub line : o.newest.size ≤ o.text
-  pub some : o.newest.kind ≡ 2 → 1 ≤ o.lines
+  pub line : (newest_line o.newest).size ≤ o.text
+  pub some : (newest_line o.newest).kind ≡ 2 → 1 ≤ o.lines
 
 pub record Shows (es : List Event) (o : Out) (t l : List ℕ) : Type 0 where
   pub text : t ≡ over (zeros (length t)) 0 (text_of es)
   pub at : o.text ≡ length (text_of es)
   pub list : l ≡ over (zeros (length l)) 0 (list_bytes (lines_of es))
   pub count : o.lines ≡ length (lines_of es)
-  pub newest : line_in o.newest ≡ top (lines_of es)
+  pub newest : newest_line o.newest ≡ top (lines_of es)
 
 -- the lines that an event takes behind others
 abbrev pub taken : Event → List Event → ℕ
@@ -76,4 +94,4 @@ pub record Begins (T L : ℕ) (r : Out) : Type 0 where
   pub room : r.room ≡ cond (leb T 4294967295) T 4294967295
   pub lines : r.lines ≡ 0
   pub free : r.free ≡ L / 12
-  pub newest : line_in r.newest ≡ line 0 0 0 0
+  pub newest : r.newest ≡ None

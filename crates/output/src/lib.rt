@@ -5,29 +5,45 @@ ghost use Rattle.std.specs.Prelude.{◌≡◌, length, leb, cond};
 ghost use Rattle.definition.specs.Limits.{text_bytes};
 ghost use Rattle.definition.specs.Lists.{part};
 ghost use Rattle.definition.specs.Events.{blank, copied};
-ghost use Rattle.output.specs.Shows.{line_in, grows_from, PutsFine, EndsFine, Begins};
+ghost use Rattle.output.specs.Shows.{kind_number, line_in, grows_from, growing, PutsFine, EndsFine, Begins};
 ghost use Rattle.output.specs.Line.{line_at, PutsLine, Writes};
 
 use rooms::{copy, put_byte, put_u32};
 use sums::{less, sum, sum32};
 
-// The newest line of the list; kind 0 where there is none.
+// What a line tells of: a blank that was put in, a stretch that was copied, the outcome of a replacement.
+#[derive(Clone, Copy, PartialEq, Eq)]
+pub enum Kind {
+    Blank = 1,
+    Copied = 2,
+    Replaced = 3,
+}
+
+// A line of the list, while it is the newest.
 #[derive(Clone, Copy)]
 pub struct Newest {
-    pub kind: u8,
+    pub kind: Kind,
     pub member: u8,
     pub offset: u32,
     pub size: u32,
 }
 
-// What has been put out: bytes and lines; the bytes and lines that the rooms may still take; the newest line.
+// What has been put out: bytes and lines; the bytes and lines that the rooms may still take; the newest line, if there is one.
 #[derive(Clone, Copy)]
 pub struct Out {
     pub text: usize,
     pub room: usize,
     pub lines: usize,
     pub free: usize,
-    pub newest: Newest,
+    pub newest: Option<Newest>,
+}
+
+impl From<Kind> for u8 {
+    ghost from_gives = { λ x r. r ≡ kind_number x };
+
+    fn from(x: Kind) -> u8 {
+        x as u8
+    }
 }
 
 // The text room counts at 4,294,967,295 bytes at most.
@@ -51,12 +67,7 @@ impl Out {
             room: capped(text),
             lines: 0,
             free: list / Out::LINE,
-            newest: Newest {
-                kind: 0,
-                member: 0,
-                offset: 0,
-                size: 0,
-            },
+            newest: None,
         }
     }
 }
@@ -73,7 +84,7 @@ fn line_at(k: usize) -> usize
 fn put_line(list: &mut [u8], at: usize, x: Newest)
     ensures { PutsLine list.old at x list.new }
 {
-    put_byte(list, at, 0, x.kind);
+    put_byte(list, at, 0, x.kind.into());
     put_byte(list, at, 1, x.member);
     put_byte(list, at, 2, 0);
     put_byte(list, at, 3, 0);
@@ -81,12 +92,19 @@ fn put_line(list: &mut [u8], at: usize, x: Newest)
     put_u32(list, sum(at, 8), x.size);
 }
 
-// Whether a token copied from a place goes on with the newest line.
+// Whether a token copied from a place goes on with a line.
 #[tactic(auto, using(crate::proofs::Laws::ends), unfolding(crate::specs::Shows::grows_from))]
 fn grows_from(x: Newest, member: u8, place: u32) -> bool
     ensures { result ≡ grows_from (line_in x) member place }
 {
-    x.kind == 2 && x.member == member && x.offset <= place && place - x.offset == x.size
+    x.kind == Kind::Copied && x.member == member && x.offset <= place && place - x.offset == x.size
+}
+
+// The newest line, if a token copied from a place goes on with it.
+fn growing(newest: Option<Newest>, member: u8, place: u32) -> Option<Newest>
+    ensures { result ≡ growing newest member place }
+{
+    newest.filter(|x| grows_from(*x, member, place))
 }
 
 // The line x as line k of the list, behind n bytes more of text.
@@ -100,7 +118,7 @@ fn with_line(list: &mut [u8], o: Out, k: usize, x: Newest, n: usize) -> Out
         room: less(o.room, n),
         lines,
         free: less(o.free, less(lines, o.lines)),
-        newest: x,
+        newest: Some(x),
     }
 }
 
@@ -113,7 +131,7 @@ pub fn put_blank(text: &mut [u8], list: &mut [u8], o: Out, member: u8, place: u3
     }
     put_byte(text, o.text, 0, 32);
     let x = Newest {
-        kind: 1,
+        kind: Kind::Blank,
         member,
         offset: place,
         size: 1,
@@ -135,25 +153,23 @@ pub fn put_copied(
     ensures { PutsFine (copied member place (part n from src.now)) o text.old list.old result text.new list.new }
 {
     let size = n as usize;
-    if grows_from(o.newest, member, place) {
+    if let Some(x) = growing(o.newest, member, place) {
         if o.room < size {
             return None;
         }
         copy(src, from, size, text, o.text);
-        let x = Newest {
-            kind: 2,
-            member,
-            offset: o.newest.offset,
-            size: sum32(o.newest.size, n),
+        let longer = Newest {
+            size: sum32(x.size, n),
+            ..x
         };
-        return Some(with_line(list, o, less(o.lines, 1), x, size));
+        return Some(with_line(list, o, less(o.lines, 1), longer, size));
     }
     if o.free < 1 || o.room < size {
         return None;
     }
     copy(src, from, size, text, o.text);
     let x = Newest {
-        kind: 2,
+        kind: Kind::Copied,
         member,
         offset: place,
         size: n,
@@ -166,7 +182,7 @@ pub fn put_replaced(text: &[u8], list: &mut [u8], o: Out, member: u8, place: u32
     ensures { EndsFine member place n o (length text.now) list.old result list.new }
 {
     let x = Newest {
-        kind: 3,
+        kind: Kind::Replaced,
         member,
         offset: place,
         size: n,

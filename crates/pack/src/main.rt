@@ -360,7 +360,7 @@ fn pack(
 // Writes the deck, once the proved reader of decks calls it sound.
 fn write_deck(out: &impl Print, log: &impl Print, room: &[u8], size: u32) -> Result<(), Refused> {
     match room.get(..size as usize) {
-        Some(made) if matches!(Deck::of(made), Some(_)) => out
+        Some(made) if Deck::of(made).is_some() => out
             .write_all(made)
             .map_err(|error| refuse_for_system(log, b"standard output", error)),
         _ => Err(refuse(log, b"the deck", b"it came out malformed")),

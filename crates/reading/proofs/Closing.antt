@@ -122,12 +122,12 @@ ends_long d s n x labels q n' y r h e = record { so = λ t i. stops_named d s n 
 -- ---- a word that is not END
 module _ (s : List ℕ) (x : State) (at : ℕ) (a : NamedAt) (h : a ≡ named_for (name_at mixed s at)) (r : Turned) where
   next_name_lem : (R : Reading Named) (from to : ℕ) → a ≡ named_for R → a ≡ Ok (from, to) → Nx.Stop Syntax (token_at mixed s to).from ≡ not_end_next s R
-  next_name_lem (read n) from to f e = let z : to ≡ n.to = cc in ap (λ (q : ℕ). Nx.Stop Syntax (token_at mixed s q).from) z
+  next_name_lem (read n) from to f e = let z : (from, to) ≡ (n.place, n.to) = cc in ap (λ (p : ℕ × ℕ). Nx.Stop Syntax (token_at mixed s p.1).from) z
   next_name_lem (refused w p) from to f e = let z : ◌≡◌ {A = ℕ} 0 1 = cc in absurd (omega arith)
 
   next_refused : (R : Reading Named) (w : Why) (p : ℕ) → a ≡ named_for R → a ≡ Err (w, p) → Nx.Stop w p ≡ not_end_next s R
   next_refused (read n) w p f e = let z : ◌≡◌ {A = ℕ} 0 1 = cc in absurd (omega arith)
-  next_refused (refused v q) w p f e = let y : w ≡ v = cc in let z : p ≡ q = cc in rw (y, z)
+  next_refused (refused v q) w p f e = let z : (w, p) ≡ (v, q) = cc in ap (λ (f : Why × ℕ). Nx.Stop f.0 f.1) z
 
   pub not_end_word : (from to : ℕ) (u : Lexeme) → a ≡ Ok (from, to) → Lexed s to u → r ≡ turned x (Nx.Stop Syntax u.from) → r ≡ turned x (not_end_next s (name_at mixed s at))
   not_end_word from to u e l f = f ∙ ap (λ (q : ℕ). turned x (Nx.Stop Syntax q)) l.from ∙ ap (λ (z : Next). turned x z) (next_name_lem (name_at mixed s at) from to h e)

@@ -1,6 +1,6 @@
 -- HOW MANY SENTENCES there may be in those entered: what comes of a member with one too many, and of one with none too many.
 -- Assumes nothing.
-use Rattle.std.proofs.Common.{Option, Some, None, Err}
+use Rattle.std.proofs.Common.{Option, Some, None, Result, Err}
 use Prim.Native.Nat.{ℕ, zero, suc, ◌+◌, ◌-◌, ◌≤◌}
 use native.Mathlib.Omega.{arith}
 use mathlib.Core.Bool.{Bool, true, false, cond, ◌||◌}
@@ -84,7 +84,7 @@ one_too_many m w s p e st h k f = sentence_past m w.identifiers (entered_sentenc
 
 -- so the member stays out, as the names that were entered before that sentence decide
 past_by : (m : ℕ) (x : Source) (w : W.World) (c : Book) (p q : ℕ) (b : Bool) (second : Option ℕ)
-    → Entry m x c (N.entered_as (cond b (faulty OverLimit q) (faulty OverLimit p)) m x w) (cond b (Err (OverLimit, q)) (Err (OverLimit, p)))
+    → Entry m x c (N.entered_as (cond b (faulty OverLimit q) (faulty OverLimit p)) m x w) (cond {A = Result (Unit {0}) (Why × ℕ)} b (Err (OverLimit, q)) (Err (OverLimit, p)))
 past_by m x w c p q true second = stays_out OverLimit q refl refl
 past_by m x w c p q false second = stays_out OverLimit p refl refl
 

@@ -212,13 +212,13 @@ loop_again d t₀ n₀ m entered names s t n x mode at (suc f) h l t' n' r k m' 
 }
 
 -- ---- THE DECISION
-faulty_in : (p q : Option ℕ) (e : Why) (r : ℕ) → fault_in p q (Err (e, r)) ≡ (Ok tt) → ⊥
+faulty_in : (p q : Option ℕ) (e : Why) (r : ℕ) → fault_in p q (Err (e, r)) ≡ Ok tt → ⊥
 unfolding fault_in
 faulty_in None None e r z = let y : ◌≡◌ {A = ℕ} 0 1 = cc in omega arith
 faulty_in None (Some q) e r z = let y : ◌≡◌ {A = ℕ} 0 1 = cc in omega arith
 faulty_in (Some p) q e r z = either (ltb p r) z
   where
-    either : (g : Bool) → cond g (Err (OverLimit, p)) (Err (e, r)) ≡ (Ok tt) → ⊥
+    either : (g : Bool) → cond {A = Result (Unit {0}) (Why × ℕ)} g (Err (OverLimit, p)) (Err (e, r)) ≡ Ok tt → ⊥
     either true z = let y : ◌≡◌ {A = ℕ} 0 1 = cc in omega arith
     either false z = let y : ◌≡◌ {A = ℕ} 0 1 = cc in omega arith
 
@@ -226,7 +226,7 @@ record Clean (p q : Option ℕ) : Type 0 where
   past : p ≡ None
   second : q ≡ None
 
-sound_clean : (p q : Option ℕ) → fault_in p q (Ok tt) ≡ (Ok tt) → Clean p q
+sound_clean : (p q : Option ℕ) → fault_in p q (Ok tt) ≡ Ok tt → Clean p q
 unfolding fault_in
 sound_clean None None z = record { past = refl; second = refl }
 sound_clean None (Some q) z = let y : ◌≡◌ {A = ℕ} 0 1 = cc in absurd (omega arith)

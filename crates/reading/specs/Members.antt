@@ -35,7 +35,7 @@ pub record Whole (d s : List ℕ) (m entered : ℕ) (b : Book) (t' n' : List ℕ
   pub sentences : entered + r.rows ≤ 2048
 
 pub record Membered (d s n : List ℕ) (m entered names : ℕ) (t' n' : List ℕ) (r : Source) : Type 0 where
-  pub whole : r.fault ≡ (Ok tt) → Whole d s m entered (names_of d n names) t' n' r
+  pub whole : r.fault ≡ Ok tt → Whole d s m entered (names_of d n names) t' n' r
   pub enters : (w : W.World) → Shows w (names_of d n names) → w.sentences ≡ entered → Entry m (D.read_member mixed s) (names_of d n' r.names) (N.enter m (D.read_member mixed s) w) r.fault
 
 pub record Members (d t n : List ℕ) (m entered names : ℕ) (t' n' : List ℕ) (r : Source) : Type 0 where

@@ -10,6 +10,7 @@ use native.Mathlib.Omega.{arith}
 use lib.Dec.{eqb}
 use lib.ListN.{length, get_or, set, take, length-replicate}
 use Rattle.std.specs.List.{list_all, range_with_len}
+use Rattle.std.proofs.lemmas.List.{take_more, length-take-le}
 use Rattle.std.proofs.lemmas.Bool.{cases_lt}
 use Rattle.definition.specs.Lists.{part, bytes, same}
 use Rattle.definition.specs.Room.{over, zeros}
@@ -49,6 +50,12 @@ module _ (s : List ℕ) (from : ℕ) (r₀ : List ℕ) (at : ℕ) (r : List ℕ)
   copied_all n l h =
       let e : j ≡ n = omega arith in
       k.is ∙ rw e
+
+-- ---- writing numbers: the first k are there
+pub numbers_more : (r r₁ r₂ xs : List ℕ) (at k : ℕ) → r₁ ≡ over r at (take k xs) → k < length xs → r₂ ≡ over r₁ (at + k) (get_or xs k 0 ∷ []) → r₂ ≡ over r at (take (k + 1) xs)
+numbers_more r r₁ r₂ xs at k e h f =
+    let l : length (take k xs) ≡ k = length-take-le k xs (omega arith) in
+    f ∙ rw e (over_next_at r at (at + k) (take k xs) (get_or xs k 0 ∷ []) (omega (arith, l))) ∙ ap (over r at) (sym (take_more xs k 0 h))
 
 -- ---- comparing
 same_from : (a b : List ℕ) (i k c n : ℕ) → list_all (λ j. eqb (get_or a (i + j) 0) (get_or b (k + j) 0)) (range_with_len c n) ≡ same (part n (i + c) a) (part n (k + c) b)

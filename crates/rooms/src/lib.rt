@@ -53,6 +53,15 @@ pub fn put_number16(room: &mut [u16], at: usize, k: usize, n: u16)
     put(room, at, k, n);
 }
 
+// Writes numbers of 16 bits one after the other.
+pub fn put_numbers16(room: &mut [u16], at: usize, numbers: &[u16])
+    ensures { room.new ≡ over room.old at numbers.now }
+{
+    for (k, n) in numbers.iter().enumerate() {
+        put_number16(room, at, k, *n);
+    }
+}
+
 // The same of numbers of 32 bits.
 pub fn number32(s: &[u32], at: usize, k: usize) -> u32
     ensures { result ≡ get_or s.now (at + k) 0 }

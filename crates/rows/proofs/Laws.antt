@@ -1,17 +1,16 @@
 -- The laws of rows: a row reads back as it was written, and others stay.
 -- Assumes nothing.
 use Rattle.std.proofs.Common.{Option, Some}
-use mathlib.Core.Path.{◌≡◌, refl, sym, ap, ◌∙◌}
+use mathlib.Core.Path.{◌≡◌, refl}
 use mathlib.Core.Bool.{Bool, true, false}
-use mathlib.Core.List.{List, [], ◌∷◌}
+use mathlib.Core.List.{List}
 use Prim.Native.Nat.{ℕ, ◌+◌, ◌*◌, ◌-◌, ◌<◌, ◌≤◌}
 use native.Mathlib.Omega.{arith}
 use borrow.Author.Tests.{ltb-true, ltb-false, lt-ltb, ne_eqb}
 use lib.Dec.{ltb, lit<}
-use lib.ListN.{length, get_or, take}
-use Rattle.std.proofs.lemmas.List.{take_more, length-take-le}
+use lib.ListN.{length, get_or}
 use Rattle.definition.specs.Room.{over}
-use Rattle.definition.proofs.Rooms.{over_next_at, get_d_over_at, get_d_over_low, get_d_over_high}
+use Rattle.definition.proofs.Rooms.{get_d_over_at, get_d_over_low, get_d_over_high}
 use Rattle.types.proofs.Laws.{type_back}
 use Rattle.rows.specs.declared.Statement.{Statement}
 use Rattle.rows.specs.declared.Statement.TheVariants.{Null, Declare, Procedure, Assign, Conditional, Group, Iterated, Goto, Include, Activate, Deactivate, Return}
@@ -19,12 +18,6 @@ use Rattle.rows.specs.declared.Role.{Role}
 use Rattle.rows.specs.declared.Role.TheVariants.{Listed, ThenPart, ElsePart}
 use Rattle.rows.specs.declared.Row.{Row}
 use Rattle.rows.specs.Table.{statement_number, role_number, link_number, numbers_of, statement_in, role_in, link_in, row_in}
-
--- ---- writing: numbers one after the other
-pub numbers_more : (r r₁ r₂ xs : List ℕ) (at k : ℕ) → r₁ ≡ over r at (take k xs) → k < length xs → r₂ ≡ over r₁ (at + k) (get_or xs k 0 ∷ []) → r₂ ≡ over r at (take (k + 1) xs)
-numbers_more r r₁ r₂ xs at k e h f =
-    let l : length (take k xs) ≡ k = length-take-le k xs (omega arith) in
-    f ∙ rw e (over_next_at r at (at + k) (take k xs) (get_or xs k 0 ∷ []) (omega (arith, l))) ∙ ap (over r at) (sym (take_more xs k 0 h))
 
 -- ---- a row reads back as it was written, and others stay
 statement_back : (x : Statement) → statement_in (statement_number x) ≡ x

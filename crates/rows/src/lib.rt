@@ -9,7 +9,7 @@ ghost use Rattle.rows.specs.Table as T;
 ghost use Rattle.rows.specs.Parts as P;
 
 use definition::ValueType;
-use rooms::{number16, put_number16};
+use rooms::{number16, put_number16, put_numbers16};
 use types::{type_in, type_number};
 
 // The statements of 000, 3.2.1.
@@ -121,16 +121,13 @@ impl From<u16> for Role {
 fn link_number(x: Option<u16>) -> u16
     ensures { result ≡ T.link_number x }
 {
-    match x {
-        Some(n) if n < u16::MAX => n + 1,
-        Some(_) | None => 0,
-    }
+    x.and_then(|n| n.checked_add(1)).unwrap_or(0)
 }
 
 fn link_in(k: u16) -> Option<u16>
     ensures { result ≡ T.link_in k }
 {
-    if k == 0 { None } else { Some(k - 1) }
+    k.checked_sub(1)
 }
 
 // Where the record of row n begins in the table.
@@ -168,15 +165,6 @@ pub fn row_at(rows: &[u16], n: u16) -> Row
     }
 }
 
-// Writes numbers one after the other.
-fn put_numbers(rows: &mut [u16], at: usize, numbers: &[u16])
-    ensures { rows.new ≡ over rows.old at numbers.now }
-{
-    for (k, x) in numbers.iter().enumerate() {
-        put_number16(rows, at, k, *x);
-    }
-}
-
 // Writes the record of row n.
 pub fn put_row(rows: &mut [u16], n: u16, x: Row)
     ensures { rows.new ≡ over rows.old (16 * n) (T.numbers_of x) }
@@ -197,7 +185,7 @@ pub fn put_row(rows: &mut [u16], n: u16, x: Row)
         x.text.from,
         x.text.to,
     ];
-    put_numbers(rows, record_place(n), &numbers);
+    put_numbers16(rows, record_place(n), &numbers);
 }
 
 pub fn set_next(rows: &mut [u16], n: u16, to: u16)
@@ -221,13 +209,13 @@ pub fn set_other(rows: &mut [u16], n: u16, to: u16)
 pub fn set_lead(rows: &mut [u16], n: u16, x: Stretch)
     ensures { rows.new ≡ over rows.old (16 * n + 10) (T.stretch_numbers x) }
 {
-    put_numbers(rows, record_place(n) + 10, &[x.from, x.to]);
+    put_numbers16(rows, record_place(n) + 10, &[x.from, x.to]);
 }
 
 pub fn set_text(rows: &mut [u16], n: u16, x: Stretch)
     ensures { rows.new ≡ over rows.old (16 * n + 12) (T.stretch_numbers x) }
 {
-    put_numbers(rows, record_place(n) + 12, &[x.from, x.to]);
+    put_numbers16(rows, record_place(n) + 12, &[x.from, x.to]);
 }
 
 // ---- the rows of a member

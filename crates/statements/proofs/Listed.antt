@@ -23,6 +23,7 @@ use Rattle.tokens.specs.declared.Lexeme.{Lexeme}
 use Rattle.tokens.specs.Answer.{Lexed, written, spelling, content, is_sign_in, token_for}
 use Rattle.tokens.proofs.Lexemes.{token_is}
 use Rattle.expressions.specs.Check.{named_for}
+use Rattle.expressions.proofs.Laws.{parts}
 use Rattle.entering.specs.declared.Meaning.{Meaning}
 use Rattle.entering.specs.declared.Meaning.TheVariants as M
 use Rattle.statements.specs.Clauses.{names_next, names_read, scope_of, Lies, Own, Ready, NamedIf}
@@ -96,7 +97,7 @@ module _ (x : NamedAt) (from to : ℕ) (k : x ≡ Ok (from, to)) where
     size : length w ≤ 31
 
   short_word : (w : List ℕ) (p q : ℕ) (b : Bool) → leb (length w) 31 ≡ b → x ≡ named_for (cond b (read (record { spelling = w; place = p; to = q })) (refused OverLimit p)) → Word Kd.Word w p q (cond b (read (record { spelling = w; place = p; to = q })) (refused OverLimit p))
-  short_word w p q true e h = let a : p ≡ from = cc in let b : q ≡ to = cc in record { real = refl; first = a; last = b; is = rw (a, b); size = leb-true (length w) 31 e }
+  short_word w p q true e h = let z : (from, to) ≡ (p, q) = cc in let a : p ≡ from = sym (parts z).0 in let b : q ≡ to = sym (parts z).1 in record { real = refl; first = a; last = b; is = rw (a, b); size = leb-true (length w) 31 e }
   short_word w p q false e h = let z : ◌≡◌ {A = ℕ} 0 1 = cc in absurd (omega arith)
 
   by_kind : (t : Kind) (w c : List ℕ) (p q : ℕ) → x ≡ named_for (name_of (token_for t w c) p q) → Word t (folded mixed w) p q (name_of (token_for t w c) p q)

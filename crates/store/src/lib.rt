@@ -24,10 +24,7 @@ pub fn number_at(cells: &[u32], a: u16) -> Option<Fixed>
 pub fn characters_at(cells: &[u32], a: u16) -> Option<u32>
     ensures { LengthAt cells.now a result }
 {
-    match number32(cells, usize::from(a), 0) {
-        0 => None,
-        n => Some(n - 1),
-    }
+    number32(cells, usize::from(a), 0).checked_sub(1)
 }
 
 // Where the characters of an address stand in their room.

@@ -1,7 +1,6 @@
 -- HOW THE ROOMS SHOW A RUN: the world B of the scene, with what was put out. And what an answer with the rooms at exit stands for.
 use Rattle.texts.specs.Types.{Ran, Passed}
-use Rattle.std.specs.Prelude.{ℕ, ◌<◌, ◌≤◌, ◌≡◌, List, length, Option, Some, None, Ok, Err}
-use Rattle.definition.specs.Room.{zeros}
+use Rattle.std.specs.Prelude.{ℕ, ◌<◌, ◌≤◌, ◌≡◌, List, length, replicate, Option, Some, None, Ok, Err}
 use Rattle.definition.specs.Program as Program
 use Rattle.definition.specs.World.{World, Res, good, bad}
 use Rattle.definition.specs.Run as Run
@@ -15,6 +14,7 @@ use Rattle.rows.specs.declared.Stretch.{Stretch}
 use Rattle.output.specs.declared.Out.{Out}
 use Rattle.origin.specs.Written.{Written}
 use Rattle.callees.specs.declared.Running.{Running}
+use Rattle.callees.specs.Answer.{blank}
 use Rattle.callees.specs.Shown.{world_in}
 use Rattle.operands.specs.declared.Scene.{Scene}
 use Rattle.operands.specs.Shown.{Shows}
@@ -49,7 +49,7 @@ stop_for x = record { why = x.why; member = x.member; place = x.place }
 
 -- ---- THE SCENE outside procedures, where none is running
 abbrev pub none_on : Running
-none_on = record { left = 16; members = zeros 16; rows = zeros 16 }
+none_on = record { left = 16; places = replicate 16 blank }
 
 abbrev pub scene_of : Starts → Progress → Scene
 scene_of starts g = record { names = g.names; starts = starts; owner = Everyone; running = none_on }

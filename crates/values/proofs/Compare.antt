@@ -1,7 +1,7 @@
 -- Comparison: what is left of both sides decides.
 -- Assumes nothing.
 use mathlib.Core.Path.{◌≡◌, refl, sym, ap, ◌∙◌}
-use mathlib.Core.Bool.{Bool, true, false}
+use mathlib.Core.Bool.{Bool, true, false, not, cond}
 use mathlib.Core.List.{List, [], ◌∷◌}
 use Prim.Native.Nat.{ℕ, zero, suc, ◌+◌, ◌<◌, ◌≤◌, max}
 use native.Mathlib.Nat.{le_refl}
@@ -16,7 +16,10 @@ use Rattle.definition.specs.Values as D
 use Rattle.definition.specs.Values.{Value, order_of, bytes_order, numbers_order, infixed, comparing}
 use Rattle.definition.proofs.Parts.{length_part}
 use Rattle.values.specs.Answers.{order_for, order_in, is_wanted, operator_of}
-use Rattle.values.specs.declared.Order.TheVariants.{Below, Alike, Above}
+use Rattle.std.specs.declared.cmp.Ordering.{Ordering}
+use Rattle.std.specs.declared.cmp.Ordering.TheVariants as O
+use Rattle.std.specs.Ordering.{MatchOrdering, nat_cmp, int_cmp, is_eq, is_ne, is_lt, is_gt, is_le, is_ge}
+use Rattle.std.proofs.lemmas.Cmp.{ranked}
 use Rattle.values.specs.declared.Comparison.{Comparison}
 use Rattle.values.specs.declared.Comparison.TheVariants.{Greater, GreaterEqual, Equal, Less, LessEqual, NotGreater, NotEqual, NotLess}
 use Rattle.values.proofs.Bytes.{part_at, part_past}
@@ -55,20 +58,27 @@ module _ (pad : ℕ) (xs ys : List ℕ) (j : ℕ) (c : Comparing pad xs ys j) (x
   step : order_of x y (bytes_order pad (drop (suc j) xs) (drop (suc j) ys)) ≡ bytes_order pad xs ys
   step = rw (p, q) (sym (order_step pad xs ys j) ∙ c.is)
 
-  pub comparing_below : x < y → Below ≡ order_for (bytes_order pad xs ys)
-  unfolding order_of
-  comparing_below h = ap order_for (rw (lt-ltb x y h) at step)
+  module _ (o : Ordering) (e : o ≡ nat_cmp x y) where
+    pub comparing_apart : is_ne o ≡ true → o ≡ order_for (bytes_order pad xs ys)
+    unfolding order_of
+    comparing_apart f = go o (ranked x y o e) f
+      where
+        go : (r : Ordering) → MatchOrdering r (x < y) (x ≡ y) (y < x) → is_ne r ≡ true → r ≡ order_for (bytes_order pad xs ys)
+        go O.Less h f = ap order_for (rw (lt-ltb x y h) at step)
+        go O.Equal h f = absurd (cc)
+        go O.Greater h f = ap order_for (rw (le-ltb x y (omega (arith, h)), lt-ltb y x h) at step)
 
-  pub comparing_above : y ≤ x → y < x → Above ≡ order_for (bytes_order pad xs ys)
-  unfolding order_of
-  comparing_above h k = ap order_for (rw (le-ltb x y h, lt-ltb y x k) at step)
-
-  pub comparing_more : y ≤ x → x ≤ y → Comparing pad xs ys (j + 1)
-  unfolding order_of
-  comparing_more h k = record { is = rw add-one (rw (le-ltb x y h, le-ltb y x k) at step) }
+    pub comparing_more : is_ne o ≡ false → Comparing pad xs ys (j + 1)
+    unfolding order_of
+    comparing_more f = go o (ranked x y o e) f
+      where
+        go : (r : Ordering) → MatchOrdering r (x < y) (x ≡ y) (y < x) → is_ne r ≡ false → Comparing pad xs ys (j + 1)
+        go O.Less h f = absurd (cc)
+        go O.Equal h f = record { is = rw add-one (rw (le-ltb x y (omega (arith, h)), le-ltb y x (omega (arith, h))) at step) }
+        go O.Greater h f = absurd (cc)
 
 pub comparing_done : (pad : ℕ) (s : List ℕ) (a n : ℕ) (t : List ℕ) (b m j most : ℕ)
-    → Comparing pad (part n a s) (part m b t) j → most ≡ max n m → most ≤ j → Alike ≡ order_for (bytes_order pad (part n a s) (part m b t))
+    → Comparing pad (part n a s) (part m b t) j → most ≡ max n m → most ≤ j → O.Equal ≡ order_for (bytes_order pad (part n a s) (part m b t))
 unfolding bytes_order
 comparing_done pad s a n t b m j most c e h =
     let p : drop j (part n a s) ≡ [] = drop_of_length-le (part n a s) {i = j} (rw length_part (omega arith)) in
@@ -76,25 +86,52 @@ comparing_done pad s a n t b m j most c e h =
     ap order_for (rw (p, q) at c.is)
 
 -- ---- numbers
-module _ (x y : ℤ) (r : Bool) (e : r ≡ lt_z x y) where
-  pub numbers_below : r ≡ true → Below ≡ order_for (numbers_order x y)
-  unfolding numbers_order
-  numbers_below f = rw (← e, f)
-
-  module _ (t : Bool) (g : t ≡ lt_z y x) where
-    pub numbers_above : r ≡ false → t ≡ true → Above ≡ order_for (numbers_order x y)
-    unfolding numbers_order
-    numbers_above f h = rw (← e, f, ← g, h)
-
-    pub numbers_alike : r ≡ false → t ≡ false → Alike ≡ order_for (numbers_order x y)
-    unfolding numbers_order
-    numbers_alike f h = rw (← e, f, ← g, h)
+pub numbers_compared : (x y : ℤ) → int_cmp x y ≡ order_for (numbers_order x y)
+unfolding numbers_order
+numbers_compared x y = go (lt_z x y) (lt_z y x)
+  where
+    go : (r t : Bool) → cond r O.Less (cond t O.Greater O.Equal) ≡ order_for (cond r D.below (cond t D.above D.alike))
+    go true t = refl
+    go false true = refl
+    go false false = refl
 
 -- ---- each comparison tests what its operator tests
 same_order : (o : D.Order) → order_in (order_for o) ≡ o
 same_order D.below = refl
 same_order D.alike = refl
 same_order D.above = refl
+
+pub is_gt_in : (o : Ordering) → is_gt o ≡ D.is_above (order_in o)
+is_gt_in O.Less = refl
+is_gt_in O.Equal = refl
+is_gt_in O.Greater = refl
+
+pub is_ge_in : (o : Ordering) → is_ge o ≡ not (D.is_below (order_in o))
+is_ge_in O.Less = refl
+is_ge_in O.Equal = refl
+is_ge_in O.Greater = refl
+
+pub is_eq_in : (o : Ordering) → is_eq o ≡ D.is_alike (order_in o)
+is_eq_in O.Less = refl
+is_eq_in O.Equal = refl
+is_eq_in O.Greater = refl
+
+pub is_lt_in : (o : Ordering) → is_lt o ≡ D.is_below (order_in o)
+is_lt_in O.Less = refl
+is_lt_in O.Equal = refl
+is_lt_in O.Greater = refl
+
+pub is_le_in : (o : Ordering) → is_le o ≡ not (D.is_above (order_in o))
+is_le_in O.Less = refl
+is_le_in O.Equal = refl
+is_le_in O.Greater = refl
+
+pub is_ne_in : (o : Ordering) → is_ne o ≡ not (D.is_alike (order_in o))
+is_ne_in O.Less = refl
+is_ne_in O.Equal = refl
+is_ne_in O.Greater = refl
+
+pub ruleset tests_order = (is_gt_in, is_ge_in, is_eq_in, is_lt_in, is_le_in, is_ne_in)
 
 pub wanted : (u : ℕ) (c : Comparison) (x y : Value) → infixed u (operator_of c) x y ≡ comparing (λ o. is_wanted c (order_for o)) x y
 unfolding infixed

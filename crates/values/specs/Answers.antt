@@ -3,26 +3,27 @@ use Rattle.values.specs.declared.NumberError.TheVariants.{NoConversion, OutOfRan
 use Rattle.values.specs.declared.NumberError.{NumberError}
 use Rattle.fixed.specs.declared.Fixed.{Fixed}
 use Rattle.std.specs.Prelude.{Bool, not, ℤ, Result, Ok, Err}
+use Rattle.definition.specs.declared.Why.{Why}
 use Rattle.definition.specs.declared.Why.TheVariants.{NoConversion as no_conversion, OutOfRange as out_of_range}
 use Rattle.definition.specs.declared.Operator as E
 use Rattle.definition.specs.Values as D
-use Rattle.values.specs.declared.Order.{Order}
-use Rattle.values.specs.declared.Order.TheVariants.{Below, Alike, Above}
+use Rattle.std.specs.declared.cmp.Ordering.{Ordering}
+use Rattle.std.specs.declared.cmp.Ordering.TheVariants as O
 use Rattle.values.specs.declared.Comparison.{Comparison}
 use Rattle.values.specs.declared.Comparison.TheVariants.{Greater, GreaterEqual, Equal, Less, LessEqual, NotGreater, NotEqual, NotLess}
 
-abbrev pub order_for : D.Order → Order
-order_for D.below = Below
-order_for D.alike = Alike
-order_for D.above = Above
+abbrev pub order_for : D.Order → Ordering
+order_for D.below = O.Less
+order_for D.alike = O.Equal
+order_for D.above = O.Greater
 
-abbrev pub order_in : Order → D.Order
-order_in Below = D.below
-order_in Alike = D.alike
-order_in Above = D.above
+abbrev pub order_in : Ordering → D.Order
+order_in O.Less = D.below
+order_in O.Equal = D.alike
+order_in O.Greater = D.above
 
 -- what `infixed` tests for each comparison
-abbrev pub is_wanted : Comparison → Order → Bool
+abbrev pub is_wanted : Comparison → Ordering → Bool
 is_wanted Greater o = D.is_above (order_in o)
 is_wanted GreaterEqual o = not (D.is_below (order_in o))
 is_wanted Equal o = D.is_alike (order_in o)
@@ -42,7 +43,10 @@ operator_of NotGreater = E.TheVariants.NotGreater
 operator_of NotEqual = E.TheVariants.NotEqual
 operator_of NotLess = E.TheVariants.NotLess
 
+abbrev pub why_of : NumberError → Why
+why_of NoConversion = no_conversion
+why_of OutOfRange = out_of_range
+
 abbrev pub answer_of : Result Fixed NumberError → D.Answer ℤ
 answer_of (Ok x) = D.gives x.value
-answer_of (Err NoConversion) = D.fails no_conversion
-answer_of (Err OutOfRange) = D.fails out_of_range
+answer_of (Err e) = D.fails (why_of e)

@@ -10,22 +10,16 @@ ghost use Rattle.definition.specs.Bytes.{is_digit, is_blank};
 ghost use Rattle.definition.specs.Tokens.{is_bit};
 ghost use Rattle.definition.specs.Fixed.{ranged};
 ghost use Rattle.definition.specs.Values.{any_one, bytes_order, numbers_order, from_fixed, signed_by, to_fixed, characters, bit_value, constant, written, decimal_on, fixed_text, binary, bitwise, inverted, bit_of};
-ghost use Rattle.values.specs.Answers.{order_for, is_wanted, answer_of};
+ghost use Rattle.values.specs.Answers.{order_for, is_wanted, why_of, answer_of};
 ghost use Rattle.values.specs.Digits.{base_of, capped, last_digits, digits_in, Run, Wrote};
 ghost use Rattle.values.specs.Bits.{logic_of};
 ghost use Rattle.values.specs.Substr.{cut_at, cut_part, cut_rest};
 
 use chars::{is_bit, is_blank, is_digit};
-use fixed::{Fixed, FixedError};
+use definition::Why;
+use fixed::Fixed;
 use rooms::{byte, put_byte};
-
-// How two values lie to each other.
-#[derive(Clone, Copy, PartialEq, Eq)]
-pub enum Order {
-    Below,
-    Alike,
-    Above,
-}
+use std::cmp::Ordering;
 
 // The comparisons that a statement can ask for.
 #[derive(Clone, Copy)]
@@ -45,6 +39,17 @@ pub enum Comparison {
 pub enum NumberError {
     NoConversion,
     OutOfRange,
+}
+
+impl From<NumberError> for Why {
+    ghost from_gives = { λ e w. w ≡ why_of e };
+
+    fn from(e: NumberError) -> Why {
+        match e {
+            NumberError::NoConversion => Why::NoConversion,
+            NumberError::OutOfRange => Why::OutOfRange,
+        }
+    }
 }
 
 // The base that digits are written to.
@@ -101,45 +106,38 @@ fn byte_or(s: &[u8], at: usize, n: usize, j: usize, pad: u8) -> u8
 }
 
 // How the n bytes at place a lie to the m bytes at place b, the shorter side filled with a byte.
-pub fn bytes_order(s: &[u8], a: usize, n: usize, t: &[u8], b: usize, m: usize, pad: u8) -> Order
+pub fn bytes_order(s: &[u8], a: usize, n: usize, t: &[u8], b: usize, m: usize, pad: u8) -> Ordering
     ensures { result ≡ order_for (bytes_order pad (part n a s.now) (part m b t.now)) }
 {
     for j in 0..n.max(m) {
         let x = byte_or(s, a, n, j, pad);
         let y = byte_or(t, b, m, j, pad);
-        if x < y {
-            return Order::Below;
-        }
-        if y < x {
-            return Order::Above;
+        let order = x.cmp(&y);
+        if order.is_ne() {
+            return order;
         }
     }
-    Order::Alike
+    Ordering::Equal
 }
 
-pub fn numbers_order(x: Fixed, y: Fixed) -> Order
+pub fn numbers_order(x: Fixed, y: Fixed) -> Ordering
     ensures { result ≡ order_for (numbers_order x.value y.value) }
 {
-    if x.is_less(y) {
-        Order::Below
-    } else if y.is_less(x) {
-        Order::Above
-    } else {
-        Order::Alike
-    }
+    x.cmp(&y)
 }
 
 // Whether a comparison holds of two values that lie so.
-pub fn is_wanted(c: Comparison, o: Order) -> bool
+#[tactic(auto, using(crate::proofs::Compare::tests_order))]
+pub fn is_wanted(c: Comparison, o: Ordering) -> bool
     ensures { result ≡ is_wanted c o }
 {
     match c {
-        Comparison::Greater => o == Order::Above,
-        Comparison::GreaterEqual | Comparison::NotLess => o != Order::Below,
-        Comparison::Equal => o == Order::Alike,
-        Comparison::Less => o == Order::Below,
-        Comparison::LessEqual | Comparison::NotGreater => o != Order::Above,
-        Comparison::NotEqual => o != Order::Alike,
+        Comparison::Greater => o.is_gt(),
+        Comparison::GreaterEqual | Comparison::NotLess => o.is_ge(),
+        Comparison::Equal => o.is_eq(),
+        Comparison::Less => o.is_lt(),
+        Comparison::LessEqual | Comparison::NotGreater => o.is_le(),
+        Comparison::NotEqual => o.is_ne(),
     }
 }
 
@@ -196,10 +194,7 @@ fn capped_number(base: Base, s: &[u8], at: usize, i: usize, n: usize) -> u32
 fn number_of(negative: bool, magnitude: u32) -> Result<Fixed, NumberError>
     ensures { answer_of result ≡ from_fixed (ranged (signed_by negative magnitude)) }
 {
-    let Ok(x) = Fixed::of_magnitude(negative, magnitude) else {
-        return Err(NumberError::OutOfRange);
-    };
-    Ok(x)
+    Fixed::of_magnitude(negative, magnitude).map_err(|_| NumberError::OutOfRange)
 }
 
 // The number that the bytes from i to n past a place write: the form of them all first, and then the range.

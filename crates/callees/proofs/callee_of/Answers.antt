@@ -6,7 +6,7 @@ pub returns-then-is_sign : goal.returns-then-is_sign
 returns-then-is_sign c = search callee_some
 
 pub returns-in_default : goal.returns-in_default
-returns-in_default c = callee_none _ _ _ _ _ _ c.in_default.not-At
+returns-in_default c = callee_none _ _ _ _ _ _ c.in_default.not-Some
 
 pub returns : goal.returns
 returns c = search callee_plain

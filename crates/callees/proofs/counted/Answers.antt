@@ -1,4 +1,4 @@
-use Rattle.callees.proofs.Listing.{wrong_if, counting_start, counting_more, counting_last, counting_wrong, counting_end}
+use Rattle.callees.proofs.Listing.{counting_start, counting_more, counting_last, counting_wrong, counting_end}
 use Rattle.callees.proofs.counted.Goals as goal
 
 pub loop-n-init : goal.loop-n-init
@@ -11,7 +11,7 @@ pub loop-n-preserved : goal.loop-n-preserved
 loop-n-preserved c = search counting_more
 
 pub returns-in_default : goal.returns-in_default
-returns-in_default c = let u = wrong_if _ c.in_default.not-Is in search counting_wrong
+returns-in_default c = search counting_wrong
 
 pub returns : goal.returns
 returns c = search counting_end

@@ -3,7 +3,7 @@ use Rattle.callees.proofs.Naming.{unknown_if, by_unknown, by_variable, by_entry,
 use Rattle.callees.proofs.meant_by.Goals as goal
 
 pub returns-in_default : goal.returns-in_default
-returns-in_default c = let u = unknown_if _ c.in_default.not-Known in search by_unknown
+returns-in_default c = let u = unknown_if _ c.in_default.not-Some in search by_unknown
 
 pub returns-in-Variable : goal.returns-in-Variable
 returns-in-Variable c = search by_variable

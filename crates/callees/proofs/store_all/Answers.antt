@@ -7,7 +7,7 @@ pub loop-i-init : goal.loop-i-init
 loop-i-init c = search (rules, storing_start)
 
 pub returns-in_default : goal.returns-in_default
-returns-in_default c = let u = wrong_if _ c.in_default.not-Is in search storing_wrong
+returns-in_default c = let u = wrong_if _ c.in_default.not-Some in search storing_wrong
 
 pub loop-i-preserved : goal.loop-i-preserved
 loop-i-preserved c = search storing_more

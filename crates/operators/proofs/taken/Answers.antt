@@ -2,8 +2,8 @@
 use Rattle.operators.proofs.Pieces.{took_piece, took_none}
 use Rattle.operators.proofs.taken.Goals as goal
 
-pub returns-in-Some : goal.returns-in-Some
-returns-in-Some c = search took_piece
+pub returns-in_default : goal.returns-in_default
+returns-in_default c = search (took_none, c.in_default.not-Some)
 
-pub returns-in-None : goal.returns-in-None
-returns-in-None c = search took_none
+pub returns : goal.returns
+returns c = search took_piece

@@ -2,8 +2,8 @@
 use Rattle.outcomes.proofs.Cutting.{list_in, list_out}
 use Rattle.outcomes.proofs.list_of.Goals as goal
 
-pub returns-in-Some : goal.returns-in-Some
-returns-in-Some c = list_in _ _ _ _ _ _ c.in-Some.ensures c.list_at.ensures
+pub returns : goal.returns
+returns c = list_in _ _ _ _ _ _ c.in_ok-t.ensures c.list_at.ensures
 
-pub returns-in-None : goal.returns-in-None
-returns-in-None c = list_out _ _ _ _ _ c.in-None.ensures
+pub returns-in_err-t : goal.returns-in_err-t
+returns-in_err-t c = rw c.from_residual.ensures (list_out _ _ _ _ _ c.in_err-t.ensures)

@@ -1,12 +1,7 @@
--- Each test in its order.
-use Rattle.values.proofs.Compare.{numbers_below, numbers_above, numbers_alike}
+-- Numbers compare as the definition orders them.
+use Rattle.std.proofs.Common.{◌∙◌}
+use Rattle.values.proofs.Compare.{numbers_compared}
 use Rattle.values.proofs.numbers_order.Goals as goal
 
-pub returns-then-is_less : goal.returns-then-is_less
-returns-then-is_less c = search numbers_below
-
-pub returns-then-is_less-2 : goal.returns-then-is_less-2
-returns-then-is_less-2 c = search numbers_above
-
-pub returns-else-is_less-2 : goal.returns-else-is_less-2
-returns-else-is_less-2 c = search numbers_alike
+pub returns : goal.returns
+returns c = c.cmp.ensures ∙ numbers_compared _ _

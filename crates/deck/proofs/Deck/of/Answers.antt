@@ -1,6 +1,7 @@
 -- A deck is malformed, or its lines are counted.
-use Rattle.deck.proofs.Laws.{of_sound}
+use Rattle.std.proofs.Common.{◌∙◌}
+use Rattle.deck.proofs.Laws.{of_deck}
 use Rattle.deck.proofs.Deck.of.Goals as goal
 
-pub returns-then-is_sound : goal.returns-then-is_sound
-returns-then-is_sound c = search of_sound
+pub returns : goal.returns
+returns c = c.then_some.ensures ∙ of_deck _ _ _ c.is_sound.ensures c.count.ensures
