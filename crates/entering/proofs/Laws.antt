@@ -187,10 +187,10 @@ module _ (t : List ℕ) (x : Tally) (a p : ℕ) (e : Denotation) (r : Joining t 
 -- ---- a declaration
 known_is : (f : W.Address) (a : Address) → found_for f ≡ Some a → f ≡ W.address a.0
 known_is (W.address b) a e = let z : ◌≡◌ {A = Address} (record { 0 = b }) a = cc in rw (← z)
-known_is W.unknown a e = let z : ◌≡◌ {A = ℕ} 0 1 = cc in absurd (omega arith)
+known_is W.unknown a e = cc
 
 unknown_is : (f : W.Address) → found_for f ≡ None → f ≡ W.unknown
-unknown_is (W.address b) e = let z : ◌≡◌ {A = ℕ} 0 1 = cc in absurd (omega arith)
+unknown_is (W.address b) e = cc
 unknown_is W.unknown e = refl
 
 hit : (w : List ℕ) (k : W.Owner) (b c : ℕ) (is : List W.Identifier) (g : Bool) → when g (λ _. W.address b) (λ _. W.address_in w k (suc b) is) ≡ W.address c → (W.address_in w k (suc b) is ≡ W.address c → c < suc b + length is) → c < b + suc (length is)
@@ -199,7 +199,7 @@ hit w k b c is false e f = omega (arith, f e)
 
 pub address_low : (w : List ℕ) (k : W.Owner) (b c : ℕ) (is : List W.Identifier) → W.address_in w k b is ≡ W.address c → c < b + length is
 unfolding W.address_in
-address_low w k b c [] e = let z : ◌≡◌ {A = ℕ} 0 1 = cc in absurd (omega arith)
+address_low w k b c [] e = cc
 address_low w k b c (i ∷ is) e = hit w k b c is (W.is_identifier w k i) e (address_low w k (suc b) c is)
 
 module _ (d s t : List ℕ) (x : Tally) (p : Spelling) (o : Owner) (h : Declarable d s t x p) (n : ℕ) (hn : n ≡ p.to - p.from)

@@ -187,7 +187,7 @@ module _ (m : ℕ) (ds : List P.Declared) (again : (ps : List W.Identifier) (w :
 
   add_outcome : (ps : List W.Identifier) (w : W.World) (b : Book) (i : W.Identifier) (d : W.Denotation) (p : ℕ) (g : Bool) → Shows w b → b.past ≡ None → b.second ≡ None → (book_whole m ps ds (cond {A = Book} g (book_past p b) (book_more i d b))).past ≡ None
       → Outcome (N.declare_all m ps ds (N.add_name i d w)) (book_whole m ps ds (cond {A = Book} g (book_past p b) (book_more i d b)))
-  add_outcome ps w b i d p true h v u k = let q : (book_whole m ps ds (book_past p b)).past ≡ Some p = marked_stays m ps ds p (book_past p b) (rw v) in let z : ◌≡◌ {A = ℕ} 0 1 = cc in absurd (omega arith)
+  add_outcome ps w b i d p true h v u k = let q : (book_whole m ps ds (book_past p b)).past ≡ Some p = marked_stays m ps ds p (book_past p b) (rw v) in cc
   add_outcome ps w b i d p false h v u k = again ps (N.add_name i d w) (book_more i d b) (record { identifiers = rw h.identifiers; denotations = rw h.denotations; activities = rw h.activities }) u k
 
   at_outcome : (ps : List W.Identifier) (w : W.World) (b : Book) (i : W.Identifier) (d : W.Denotation) (p : ℕ) (x : W.Address) → Shows w b → b.past ≡ None → b.second ≡ None → (book_whole m ps ds (book_at x i d p b)).past ≡ None
@@ -211,7 +211,7 @@ module _ (m : ℕ) (ds : List P.Declared) (again : (ps : List W.Identifier) (w :
 
 unmarked : (m : ℕ) (ps : List W.Identifier) (ds : List P.Declared) (b : Book) (x : Option ℕ) → b.past ≡ x → (book_whole m ps ds b).past ≡ None → b.past ≡ None
 unmarked m ps ds b None e k = e
-unmarked m ps ds b (Some q) e k = let r : (book_whole m ps ds b).past ≡ Some q = marked_stays m ps ds q b e in let z : ◌≡◌ {A = ℕ} 0 1 = cc in absurd (omega arith)
+unmarked m ps ds b (Some q) e k = let r : (book_whole m ps ds b).past ≡ Some q = marked_stays m ps ds q b e in cc
 
 -- THE NAMES are the definition's, or the first that is declared twice is, where no name is one too many
 pub names_are : (m : ℕ) (ps : List W.Identifier) (ds : List P.Declared) (w : W.World) (b : Book) → Shows w b → b.second ≡ None → (book_whole m ps ds b).past ≡ None → Outcome (N.declare_all m ps ds w) (book_whole m ps ds b)

@@ -213,7 +213,7 @@ pub record EnteredIf (d s t : List ℕ) (x : Tally) (p : Spelling) (f : Book →
 
 -- ---- which refusal comes first: 3 and 4 by place, and then 5
 abbrev pub twice_or : Option ℕ → Result (Unit {0}) (Why × ℕ) → Result (Unit {0}) (Why × ℕ)
-twice_or None (Ok tt) = (Ok tt)
+twice_or None (Ok tt) = Ok tt
 twice_or (Some p) (Ok tt) = Err (DeclaredTwice, p)
 twice_or m (Err (w, q)) = Err (w, q)
 

@@ -14,5 +14,5 @@ pub record Shows (w : W.World) (b : Book) : Type 0 where
 
 -- the member m, whose source is s, goes into the world x with the names c, or it is refused
 pub data Entry (m : ℕ) (s : P.Source) (c : Book) (x : N.Entering) (g : Result (Unit {0}) (Why × ℕ)) : Type 0 where
-  goes_in : (v : W.World) → x ≡ N.entered (N.with_member m s v) → Shows v c → g ≡ (Ok tt) → Entry m s c x g
+  goes_in : (v : W.World) → x ≡ N.entered (N.with_member m s v) → Shows v c → g ≡ Ok tt → Entry m s c x g
   stays_out : (e : Why) (p : ℕ) → x ≡ N.unreadable e p → g ≡ Err (e, p) → Entry m s c x g

@@ -45,18 +45,12 @@ pub struct Spelling {
     pub to: usize,
 }
 
-// The first place stays.
-fn first_of(m: Option<usize>, p: usize) -> Option<usize>
-    ensures { result ≡ B.first_of m p }
-{
-    m.or(Some(p))
-}
-
+// In both marks the first place stays.
 pub fn with_past(t: Tally, p: usize) -> Tally
     ensures { result ≡ B.tally_past t p }
 {
     Tally {
-        past: first_of(t.past, p),
+        past: t.past.or(Some(p)),
         ..t
     }
 }
@@ -65,7 +59,7 @@ pub fn with_second(t: Tally, p: usize) -> Tally
     ensures { result ≡ B.tally_second t p }
 {
     Tally {
-        second: first_of(t.second, p),
+        second: t.second.or(Some(p)),
         ..t
     }
 }

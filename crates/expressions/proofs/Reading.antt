@@ -95,18 +95,18 @@ module _ (x : Expected) where
   ended e (read r) h k = let z : e ≡ r.to = cc in (r.tree, rw z)
   ended e (refused w p) h k = let z : ◌≡◌ {A = ℕ} 0 1 = cc in absurd (omega arith)
 
-  pub refused_is : (w : Why) (p : ℕ) (R : Reading Parsed) → x ≡ end_for R → x ≡ Err (w, p) → R ≡ refused w p
+  pub refused_is : (d : Why × ℕ) (R : Reading Parsed) → x ≡ end_for R → x ≡ Err d → R ≡ refused d.0 d.1
   unfolding end_for
-  refused_is w p (read r) h k = let z : ◌≡◌ {A = ℕ} 0 1 = cc in absurd (omega arith)
-  refused_is w p (refused v q) h k = let z : (w, p) ≡ (v, q) = cc in let y : (w ≡ v) × (p ≡ q) = parts z in rw (y.0, y.1)
+  refused_is d (read r) h k = let z : ◌≡◌ {A = ℕ} 0 1 = cc in absurd (omega arith)
+  refused_is d (refused v q) h k = let z : d ≡ (v, q) = cc in let y : (d.0 ≡ v) × (d.1 ≡ q) = parts z in rw (y.0, y.1)
 
   module _ (f : Parsed → Reading Parsed) (R : Reading Parsed) (h : x ≡ end_for R) where
     then_past : (y : Expected) (e : ℕ) → x ≡ Ok e → ((t : Tree) → y ≡ end_for (f (parsed t e))) → y ≡ end_for (then R f)
     then_past y e k l = let q : (t : Tree) × (R ≡ read (parsed t e)) = ended e R h k in rw q.1 (l q.0)
 
-    then_refused : (w : Why) (p : ℕ) → x ≡ Err (w, p) → Err (w, p) ≡ end_for (then R f)
+    then_refused : (d : Why × ℕ) → x ≡ Err d → Err d ≡ end_for (then R f)
     unfolding end_for
-    then_refused w p k = rw (refused_is w p R h k)
+    then_refused d k = rw (refused_is d R h k)
 
 module _ (f g : Parsed → Reading Parsed) (h : (r : Parsed) → end_for (f r) ≡ end_for (g r)) where
   then_same : (R : Reading Parsed) → end_for (then R f) ≡ end_for (then R g)
@@ -134,8 +134,8 @@ infix_is : (x : Option (Operator × ℕ)) (o : Operator) (q to : ℕ) (m : Maybe
 infix_is x o q to (is v) h k = let z : (o, q) ≡ (v, to) = cc in let y : (o ≡ v) × (q ≡ to) = parts z in (rw y.0, sym y.1)
 infix_is x o q to no_operator h k = let z : ◌≡◌ {A = ℕ} 0 1 = cc in absurd (omega arith)
 
-infix_none : (x : Option (Operator × ℕ)) (to : ℕ) (m : Maybe Operator) → x ≡ infix_for m to → x ≡ None → m ≡ no_operator
-infix_none x to (is v) h k = let z : ◌≡◌ {A = ℕ} 0 1 = cc in absurd (omega arith)
+infix_none : (x : Option (Operator × ℕ)) (to : ℕ) (m : Maybe Operator) → x ≡ infix_for m to → ((o : Operator) (q : ℕ) → x ≡ Some (o, q) → ⊥) → m ≡ no_operator
+infix_none x to (is v) h k = absurd (k v to h)
 infix_none x to no_operator h k = refl
 
 -- the operators that are left end where all of them do
@@ -164,11 +164,11 @@ module _ (l : ℕ) (next : Reader) (s : List ℕ) where
     chaining_end k = let z : turns ≡ 0 = omega arith in rw z at h.same
 
     module _ (k : 0 < turns) (x : Option (Operator × ℕ)) (i : x ≡ infix_at l s at) where
-      off : x ≡ None → chain mixed l next s turns none at ≡ read (parsed none at)
+      off : ((o : Operator) (q : ℕ) → x ≡ Some (o, q) → ⊥) → chain mixed l next s turns none at ≡ read (parsed none at)
       unfolding infix_at
       off e = chain_turn turns none at k ∙ rw (infix_none x (token_at mixed s at).to (infix_of l (token_at mixed s at).token) i e)
 
-      pub chaining_done : x ≡ None → Ok at ≡ end_for (chain mixed l next s (suc (length s)) none from)
+      pub chaining_done : ((o : Operator) (q : ℕ) → x ≡ Some (o, q) → ⊥) → Ok at ≡ end_for (chain mixed l next s (suc (length s)) none from)
       unfolding end_for
       chaining_done e = rw (off e) at h.same
 
@@ -182,8 +182,8 @@ module _ (l : ℕ) (next : Reader) (s : List ℕ) where
         pub chaining_more : (p : ℕ) → y ≡ Ok p → Chaining l next s from (turns - 1) p
         chaining_more p b = record { same = then_past y _ (next q) a _ p b (λ t. chain_same (turns - 1) none _ p) ∙ ap end_for (sym on) ∙ h.same }
 
-        pub chaining_refused : (w : Why) (p : ℕ) → y ≡ Err (w, p) → Err (w, p) ≡ end_for (chain mixed l next s (suc (length s)) none from)
-        chaining_refused w p b = then_refused y _ (next q) a w p b ∙ ap end_for (sym on) ∙ h.same
+        pub chaining_refused : (d : Why × ℕ) → y ≡ Err d → Err d ≡ end_for (chain mixed l next s (suc (length s)) none from)
+        chaining_refused d b = then_refused y _ (next q) a d b ∙ ap end_for (sym on) ∙ h.same
 
 -- ---- levels
 levels_turn : (inner : Reader) (s : List ℕ) (at n : ℕ) → 1 ≤ n → levels mixed inner s n at ≡ then (levels mixed inner s (n - 1) at) λ r. chain mixed (n - 1) (levels mixed inner s (n - 1)) s (suc (length s)) r.tree r.to
@@ -200,8 +200,8 @@ module _ (inner : Reader) (s : List ℕ) (at n : ℕ) where
     pub levels_more : (p : ℕ) → x ≡ Ok p → (y : Expected) → y ≡ end_for (chain mixed (n - 1) (levels mixed inner s (n - 1)) s (suc (length s)) none p) → y ≡ end_for (levels mixed inner s n at)
     levels_more p k y f = then_past x _ (levels mixed inner s (n - 1) at) e y p k (λ t. f ∙ chain_same (n - 1) (levels mixed inner s (n - 1)) s (suc (length s)) none t p) ∙ ap end_for (sym (levels_turn inner s at n h))
 
-    pub levels_refused : (w : Why) (p : ℕ) → x ≡ Err (w, p) → Err (w, p) ≡ end_for (levels mixed inner s n at)
-    levels_refused w p k = then_refused x _ (levels mixed inner s (n - 1) at) e w p k ∙ ap end_for (sym (levels_turn inner s at n h))
+    pub levels_refused : (d : Why × ℕ) → x ≡ Err d → Err d ≡ end_for (levels mixed inner s n at)
+    levels_refused d k = then_refused x _ (levels mixed inner s (n - 1) at) e d k ∙ ap end_for (sym (levels_turn inner s at n h))
 
 -- ---- an expression inside a parenthesis
 expression_is : (d : ℕ) (s : List ℕ) (at : ℕ) → expression mixed d s at ≡ levels_in d s 6 at
@@ -246,8 +246,8 @@ module _ (inside : Reader) (s : List ℕ) where
     arguing_end k = let z : turns ≡ 0 = omega arith in rw z at h.same
 
     module _ (k : 0 < turns) (x : Expected) (a : x ≡ end_for (inside at)) where
-      pub arguing_refused : (w : Why) (p : ℕ) → x ≡ Err (w, p) → Err (w, p) ≡ end_for (arguments mixed inside s (length s) from)
-      arguing_refused w p b = then_refused x _ (inside at) a w p b ∙ ap end_for (sym (arguments_turn turns at k)) ∙ h.same
+      pub arguing_refused : (d : Why × ℕ) → x ≡ Err d → Err d ≡ end_for (arguments mixed inside s (length s) from)
+      arguing_refused d b = then_refused x _ (inside at) a d b ∙ ap end_for (sym (arguments_turn turns at k)) ∙ h.same
 
       module _ (e : ℕ) (b : x ≡ Ok e) (l : Lexeme) (lex : Lexed s e l) (v : Bool) (c : v ≡ is_sign_in s l (44 ∷ [])) where
         behind : (y : Expected) → ((t : Tree) → y ≡ end_for (next (turns - 1) (parsed t e))) → y ≡ end_for (arguments mixed inside s (length s) from)
@@ -267,15 +267,15 @@ module _ (g : Named → Reading Parsed) (x : NamedAt) where
   named_then (read n) y from to h k f = let z : (from, to) ≡ (n.place, n.to) = cc in f n (sym (parts z).1)
   named_then (refused w p) y from to h k f = let z : ◌≡◌ {A = ℕ} 0 1 = cc in absurd (omega arith)
 
-  named_refused : (R : Reading Named) (w : Why) (p : ℕ) → x ≡ named_for R → x ≡ Err (w, p) → Err (w, p) ≡ end_for (then R g)
+  named_refused : (R : Reading Named) (d : Why × ℕ) → x ≡ named_for R → x ≡ Err d → Err d ≡ end_for (then R g)
   unfolding end_for
-  named_refused (read n) w p h k = let z : ◌≡◌ {A = ℕ} 0 1 = cc in absurd (omega arith)
-  named_refused (refused v q) w p h k = cc
+  named_refused (read n) d h k = let z : ◌≡◌ {A = ℕ} 0 1 = cc in absurd (omega arith)
+  named_refused (refused v q) d h k = cc
 
 module _ (inside : ℕ → Reader) (s : List ℕ) (at : ℕ) (x : NamedAt) (h : x ≡ named_for (name_at mixed s at)) where
-  pub reference_refused : (w : Why) (p : ℕ) → x ≡ Err (w, p) → Err (w, p) ≡ end_for (referred inside s at)
+  pub reference_refused : (d : Why × ℕ) → x ≡ Err d → Err d ≡ end_for (referred inside s at)
   unfolding referred
-  reference_refused w p k = named_refused _ x (name_at mixed s at) w p h k
+  reference_refused d k = named_refused _ x (name_at mixed s at) d h k
 
   module _ (from to : ℕ) (k : x ≡ Ok (from, to)) (l : Lexeme) (lex : Lexed s to l) (v : Bool) (c : v ≡ is_sign_in s l (40 ∷ [])) where
     pub reference_name : v ≡ false → Ok to ≡ end_for (referred inside s at)
@@ -329,8 +329,8 @@ module _ (inside : ℕ → Reader) (s : List ℕ) (l : Lexeme) (e : l.kind ≡ K
     unfolding primitive
     opened = rw (opens true d)
 
-    pub open_refused : (w : Why) (p : ℕ) → x ≡ Err (w, p) → Err (w, p) ≡ end_for (primitive mixed inside s (sign (written s l)) l.from l.to)
-    open_refused w p b = then_refused x _ (inside l.from l.to) a w p b ∙ ap end_for (sym opened)
+    pub open_refused : (e : Why × ℕ) → x ≡ Err e → Err e ≡ end_for (primitive mixed inside s (sign (written s l)) l.from l.to)
+    open_refused e b = then_refused x _ (inside l.from l.to) a e b ∙ ap end_for (sym opened)
 
     pub open_closed : (p : ℕ) → x ≡ Ok p → (y : Expected) → y ≡ expected (41 ∷ []) s p → y ≡ end_for (primitive mixed inside s (sign (written s l)) l.from l.to)
     open_closed p b y f = then_past x _ (inside l.from l.to) a y p b (λ t. f ∙ expected_is ")" (41 ∷ []) refl s p ∙ sym (closed t (expect_sign mixed ")" s p))) ∙ ap end_for (sym opened)
@@ -402,8 +402,8 @@ prefix_is : (x : Option (Prefix × ℕ)) (o : Prefix) (q to : ℕ) (m : Maybe Pr
 prefix_is x o q to (is v) h k = let z : (o, q) ≡ (v, to) = cc in let y : (o ≡ v) × (q ≡ to) = parts z in (rw y.0, sym y.1)
 prefix_is x o q to no_operator h k = let z : ◌≡◌ {A = ℕ} 0 1 = cc in absurd (omega arith)
 
-prefix_none : (x : Option (Prefix × ℕ)) (to : ℕ) (m : Maybe Prefix) → x ≡ prefix_for m to → x ≡ None → m ≡ no_operator
-prefix_none x to (is v) h k = let z : ◌≡◌ {A = ℕ} 0 1 = cc in absurd (omega arith)
+prefix_none : (x : Option (Prefix × ℕ)) (to : ℕ) (m : Maybe Prefix) → x ≡ prefix_for m to → ((o : Prefix) (q : ℕ) → x ≡ Some (o, q) → ⊥) → m ≡ no_operator
+prefix_none x to (is v) h k = absurd (k v to h)
 prefix_none x to no_operator h k = refl
 
 module _ (s : List ℕ) (from : ℕ) where
@@ -435,5 +435,5 @@ module _ (s : List ℕ) (from : ℕ) where
             same = rw n (a_turn h.turns h.sum h.same (prefixes_of (suc p.count) p.to) (rw (z.0, z.1)));
           }
 
-      pub passing_stop : x ≡ None → prefixes_of count at ≡ prefixes (length s) s from
+      pub passing_stop : ((o : Prefix) (q : ℕ) → x ≡ Some (o, q) → ⊥) → prefixes_of count at ≡ prefixes (length s) s from
       passing_stop e = rw add-zero at (a_turn h.turns h.sum h.same (prefixes_of 0 at) (rw (prefix_none x (token_at mixed s at).to (prefix_of (token_at mixed s at).token) i e)))

@@ -174,10 +174,10 @@ pub fn past_prefixes(s: &[u8], from: usize) -> Prefixes
 {
     let mut at = from;
     for count in 0..s.len() {
-        match prefix_at(s, at) {
-            Some((_, q)) => at = q,
-            None => return Prefixes { count, to: at },
-        }
+        let Some((_, q)) = prefix_at(s, at) else {
+            return Prefixes { count, to: at };
+        };
+        at = q;
     }
     Prefixes {
         count: s.len(),
@@ -205,16 +205,12 @@ fn arguments(s: &[u8], p: usize, from: usize, left: usize) -> Expected
 {
     let mut at = from;
     for turn in (0..s.len()).rev() {
-        match inside(s, p, at, left) {
-            Ok(e) => {
-                let t = token_at(s, e);
-                if !is_sign(s, t, b",") {
-                    return expect_sign(s, e, b")");
-                }
-                at = t.to;
-            }
-            Err((w, q)) => return Err((w, q)),
+        let e = inside(s, p, at, left)?;
+        let t = token_at(s, e);
+        if !is_sign(s, t, b",") {
+            return expect_sign(s, e, b")");
         }
+        at = t.to;
     }
     Err((Why::Syntax, at))
 }
@@ -223,16 +219,12 @@ fn arguments(s: &[u8], p: usize, from: usize, left: usize) -> Expected
 fn reference(s: &[u8], at: usize, left: usize) -> Expected
     ensures { result ≡ end_for (referred (inside_of left s.now) s.now at) }
 {
-    match name_at(s, at) {
-        Ok((_, to)) => {
-            let t = token_at(s, to);
-            if is_sign(s, t, b"(") {
-                return arguments(s, t.from, t.to, left);
-            }
-            Ok(to)
-        }
-        Err((w, q)) => Err((w, q)),
+    let (_, to) = name_at(s, at)?;
+    let t = token_at(s, to);
+    if is_sign(s, t, b"(") {
+        return arguments(s, t.from, t.to, left);
     }
+    Ok(to)
 }
 
 #[cycle(expression)]
@@ -241,10 +233,8 @@ fn parenthesized(s: &[u8], t: Lexeme, left: usize) -> Expected
     ensures { result ≡ end_for (E.primitive mixed (inside_of left s.now) s.now (sign (written s.now t)) t.from t.to) }
 {
     if is_sign(s, t, b"(") {
-        return match inside(s, t.from, t.to, left) {
-            Ok(e) => expect_sign(s, e, b")"),
-            Err((w, q)) => Err((w, q)),
-        };
+        let e = inside(s, t.from, t.to, left)?;
+        return expect_sign(s, e, b")");
     }
     Err((Why::Syntax, t.from))
 }
@@ -276,13 +266,10 @@ fn chain(s: &[u8], from: usize, level: usize, left: usize) -> Expected
 {
     let mut at = from;
     for turn in (0..s.len() + 1).rev() {
-        match infix_at(s, at, level) {
-            Some((_, q)) => match levels(s, q, level, left) {
-                Ok(e) => at = e,
-                Err((w, p)) => return Err((w, p)),
-            },
-            None => return Ok(at),
-        }
+        let Some((_, q)) = infix_at(s, at, level) else {
+            return Ok(at);
+        };
+        at = levels(s, q, level, left)?;
     }
     Err((Why::Syntax, at))
 }
@@ -295,10 +282,8 @@ fn levels(s: &[u8], at: usize, n: usize, left: usize) -> Expected
     if n < 1 {
         return operand(s, at, left);
     }
-    match levels(s, at, n - 1, left) {
-        Ok(e) => chain(s, e, n - 1, left),
-        Err((w, p)) => Err((w, p)),
-    }
+    let e = levels(s, at, n - 1, left)?;
+    chain(s, e, n - 1, left)
 }
 
 // THE EXPRESSION at a place.

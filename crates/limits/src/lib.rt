@@ -3,9 +3,11 @@
 #![tactic(auto)]
 
 ghost use Rattle.std.specs.Prelude.{◌≡◌, leb};
-ghost use Rattle.definition.specs.Limits.{name_length, member_sentences, entered_sentences, declared_names, open_parentheses, open_groups};
+ghost use Rattle.definition.specs.Limits.{member_sentences, entered_sentences, declared_names, open_parentheses, open_groups};
 ghost use Rattle.definition.specs.Limits.{include_levels, replacement_levels, running_procedures, text_bytes, unfinished_bytes, program_text, program_list};
-ghost use Rattle.limits.specs.Checked.{name_of, value_of, name_refusal, value_refusal};
+ghost use Rattle.limits.specs.Checked.{name_of, value_of};
+
+use definition::Why;
 
 // A record of a card image, by its columns: the source begins with the second.
 #[derive(Clone, Copy)]
@@ -20,38 +22,24 @@ impl Record {
 }
 
 // A name in a statement, by its length.
+// stays: two types, as each constructor is under the definition's own limit and refusal; one with the limit as its parameter
+// would promise them of no type
 #[derive(Clone, Copy)]
 pub struct Name {
     pub length: usize,
 }
 
-#[derive(Clone, Copy)]
-pub enum Named {
-    Is(Name),
-    TooLong,
-}
-
 impl Name {
     pub const LONGEST: usize = 31;
 
-    pub fn of(length: usize) -> Named
+    pub fn of(length: usize) -> Result<Name, Why>
         ensures { result ≡ name_of length }
     {
         if length <= Name::LONGEST {
-            Named::Is(Name { length })
+            Ok(Name { length })
         } else {
-            Named::TooLong
+            Err(Why::OverLimit)
         }
-    }
-}
-
-// 01's number for a name: 0, or 4 where it is too long.
-pub fn name_refusal(n: Named) -> u8
-    ensures { result ≡ name_refusal n }
-{
-    match n {
-        Named::Is(_) => 0,
-        Named::TooLong => 4,
     }
 }
 
@@ -61,33 +49,17 @@ pub struct Value {
     pub length: usize,
 }
 
-#[derive(Clone, Copy)]
-pub enum Valued {
-    Is(Value),
-    TooLong,
-}
-
 impl Value {
     pub const LONGEST: usize = 512;
 
-    pub fn of(length: usize) -> Valued
+    pub fn of(length: usize) -> Result<Value, Why>
         ensures { result ≡ value_of length }
     {
         if length <= Value::LONGEST {
-            Valued::Is(Value { length })
+            Ok(Value { length })
         } else {
-            Valued::TooLong
+            Err(Why::TooLong)
         }
-    }
-}
-
-// 01's number for a value: 0, or 16 where it is too long.
-pub fn value_refusal(v: Valued) -> u8
-    ensures { result ≡ value_refusal v }
-{
-    match v {
-        Valued::Is(_) => 0,
-        Valued::TooLong => 16,
     }
 }
 

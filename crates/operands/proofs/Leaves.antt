@@ -1,8 +1,10 @@
 -- One law for each way out of the small functions on values that were evaluated.
 -- Assumes nothing.
 use Rattle.values.specs.declared.NumberError.{NumberError}
+use Rattle.values.specs.declared.NumberError.TheVariants as N
+use Rattle.names.specs.declared.Place.{Place}
 use Rattle.operands.specs.Types.{Evaluated}
-use Rattle.std.proofs.Common.{Result, Ok, Err}
+use Rattle.std.proofs.Common.{Option, Result, Ok, Err}
 use mathlib.Core.Path.{◌≡◌, refl, sym, ap, ◌∙◌}
 use mathlib.Core.Bool.{Bool, true, false, cond}
 use mathlib.Core.List.{List, [], ◌∷◌}
@@ -21,13 +23,13 @@ use Rattle.definition.specs.World.{World, Res, good, bad, ask, variable_of, entr
 use Rattle.definition.specs.Evaluate as Ev
 use Rattle.definition.specs.Evaluate.{Call, evaluate, put, plain_name, read_cell, meant}
 use Rattle.definition.specs.declared.Why.{Why}
-use Rattle.definition.specs.declared.Why.TheVariants.{TooLong, WrongName, WrongArguments, NoConversion, OutOfRange}
+use Rattle.definition.specs.declared.Why.TheVariants.{TooLong, WrongName, WrongArguments}
 use Rattle.definition.specs.declared.ValueType.{ValueType}
 use Rattle.fixed.specs.declared.Fixed.{Fixed}
 use Rattle.meter.specs.declared.Meter.{Meter}
 use Rattle.tokens.specs.declared.Lexeme.{Lexeme}
-use Rattle.tokens.specs.Answer.{written, content, Unquoted}
-use Rattle.values.specs.Answers.{answer_of}
+use Rattle.tokens.specs.Answer.{written, content, Unquoted, Lexed}
+use Rattle.values.specs.Answers.{answer_of, why_of}
 use Rattle.store.specs.Cells.{cell_in}
 use Rattle.operators.specs.declared.Value.{Value}
 use Rattle.operators.specs.declared.Value.TheVariants.{Number, Characters, Bits}
@@ -42,7 +44,7 @@ use Rattle.callees.specs.declared.Meant.TheVariants as M
 use Rattle.callees.specs.Shown.{values_from, world_in}
 use Rattle.callees.specs.Answer.{read_in, VariableIs}
 use Rattle.operands.specs.declared.Scene.{Scene}
-use Rattle.operands.specs.Answer.{Below, res_in, size_of, meter_of, with_end, run_in, value_of, evaluated_for, ConstantIs, IntegerIs, string_tree, Means, PlainIs, infix_on, Turns, WithInfix}
+use Rattle.operands.specs.Answer.{Below, res_in, size_of, meter_of, with_end, run_in, value_of, evaluated_for, ConstantIs, IntegerIs, string_tree, ClosedIs, Means, PlainIs, infix_on, Turns, WithInfix}
 use Rattle.definition.specs.declared.Operator.{Operator}
 
 pub true_false : {A : Type 0} → true ≡ false → A
@@ -55,8 +57,12 @@ given_some g v to m e = rw e
 pub given_none : (g : Result Value Why) (w : Why) (to : ℕ) (m : Meter) → g ≡ Err w → Err (w, m) ≡ evaluated_for g to m
 given_none g w to m e = rw e
 
+abbrev end_in : Evaluated → ℕ
+end_in (Ok (v, e, m)) = e
+end_in (Err w) = 0
+
 pub end_is : (v : Value) (q e : ℕ) (m : Meter) → Ok (v, q, m) ≡ with_end (Ok (v, q, m)) e → q ≡ e
-end_is v q e m h = cc
+end_is v q e m h = ap end_in h
 
 -- ---- rooms
 pub below_same : (u : ℕ) (w : List ℕ) → Below u w w
@@ -81,15 +87,16 @@ module _ (s : List ℕ) (t : Lexeme) (m : Meter) (n : ℕ) (e : n ≡ t.to - t.f
   unfolding value_of evaluate
   integer_value sc u w = rw constant_is
 
-  pub integer_some : (k : Fixed) → x ≡ Ok k → IntegerIs (written s t) t.to m (Ok ((Number k), t.to, m))
+  pub integer_some : (k : Fixed) → x ≡ Ok k → IntegerIs (written s t) t.to m (Ok (Number k, t.to, m))
   unfolding value_in size_for
   integer_some k g = record { is = λ w u. record { is = λ a b sc B c l h. sym (integer_value sc u (world_in B c l h m.used) ∙ rw g); end = refl; below = below_same u w; fits = λ q. omega (arith, q); limit = refl } }
 
-  pub integer_wrong : x ≡ (Err NoConversion) → IntegerIs (written s t) t.to m (Err (NoConversion, m))
-  integer_wrong g = record { is = λ w u. record { is = λ a b sc B c l h. sym (integer_value sc u (world_in B c l h m.used) ∙ rw g); end = refl; below = below_same u w; fits = λ q. omega (arith, q); limit = refl } }
+  wrong_by : (e : NumberError) → x ≡ Err e → IntegerIs (written s t) t.to m (Err (why_of e, m))
+  wrong_by N.NoConversion g = record { is = λ w u. record { is = λ a b sc B c l h. sym (integer_value sc u (world_in B c l h m.used) ∙ rw g); end = refl; below = below_same u w; fits = λ q. omega (arith, q); limit = refl } }
+  wrong_by N.OutOfRange g = record { is = λ w u. record { is = λ a b sc B c l h. sym (integer_value sc u (world_in B c l h m.used) ∙ rw g); end = refl; below = below_same u w; fits = λ q. omega (arith, q); limit = refl } }
 
-  pub integer_large : x ≡ (Err OutOfRange) → IntegerIs (written s t) t.to m (Err (OutOfRange, m))
-  integer_large g = record { is = λ w u. record { is = λ a b sc B c l h. sym (integer_value sc u (world_in B c l h m.used) ∙ rw g); end = refl; below = below_same u w; fits = λ q. omega (arith, q); limit = refl } }
+  pub integer_wrong : (e : NumberError) (w : Why) → x ≡ Err e → w ≡ why_of e → IntegerIs (written s t) t.to m (Err (w, m))
+  integer_wrong e w g h = rw h (wrong_by e g)
 
 -- ---- strings
 abbrev string_value : Bool → List ℕ → Val.Value
@@ -135,11 +142,11 @@ module _ (s w : List ℕ) (t : Lexeme) (b : Bool) (u n : ℕ) (m : Meter) (e : n
       value : (sc : Scene) (B : World) (c l h : List ℕ) → value_of sc (string_tree b (content s t.from)) u (world_in B c l h m.used) ≡ good (string_value b (content s t.from)) (world_in B c l h m.used)
       value sc B c l hh = string_is b (content s t.from) sc u (world_in B c l hh m.used) ∙ put_some b (content s t.from) u (world_in B c l hh m.used) (omega (arith, h, e)) (rw (← e) (sym f ∙ g))
 
-      pub string_bits : b ≡ true → ConstantIs (string_tree b (content s t.from)) w u t.to m w' (Ok ((Bits n), t.to, m))
+      pub string_bits : b ≡ true → ConstantIs (string_tree b (content s t.from)) w u t.to m w' (Ok (Bits n, t.to, m))
       unfolding value_in size_for
       string_bits i = record { is = λ a k sc B c l hh. rw (room a) (sym (value sc B c l hh ∙ rw i)); end = refl; below = below; fits = λ k. leb-true (u + n) 65536 (sym f ∙ g); limit = refl }
 
-      pub string_text : b ≡ false → ConstantIs (string_tree b (content s t.from)) w u t.to m w' (Ok ((Characters n), t.to, m))
+      pub string_text : b ≡ false → ConstantIs (string_tree b (content s t.from)) w u t.to m w' (Ok (Characters n, t.to, m))
       unfolding value_in size_for
       string_text i = record { is = λ a k sc B c l hh. rw (room a) (sym (value sc B c l hh ∙ rw i)); end = refl; below = below; fits = λ k. leb-true (u + n) 65536 (sym f ∙ g); limit = refl }
 
@@ -223,7 +230,7 @@ module _ (c l h w : List ℕ) (u to : ℕ) (m : Meter) (y : Meant) where
     limit = given_meter g to m;
   }
 
-  pub plain_wrong : ((b : Rattle.names.specs.declared.Body.Body) × (y ≡ M.AnEntry b)) ⊎ (y ≡ M.NoSuch) → PlainIs c l h w u m y to w (Err (WrongName, m))
+  pub plain_wrong : ((b : Option Place) × (y ≡ M.AnEntry b)) ⊎ (y ≡ M.NoSuch) → PlainIs c l h w u m y to w (Err (WrongName, m))
   unfolding plain_name
   plain_wrong (inl (b, e)) = rw e record { is = λ i z q x B j. true_false i; end = refl; below = below_same u w; fits = λ z q. omega (arith, q); limit = refl }
   plain_wrong (inr e) = rw e record { is = λ i z q x B j. refl; end = refl; below = below_same u w; fits = λ z q. omega (arith, q); limit = refl }
@@ -254,9 +261,9 @@ failed_turns w u v e m F f k = record { is = λ B c l h. sym (f m.used); end = �
 
 -- ---- the operator with its two sides
 module _ (w : List ℕ) (u : ℕ) (o : Operator) (x : Value) (y : Evaluated) where
-  pub infix_none : (f : Why) (m : Meter) → y ≡ Err (f, m) → WithInfix w u o x y w (Err (f, m))
+  pub infix_none : (f : Why × Meter) → y ≡ Err f → WithInfix w u o x y w (Err f)
   unfolding infix_on
-  infix_none f m e = record { is = λ a b. rw e (failed_turns w u (u + size_for x) f m (infix_on u o (value_in w u x)) (λ n. refl) (omega (arith, b))) }
+  infix_none (f, m) e = record { is = λ a b. rw e (failed_turns w u (u + size_for x) f m (infix_on u o (value_in w u x)) (λ n. refl) (omega (arith, b))) }
 
   module _ (v : Value) (to : ℕ) (m : Meter) (e : y ≡ Ok (v, to, m)) (w' : List ℕ) (g : Result Value Why)
       (k : O.Gave w u (size_for x + size_for v) (stacked u (Val.infixed u o (value_in w u x) (value_in w (u + size_for x) v))) w' g) where
@@ -266,3 +273,11 @@ module _ (w : List ℕ) (u : ℕ) (o : Operator) (x : Value) (y : Evaluated) whe
 
     pub infix_done : (r : Evaluated) → r ≡ evaluated_for g to m → WithInfix w u o x y w' r
     infix_done r f = record { is = λ a b. rw (e, f) (infix_turns a (rw e at b)) }
+
+-- ---- the place past the parenthesis that closes
+module _ (s : List ℕ) (y : Evaluated) where
+  pub closed_none : (f : Why × Meter) → y ≡ Err f → ClosedIs s y (Err f)
+  closed_none (f, m) e = rw e record { is = λ q h. refl }
+
+  pub closed_some : (v : Value) (e : ℕ) (m : Meter) → y ≡ Ok (v, e, m) → (l : Lexeme) → Lexed s e l → ClosedIs s y (Ok (v, l.to, m))
+  closed_some v e m f l lex = rw f record { is = λ q h. let d : e ≡ q = end_is v e q m h in rw (← d, lex.to) }

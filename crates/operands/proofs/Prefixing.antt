@@ -116,8 +116,16 @@ signs_zero : (s : List ℕ) (at : ℕ) → signs_at 0 s at ≡ []
 unfolding signs_at
 signs_zero s at = refl
 
+abbrev found_sign : Option (Prefix × ℕ) → Prefix
+found_sign (Some (o, q)) = o
+found_sign None = Positive
+
+abbrev found_end : Option (Prefix × ℕ) → ℕ
+found_end (Some (o, q)) = q
+found_end None = 0
+
 prefix_some : (m : Maybe Prefix) (to q : ℕ) (o : Prefix) → Some (o, q) ≡ prefix_for m to → (m ≡ is o) × (q ≡ to)
-prefix_some (is p) to q o e = let h : p ≡ o = cc in let k : q ≡ to = cc in (ap is h, k)
+prefix_some (is p) to q o e = (ap is (sym (ap found_sign e)), ap found_end e)
 prefix_some no_operator to q o e = absurd (let z : ◌≡◌ {A = ℕ} 0 1 = cc in omega arith)
 
 prefix_other : (m : Maybe Prefix) (to : ℕ) → None ≡ prefix_for m to → m ≡ no_operator
@@ -322,8 +330,8 @@ by_bad u [] e n = refl
 by_bad u (o ∷ os) e n = rw (by_bad u os e n)
 
 module _ (s : List ℕ) (from : ℕ) (w : List ℕ) (u n : ℕ) (y : Evaluated) where
-  pub prefixes_none : (f : Why) (m : Meter) → y ≡ Err (f, m) → PrefixesDone s from w u n y w (Err (f, m))
-  prefixes_none f m e = record { is = λ a b c. rw e (failed_turns w u u f m (prefixed_by u (all_signs s from)) (by_bad u (all_signs s from) f) (omega (arith, b))) }
+  pub prefixes_none : (f : Why × Meter) → y ≡ Err f → PrefixesDone s from w u n y w (Err f)
+  prefixes_none (f, m) e = record { is = λ a b c. rw e (failed_turns w u u f m (prefixed_by u (all_signs s from)) (by_bad u (all_signs s from) f) (omega (arith, b))) }
 
   module _ (v : Value) (to : ℕ) (m : Meter) (e : y ≡ Ok (v, to, m)) (w' : List ℕ) (g : Result Value Why) (ad : AllDone s from n w u v w' g) where
     turns : 65536 ≤ length w → u + size_for v ≤ 65536 → n ≡ length (all_signs s from) → Turns w u u (Ok (v, to, m)) (prefixed_by u (all_signs s from)) w' (evaluated_for g to m)
@@ -393,11 +401,11 @@ module _ (s : List ℕ) (from left : ℕ) where
       first : (p : ℕ) (t : Tree) → (c : Counted p t n at) → IsRead (inside_of left s p at) (next p (length s - (n + 1))) (parsed c.tree c.end)
       first p t c = let z : length s - n ≡ suc (length s - (n + 1)) = omega (arith, o) in turn p (length s - (n + 1)) at (parsed c.tree c.end) (rw z at c.same)
 
-      pub counting_refused : (y : Why) (q : ℕ) → x ≡ Err (y, q) → CountIs s from left (n + 1)
-      counting_refused y q g = record { is = λ p t e r. let c : Counted p t n at = k.is p t e r in let i : IsRead (inside_of left s p at) (next p (length s - (n + 1))) (parsed c.tree c.end) = first p t c in absurd (no p i.first i.is) }
+      pub counting_refused : (y : Why × ℕ) → x ≡ Err y → CountIs s from left (n + 1)
+      counting_refused y g = record { is = λ p t e r. let c : Counted p t n at = k.is p t e r in let i : IsRead (inside_of left s p at) (next p (length s - (n + 1))) (parsed c.tree c.end) = first p t c in absurd (no p i.first i.is) }
         where
           no : (p : ℕ) (z : Parsed) → inside_of left s p at ≡ read z → ⊥
-          no p z h = let j : Err (y, q) ≡ Ok z.to = sym g ∙ f ∙ inside_end p 0 at z h in let a : ◌≡◌ {A = ℕ} 0 1 = cc in omega arith
+          no p z h = let j : Err y ≡ Ok z.to = sym g ∙ f ∙ inside_end p 0 at z h in let a : ◌≡◌ {A = ℕ} 0 1 = cc in omega arith
 
       module _ (e : ℕ) (g : x ≡ Ok e) (l : Lexeme) (lex : Lexed s e l) (v : Bool) (c : v ≡ is_sign_in s l (44 ∷ [])) where
         end_of_lem : (p : ℕ) (z : Parsed) → inside_of left s p at ≡ read z → z.to ≡ e

@@ -46,9 +46,9 @@ use Rattle.operands.proofs.Leaves.{stood_turns, failed_turns}
 
 -- ---- a wish
 module _ (w : List ℕ) (u : ℕ) (g : Wish) (y : Evaluated) where
-  pub wish_none : (f : Why) (m : Meter) → y ≡ Err (f, m) → WithWish w u g y w (Err (f, m))
+  pub wish_none : (f : Why × Meter) → y ≡ Err f → WithWish w u g y w (Err f)
   unfolding wished_on
-  wish_none f m e = record { is = λ a b. rw e (failed_turns w u u f m (wished_on u (wish_for g)) (λ n. refl) (omega (arith, b))) }
+  wish_none (f, m) e = record { is = λ a b. rw e (failed_turns w u u f m (wished_on u (wish_for g)) (λ n. refl) (omega (arith, b))) }
 
   module _ (v : Value) (to : ℕ) (m : Meter) (e : y ≡ Ok (v, to, m)) (w' : List ℕ) (x : Result Value Why) (r : Evaluated) (f : r ≡ evaluated_for x to m) where
     turns : (A : Val.Answer Val.Value) → ((a : Val.Value) → a ≡ value_in w u v → Ev.wished (wish_for g) a ≡ A) → O.Gave w u (size_for v) (stacked u A) w' x → 65536 ≤ length w → u + size_for v ≤ 65536 → Turns w u u (Ok (v, to, m)) (wished_on u (wish_for g)) w' (evaluated_for x to m)

@@ -18,7 +18,7 @@ use names::Owner;
 use operators::{Value, convert, infixed, prefixed, subject, substr_part, substr_rest};
 use rows::Starts;
 use tokens::{Lexeme, content_size, is_sign, token_at, unquote, width};
-use values::{NumberError, constant_number};
+use values::constant_number;
 
 // Who sees names: how many there are, where the rows of each member start, from which scope names are seen, and which procedures are
 // running.
@@ -49,8 +49,7 @@ pub fn integer_value(s: &[u8], t: Lexeme, m: Meter) -> Evaluated
 {
     match constant_number(s, t.from, width(t)) {
         Ok(n) => Ok((Value::Number(n), t.to, m)),
-        Err(NumberError::NoConversion) => Err((Why::NoConversion, m)),
-        Err(NumberError::OutOfRange) => Err((Why::OutOfRange, m)),
+        Err(e) => Err((Why::from(e), m)),
     }
 }
 
@@ -83,10 +82,8 @@ pub fn string_value(
 pub fn with_infix(work: &mut [u8], u: usize, o: Operator, x: Value, y: Evaluated) -> Evaluated
     ensures { WithInfix work.old u o x y work.new result }
 {
-    match y {
-        Ok((v, to, m)) => given_up_to(infixed(work, u, o, x, v), to, m),
-        Err((w, m)) => Err((w, m)),
-    }
+    let (v, to, m) = y?;
+    given_up_to(infixed(work, u, o, x, v), to, m)
 }
 
 // How many prefix operators are kept at once.
@@ -149,10 +146,7 @@ fn with_block(work: &mut [u8], u: usize, all: Signs, n: usize, v: Value) -> Resu
 {
     let mut x = v;
     for i in (0..n).rev() {
-        match prefixed(work, u, sign_at(all, i), x) {
-            Ok(y) => x = y,
-            Err(w) => return Err(w),
-        }
+        x = prefixed(work, u, sign_at(all, i), x)?;
     }
     Ok(x)
 }
@@ -174,10 +168,7 @@ fn with_prefixes(
     while 0 < rest {
         let size = (rest - 1) % BLOCK + 1;
         rest -= size;
-        match with_block(work, u, signs_from(s, from, rest), size, x) {
-            Ok(y) => x = y,
-            Err(w) => return Err(w),
-        }
+        x = with_block(work, u, signs_from(s, from, rest), size, x)?;
     }
     Ok(x)
 }
@@ -192,10 +183,8 @@ pub fn prefixes_done(
 ) -> Evaluated
     ensures { PrefixesDone s.now from work.old u n x work.new result }
 {
-    match x {
-        Ok((v, to, m)) => given_up_to(with_prefixes(s, from, n, work, u, v), to, m),
-        Err((w, m)) => Err((w, m)),
-    }
+    let (v, to, m) = x?;
+    given_up_to(with_prefixes(s, from, n, work, u, v), to, m)
 }
 
 // ---- arguments
@@ -293,12 +282,10 @@ pub fn wanted_count(t: Target) -> usize
 pub fn with_wish(work: &mut [u8], u: usize, w: Wish, x: Evaluated) -> Evaluated
     ensures { WithWish work.old u w x work.new result }
 {
-    match x {
-        Ok((v, to, m)) => match w {
-            Wish::As(t) => given_up_to(convert(work, u, t, v), to, m),
-            Wish::AsSubject => given_up_to(subject(work, u, v), to, m),
-        },
-        Err((y, m)) => Err((y, m)),
+    let (v, to, m) = x?;
+    match w {
+        Wish::As(t) => given_up_to(convert(work, u, t, v), to, m),
+        Wish::AsSubject => given_up_to(subject(work, u, v), to, m),
     }
 }
 
@@ -315,10 +302,8 @@ pub fn first_kept(i: usize, first: Value, v: Value) -> Value
 pub fn up_to(x: Evaluated, to: usize) -> Evaluated
     ensures { result ≡ with_end x to }
 {
-    match x {
-        Ok((v, _, m)) => Ok((v, to, m)),
-        Err((w, m)) => Err((w, m)),
-    }
+    let (v, _, m) = x?;
+    Ok((v, to, m))
 }
 
 // SUBSTR of the arguments that wait above u.
@@ -380,11 +365,13 @@ pub fn aim_of(
     ensures { AimIs deck.now rows.now starts names.now count x n result }
 {
     match x {
-        Meant::AnEntry(b) => match callee_of(deck, rows, starts, names, count, b) {
-            Ok(y) if y.count == n => Ok(Target::Entry(y)),
-            Ok(_) => Err(Why::WrongArguments),
-            Err(w) => Err(w),
-        },
+        Meant::AnEntry(b) => {
+            let y = callee_of(deck, rows, starts, names, count, b)?;
+            if y.count != n {
+                return Err(Why::WrongArguments);
+            }
+            Ok(Target::Entry(y))
+        }
         Meant::TheSubstr if n == 2 || n == 3 => Ok(Target::Substr(n)),
         Meant::TheSubstr => Err(Why::WrongArguments),
         Meant::AVariable(_, _) | Meant::NoSuch => Err(Why::WrongName),
@@ -395,8 +382,6 @@ pub fn aim_of(
 pub fn closed(s: &[u8], x: Evaluated) -> Evaluated
     ensures { ClosedIs s.now x result }
 {
-    match x {
-        Ok((v, e, m)) => Ok((v, token_at(s, e).to, m)),
-        Err((w, m)) => Err((w, m)),
-    }
+    let (v, e, m) = x?;
+    Ok((v, token_at(s, e).to, m))
 }

@@ -25,7 +25,7 @@ use Rattle.definition.specs.declared.Why.TheVariants.{Syntax}
 use Rattle.tokens.specs.declared.Lexeme.{Lexeme}
 use Rattle.tokens.specs.Answer.{Lexed, is_sign_in, is_word_in}
 use Rattle.expressions.specs.Check.{expect_for, expected, is_worded, expected_word, end_for}
-use Rattle.expressions.proofs.Laws.{told, parts}
+use Rattle.expressions.proofs.Laws.{told}
 use Rattle.expressions.proofs.Reading.{expected_is, expected_word_is}
 use Rattle.rows.specs.declared.Statement.{Statement}
 use Rattle.rows.specs.declared.Statement.TheVariants as S
@@ -107,10 +107,10 @@ module _ (s : List ℕ) (c : ℕ) where
   go_past true to from q r e f = let z : to ≡ q = cc in rw z f
   go_past false to from q r e f = let z : ◌≡◌ {A = ℕ} 0 1 = cc in absurd (omega arith)
 
-  go_none : (b : Bool) (to from : ℕ) (w : Why) (p : ℕ) → cond {A = Expected} b (Ok to) (Err (Syntax, from)) ≡ Err (w, p) → Err (w, p) ≡ read_for S.Goto to FixedType (then (cond b (read to) (refused Syntax from)) (D.goto_clause mixed s))
+  go_none : (b : Bool) (to from : ℕ) (d : Why × ℕ) → cond {A = Expected} b (Ok to) (Err (Syntax, from)) ≡ Err d → Err d ≡ read_for S.Goto to FixedType (then (cond b (read to) (refused Syntax from)) (D.goto_clause mixed s))
   unfolding read_for
-  go_none true to from w p e = let z : ◌≡◌ {A = ℕ} 0 1 = cc in absurd (omega arith)
-  go_none false to from w p e = let z : ◌≡◌ {A = Why × ℕ} (Syntax, from) (w, p) = cc in let y : (Syntax ≡ w) × (from ≡ p) = parts z in rw (← y.0, ← y.1)
+  go_none true to from d e = let z : ◌≡◌ {A = ℕ} 0 1 = cc in absurd (omega arith)
+  go_none false to from d e = cc
 
   module _ (x : Expected) (h : x ≡ expected_word (84 ∷ 79 ∷ []) s c) where
     to_is : x ≡ cond (is_word "TO" (token_at mixed s c).token) (Ok (token_at mixed s c).to) (Err (Syntax, (token_at mixed s c).from))
@@ -121,9 +121,9 @@ module _ (s : List ℕ) (c : ℕ) where
     unfolding go_clause expect_word
     go_to q r e f = go_past (is_word "TO" (token_at mixed s c).token) (token_at mixed s c).to (token_at mixed s c).from q r (sym to_is ∙ e) f
 
-    pub go_refused : (w : Why) (p : ℕ) → x ≡ Err (w, p) → Err (w, p) ≡ read_for S.Goto (token_at mixed s c).to FixedType (go_clause s c)
+    pub go_refused : (d : Why × ℕ) → x ≡ Err d → Err d ≡ read_for S.Goto (token_at mixed s c).to FixedType (go_clause s c)
     unfolding go_clause expect_word
-    go_refused w p e = go_none (is_word "TO" (token_at mixed s c).token) (token_at mixed s c).to (token_at mixed s c).from w p (sym to_is ∙ e)
+    go_refused d e = go_none (is_word "TO" (token_at mixed s c).token) (token_at mixed s c).to (token_at mixed s c).from d (sym to_is ∙ e)
 
 -- ---- RETURN
 module _ (s : List ℕ) (c : ℕ) where
@@ -414,9 +414,9 @@ unfolding attribute_by
 attribute_same i is js h = rw (h (67 ∷ 72 ∷ 65 ∷ 82 ∷ 65 ∷ 67 ∷ 84 ∷ 69 ∷ 82 ∷ []), h (67 ∷ 72 ∷ 65 ∷ 82 ∷ []), h (70 ∷ 73 ∷ 88 ∷ 69 ∷ 68 ∷ []), h (66 ∷ 85 ∷ 73 ∷ 76 ∷ 84 ∷ 73 ∷ 78 ∷ []), h (69 ∷ 78 ∷ 84 ∷ 82 ∷ 89 ∷ []))
 
 module _ (s : List ℕ) (x : Expected) (i : Bool) where
-  pub itemized_refused : (w : Why) (p : ℕ) → x ≡ Err (w, p) → Err (w, p) ≡ itemized s x i
+  pub itemized_refused : (d : Why × ℕ) → x ≡ Err d → Err d ≡ itemized s x i
   unfolding itemized
-  itemized_refused w p e = rw e
+  itemized_refused d e = rw e
 
   module _ (q : ℕ) (e : x ≡ Ok q) (l : Lexeme) (lex : Lexed s q l) (a : Option Meaning) (h : a ≡ attribute_by i (is_word_in s l)) where
     attribute_there : attribute_by i (worded (token_at mixed s q).token) ≡ a
@@ -437,9 +437,9 @@ module _ (s : List ℕ) (e x y : Expected) (f : x ≡ then_word (82 ∷ 69 ∷ 8
   opened : y ≡ wide
   opened = rw f at g
 
-  pub type_refused : (w : Why) (p : ℕ) → y ≡ Err (w, p) → Err (w, p) ≡ type_from s (then_sign (40 ∷ []) s (then_word (82 ∷ 69 ∷ 84 ∷ 85 ∷ 82 ∷ 78 ∷ 83 ∷ []) s e))
+  pub type_refused : (d : Why × ℕ) → y ≡ Err d → Err d ≡ type_from s (then_sign (40 ∷ []) s (then_word (82 ∷ 69 ∷ 84 ∷ 85 ∷ 82 ∷ 78 ∷ 83 ∷ []) s e))
   unfolding type_from
-  type_refused w p h = rw (← opened, h)
+  type_refused d h = rw (← opened, h)
 
   module _ (q : ℕ) (h : y ≡ Ok q) (l : Lexeme) (lex : Lexed s q l) (a : Bool) (ha : a ≡ (is_word_in s l (67 ∷ 72 ∷ 65 ∷ 82 ∷ 65 ∷ 67 ∷ 84 ∷ 69 ∷ 82 ∷ []) || is_word_in s l (67 ∷ 72 ∷ 65 ∷ 82 ∷ []))) where
     characters : (is_worded (67 ∷ 72 ∷ 65 ∷ 82 ∷ 65 ∷ 67 ∷ 84 ∷ 69 ∷ 82 ∷ []) (token_at mixed s q).token || is_worded (67 ∷ 72 ∷ 65 ∷ 82 ∷ []) (token_at mixed s q).token) ≡ a
@@ -459,15 +459,15 @@ module _ (s : List ℕ) (e x y : Expected) (f : x ≡ then_word (82 ∷ 69 ∷ 8
       type_missing d = rw (← opened, h, characters, na, ← word_in s q l lex (70 ∷ 73 ∷ 88 ∷ 69 ∷ 68 ∷ []), ← hb, d, lex.from)
 
 module _ (s : List ℕ) (c : ℕ) (X t : Part ValueType) (h : t ≡ X) where
-  pub head_refused : (w : Why) (p : ℕ) → t ≡ Err (w, p) → Err (w, p) ≡ head_from s c X
+  pub head_refused : (d : Why × ℕ) → t ≡ Err d → Err d ≡ head_from s c X
   unfolding head_from
-  head_refused w p e = rw (← h, e)
+  head_refused d e = rw (← h, e)
 
   module _ (v : ValueType) (q : ℕ) (e : t ≡ Ok (v, q)) (x y : Expected) (f : x ≡ expected (41 ∷ []) s q) (g : y ≡ then_sign (59 ∷ []) s x) where
     pub head_there : (to : ℕ) → y ≡ Ok to → Ok (clause_of S.Procedure O.Body c to v) ≡ head_from s c X
     unfolding head_from head_up_to
     head_there to i = rw (← h, e, ← f, ← g, i)
 
-    pub head_stopped : (w : Why) (p : ℕ) → y ≡ Err (w, p) → Err (w, p) ≡ head_from s c X
+    pub head_stopped : (d : Why × ℕ) → y ≡ Err d → Err d ≡ head_from s c X
     unfolding head_from head_up_to
-    head_stopped w p i = rw (← h, e, ← f, ← g, i)
+    head_stopped d i = rw (← h, e, ← f, ← g, i)

@@ -37,45 +37,45 @@ unfolding name_end
 name_there x (read n) from to h k = let z : (from, to) ≡ (n.place, n.to) = cc in let y : (from ≡ n.place) × (to ≡ n.to) = parts z in rw y.1
 name_there x (refused w p) from to h k = let z : ◌≡◌ {A = ℕ} 0 1 = cc in absurd (omega arith)
 
-pub name_refused : (x : NamedAt) (R : Reading Named) (w : Why) (p : ℕ) → x ≡ named_for R → x ≡ Err (w, p) → Err (w, p) ≡ name_end R
+pub name_refused : (x : NamedAt) (R : Reading Named) (d : Why × ℕ) → x ≡ named_for R → x ≡ Err d → Err d ≡ name_end R
 unfolding name_end
-name_refused x (read n) w p h k = let z : ◌≡◌ {A = ℕ} 0 1 = cc in absurd (omega arith)
-name_refused x (refused v q) w p h k = let z : (w, p) ≡ (v, q) = cc in let y : (w ≡ v) × (p ≡ q) = parts z in rw (y.0, y.1)
+name_refused x (read n) d h k = let z : ◌≡◌ {A = ℕ} 0 1 = cc in absurd (omega arith)
+name_refused x (refused v q) d h k = cc
 
 module _ (k : Statement) (o : Opens) (c : ℕ) (e : Expected) where
   pub up_past : (to : ℕ) → e ≡ Ok to → Ok (clause_of k o c to FixedType) ≡ read_up_to k o c e
   unfolding read_up_to
   up_past to h = rw h
 
-  pub up_refused : (w : Why) (p : ℕ) → e ≡ Err (w, p) → Err (w, p) ≡ read_up_to k o c e
+  pub up_refused : (d : Why × ℕ) → e ≡ Err d → Err d ≡ read_up_to k o c e
   unfolding read_up_to
-  up_refused w p h = rw h
+  up_refused d h = rw h
 
 module _ (s : List ℕ) (e : Expected) where
   pub expression_past : (q : ℕ) (y : Expected) → e ≡ Ok q → y ≡ end_for (whole_expression mixed s q) → y ≡ then_expression s e
   unfolding then_expression
   expression_past q y h k = rw h k
 
-  pub expression_refused : (w : Why) (p : ℕ) → e ≡ Err (w, p) → Err (w, p) ≡ then_expression s e
+  pub expression_refused : (d : Why × ℕ) → e ≡ Err d → Err d ≡ then_expression s e
   unfolding then_expression
-  expression_refused w p h = rw h
+  expression_refused d h = rw h
 
   module _ (v : List ℕ) where
     pub sign_past : (q : ℕ) (y : Expected) → e ≡ Ok q → y ≡ expected v s q → y ≡ then_sign v s e
     unfolding then_sign
     sign_past q y h k = rw h k
 
-    pub sign_refused : (w : Why) (p : ℕ) → e ≡ Err (w, p) → Err (w, p) ≡ then_sign v s e
+    pub sign_refused : (d : Why × ℕ) → e ≡ Err d → Err d ≡ then_sign v s e
     unfolding then_sign
-    sign_refused w p h = rw h
+    sign_refused d h = rw h
 
     pub word_past : (q : ℕ) (y : Expected) → e ≡ Ok q → y ≡ expected_word v s q → y ≡ then_word v s e
     unfolding then_word
     word_past q y h k = rw h k
 
-    pub word_refused : (w : Why) (p : ℕ) → e ≡ Err (w, p) → Err (w, p) ≡ then_word v s e
+    pub word_refused : (d : Why × ℕ) → e ≡ Err d → Err d ≡ then_word v s e
     unfolding then_word
-    word_refused w p h = rw h
+    word_refused d h = rw h
 
 -- ---- tests on a token
 module _ (s : List ℕ) (at : ℕ) (l : Lexeme) (lex : Lexed s at l) where
@@ -126,9 +126,9 @@ module _ (W : Str.String) (w : List ℕ) (e : bytes_of W ≡ w) where
 
 -- ---- BY and TO
 module _ (s w : List ℕ) (e : Expected) where
-  pub bound_refused : (y : Why) (p : ℕ) → e ≡ Err (y, p) → Err (y, p) ≡ bound_past w s e
+  pub bound_refused : (d : Why × ℕ) → e ≡ Err d → Err d ≡ bound_past w s e
   unfolding bound_past
-  bound_refused y p h = rw h
+  bound_refused d h = rw h
 
   module _ (q : ℕ) (h : e ≡ Ok q) (l : Lexeme) (lex : Lexed s q l) (v : Bool) (c : v ≡ is_word_in s l w) where
     pub bound_there : v ≡ true → (y : Expected) → y ≡ end_for (whole_expression mixed s l.to) → y ≡ bound_past w s e
@@ -140,9 +140,9 @@ module _ (s w : List ℕ) (e : Expected) where
     bound_absent d = rw (h, ← word_in s q l lex w, ← c, d)
 
 module _ (s : List ℕ) (e : Expected) where
-  pub bounds_refused : (y : Why) (p : ℕ) → e ≡ Err (y, p) → Err (y, p) ≡ bounds_past s e
+  pub bounds_refused : (d : Why × ℕ) → e ≡ Err d → Err d ≡ bounds_past s e
   unfolding bounds_past
-  bounds_refused y p h = rw h
+  bounds_refused d h = rw h
 
   module _ (q : ℕ) (h : e ≡ Ok q) (l : Lexeme) (lex : Lexed s q l) (v : Bool) (c : v ≡ is_word_in s l (66 ∷ 89 ∷ [])) where
     pub bounds_by : v ≡ true → (x y : Expected) → x ≡ end_for (whole_expression mixed s l.to) → y ≡ bound_past (84 ∷ 79 ∷ []) s x → y ≡ bounds_past s e
@@ -167,9 +167,9 @@ module _ (s : List ℕ) (at : ℕ) (l : Lexeme) (lex : Lexed s at l) (v : Bool) 
   rescan_absent d = rw (← either, d)
 
 module _ (s : List ℕ) (e : Expected) where
-  pub member_refused : (w : Why) (p : ℕ) → e ≡ Err (w, p) → Err (w, p) ≡ member_past s e
+  pub member_refused : (d : Why × ℕ) → e ≡ Err d → Err d ≡ member_past s e
   unfolding member_past
-  member_refused w p h = rw h
+  member_refused d h = rw h
 
   module _ (q : ℕ) (h : e ≡ Ok q) (l : Lexeme) (lex : Lexed s q l) (v : Bool) (c : v ≡ is_sign_in s l (40 ∷ [])) where
     pub member_there : v ≡ true → (x y : Expected) → x ≡ name_end (name_at mixed s l.to) → y ≡ then_sign (41 ∷ []) s x → y ≡ member_past s e
@@ -219,8 +219,8 @@ module _ (w : List ℕ) (j : Each) (s : List ℕ) where
       turned : list_next w s x (list_end w j s (turns - 1)) ≡ list_end w j s (length s) from
       turned = rw a (sym (list_turn turns at k) ∙ h.same)
 
-      pub listing_refused : (y : Why) (p : ℕ) → x ≡ Err (y, p) → Err (y, p) ≡ list_end w j s (length s) from
-      listing_refused y p e = rw e at turned
+      pub listing_refused : (d : Why × ℕ) → x ≡ Err d → Err d ≡ list_end w j s (length s) from
+      listing_refused d e = rw e at turned
 
       module _ (e : ℕ) (i : x ≡ Ok e) (l : Lexeme) (lex : Lexed s e l) (v : Bool) (c : v ≡ is_sign_in s l (44 ∷ [])) where
         pub listing_more : v ≡ true → Listing w j s from (turns - 1) l.to

@@ -70,31 +70,31 @@ read_for k c v (refused w p) = Err (w, p)
 
 unfoldable pub read_up_to : Statement → Opens → ℕ → Expected → Read
 read_up_to k o c (Ok to) = Ok (clause_of k o c to FixedType)
-read_up_to k o c (Err (w, p)) = Err (w, p)
+read_up_to k o c (Err d) = Err d
 
 -- ---- what must follow, one after the other
 unfoldable pub then_sign : List ℕ → List ℕ → Expected → Expected
 then_sign w s (Ok q) = expected w s q
-then_sign w s (Err (y, p)) = Err (y, p)
+then_sign w s (Err d) = Err d
 
 unfoldable pub then_word : List ℕ → List ℕ → Expected → Expected
 then_word w s (Ok q) = expected_word w s q
-then_word w s (Err (y, p)) = Err (y, p)
+then_word w s (Err d) = Err d
 
 unfoldable pub then_expression : List ℕ → Expected → Expected
 then_expression s (Ok q) = end_for (whole_expression mixed s q)
-then_expression s (Err (y, p)) = Err (y, p)
+then_expression s (Err d) = Err d
 
 -- BY or TO with its expression, if the word stands there
 unfoldable pub bound_past : List ℕ → List ℕ → Expected → Expected
 bound_past w s (Ok q) = cond (is_worded w (token_at mixed s q).token) (end_for (whole_expression mixed s (token_at mixed s q).to)) (Ok q)
-bound_past w s (Err (y, p)) = Err (y, p)
+bound_past w s (Err d) = Err d
 
 unfoldable pub bounds_past : List ℕ → Expected → Expected
 bounds_past s (Ok q) =
     cond (is_worded (bytes_of "BY") (token_at mixed s q).token) (bound_past (bytes_of "TO") s (end_for (whole_expression mixed s (token_at mixed s q).to)))
     (bound_past (bytes_of "BY") s (bound_past (bytes_of "TO") s (Ok q)))
-bounds_past s (Err (y, p)) = Err (y, p)
+bounds_past s (Err d) = Err d
 
 -- a name
 unfoldable pub name_end : Reading Named → Expected
@@ -107,13 +107,13 @@ rescan_past s at = cond (is_worded (bytes_of "NORESCAN") (token_at mixed s at).t
 
 abbrev pub rescanned : List ℕ → Expected → Expected
 rescanned s (Ok q) = Ok (rescan_past s q)
-rescanned s (Err (w, p)) = Err (w, p)
+rescanned s (Err d) = Err d
 
 -- past the member in parentheses, behind a library's name
 unfoldable pub member_past : List ℕ → Expected → Expected
 member_past s (Ok q) =
     cond (is_spelled (bytes_of "(") (token_at mixed s q).token) (then_sign (bytes_of ")") s (name_end (name_at mixed s (token_at mixed s q).to))) (Ok q)
-member_past s (Err (w, p)) = Err (w, p)
+member_past s (Err d) = Err d
 
 unfoldable pub item_past : Each → List ℕ → ℕ → Expected
 item_past Ea.Name s at = name_end (name_at mixed s at)
@@ -123,7 +123,7 @@ item_past Ea.Member s at = member_past s (name_end (name_at mixed s at))
 -- items with commas between them and `w` behind; f is more than the turns
 abbrev pub list_next : List ℕ → List ℕ → Expected → (ℕ → Expected) → Expected
 list_next w s (Ok e) again = when (is_spelled (bytes_of ",") (token_at mixed s e).token) (λ _. again (token_at mixed s e).to) (λ _. expected w s e)
-list_next w s (Err (y, p)) again = Err (y, p)
+list_next w s (Err d) again = Err d
 
 unfoldable pub list_end : List ℕ → Each → List ℕ → ℕ → ℕ → Expected
 list_end w i s zero at = Err (Syntax, at)
@@ -205,7 +205,7 @@ itemized_by None from to = Err (Syntax, from)
 
 unfoldable pub itemized : List ℕ → Expected → Bool → Part Meaning
 itemized s (Ok e) inside = itemized_by (attribute_by inside (worded (token_at mixed s e).token)) (token_at mixed s e).from (token_at mixed s e).to
-itemized s (Err (w, p)) inside = Err (w, p)
+itemized s (Err d) inside = Err d
 
 abbrev pub meaning_in : Part Meaning → Meaning
 meaning_in (Ok x) = x.0
@@ -217,15 +217,15 @@ type_by character fixed from to = cond character (Ok (CharacterType, to)) (cond 
 
 unfoldable pub type_from : List ℕ → Expected → Part ValueType
 type_from s (Ok q) = type_by (is_worded (bytes_of "CHARACTER") (token_at mixed s q).token || is_worded (bytes_of "CHAR") (token_at mixed s q).token) (is_worded (bytes_of "FIXED") (token_at mixed s q).token) (token_at mixed s q).from (token_at mixed s q).to
-type_from s (Err (w, p)) = Err (w, p)
+type_from s (Err d) = Err d
 
 unfoldable pub head_up_to : ValueType → ℕ → Expected → Read
 head_up_to v c (Ok to) = Ok (clause_of S.Procedure O.Body c to v)
-head_up_to v c (Err (w, p)) = Err (w, p)
+head_up_to v c (Err d) = Err d
 
 unfoldable pub head_from : List ℕ → ℕ → Part ValueType → Read
 head_from s c (Ok (v, q)) = head_up_to v c (then_sign (bytes_of ";") s (expected (bytes_of ")") s q))
-head_from s c (Err (w, p)) = Err (w, p)
+head_from s c (Err d) = Err d
 
 -- ---- what the definition's answer about a declaration says
 abbrev pub clause_in : D.Declaring → Reading D.Clause

@@ -129,44 +129,36 @@ pub fn keyword_of(s: &[u8], t: Lexeme) -> Keyword
 fn read_up_to(statement: Statement, opens: Opens, content: usize, e: Expected) -> Read
     ensures { result ≡ C.read_up_to statement opens content e }
 {
-    match e {
-        Ok(to) => Ok(Clause {
-            statement,
-            opens,
-            content,
-            to,
-            value_type: ValueType::FixedType,
-        }),
-        Err((w, p)) => Err((w, p)),
-    }
+    let to = e?;
+    Ok(Clause {
+        statement,
+        opens,
+        content,
+        to,
+        value_type: ValueType::FixedType,
+    })
 }
 
 // What must follow, and behind it a sign.
 fn then_sign(s: &[u8], e: Expected, w: &[u8]) -> Expected
     ensures { result ≡ C.then_sign w.now s.now e }
 {
-    match e {
-        Ok(q) => expect_sign(s, q, w),
-        Err((y, p)) => Err((y, p)),
-    }
+    let q = e?;
+    expect_sign(s, q, w)
 }
 
 fn then_word(s: &[u8], e: Expected, w: &[u8]) -> Expected
     ensures { result ≡ C.then_word w.now s.now e }
 {
-    match e {
-        Ok(q) => expect_word(s, q, w),
-        Err((y, p)) => Err((y, p)),
-    }
+    let q = e?;
+    expect_word(s, q, w)
 }
 
 fn then_expression(s: &[u8], e: Expected) -> Expected
     ensures { result ≡ C.then_expression s.now e }
 {
-    match e {
-        Ok(q) => check(s, q),
-        Err((y, p)) => Err((y, p)),
-    }
+    let q = e?;
+    check(s, q)
 }
 
 // The assignment from behind `=`; its target is the first token behind the place `content`.
@@ -194,41 +186,31 @@ fn if_clause(s: &[u8], at: usize, in_body: bool) -> Read
 fn bound_at(s: &[u8], e: Expected, w: &[u8]) -> Expected
     ensures { result ≡ C.bound_past w.now s.now e }
 {
-    match e {
-        Ok(q) => {
-            let t = token_at(s, q);
-            if is_word(s, t, w) {
-                return check(s, t.to);
-            }
-            Ok(q)
-        }
-        Err((y, p)) => Err((y, p)),
+    let q = e?;
+    let t = token_at(s, q);
+    if is_word(s, t, w) {
+        return check(s, t.to);
     }
+    Ok(q)
 }
 
 // BY and TO in either order, each at most once.
 fn do_bounds(s: &[u8], e: Expected) -> Expected
     ensures { result ≡ C.bounds_past s.now e }
 {
-    match e {
-        Ok(q) => {
-            let t = token_at(s, q);
-            if is_word(s, t, b"BY") {
-                return bound_at(s, check(s, t.to), b"TO");
-            }
-            bound_at(s, bound_at(s, Ok(q), b"TO"), b"BY")
-        }
-        Err((y, p)) => Err((y, p)),
+    let q = e?;
+    let t = token_at(s, q);
+    if is_word(s, t, b"BY") {
+        return bound_at(s, check(s, t.to), b"TO");
     }
+    bound_at(s, bound_at(s, Ok(q), b"TO"), b"BY")
 }
 
 fn name_past(s: &[u8], at: usize) -> Expected
     ensures { result ≡ C.name_end (name_at mixed s.now at) }
 {
-    match name_at(s, at) {
-        Ok((_, to)) => Ok(to),
-        Err((w, p)) => Err((w, p)),
-    }
+    let (_, to) = name_at(s, at)?;
+    Ok(to)
 }
 
 fn do_clause(s: &[u8], at: usize) -> Read
@@ -254,26 +236,20 @@ fn goto_clause(s: &[u8], at: usize) -> Read
 fn go_clause(s: &[u8], at: usize) -> Read
     ensures { result ≡ C.read_for S.Goto (token_at mixed s.now at).to FixedType (C.go_clause s.now at) }
 {
-    match expect_word(s, at, b"TO") {
-        Ok(q) => goto_clause(s, q),
-        Err((w, p)) => Err((w, p)),
-    }
+    let q = expect_word(s, at, b"TO")?;
+    goto_clause(s, q)
 }
 
 // Behind a name that INCLUDE lists: if `(` stands there, the name was a library's, and its member follows.
 fn member_past(s: &[u8], e: Expected) -> Expected
     ensures { result ≡ C.member_past s.now e }
 {
-    match e {
-        Ok(q) => {
-            let t = token_at(s, q);
-            if is_sign(s, t, b"(") {
-                return then_sign(s, name_past(s, t.to), b")");
-            }
-            Ok(q)
-        }
-        Err((w, p)) => Err((w, p)),
+    let q = e?;
+    let t = token_at(s, q);
+    if is_sign(s, t, b"(") {
+        return then_sign(s, name_past(s, t.to), b")");
     }
+    Ok(q)
 }
 
 // An item of a list: a name, and what may stand behind it.
@@ -308,16 +284,12 @@ fn name_list(s: &[u8], from: usize, each: Each, close: &[u8]) -> Expected
 {
     let mut at = from;
     for left in (0..s.len()).rev() {
-        match list_item(s, at, each) {
-            Ok(q) => {
-                let t = token_at(s, q);
-                if !is_sign(s, t, b",") {
-                    return expect_sign(s, q, close);
-                }
-                at = t.to;
-            }
-            Err((w, p)) => return Err((w, p)),
+        let q = list_item(s, at, each)?;
+        let t = token_at(s, q);
+        if !is_sign(s, t, b",") {
+            return expect_sign(s, q, close);
         }
+        at = t.to;
     }
     Err((Why::Syntax, at))
 }
@@ -457,16 +429,12 @@ fn attribute_at(s: &[u8], t: Lexeme, owner: Owner) -> Option<Meaning>
 fn item_means(s: &[u8], x: Item, owner: Owner) -> Result<(Meaning, usize), (Why, usize)>
     ensures { result ≡ C.itemized s.now x.to (C.is_inside owner) }
 {
-    match x.to {
-        Ok(e) => {
-            let t = token_at(s, e);
-            let Some(m) = attribute_at(s, t, owner) else {
-                return Err((Why::Syntax, t.from));
-            };
-            Ok((m, t.to))
-        }
-        Err((w, p)) => Err((w, p)),
-    }
+    let e = x.to?;
+    let t = token_at(s, e);
+    let Some(m) = attribute_at(s, t, owner) else {
+        return Err((Why::Syntax, t.from));
+    };
+    Ok((m, t.to))
 }
 
 // A wrong item counts as a variable.
@@ -579,38 +547,30 @@ fn parameters(s: &[u8], tally: Tally, list: usize) -> Tally
 fn returned_type(s: &[u8], e: Expected) -> Result<(ValueType, usize), (Why, usize)>
     ensures { result ≡ C.type_from s.now (C.then_sign (bytes_of "(") s.now (C.then_word (bytes_of "RETURNS") s.now e)) }
 {
-    match then_sign(s, then_word(s, e, b"RETURNS"), b"(") {
-        Ok(q) => {
-            let t = token_at(s, q);
-            if is_either(s, t, b"CHARACTER", b"CHAR") {
-                return Ok((ValueType::CharacterType, t.to));
-            }
-            if is_word(s, t, b"FIXED") {
-                return Ok((ValueType::FixedType, t.to));
-            }
-            Err((Why::Syntax, t.from))
-        }
-        Err((w, p)) => Err((w, p)),
+    let q = then_sign(s, then_word(s, e, b"RETURNS"), b"(")?;
+    let t = token_at(s, q);
+    if is_either(s, t, b"CHARACTER", b"CHAR") {
+        return Ok((ValueType::CharacterType, t.to));
     }
+    if is_word(s, t, b"FIXED") {
+        return Ok((ValueType::FixedType, t.to));
+    }
+    Err((Why::Syntax, t.from))
 }
 
 // RETURNS and its type, behind the parameters, which end as e says.
 fn procedure_head(s: &[u8], e: Expected, from: usize) -> Read
     ensures { result ≡ C.head_from s.now from (C.type_from s.now (C.then_sign (bytes_of "(") s.now (C.then_word (bytes_of "RETURNS") s.now e))) }
 {
-    match returned_type(s, e) {
-        Ok((value_type, q)) => match then_sign(s, expect_sign(s, q, b")"), b";") {
-            Ok(to) => Ok(Clause {
-                statement: Statement::Procedure,
-                opens: Opens::Body,
-                content: from,
-                to,
-                value_type,
-            }),
-            Err((w, p)) => Err((w, p)),
-        },
-        Err((w, p)) => Err((w, p)),
-    }
+    let (value_type, q) = returned_type(s, e)?;
+    let to = then_sign(s, expect_sign(s, q, b")"), b";")?;
+    Ok(Clause {
+        statement: Statement::Procedure,
+        opens: Opens::Body,
+        content: from,
+        to,
+        value_type,
+    })
 }
 
 // The statement from behind PROCEDURE.

@@ -4,6 +4,7 @@ use Rattle.fixed.specs.declared.FixedError.TheVariants.{OutOfRange, ZeroDivisor}
 use Rattle.fixed.specs.declared.FixedError.{FixedError}
 use Rattle.std.proofs.Common.{Option, Some, None, Result, Ok, Err}
 use Rattle.std.specs.Result.{result_ok}
+use Rattle.std.specs.Option.{SomeIff}
 use mathlib.Core.Path.{◌≡◌, refl, sym, ◌∙◌}
 use mathlib.Core.Bool.{true}
 use mathlib.Core.List.{List, [], ◌∷◌}
@@ -42,17 +43,15 @@ module _ (c : List ℕ) (a k n : ℕ) (h : k ≡ a) (e : n ≡ get_or c (k + 0) 
   cell : get_or c a 0 ≡ n
   cell = sym (rw (add-zero, h) at e)
 
-  pub no_length : n ≡ 0 → LengthAt c a None
+  pub length_is : (r : Option ℕ) → SomeIff r (1 ≤ n) (n - 1) → LengthAt c a r
   unfolding cell_in
-  no_length z = record { is = λ low high. rw (cell, z) }
-
-  pub some_length : (n ≡ 0 → ⊥) → LengthAt c a (Some (n - 1))
-  unfolding cell_in
-  some_length z = record { is = λ low high. by n cell z low high }
+  length_is r z = record { is = λ low high. rw cell (by n r z (slot a) (half a low high)) }
     where
-      by : (m : ℕ) → get_or c a 0 ≡ m → (m ≡ 0 → ⊥) → (low high : List ℕ) → length_cell (Some (m - 1)) (slot a) (half a low high) ≡ character_cell (get_or c a 0) (slot a) (half a low high)
-      by zero f g low high = absurd (g refl)
-      by (suc m) f g low high = let d : suc m - 1 ≡ m = omega arith in rw (f, d)
+      by : (m : ℕ) (r : Option ℕ) → SomeIff r (1 ≤ m) (m - 1) → (at : ℕ) (l : List ℕ) → length_cell r at l ≡ character_cell m at l
+      by zero None z at l = refl
+      by zero (Some k) z at l = absurd (omega (arith, z.0))
+      by (suc m) None z at l = absurd (z (omega arith))
+      by (suc m) (Some k) z at l = let d : k ≡ m = omega (arith, z.1) in rw d
 
 -- ---- low or high
 module _ (low high : List ℕ) (a : ℕ) where

@@ -20,14 +20,11 @@ pub fn number_at(cells: &[u32], a: u16) -> Option<Fixed>
     Fixed::from_stored(number32(cells, usize::from(a), 0)).ok()
 }
 
-// The length of the value of a CHARACTER variable.
+// The length of the value of a CHARACTER variable, stored as one more; 0 is none.
 pub fn characters_at(cells: &[u32], a: u16) -> Option<u32>
     ensures { LengthAt cells.now a result }
 {
-    match number32(cells, usize::from(a), 0) {
-        0 => None,
-        n => Some(n - 1),
-    }
+    number32(cells, usize::from(a), 0).checked_sub(1)
 }
 
 // Where the characters of an address stand in their room.

@@ -22,6 +22,8 @@ use Rattle.definition.specs.Bytes.{is_digit, is_blank}
 use Rattle.definition.specs.Fixed as F
 use Rattle.definition.specs.Values.{gives, from_fixed, signed_by, written, unsigned, number_in, to_fixed, characters, bit_value, constant}
 use Rattle.definition.proofs.Parts.{length_part}
+use Rattle.std.specs.Result.{MatchResult, IsErrAnd}
+use Rattle.std.proofs.lemmas.Result.{err_from_is_err_and}
 use Rattle.fixed.specs.Answer.{result_of}
 use Rattle.fixed.specs.declared.Fixed.{Fixed}
 use Rattle.fixed.proofs.Magnitude.{in_range_lem, signed_size}
@@ -100,20 +102,15 @@ ranged_capped negative n = go (leb n 99999) refl
     go true e = refl
     go false e = rw (range_of negative 100000, range_of negative n, e)
 
-module _ (negative : Bool) (m : ℕ) (a : Result Fixed FixedError) (g : result_of a ≡ F.ranged (signed_by negative m)) where
-  given : result_of a ≡ F.ranged (signed_by negative m)
-  given = g
-
-  pub number_is : (x : Fixed) → a ≡ Ok x → answer_of (Ok x) ≡ from_fixed (F.ranged (signed_by negative m))
-  number_is x e = ap from_fixed (rw e at given)
-
-  pub number_past : ((x : Fixed) → a ≡ Ok x → ⊥) → answer_of (Err OutOfRange) ≡ from_fixed (F.ranged (signed_by negative m))
-  number_past none = go a given none
-    where
-      go : (b : Result Fixed FixedError) → result_of b ≡ F.ranged (signed_by negative m) → ((x : Fixed) → b ≡ Ok x → ⊥) → answer_of (Err OutOfRange) ≡ from_fixed (F.ranged (signed_by negative m))
-      go (Ok x) e n = absurd (n x refl)
-      go (Err X.OutOfRange) e n = ap from_fixed e
-      go (Err X.ZeroDivisor) e n = absurd (never_zero _ (sym e))
+-- each error of a magnitude, which divides nothing, becomes out of range
+pub number_made : (negative : Bool) (m : ℕ) (a : Result Fixed FixedError) (r : Result Fixed NumberError) (Q : FixedError → NumberError → Type 0)
+    → result_of a ≡ F.ranged (signed_by negative m) → MatchResult a (λ x. r ≡ Ok x) (λ e. IsErrAnd r (Q e)) → ((e : FixedError) (d : NumberError) → Q e d → d ≡ OutOfRange)
+    → answer_of r ≡ from_fixed (F.ranged (signed_by negative m))
+number_made negative m (Ok x) r Q g h q = rw h (ap from_fixed g)
+number_made negative m (Err X.OutOfRange) r Q g h q =
+    let p = err_from_is_err_and r h in
+    rw (p.1, q X.OutOfRange p.0 p.2) (ap from_fixed g)
+number_made negative m (Err X.ZeroDivisor) r Q g h q = absurd (never_zero _ (sym g))
 
 -- ---- digits and blanks
 and_false : (t : Bool) → (t && false) ≡ false

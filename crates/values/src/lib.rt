@@ -34,13 +34,14 @@ pub enum Comparison {
     NotLess,
 }
 
-// What conversion to FIXED gives.
+// Why a value has no number.
 #[derive(Clone, Copy, PartialEq, Eq)]
 pub enum NumberError {
     NoConversion,
     OutOfRange,
 }
 
+// The refusal that an error is.
 impl From<NumberError> for Why {
     ghost from_gives = { λ e w. w ≡ why_of e };
 
@@ -194,10 +195,7 @@ fn capped_number(base: Base, s: &[u8], at: usize, i: usize, n: usize) -> u32
 fn number_of(negative: bool, magnitude: u32) -> Result<Fixed, NumberError>
     ensures { answer_of result ≡ from_fixed (ranged (signed_by negative magnitude)) }
 {
-    let Ok(x) = Fixed::of_magnitude(negative, magnitude) else {
-        return Err(NumberError::OutOfRange);
-    };
-    Ok(x)
+    Fixed::of_magnitude(negative, magnitude).map_err(|_| NumberError::OutOfRange)
 }
 
 // The number that the bytes from i to n past a place write: the form of them all first, and then the range.

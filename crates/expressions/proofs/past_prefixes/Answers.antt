@@ -7,8 +7,8 @@ loop-count-init c = passing_start _ _
 pub loop-count-preserved : goal.loop-count-preserved
 loop-count-preserved c = search passing_more
 
-pub returns-in-None : goal.returns-in-None
-returns-in-None c = search passing_stop
+pub returns-in_default : goal.returns-in_default
+returns-in_default c = search (passing_stop, c.in_default.not-Some)
 
 pub returns : goal.returns
 returns c = search passing_end

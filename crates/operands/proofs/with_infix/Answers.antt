@@ -1,9 +1,10 @@
 -- By the answer.
+use Rattle.std.proofs.lemmas.Result.{err_from_is_err_and}
 use Rattle.operands.proofs.Leaves.{infix_done, infix_none}
 use Rattle.operands.proofs.with_infix.Goals as goal
 
-pub returns-in-Ok : goal.returns-in-Ok
-returns-in-Ok c = search infix_done
+pub returns-in_err-v : goal.returns-in_err-v
+returns-in_err-v c = let p = err_from_is_err_and c.from_residual.result c.from_residual.ensures.1 in rw (p.1, p.2) (infix_none _ _ _ _ _ _ c.in_err-v.was)
 
-pub returns-in-Err : goal.returns-in-Err
-returns-in-Err c = search infix_none
+pub returns : goal.returns
+returns c = let e = c.in_ok-v.was in search infix_done

@@ -1,12 +1,16 @@
 -- By the first of them.
+use Rattle.std.proofs.lemmas.Result.{err_from_is_err_and}
 use Rattle.statements.proofs.Laws.{bounds_by, bounds_to, bounds_refused}
 use Rattle.statements.proofs.do_bounds.Goals as goal
 
 pub returns-then-is_word : goal.returns-then-is_word
-returns-then-is_word c = search bounds_by
+returns-then-is_word c = let w = c.in_ok-q.was in search bounds_by
 
-pub returns-else-is_word : goal.returns-else-is_word
-returns-else-is_word c = search bounds_to
+pub returns : goal.returns
+returns c = let w = c.in_ok-q.was in search bounds_to
 
-pub returns-in-Err : goal.returns-in-Err
-returns-in-Err c = search bounds_refused
+pub returns-in_err-q : goal.returns-in_err-q
+returns-in_err-q c =
+    let p = err_from_is_err_and c.from_residual.result c.from_residual.ensures.1 in
+    let w = c.in_err-q.was in
+    rw (p.1, p.2) (search bounds_refused)

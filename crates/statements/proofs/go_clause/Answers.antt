@@ -1,9 +1,13 @@
 -- As the definition reads it.
+use Rattle.std.proofs.lemmas.Result.{err_from_is_err_and}
 use Rattle.statements.proofs.Clauses.{go_to, go_refused}
 use Rattle.statements.proofs.go_clause.Goals as goal
 
-pub returns-in-Ok : goal.returns-in-Ok
-returns-in-Ok c = search go_to
+pub returns : goal.returns
+returns c = let w = c.in_ok-q.was in search go_to
 
-pub returns-in-Err : goal.returns-in-Err
-returns-in-Err c = search go_refused
+pub returns-in_err-q : goal.returns-in_err-q
+returns-in_err-q c =
+    let p = err_from_is_err_and c.from_residual.result c.from_residual.ensures.1 in
+    let w = c.in_err-q.was in
+    rw (p.1, p.2) (search go_refused)

@@ -1,9 +1,7 @@
 -- The checked constructor never answers with a zero divisor.
-use Rattle.values.proofs.Numbers.{number_is, number_past}
+use Rattle.std.proofs.Common.{rules}
+use Rattle.values.proofs.Numbers.{number_made}
 use Rattle.values.proofs.number_of.Goals as goal
 
 pub returns : goal.returns
-returns c = search number_is
-
-pub returns-in_default : goal.returns-in_default
-returns-in_default c = number_past _ _ _ c.of_magnitude.ensures c.in_default.not-Ok
+returns c = number_made _ _ _ _ _ c.of_magnitude.ensures c.map_err.ensures.cases (λ e d q. search rules)
