@@ -310,8 +310,8 @@ module _ (deck rows names s c₀ l₀ h₀ w₀ : List ℕ) (from left u : ℕ) 
         slots = q.slots;
       }
 
-      pub taking_failed : (a : Why) (n : Meter) → y ≡ Err (a, n) → TakenIs deck s rows names c₀ l₀ h₀ w₀ from left u t x m₀ c₁ l₁ h₁ w₂ (Err (a, n))
-      taking_failed a n ey = record { is = λ B sh p d e q g ws co a₁ b₁. let j : Took B p e ws (count d) (taken x d ws u (world_in B c₀ l₀ h₀ m₀.used)) i listed top at f k m c l h w = ta.is B sh p d e q g ws co a₁ b₁ in failed_by a n ey B p e ws (count d) _ j (now B p e ws (count d) _ j) }
+      pub taking_failed : (a : Why × Meter) → y ≡ Err a → TakenIs deck s rows names c₀ l₀ h₀ w₀ from left u t x m₀ c₁ l₁ h₁ w₂ (Err a)
+      taking_failed (a, n) ey = record { is = λ B sh p d e q g ws co a₁ b₁. let j : Took B p e ws (count d) (taken x d ws u (world_in B c₀ l₀ h₀ m₀.used)) i listed top at f k m c l h w = ta.is B sh p d e q g ws co a₁ b₁ in failed_by a n ey B p e ws (count d) _ j (now B p e ws (count d) _ j) }
 
       module _ (v : Value) (q₁ : ℕ) (n : Meter) (ey : y ≡ Ok (v, q₁, n)) (k' : Held) (hw : HeldWith k i v k') (f' : Value) (ef : f' ≡ cond (ltb i 1) v f) (z top' : ℕ) (ez : z ≡ size_for v) (et : top' ≡ top_of top z)
           (lx : Lexeme) (lex : Lexed s q₁ lx) (i' : ℕ) (ei : i' ≡ i + 1) (z₂ : length w₂ ≡ length w₁) where

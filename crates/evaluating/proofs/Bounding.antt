@@ -67,10 +67,10 @@ word_none : (s : List ℕ) (at : ℕ) → is_word "BY" (token_at mixed s at).tok
 unfolding word_at
 word_none s at e f = rw (e, f)
 
-no_word : {A : Type 0} (x : Side) (q : ℕ) → Some (x, q) ≡ None → A
+no_word : {A : Type 0} (x : Side) (q : ℕ) → ◌≡◌ {A = Option (Side × ℕ)} (Some (x, q)) None → A
 no_word x q e = clash (cc)
 
-no_frame_lem : {A : Type 0} (f : Frame) (q : ℕ) (m n : Meter) (e : Why) → Ok (f, q, m) ≡ Err (e, n) → A
+no_frame_lem : {A : Type 0} (f : Frame) (q : ℕ) (m n : Meter) (e : Why) → ◌≡◌ {A = Widened} (Ok (f, q, m)) (Err (e, n)) → A
 no_frame_lem f q m n e g = clash (cc)
 
 -- the numbers of the definition
@@ -85,13 +85,13 @@ bounded_to : (x : Scene) (u : ℕ) (t : Tree) (d : F.Frame) (w : World) → F.bo
 bounded_to x u t d w = ap (λ (i : Res Why ℤ). bind i λ z y. good (record { group = d.group; at = d.at; step = d.step; to = F.to_at z; is_once = false }) y) (number_is x u t w)
 
 module _ (deck s rows names c l h w : List ℕ) (u : ℕ) (x : Scene) (y : Widened) where
-  pub bounded_bad : (e : Why) (m : Meter) → y ≡ Err (e, m) → BoundedIs deck s rows names c l h w u x y c l h w (Err (e, m))
-  bounded_bad e m g = record { goes = λ f q n i. no_frame_lem f q n m e (sym i ∙ g); stays = λ f n i. (sym g, refl, refl, refl, refl) }
+  pub bounded_bad : (e : Why × Meter) → y ≡ Err e → BoundedIs deck s rows names c l h w u x y c l h w (Err e)
+  bounded_bad (e, m) g = record { goes = λ f q n i. no_frame_lem f q n m e (sym i ∙ g); stays = λ f n i. (sym g, refl, refl, refl, refl) }
 
   module _ (f : Frame) (q : ℕ) (m : Meter) (g : y ≡ Ok (f, q, m)) (v : Option (Side × ℕ)) (gv : v ≡ word_at s q) where
     pub bounded_none : v ≡ None → BoundedIs deck s rows names c l h w u x y c l h w (Ok (f, q, m))
     bounded_none e = record {
-      goes = λ f₁ q₁ m₁ i B sh bs d bd fs. go f₁ q₁ m₁ (let j : Ok (f, q, m) ≡ Ok (f₁, q₁, m₁) = sym g ∙ i in j) B sh bs d bd fs;
+      goes = λ f₁ q₁ m₁ i B sh bs d bd fs. go f₁ q₁ m₁ (let j : ◌≡◌ {A = Widened} (Ok (f, q, m)) (Ok (f₁, q₁, m₁)) = sym g ∙ i in j) B sh bs d bd fs;
       stays = λ e₁ n i. no_frame_lem f q m n e₁ (sym g ∙ i);
     }
       where
@@ -103,12 +103,13 @@ module _ (deck s rows names c l h w : List ℕ) (u : ℕ) (x : Scene) (y : Widen
         by B m₁ d f₁ fs lv (D.by t ∷ bs) bd = no_word Sid.By (token_at mixed s q).to (sym (word_by s q bd.1) ∙ none)
         by B m₁ d f₁ fs lv (D.upto t ∷ bs) bd = no_word Sid.Upto (token_at mixed s q).to (sym (word_to s q bd.1 bd.2) ∙ none)
 
-        go : (f₁ : Frame) (q₁ : ℕ) (m₁ : Meter) → Ok (f, q, m) ≡ Ok (f₁, q₁, m₁) → (B : World) → Shows deck rows names c l h w u x m₁ B → (bs : List D.Bound) (d : F.Frame) → Bounded s bs q₁ → FrameShown f₁ d
+        go : (f₁ : Frame) (q₁ : ℕ) (m₁ : Meter) → ◌≡◌ {A = Widened} (Ok (f, q, m)) (Ok (f₁, q₁, m₁)) → (B : World) → Shows deck rows names c l h w u x m₁ B → (bs : List D.Bound) (d : F.Frame) → Bounded s bs q₁ → FrameShown f₁ d
             → WidensAs B s c l h (bounded_on x u bs d (world_in B c l h m₁.used)) (bounds_left bs) (Ok (f, q, m)) × Leaves B u w c l h w m
         go f₁ q₁ m₁ i B sh bs d bd fs =
-            let jf : f ≡ f₁ = cc in
-            let jq : q ≡ q₁ = cc in
-            let jm : m ≡ m₁ = cc in
+            let j : ◌≡◌ {A = Frame × ℕ × Meter} (f, q, m) (f₁, q₁, m₁) = cc in
+            let jf : f ≡ f₁ = ap (λ (o : Frame × ℕ × Meter). o.0) j in
+            let jq : q ≡ q₁ = ap (λ (o : Frame × ℕ × Meter). o.1) j in
+            let jm : m ≡ m₁ = ap (λ (o : Frame × ℕ × Meter). o.2) j in
             rw (jf, jm) (by B m₁ d f₁ fs (record { below = refl; limit = sh.limit; slots = sh.slots }) bs (rw (← jq) at bd))
 
     module _ (a : Side) (p : ℕ) (e : v ≡ Some (a, p)) (c₁ l₁ h₁ w₁ : List ℕ) (b : Evaluated) (ev : Evaluates deck rows names c l h w u x m c₁ l₁ h₁ w₁ b (whole_expression mixed s p))
@@ -137,8 +138,8 @@ module _ (deck s rows names c l h w : List ℕ) (u : ℕ) (x : Scene) (y : Widen
           → (n₁ : Bound) → n ≡ n₁ → WidensAs B s c₁ l₁ h₁ (F.bounded (scene_machine x u) (D.by t) d (world_in B c l h m.used)) bs (widened_by f a n₁) × Leaves B u w c₁ l₁ h₁ w₁ (widened_meter (widened_by f a n₁))
       by_side B sh t k rd bs d bd fs ea (Ok (z, q₁, m₁)) i =
           let nu : good z.value (world_in B c₁ l₁ h₁ m₁.used) ≡ number_on (value_of x t u (world_in B c l h m.used)) = rw i at (number B sh t k rd) in
-          let pl : Ok (z, q₁, m₁) ≡ Ok (z, k, m₁) = rw i at (place B sh t k rd) in
-          let qk : q₁ ≡ k = cc in
+          let pl : ◌≡◌ {A = Bound} (Ok (z, q₁, m₁)) (Ok (z, k, m₁)) = rw i at (place B sh t k rd) in
+          let qk : q₁ ≡ k = (let j : ◌≡◌ {A = Fixed × ℕ × Meter} (z, q₁, m₁) (z, k, m₁) = cc in ap (λ (i : Fixed × ℕ × Meter). i.1) j) in
           rw ea (
             (record { group = d.group; at = d.at; step = z.value; to = d.to; is_once = false }, by_shown f d fs z.value (range B sh t k rd z q₁ m₁ i), bounded_by x u t d (world_in B c l h m.used) ∙ rw (← nu), rw qk bd),
             rw i at (leaves B sh t k rd),
@@ -151,8 +152,8 @@ module _ (deck s rows names c l h w : List ℕ) (u : ℕ) (x : Scene) (y : Widen
           → (n₁ : Bound) → n ≡ n₁ → WidensAs B s c₁ l₁ h₁ (F.bounded (scene_machine x u) (D.upto t) d (world_in B c l h m.used)) bs (widened_by f a n₁) × Leaves B u w c₁ l₁ h₁ w₁ (widened_meter (widened_by f a n₁))
       to_side B sh t k rd bs d bd fs ea (Ok (z, q₁, m₁)) i =
           let nu : good z.value (world_in B c₁ l₁ h₁ m₁.used) ≡ number_on (value_of x t u (world_in B c l h m.used)) = rw i at (number B sh t k rd) in
-          let pl : Ok (z, q₁, m₁) ≡ Ok (z, k, m₁) = rw i at (place B sh t k rd) in
-          let qk : q₁ ≡ k = cc in
+          let pl : ◌≡◌ {A = Bound} (Ok (z, q₁, m₁)) (Ok (z, k, m₁)) = rw i at (place B sh t k rd) in
+          let qk : q₁ ≡ k = (let j : ◌≡◌ {A = Fixed × ℕ × Meter} (z, q₁, m₁) (z, k, m₁) = cc in ap (λ (i : Fixed × ℕ × Meter). i.1) j) in
           rw ea (
             (record { group = d.group; at = d.at; step = d.step; to = F.to_at z.value; is_once = false }, to_shown f d fs z.value (range B sh t k rd z q₁ m₁ i), bounded_to x u t d (world_in B c l h m.used) ∙ rw (← nu), rw qk bd),
             rw i at (leaves B sh t k rd),
@@ -165,28 +166,31 @@ module _ (deck s rows names c l h w : List ℕ) (u : ℕ) (x : Scene) (y : Widen
           → WidensAs B s c₁ l₁ h₁ (bounded_on x u bs d (world_in B c l h m.used)) (bounds_left bs) (widened_by f a n) × Leaves B u w c₁ l₁ h₁ w₁ (widened_meter (widened_by f a n))
       by_bounds B sh [] d bd fs = no_word a p (sym some ∙ word_none s q bd.0 bd.1)
       by_bounds B sh (D.by t ∷ bs) d bd fs =
-          let o : Some (Sid.By, (token_at mixed s q).to) ≡ Some (a, p) = sym (word_by s q bd.1) ∙ some in
-          let ea : a ≡ Sid.By = cc in
-          let ep : (token_at mixed s q).to ≡ p = cc in
+          let o : ◌≡◌ {A = Option (Side × ℕ)} (Some (Sid.By, (token_at mixed s q).to)) (Some (a, p)) = sym (word_by s q bd.1) ∙ some in
+          let j : ◌≡◌ {A = Side × ℕ} (Sid.By, (token_at mixed s q).to) (a, p) = cc in
+          let ea : a ≡ Sid.By = ap (λ (i : Side × ℕ). i.0) (sym j) in
+          let ep : (token_at mixed s q).to ≡ p = ap (λ (i : Side × ℕ). i.1) j in
           by_side B sh t bd.0 (rw ep at bd.2) bs d bd.3 fs ea n refl
       by_bounds B sh (D.upto t ∷ bs) d bd fs =
-          let o : Some (Sid.Upto, (token_at mixed s q).to) ≡ Some (a, p) = sym (word_to s q bd.1 bd.2) ∙ some in
-          let ea : a ≡ Sid.Upto = cc in
-          let ep : (token_at mixed s q).to ≡ p = cc in
+          let o : ◌≡◌ {A = Option (Side × ℕ)} (Some (Sid.Upto, (token_at mixed s q).to)) (Some (a, p)) = sym (word_to s q bd.1 bd.2) ∙ some in
+          let j : ◌≡◌ {A = Side × ℕ} (Sid.Upto, (token_at mixed s q).to) (a, p) = cc in
+          let ea : a ≡ Sid.Upto = ap (λ (i : Side × ℕ). i.0) (sym j) in
+          let ep : (token_at mixed s q).to ≡ p = ap (λ (i : Side × ℕ). i.1) j in
           to_side B sh t bd.0 (rw ep at bd.3) bs d bd.4 fs ea n refl
 
       pub bounded_some : BoundedIs deck s rows names c l h w u x y c₁ l₁ h₁ w₁ r
       bounded_some = rw er record {
-        goes = λ f₁ q₁ m₁ i B sh bs d bd fs. go f₁ q₁ m₁ (let j : Ok (f, q, m) ≡ Ok (f₁, q₁, m₁) = sym g ∙ i in j) B sh bs d bd fs;
+        goes = λ f₁ q₁ m₁ i B sh bs d bd fs. go f₁ q₁ m₁ (let j : ◌≡◌ {A = Widened} (Ok (f, q, m)) (Ok (f₁, q₁, m₁)) = sym g ∙ i in j) B sh bs d bd fs;
         stays = λ e₁ n₁ i. no_frame_lem f q m n₁ e₁ (sym g ∙ i);
       }
         where
-          go : (f₁ : Frame) (q₁ : ℕ) (m₁ : Meter) → Ok (f, q, m) ≡ Ok (f₁, q₁, m₁) → (B : World) → Shows deck rows names c l h w u x m₁ B → (bs : List D.Bound) (d : F.Frame) → Bounded s bs q₁ → FrameShown f₁ d
+          go : (f₁ : Frame) (q₁ : ℕ) (m₁ : Meter) → ◌≡◌ {A = Widened} (Ok (f, q, m)) (Ok (f₁, q₁, m₁)) → (B : World) → Shows deck rows names c l h w u x m₁ B → (bs : List D.Bound) (d : F.Frame) → Bounded s bs q₁ → FrameShown f₁ d
               → WidensAs B s c₁ l₁ h₁ (bounded_on x u bs d (world_in B c l h m₁.used)) (bounds_left bs) (widened_by f a n) × Leaves B u w c₁ l₁ h₁ w₁ (widened_meter (widened_by f a n))
           go f₁ q₁ m₁ i B sh bs d bd fs =
-              let jf : f₁ ≡ f = cc in
-              let jq : q₁ ≡ q = cc in
-              let jm : m₁ ≡ m = cc in
+              let j : ◌≡◌ {A = Frame × ℕ × Meter} (f, q, m) (f₁, q₁, m₁) = cc in
+              let jf : f₁ ≡ f = ap (λ (o : Frame × ℕ × Meter). o.0) (sym j) in
+              let jq : q₁ ≡ q = ap (λ (o : Frame × ℕ × Meter). o.1) (sym j) in
+              let jm : m₁ ≡ m = ap (λ (o : Frame × ℕ × Meter). o.2) (sym j) in
               rw jm (by_bounds B (rw jm at sh) bs d (rw jq at bd) (rw jf at fs))
 
 -- ---- both bounds
@@ -208,10 +212,10 @@ bounds_two x u (a ∷ b ∷ []) d w i = bind_same (F.bounded (scene_machine x u)
 bounds_two x u (a ∷ b ∷ e ∷ bs) d w i = absurd (omega (arith, i))
 
 module _ (deck s rows names c l h w : List ℕ) (f : Frame) (b : Bound) (u : ℕ) (x : Scene) where
-  pub bounds_bad : (e : Why) (m : Meter) → b ≡ Err (e, m) → BoundsIs deck s rows names c l h w f b u x c l h w (Err (e, m))
-  bounds_bad e m g = record {
-    goes = λ z q n i. clash (let j : Ok (z, q, n) ≡ Err (e, m) = sym i ∙ g in cc);
-    stays = λ e₁ n i. (let j : Err (e, m) ≡ Err (e₁, n) = sym g ∙ i in let k : e ≡ e₁ = cc in let o : m ≡ n = cc in rw (k, o), refl, refl, refl, refl);
+  pub bounds_bad : (e : Why × Meter) → b ≡ Err e → BoundsIs deck s rows names c l h w f b u x c l h w (Err e)
+  bounds_bad (e, m) g = record {
+    goes = λ z q n i. clash (let j : ◌≡◌ {A = Bound} (Ok (z, q, n)) (Err (e, m)) = sym i ∙ g in cc);
+    stays = λ e₁ n i. (let j : ◌≡◌ {A = Bound} (Err (e, m)) (Err (e₁, n)) = sym g ∙ i in let o : ◌≡◌ {A = Why × Meter} (e, m) (e₁, n) = cc in let k : e ≡ e₁ = ap (λ (a : Why × Meter). a.0) o in let q : m ≡ n = ap (λ (a : Why × Meter). a.1) o in rw (k, q), refl, refl, refl, refl);
   }
 
   module _ (z : Fixed) (q : ℕ) (m : Meter) (eb : b ≡ Ok (z, q, m)) (c₁ l₁ h₁ w₁ : List ℕ) (z₁ : length w₁ ≡ length w) (y₁ : Widened) (one : BoundedIs deck s rows names c l h w u x (Ok (f, q, m)) c₁ l₁ h₁ w₁ y₁)
@@ -259,17 +263,18 @@ module _ (deck s rows names c l h w : List ℕ) (f : Frame) (b : Bound) (u : ℕ
 
     pub bounds_done : BoundsIs deck s rows names c l h w f b u x c₃ l₂ h₂ w₂ r
     bounds_done = record {
-      goes = λ z₂ q₂ m₂ i B sh iz bs d few bd fs va. go z₂ q₂ m₂ (let j : Ok (z₂, q₂, m₂) ≡ Ok (z, q, m) = sym i ∙ eb in j) B sh iz bs d few bd fs va;
-      stays = λ e n i. clash (let j : Ok (z, q, m) ≡ Err (e, n) = sym eb ∙ i in cc);
+      goes = λ z₂ q₂ m₂ i B sh iz bs d few bd fs va. go z₂ q₂ m₂ (let j : ◌≡◌ {A = Bound} (Ok (z₂, q₂, m₂)) (Ok (z, q, m)) = sym i ∙ eb in j) B sh iz bs d few bd fs va;
+      stays = λ e n i. clash (let j : ◌≡◌ {A = Bound} (Ok (z, q, m)) (Err (e, n)) = sym eb ∙ i in cc);
     }
       where
-        go : (z₂ : Fixed) (q₂ : ℕ) (m₂ : Meter) → Ok (z₂, q₂, m₂) ≡ Ok (z, q, m) → (B : World) → Shows deck rows names c l h w u x m₂ B → in_range z₂.value ≡ true
+        go : (z₂ : Fixed) (q₂ : ℕ) (m₂ : Meter) → ◌≡◌ {A = Bound} (Ok (z₂, q₂, m₂)) (Ok (z, q, m)) → (B : World) → Shows deck rows names c l h w u x m₂ B → in_range z₂.value ≡ true
             → (bs : List D.Bound) (d : F.Frame) → length bs ≤ 2 → Bounded s bs q₂ → FrameShown f d → get_or B.denotations d.at builtin_name ≡ variable_of FixedType
             → StartsAs B c₃ l₂ h₂ (bounds_on x u bs d z₂.value (world_in B c l h m₂.used)) r × Leaves B u w c₃ l₂ h₂ w₂ (started_meter r)
         go z₂ q₂ m₂ i B sh iz bs d few bd fs va =
-            let jz : z₂ ≡ z = cc in
-            let jq : q₂ ≡ q = cc in
-            let jm : m₂ ≡ m = cc in
+            let j : ◌≡◌ {A = Fixed × ℕ × Meter} (z₂, q₂, m₂) (z, q, m) = cc in
+            let jz : z₂ ≡ z = ap (λ (o : Fixed × ℕ × Meter). o.0) j in
+            let jq : q₂ ≡ q = ap (λ (o : Fixed × ℕ × Meter). o.1) j in
+            let jm : m₂ ≡ m = ap (λ (o : Fixed × ℕ × Meter). o.2) j in
             let sh₂ : Shows deck rows names c l h w u x m B = rw jm at sh in
             let t : WidensAs B s c₁ l₁ h₁ (bounded_on x u bs d (world_in B c l h m.used)) (bounds_left bs) y₁ × Leaves B u w c₁ l₁ h₁ w₁ (widened_meter y₁) = one.goes f q m refl B sh₂ bs d (rw jq at bd) fs in
             rw (jz, jm) (second B sh₂ (rw jz at iz) bs d few (rw jq at bd) fs va y₁ refl t.0 t.1)
@@ -357,8 +362,8 @@ module _ (deck s rows names c l h w : List ℕ) (g at u : ℕ) (x : Scene) (m : 
           rw (st.0, st.1, st.2, st.3, st.4) (whole ∙ rw (← nu), record { below = value.below; limit = lm; slots = value.slots })
       by (Ok (z, q, m₁)) i =
           let nu : good z.value (world_in B c₁ l₁ h₁ m₁.used) ≡ number_on (value_of x tr u now) = rw i at first in
-          let pl : Ok (z, q, m₁) ≡ Ok (z, k, m₁) = rw i at (bi.end k value.end) in
-          let qk : q ≡ k = cc in
+          let pl : ◌≡◌ {A = Bound} (Ok (z, q, m₁)) (Ok (z, k, m₁)) = rw i at (bi.end k value.end) in
+          let qk : q ≡ k = (let j : ◌≡◌ {A = Fixed × ℕ × Meter} (z, q, m₁) (z, k, m₁) = cc in ap (λ (i : Fixed × ℕ × Meter). i.1) j) in
           let lm : m₁.limit ≡ B.limit = ap (λ (j : Meter). j.limit) (rw i at bi.limit) ∙ value.limit in
           let iz : in_range z.value ≡ true = bound_range B c₁ l₁ h₁ w₁ u b z q m₁ (rw i at bi) (gave_fine B c l h x tr u m.used w c₁ l₁ h₁ w₁ b k sh.slots value) in
           let sh₁ : Shows deck rows names c₁ l₁ h₁ w₁ u x m₁ B = record { named = sh.named; rowed = sh.rowed; slots = value.slots; work = omega (arith, z₁, sh.work); taken = sh.taken; limit = lm; left = sh.left } in

@@ -50,6 +50,11 @@ use Rattle.evaluating.specs.Cycle.{Evaluates, Chains, NameIs, ListedIs}
 use Rattle.operands.proofs.Trees.{never, read_same, IsRead, then_read, levels_first, levels_zero, chain_more, chain_done, chain_none, value_binary, strict, Operand, operand_is, inside_same, inside_none, inside_is, expression_is, expect_is}
 use Rattle.operands.proofs.Leaves.{end_is, below_same, below_then, value_below, value_size}
 
+-- ---- what is not there is None
+pub none_one : {A : Type 0} (n : Option A) → ((a : A) → n ≡ Some a → ⊥) → n ≡ None
+none_one None k = refl
+none_one (Some a) k = absurd (k a refl)
+
 -- ---- the scene after an answer
 module _ (deck rows names c l h w : List ℕ) (u : ℕ) (x : Scene) (m : Meter) (B : World) (sh : Shows deck rows names c l h w u x m B) where
   pub shows_as : (c' l' h' w' : List ℕ) (v : ℕ) (k : Meter) → Slots B.denotations c' l' h' → length w' ≡ length w → v ≤ 65536 → k.limit ≡ B.limit → Shows deck rows names c' l' h' w' v x k B
@@ -86,12 +91,8 @@ module _ (deck rows names s c l h w : List ℕ) (at n left u : ℕ) (x : Scene) 
           slots = G.slots;
         }
 
-    pub levels_failed : ((v : Value) (q : ℕ) (k : Meter) → y ≡ Ok (v, q, k) → ⊥) → Evaluates deck rows names c l h w u x m c₁ l₁ h₁ w₁ y (levels_in left s n at)
-    levels_failed over = by y refl
-      where
-        by : (a : Evaluated) → y ≡ a → Evaluates deck rows names c l h w u x m c₁ l₁ h₁ w₁ a (levels_in left s n at)
-        by (Ok (v, q, k)) i = absurd (over v q k i)
-        by (Err (f, k)) i = record { is = λ B sh t e q. let j : IsRead (levels_in left s (n - 1) at) (λ r. chained r.tree r.to) (parsed t e) = levels_first (operand_in left s) s n at t e big q in failed_by f k i B sh t e j.first j.is j.rest }
+    pub levels_failed : (f : Why × Meter) → y ≡ Err f → Evaluates deck rows names c l h w u x m c₁ l₁ h₁ w₁ (Err f) (levels_in left s n at)
+    levels_failed (f, k) i = record { is = λ B sh t e q. let j : IsRead (levels_in left s (n - 1) at) (λ r. chained r.tree r.to) (parsed t e) = levels_first (operand_in left s) s n at t e big q in failed_by f k i B sh t e j.first j.is j.rest }
 
     module _ (v : Value) (q : ℕ) (k : Meter) (i : y ≡ Ok (v, q, k)) (z₁ : length w₁ ≡ length w) (c₂ l₂ h₂ w₂ : List ℕ) (r : Evaluated) (ch : Chains deck rows names s c₁ l₁ h₁ w₁ v q (n - 1) left u x k c₂ l₂ h₂ w₂ r) where
       chain_by : (B : World) → Shows deck rows names c l h w u x m B → (t : Tree) (e : ℕ) (z : Parsed) → levels_in left s (n - 1) at ≡ read z → chained z.tree z.to ≡ read (parsed t e) → Gave B u w c₂ l₂ h₂ w₂ r e (value_of x t u (world_in B c l h m.used))
@@ -110,7 +111,7 @@ unfolding infix_at
 infix_some l s at n o q e f = by (infix_of l (token_at mixed s at).token) (sym f ∙ e)
   where
     by : (x : Maybe Operator) → Some (o, q) ≡ infix_for x (token_at mixed s at).to → (x ≡ is o) × (q ≡ (token_at mixed s at).to)
-    by (is p) g = let h : p ≡ o = cc in let k : q ≡ (token_at mixed s at).to = cc in (ap is h, k)
+    by (is p) g = let h : ◌≡◌ {A = Operator × ℕ} (o, q) (p, (token_at mixed s at).to) = cc in (ap (λ (i : Operator × ℕ). is i.0) (sym h), ap (λ (i : Operator × ℕ). i.1) h)
     by no_operator g = absurd (let z : ◌≡◌ {A = ℕ} 0 1 = cc in omega arith)
 
 infix_other : (l : ℕ) (s : List ℕ) (at : ℕ) (n : Option (Operator × ℕ)) → n ≡ infix_at l s at → n ≡ None → infix_of l (token_at mixed s at).token ≡ no_operator
@@ -219,8 +220,8 @@ module _ (deck rows names s c₀ l₀ h₀ w₀ : List ℕ) (v : Value) (from le
           slots = a.slots;
         }
 
-        pub chaining_failed : (f : Why) (i : Meter) → r ≡ Err (f, i) → Chains deck rows names s c₀ l₀ h₀ w₀ v from level left u x m₀ c₁ l₁ h₁ w₂ (Err (f, i))
-        chaining_failed f i ri = record { is = λ B sh ff t₀ z₀ a t e d. let j : Chained B z₀ (parsed t e) turns y at m c l h w = k.is B sh ff t₀ z₀ a t e d in failed_with f i ri B z₀ t e j (after B z₀ (parsed t e) j) }
+        pub chaining_failed : (f : Why × Meter) → r ≡ Err f → Chains deck rows names s c₀ l₀ h₀ w₀ v from level left u x m₀ c₁ l₁ h₁ w₂ (Err f)
+        chaining_failed (f, i) ri = record { is = λ B sh ff t₀ z₀ a t e d. let j : Chained B z₀ (parsed t e) turns y at m c l h w = k.is B sh ff t₀ z₀ a t e d in failed_with f i ri B z₀ t e j (after B z₀ (parsed t e) j) }
 
         on_with : (y' : Value) (p : ℕ) (i : Meter) → r ≡ Ok (y', p, i) → length w₂ ≡ length w₁ → (B z₀ : World) (z : Parsed) → Chained B z₀ z turns y at m c l h w → After B z₀ z → Chained B z₀ z (turns - 1) y' p i c₁ l₁ h₁ w₂
         on_with y' p i ri z₂ B z₀ z j a =

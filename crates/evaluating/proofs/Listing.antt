@@ -249,8 +249,8 @@ module _ (deck s rows names c l h w : List ℕ) (at left u : ℕ) (x : Scene) (m
         let q : asked x tr a.ws u (world_in B₁ c l h m.used) ≡ bad g m₁.used = rw eo at r.is in
         record { is = sym (a.value ∙ ap (λ (i : Res Why (List Val.Value)). bind i a.made) q); end = refl; below = r.below; fits = omega (arith, sh.taken); limit = rw eo at r.limit; slots = r.slots }
 
-    pub listed_refused : (g : Why) (m₁ : Meter) → o ≡ Err (g, m₁) → ListedIs deck s rows names c l h w at left u x m y c₁ l₁ h₁ w₁ (Err (g, m₁))
-    listed_refused g m₁ eo = record { is = λ B₁ sh me p tr e q. let a : Aimed B₁ tr t = aimed B₁ sh me tr (cn.is p tr e q) in refused_by g m₁ eo B₁ sh tr e a (args B₁ sh p tr e q a) }
+    pub listed_refused : (g : Why × Meter) → o ≡ Err g → ListedIs deck s rows names c l h w at left u x m y c₁ l₁ h₁ w₁ (Err g)
+    listed_refused (g, m₁) eo = record { is = λ B₁ sh me p tr e q. let a : Aimed B₁ tr t = aimed B₁ sh me tr (cn.is p tr e q) in refused_by g m₁ eo B₁ sh tr e a (args B₁ sh p tr e q a) }
 
     module _ (got : Taken) (eo : o ≡ Ok got) where
       abbrev f : Value

@@ -27,7 +27,7 @@ use Rattle.definition.specs.declared.Why.{Why}
 use Rattle.definition.specs.declared.Why.TheVariants.{NoStep, WronglyRun, WrongGoto}
 use Rattle.definition.proofs.Thrift.{used_by, statement_used}
 use Rattle.meter.specs.declared.Meter.{Meter}
-use Rattle.meter.specs.Charges.{Charges, Charged, charged_for, ChargedAs}
+use Rattle.meter.specs.Charges.{ChargedAs}
 use Rattle.names.specs.declared.Place.{Place}
 use Rattle.rows.specs.declared.Row.{Row}
 use Rattle.rows.specs.Table.{row_in}
@@ -62,8 +62,8 @@ use Rattle.evaluating.proofs.Ways.{behind_goes, behind_at, into_goes, into_at}
 use Rattle.operands.proofs.Trees.{clash}
 
 -- ---- the meter
-paid_is : (m : Meter) (k : Charged) → Charges m k → (n : ℕ) → m.limit ≡ n → k.paid ≡ true → (is_left n m.used ≡ true) × (used_after n m.used ≡ k.meter.used)
-paid_is m k ch n e p = (ap (λ (i : ℕ). is_left i m.used) (sym e) ∙ sym ch.paid ∙ p, ap (λ (i : ℕ). used_after i m.used) (sym e) ∙ sym ch.used)
+paid_is : (m k : Meter) → ChargedAs m (Ok k) → (n : ℕ) → m.limit ≡ n → (is_left n m.used ≡ true) × (used_after n m.used ≡ k.used)
+paid_is m k ch n e = (ap (λ (i : ℕ). is_left i m.used) (sym e) ∙ sym ch.is.paid, ap (λ (i : ℕ). used_after i m.used) (sym e) ∙ sym ch.is.used)
 
 after_one : (n k : ℕ) → is_left n k ≡ true → used_after n k ≡ suc k
 unfolding used_after
@@ -159,30 +159,30 @@ module _ (deck s t rows names c l h w : List ℕ) (p : Place) (y : Next) (fs : F
   unfolding F.turn
   turn_over e r er = rw (er, e) record { is = λ B sh ib G at. (refl, record { below = refl; limit = sh.limit; slots = sh.slots }) }
 
-  module _ (n : ℕ) (e : y ≡ Begin n) (k : Charged) (ch : Charges m k) where
+  module _ (n : ℕ) (e : y ≡ Begin n) where
     turn_is : (B : World) (G : List F.Frame) (R : Res Why (Unit {0})) → W.charge (world_in B c l h m.used) ≡ R
         → F.turn (body_of x p u B) (F.begin n) G (world_in B c l h m.used) ≡ bind R (λ _ v. F.statement (body_of x p u B) (row_of (rows_of p.member B) n).statement G n v)
     unfolding F.turn body_machine
     turn_is B G R q = ap (λ (i : Res Why (Unit {0})). bind i (λ _ v. F.statement (body_of x p u B) (row_of (rows_of p.member B) n).statement G n v)) (placed_same (W.charge (world_in B c l h m.used)) ∙ q)
 
-    pub turn_due : k.paid ≡ false → (r : Turned) → r ≡ turned_by fs (Err (NoStep, k.meter)) → TurnIs deck s t rows names c l h w p y fs u x m c l h w r
-    turn_due pd r er = rw (er, e) record {
+    pub turn_due : (q : Why) (k : Meter) → ChargedAs m (Err (q, k)) → (r : Turned) → r ≡ turned_by fs (Err (q, k)) → TurnIs deck s t rows names c l h w p y fs u x m c l h w r
+    turn_due q k ch r er = rw (er, e, ch.why q k refl) record {
       is = λ B sh ib G at.
-          let lf : is_left m.limit m.used ≡ false = sym ch.paid ∙ pd in
+          let lf : is_left m.limit m.used ≡ false = sym ch.is.paid in
           let lg : is_left B.limit m.used ≡ false = ap (λ (i : ℕ). is_left i m.used) (sym sh.limit) ∙ lf in
-          let us : k.meter.used ≡ m.used = ch.used ∙ after_none m.limit m.used lf in (
+          let us : k.used ≡ m.used = ch.is.used ∙ after_none m.limit m.used lf in (
             ap returns_of (turn_is B G (bad NoStep m.used) (charge_none (world_in B c l h m.used) lg)) ∙ ap (λ (i : ℕ). bad NoStep i) (sym us),
-            record { below = refl; limit = ch.limit ∙ sh.limit; slots = sh.slots },
+            record { below = refl; limit = ch.is.limit ∙ sh.limit; slots = sh.slots },
           );
     }
 
-    pub turn_begin : k.paid ≡ true → (c' l' h' w' : List ℕ) (r : Turned) → StatementIs deck s t rows names c l h w p n fs u x k.meter c' l' h' w' r → TurnIs deck s t rows names c l h w p y fs u x m c' l' h' w' r
-    turn_begin pd c' l' h' w' r si = rw e record {
+    pub turn_begin : (k : Meter) → ChargedAs m (Ok k) → (c' l' h' w' : List ℕ) (r : Turned) → StatementIs deck s t rows names c l h w p n fs u x k c' l' h' w' r → TurnIs deck s t rows names c l h w p y fs u x m c' l' h' w' r
+    turn_begin k ch c' l' h' w' r si = rw e record {
       is = λ B sh ib G at.
-          let pi : (is_left B.limit m.used ≡ true) × (used_after B.limit m.used ≡ k.meter.used) = paid_is m k ch B.limit sh.limit pd in
-          let sh₁ : Shows deck rows names c l h w u x k.meter B = record { named = sh.named; rowed = sh.rowed; slots = sh.slots; work = sh.work; taken = sh.taken; limit = ch.limit ∙ sh.limit; left = sh.left } in
-          let S₁ : TurnsTo (body_of x p u B) t B u c' l' h' w' (F.statement (body_of x p u B) (row_of (rows_of p.member B) n).statement G n (world_in B c l h k.meter.used)) r.frames r.step × Leaves B u w c' l' h' w' (step_meter r.step) = si.is B sh₁ ib G (at.begin n refl) in
-          let R : F.turn (body_of x p u B) (F.begin n) G (world_in B c l h m.used) ≡ F.statement (body_of x p u B) (row_of (rows_of p.member B) n).statement G n (world_in B c l h k.meter.used) =
+          let pi : (is_left B.limit m.used ≡ true) × (used_after B.limit m.used ≡ k.used) = paid_is m k ch B.limit sh.limit in
+          let sh₁ : Shows deck rows names c l h w u x k B = record { named = sh.named; rowed = sh.rowed; slots = sh.slots; work = sh.work; taken = sh.taken; limit = ch.is.limit ∙ sh.limit; left = sh.left } in
+          let S₁ : TurnsTo (body_of x p u B) t B u c' l' h' w' (F.statement (body_of x p u B) (row_of (rows_of p.member B) n).statement G n (world_in B c l h k.used)) r.frames r.step × Leaves B u w c' l' h' w' (step_meter r.step) = si.is B sh₁ ib G (at.begin n refl) in
+          let R : F.turn (body_of x p u B) (F.begin n) G (world_in B c l h m.used) ≡ F.statement (body_of x p u B) (row_of (rows_of p.member B) n).statement G n (world_in B c l h k.used) =
           turn_is B G (good tt (W.with_used (used_after B.limit m.used) (world_in B c l h m.used))) (charge_left (world_in B c l h m.used) pi.0)
           ∙ ap (λ (i : ℕ). F.statement (body_of x p u B) (row_of (rows_of p.member B) n).statement G n (world_in B c l h i)) pi.1 in
           (subst (λ (i : Res Why F.Turn). TurnsTo (body_of x p u B) t B u c' l' h' w' (returns_of i) r.frames r.step) (sym R) (returns_turns (body_of x p u B) t B u c' l' h' w' _ r.frames r.step S₁.0), S₁.1);
@@ -415,8 +415,8 @@ module _ (deck s t rows names c₀ l₀ h₀ w₀ : List ℕ) (p : Place) (u : �
     pub runs_gave : (v : Value) (k : Meter) → r.step ≡ Ok (St.Gave v k) → BodyIs deck s t rows names c₀ l₀ h₀ w₀ u x m₀ p c' l' h' w' (Ok (v, 0, k))
     runs_gave v k e = record { is = λ B sh eo es et ip. gave_by B sh (record { owner = eo; body = es; part = et; procedure = ip }) v k e }
 
-    pub runs_bad : (f : Why) (k : Meter) → r.step ≡ Err (f, k) → BodyIs deck s t rows names c₀ l₀ h₀ w₀ u x m₀ p c' l' h' w' (Err (f, k))
-    runs_bad f k e = record { is = λ B sh eo es et ip. bad_by B sh (record { owner = eo; body = es; part = et; procedure = ip }) f k e }
+    pub runs_bad : (f : Why × Meter) → r.step ≡ Err f → BodyIs deck s t rows names c₀ l₀ h₀ w₀ u x m₀ p c' l' h' w' (Err f)
+    runs_bad (f, k) e = record { is = λ B sh eo es et ip. bad_by B sh (record { owner = eo; body = es; part = et; procedure = ip }) f k e }
 
   -- the turns do not run out
   pub runs_end : (turns : ℕ) (y : Next) (fs : Frames) (m : Meter) (c l h w : List ℕ) → Runs turns y fs m c l h w → turns ≤ 0 → (a : Evaluated) → BodyIs deck s t rows names c₀ l₀ h₀ w₀ u x m₀ p c l h w a

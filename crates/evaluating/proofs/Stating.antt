@@ -88,7 +88,7 @@ module _ (x : Scene) (u : ℕ) (n : List ℕ) (t : Tree) (w : World) where
   assigned_is = target_at_lem (scene_machine x u) n (λ a k. bind (value_of x t u w) λ v y. bind (put u (Val.convert k v) y) λ c z. good tt (W.store a c z)) w (seen_from (owner_of x.owner) n w)
 
 pub at_by : (a : ℕ) (k : ValueType) (v : Meant) → Some (a, k) ≡ variable_for v → v ≡ M.AVariable a k
-at_by a k (M.AVariable a₁ k₁) e = let f : a ≡ a₁ = cc in let q : k ≡ k₁ = cc in rw (f, q)
+at_by a k (M.AVariable a₁ k₁) e = let h : ◌≡◌ {A = ℕ × ValueType} (a, k) (a₁, k₁) = cc in let f : a ≡ a₁ = ap (λ (i : ℕ × ValueType). i.0) h in let q : k ≡ k₁ = ap (λ (i : ℕ × ValueType). i.1) h in rw (f, q)
 at_by a k (M.AnEntry d) e = clash (cc)
 at_by a k M.TheSubstr e = clash (cc)
 at_by a k M.NoSuch e = clash (cc)

@@ -37,16 +37,14 @@ pub fn assign(
     ensures { AssignIs deck.now s.now rows.now names.now cells.old low.old high.old work.old at u c m cells.new low.new high.new work.new result }
 {
     let t = token_at(s, at);
-    match target_at(deck, s, names, c.names, c.owner, t) {
-        Some((a, k)) => {
-            let sign = token_at(s, t.to);
-            let x = evaluate(
-                deck, s, rows, names, cells, low, high, work, sign.to, u, c, m,
-            );
-            stored(cells, low, high, work, a, k, u, x)
-        }
-        None => Err((Why::WrongName, m)),
-    }
+    let Some((a, k)) = target_at(deck, s, names, c.names, c.owner, t) else {
+        return Err((Why::WrongName, m));
+    };
+    let sign = token_at(s, t.to);
+    let x = evaluate(
+        deck, s, rows, names, cells, low, high, work, sign.to, u, c, m,
+    );
+    stored(cells, low, high, work, a, k, u, x)
 }
 
 // The IF whose expression stands at a place.
@@ -88,16 +86,12 @@ fn bounded(
 ) -> Widened
     ensures { BoundedIs deck.now s.now rows.now names.now cells.old low.old high.old work.old u c x cells.new low.new high.new work.new result }
 {
-    match x {
-        Ok((f, at, m)) => match bound_word(s, at) {
-            Some((side, q)) => {
-                let e = evaluate(deck, s, rows, names, cells, low, high, work, q, u, c, m);
-                bounded_by(f, side, bound_of(work, u, e))
-            }
-            None => Ok((f, at, m)),
-        },
-        Err((w, m)) => Err((w, m)),
-    }
+    let (f, at, m) = x?;
+    let Some((side, q)) = bound_word(s, at) else {
+        return Ok((f, at, m));
+    };
+    let e = evaluate(deck, s, rows, names, cells, low, high, work, q, u, c, m);
+    bounded_by(f, side, bound_of(work, u, e))
 }
 
 // BY and TO as written, each before the next; then the variable is set to the number b.
@@ -118,26 +112,22 @@ fn bounds(
 ) -> Started
     ensures { BoundsIs deck.now s.now rows.now names.now cells.old low.old high.old work.old f b u c cells.new low.new high.new work.new result }
 {
-    match b {
-        Ok((x, q, m)) => {
-            let one = bounded(
-                deck,
-                s,
-                rows,
-                names,
-                cells,
-                low,
-                high,
-                work,
-                Ok((f, q, m)),
-                u,
-                c,
-            );
-            let two = bounded(deck, s, rows, names, cells, low, high, work, one, u, c);
-            set_off(cells, x, two)
-        }
-        Err((w, m)) => Err((w, m)),
-    }
+    let (x, q, m) = b?;
+    let one = bounded(
+        deck,
+        s,
+        rows,
+        names,
+        cells,
+        low,
+        high,
+        work,
+        Ok((f, q, m)),
+        u,
+        c,
+    );
+    let two = bounded(deck, s, rows, names, cells, low, high, work, one, u, c);
+    set_off(cells, x, two)
 }
 
 // The iterated group of row g, whose variable stands at a place.
@@ -160,30 +150,28 @@ pub fn start(
     ensures { StartIs deck.now s.now rows.now names.now cells.old low.old high.old work.old g at u c m cells.new low.new high.new work.new result }
 {
     let t = token_at(s, at);
-    match control_address(target_at(deck, s, names, c.names, c.owner, t)) {
-        Some(a) => {
-            let sign = token_at(s, t.to);
-            let e = evaluate(
-                deck, s, rows, names, cells, low, high, work, sign.to, u, c, m,
-            );
-            let b = bound_of(work, u, e);
-            bounds(
-                deck,
-                s,
-                rows,
-                names,
-                cells,
-                low,
-                high,
-                work,
-                new_frame(g, a),
-                b,
-                u,
-                c,
-            )
-        }
-        None => Err((Why::WrongName, m)),
-    }
+    let Some(a) = control_address(target_at(deck, s, names, c.names, c.owner, t)) else {
+        return Err((Why::WrongName, m));
+    };
+    let sign = token_at(s, t.to);
+    let e = evaluate(
+        deck, s, rows, names, cells, low, high, work, sign.to, u, c, m,
+    );
+    let b = bound_of(work, u, e);
+    bounds(
+        deck,
+        s,
+        rows,
+        names,
+        cells,
+        low,
+        high,
+        work,
+        new_frame(g, a),
+        b,
+        u,
+        c,
+    )
 }
 
 // ---- bodies of procedures; `part` is the rows of the member
@@ -312,13 +300,13 @@ pub fn run_body(
             deck, s, part, rows, names, cells, low, high, work, p, next, fs, u, c, m,
         );
         fs = t.frames;
-        match t.step {
-            Ok(Step::On(x, k)) => {
+        let step = t.step?;
+        match step {
+            Step::On(x, k) => {
                 next = x;
                 m = k;
             }
-            Ok(Step::Gave(v, k)) => return Ok((v, 0, k)),
-            Err((w, k)) => return Err((w, k)),
+            Step::Gave(v, k) => return Ok((v, 0, k)),
         }
     }
     Err((Why::NoStep, m))

@@ -115,16 +115,12 @@ fn arguments(
         let x = inside(
             deck, s, rows, names, cells, low, high, work, at, left, top, c, m,
         );
-        match with_wish(work, top, w.wish, x) {
-            Ok((v, e, n)) => {
-                held = with_held(held, i, v);
-                first = first_kept(i, first, v);
-                top = above(top, size_of(v));
-                at = token_at(s, e).to;
-                m = n;
-            }
-            Err((why, n)) => return Err((why, n)),
-        }
+        let (v, e, n) = with_wish(work, top, w.wish, x)?;
+        held = with_held(held, i, v);
+        first = first_kept(i, first, v);
+        top = above(top, size_of(v));
+        at = token_at(s, e).to;
+        m = n;
     }
     Ok(Taken {
         held,
@@ -156,10 +152,11 @@ fn listed(
 {
     let n = count_arguments(s, at, left);
     match aim_of(deck, rows, c.starts, names, c.names, x, n) {
-        Ok(t) => match arguments(
-            deck, s, rows, names, cells, low, high, work, at, left, t, u, c, m,
-        ) {
-            Ok(a) => match t {
+        Ok(t) => {
+            let a = arguments(
+                deck, s, rows, names, cells, low, high, work, at, left, t, u, c, m,
+            )?;
+            match t {
                 Target::Entry(y) => {
                     let v = call(
                         deck, rows, names, cells, low, high, work, y, a.held, u, c, a.meter,
@@ -167,9 +164,8 @@ fn listed(
                     up_to(v, a.to)
                 }
                 Target::Substr(_) => substr_of(work, u, n, a.held, a.first, a.to, a.meter),
-            },
-            Err((w, k)) => Err((w, k)),
-        },
+            }
+        }
         Err(w) => Err((w, m)),
     }
 }
@@ -339,23 +335,17 @@ fn chain(
     let mut m = m0;
     // each operator has a byte at least, and one more turn finds what follows
     for _ in 0..s.len() + 1 {
-        match infix_at(s, at, level) {
-            Some((o, q)) => {
-                let top = above(u, size_of(x));
-                let y = levels(
-                    deck, s, rows, names, cells, low, high, work, q, level, left, top, c, m,
-                );
-                match with_infix(work, u, o, x, y) {
-                    Ok((w, e, n)) => {
-                        x = w;
-                        at = e;
-                        m = n;
-                    }
-                    Err((w, n)) => return Err((w, n)),
-                }
-            }
-            None => return Ok((x, at, m)),
-        }
+        let Some((o, q)) = infix_at(s, at, level) else {
+            return Ok((x, at, m));
+        };
+        let top = above(u, size_of(x));
+        let y = levels(
+            deck, s, rows, names, cells, low, high, work, q, level, left, top, c, m,
+        );
+        let (w, e, n) = with_infix(work, u, o, x, y)?;
+        x = w;
+        at = e;
+        m = n;
     }
     Err((Why::Syntax, m))
 }
@@ -385,7 +375,7 @@ fn levels(
             deck, s, rows, names, cells, low, high, work, at, left, u, c, m,
         );
     }
-    let first = levels(
+    let (v, e, k) = levels(
         deck,
         s,
         rows,
@@ -400,10 +390,7 @@ fn levels(
         u,
         c,
         m,
-    );
-    let Ok((v, e, k)) = first else {
-        return first;
-    };
+    )?;
     chain(
         deck,
         s,
