@@ -165,20 +165,21 @@ fn then_expression(s: &[u8], e: Expected) -> Expected
 pub fn assignment(s: &[u8], content: usize, at: usize) -> Read
     ensures { result ≡ C.read_for S.Assign content FixedType (D.assignment mixed s.now [] at) }
 {
-    let e = then_sign(s, check(s, at), b";");
-    read_up_to(Statement::Assign, Opens::Nothing, content, e)
+    let q = check(s, at)?;
+    read_up_to(Statement::Assign, Opens::Nothing, content, expect_sign(s, q, b";"))
 }
 
 // Outside procedures THEN has its own `%`.
 fn if_clause(s: &[u8], at: usize, in_body: bool) -> Read
     ensures { result ≡ C.read_for S.Conditional at FixedType (D.if_clause mixed in_body s.now at) }
 {
-    let x = check(s, at);
+    let q = check(s, at)?;
     if in_body {
-        let e = then_word(s, x, b"THEN");
+        let e = expect_word(s, q, b"THEN");
         return read_up_to(Statement::Conditional, Opens::Then, at, e);
     }
-    let e = then_word(s, then_sign(s, x, b"%"), b"THEN");
+    let sign = expect_sign(s, q, b"%")?;
+    let e = expect_word(s, sign, b"THEN");
     read_up_to(Statement::Conditional, Opens::Then, at, e)
 }
 
@@ -228,8 +229,8 @@ fn do_clause(s: &[u8], at: usize) -> Read
 fn goto_clause(s: &[u8], at: usize) -> Read
     ensures { result ≡ C.read_for S.Goto at FixedType (D.goto_clause mixed s.now at) }
 {
-    let e = then_sign(s, name_past(s, at), b";");
-    read_up_to(Statement::Goto, Opens::Nothing, at, e)
+    let q = name_past(s, at)?;
+    read_up_to(Statement::Goto, Opens::Nothing, at, expect_sign(s, q, b";"))
 }
 
 // GO and TO apart.
@@ -298,9 +299,10 @@ fn name_list(s: &[u8], from: usize, each: Each, close: &[u8]) -> Expected
 fn return_clause(s: &[u8], at: usize) -> Read
     ensures { result ≡ C.read_for S.Return at FixedType (D.return_clause mixed s.now at) }
 {
-    let x = then_expression(s, expect_sign(s, at, b"("));
-    let e = then_sign(s, then_sign(s, x, b")"), b";");
-    read_up_to(Statement::Return, Opens::Nothing, at, e)
+    let open = expect_sign(s, at, b"(")?;
+    let value = check(s, open)?;
+    let close = expect_sign(s, value, b")")?;
+    read_up_to(Statement::Return, Opens::Nothing, at, expect_sign(s, close, b";"))
 }
 
 // The statements that declare nothing, from behind the word t that begins them.
