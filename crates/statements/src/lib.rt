@@ -147,13 +147,6 @@ fn then_sign(s: &[u8], e: Expected, w: &[u8]) -> Expected
     expect_sign(s, q, w)
 }
 
-fn then_word(s: &[u8], e: Expected, w: &[u8]) -> Expected
-    ensures { result ≡ C.then_word w.now s.now e }
-{
-    let q = e?;
-    expect_word(s, q, w)
-}
-
 fn then_expression(s: &[u8], e: Expected) -> Expected
     ensures { result ≡ C.then_expression s.now e }
 {
@@ -248,7 +241,8 @@ fn member_past(s: &[u8], e: Expected) -> Expected
     let q = e?;
     let t = token_at(s, q);
     if is_sign(s, t, b"(") {
-        return then_sign(s, name_past(s, t.to), b")");
+        let member = name_past(s, t.to)?;
+        return expect_sign(s, member, b")");
     }
     Ok(q)
 }
@@ -549,7 +543,9 @@ fn parameters(s: &[u8], tally: Tally, list: usize) -> Tally
 fn returned_type(s: &[u8], e: Expected) -> Result<(ValueType, usize), (Why, usize)>
     ensures { result ≡ C.type_from s.now (C.then_sign (bytes_of "(") s.now (C.then_word (bytes_of "RETURNS") s.now e)) }
 {
-    let q = then_sign(s, then_word(s, e, b"RETURNS"), b"(")?;
+    let head = e?;
+    let word = expect_word(s, head, b"RETURNS")?;
+    let q = expect_sign(s, word, b"(")?;
     let t = token_at(s, q);
     if is_either(s, t, b"CHARACTER", b"CHAR") {
         return Ok((ValueType::CharacterType, t.to));
@@ -565,7 +561,8 @@ fn procedure_head(s: &[u8], e: Expected, from: usize) -> Read
     ensures { result ≡ C.head_from s.now from (C.type_from s.now (C.then_sign (bytes_of "(") s.now (C.then_word (bytes_of "RETURNS") s.now e))) }
 {
     let (value_type, q) = returned_type(s, e)?;
-    let to = then_sign(s, expect_sign(s, q, b")"), b";")?;
+    let close = expect_sign(s, q, b")")?;
+    let to = expect_sign(s, close, b";")?;
     Ok(Clause {
         statement: Statement::Procedure,
         opens: Opens::Body,
