@@ -16,13 +16,14 @@ pub struct Fixed {
     pub value: i32,
 }
 
-// What arithmetic gives: a number in range, or why there is none.
+// Why arithmetic gives no number in range.
 #[derive(Clone, Copy, PartialEq, Eq)]
 pub enum FixedError {
     OutOfRange,
     ZeroDivisor,
 }
 
+// The refusal that an error is.
 impl From<FixedError> for Why {
     ghost from_gives = { λ e w. w ≡ why_of e };
 

@@ -12,9 +12,9 @@ use lib.Dec.{eqb}
 use lib.ListN.{length, get_or, set}
 use lib.Seq.{get_or-set_same, get_or-set_other}
 use Rattle.names.specs.declared.Place.{Place}
-use Rattle.callees.specs.Answer.{place_of}
+use Rattle.callees.specs.Answer.{place_of, blank}
 use Rattle.leaving.specs.declared.Below.{Below}
-use Rattle.leaving.specs.Places.{place_at, blank, places_in, below_of, row_for, NoneBelow, WithBelow}
+use Rattle.leaving.specs.Places.{place_at, places_in, below_of, row_for, NoneBelow, WithBelow}
 
 -- ---- one slot of the list
 taken : (b : Below) (n : ℕ) → n < b.count → places_in b (suc n) ≡ place_of (get_or b.places n blank) ∷ places_in b n

@@ -1,17 +1,12 @@
 -- The members that run below this one, each with the row where it stands: the definition's list of places.
 use Rattle.std.specs.Prelude.{ℕ, zero, suc, ◌<◌, ◌≡◌, cond, List, [], ◌∷◌, eqb, ltb, length, get_or, Option, Some, None}
 use Rattle.definition.specs.Calls.{Place}
-use Rattle.names.specs.declared.Place as N
 use Rattle.definition.specs.World.{World, rows_of}
-use Rattle.callees.specs.Answer.{place_of}
+use Rattle.callees.specs.Answer.{place_of, blank}
 use Rattle.leaving.specs.declared.Below.{Below}
 
 abbrev pub place_at : ℕ → ℕ → Place
 place_at m r = record { member = m; row = r }
-
--- what no array has at a place within it
-abbrev pub blank : N.Place
-blank = record { member = 0; row = 0 }
 
 -- those of the first n slots that are taken, newest first
 unfoldable pub places_in : Below → ℕ → List Place

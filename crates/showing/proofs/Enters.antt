@@ -66,11 +66,11 @@ module _ (deck rows rows' n n' t : List ℕ) (starts starts' : Starts) (m entere
         shown = rows_shown deck rows' starts' (N.with_member m s u) lies.stored after (omega (arith, names_size deck n' r.names u book, whole.few));
       }
 
-  by_entry : (f : Result (Unit {0}) (Why × ℕ)) → f ≡ (Ok tt) → Whole deck (body_in deck m) m entered (names_of deck n names) t n' r
+  by_entry : (f : Result (Unit {0}) (Why × ℕ)) → f ≡ Ok tt → Whole deck (body_in deck m) m entered (names_of deck n names) t n' r
       → Entry m (D.read_member mixed (body_in deck m)) (names_of deck n' r.names) (N.enter m (D.read_member mixed (body_in deck m)) w) f → Enters deck rows' n' starts' m (entered + r.rows) r.names w
   by_entry f e whole (goes_in v q sh z) = goes whole v q sh
   by_entry f e whole (stays_out y k q z) = let c : ◌≡◌ {A = ℕ} 0 1 = cc in absurd (omega arith)
 
   -- THE MEMBER that was read without a fault
-  pub member_enters : Membered deck (body_in deck m) n m entered names t n' r → r.fault ≡ (Ok tt) → Shows w (names_of deck n names) → Enters deck rows' n' starts' m (entered + r.rows) r.names w
+  pub member_enters : Membered deck (body_in deck m) n m entered names t n' r → r.fault ≡ Ok tt → Shows w (names_of deck n names) → Enters deck rows' n' starts' m (entered + r.rows) r.names w
   member_enters h e sh = by_entry r.fault e (h.whole e) (h.enters w sh count)

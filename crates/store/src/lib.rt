@@ -20,7 +20,7 @@ pub fn number_at(cells: &[u32], a: u16) -> Option<Fixed>
     Fixed::from_stored(number32(cells, usize::from(a), 0)).ok()
 }
 
-// The length of the value of a CHARACTER variable.
+// The length of the value of a CHARACTER variable, stored as one more; 0 is none.
 pub fn characters_at(cells: &[u32], a: u16) -> Option<u32>
     ensures { LengthAt cells.now a result }
 {

@@ -34,13 +34,14 @@ pub enum Comparison {
     NotLess,
 }
 
-// What conversion to FIXED gives.
+// Why a value has no number.
 #[derive(Clone, Copy, PartialEq, Eq)]
 pub enum NumberError {
     NoConversion,
     OutOfRange,
 }
 
+// The refusal that an error is.
 impl From<NumberError> for Why {
     ghost from_gives = { λ e w. w ≡ why_of e };
 

@@ -1,5 +1,4 @@
 -- One law for each way out.
-use Rattle.flow.proofs.Steps.{nowhere_if}
 use Rattle.leaving.proofs.Leaving.{away_may, away_not, away_none}
 use Rattle.leaving.proofs.jump_away.Goals as goal
 
@@ -10,4 +9,4 @@ pub returns : goal.returns
 returns c = search away_not
 
 pub returns-in_default : goal.returns-in_default
-returns-in_default c = let u = nowhere_if _ c.in_default.not-Some in search away_none
+returns-in_default c = search away_none

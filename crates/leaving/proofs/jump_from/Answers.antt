@@ -1,11 +1,10 @@
 -- One law for each kind of name.
 use Rattle.leaving.proofs.Leaving.{from_unknown, from_label, from_variable, from_entry, from_builtin}
 use mathlib.Core.Logic.{inl, inr}
-use Rattle.callees.proofs.Naming.{unknown_if}
 use Rattle.leaving.proofs.jump_from.Goals as goal
 
 pub returns-in_default : goal.returns-in_default
-returns-in_default c = let u = unknown_if _ c.in_default.not-Some in search from_unknown
+returns-in_default c = search from_unknown
 
 pub returns-in-LabelName : goal.returns-in-LabelName
 returns-in-LabelName c = search from_label
