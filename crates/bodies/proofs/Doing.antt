@@ -44,13 +44,12 @@ use Rattle.flow.specs.declared.Frames.{Frames}
 use Rattle.operands.specs.declared.Scene.{Scene}
 use Rattle.operands.specs.declared.Wish.TheVariants as Wi
 use Rattle.operands.specs.Answer.{Gave, value_of}
-use Rattle.operands.proofs.Leaves.{end_is, given_some, given_none}
+use Rattle.operands.proofs.Leaves.{end_is}
 use Rattle.operands.proofs.Ranging.{value_fine, convert_typed}
-use Rattle.operands.proofs.Taking.{wish_type, wish_none}
-use Rattle.bodies.specs.declared.Step.TheVariants as St
+use Rattle.operands.specs.Takes.{WithWish}
 use Rattle.bodies.specs.declared.Turned.{Turned}
 use Rattle.bodies.specs.Deeds.{Serves, scene_machine, TargetIs, stored_on, FineIn, StoredIs, truth_on, TruthIs, number_on, BoundIs}
-use Rattle.bodies.specs.Ways.{ReturnIs}
+use Rattle.bodies.specs.Ways.{turned_by, step_of, ReturnIs}
 
 -- ---- an answer of an evaluation is in its range
 pub gave_fine : (B : World) (c l h : List ℕ) (x : Scene) (t : Tree) (u n : ℕ) (w c' l' h' w' : List ℕ) (r : Evaluated) (e : ℕ) → Slots B.denotations c l h → Gave B u w c' l' h' w' r e (value_of x t u (world_in B c l h n)) → FineIn w' u r
@@ -62,9 +61,9 @@ pub stored_world : (B : World) (c l h c' l' h' : List ℕ) (a n : ℕ) (v : Val.
 stored_world B c l h c' l' h' a n v e = ap (λ (i : List W.Cell). with_values i n B) e
 
 module _ (c l h w : List ℕ) (a : ℕ) (k : ValueType) (u : ℕ) (x : Evaluated) where
-  pub stored_none : (f : Why) (m : Meter) → x ≡ Err (f, m) → StoredIs c l h w a k u x c l h w (Err (f, m))
+  pub stored_none : (f : Why × Meter) → x ≡ Err f → StoredIs c l h w a k u x c l h w (Err f)
   unfolding stored_on
-  stored_none f m e = rw e record { is = λ B s g i j y lm. (refl, record { below = refl; limit = lm; slots = s }) }
+  stored_none (f, m) e = rw e record { is = λ B s g i j y lm. (refl, record { below = refl; limit = lm; slots = s }) }
 
   module _ (v : Value) (q : ℕ) (m : Meter) (e : x ≡ Ok (v, q, m)) (w' : List ℕ) (g : Result Value Why) (ga : O.Gave w u (size_for v) (stacked u (Val.convert k (value_in w u v))) w' g) where
     stood : 65536 ≤ length w → u + size_for v ≤ 65536 → Stood w u (stacked u (Val.convert k (value_in w u v))) w' g
@@ -100,9 +99,9 @@ module _ (c l h w : List ℕ) (a : ℕ) (k : ValueType) (u : ℕ) (x : Evaluated
 
 -- ---- a truth
 module _ (w : List ℕ) (u : ℕ) (x : Evaluated) where
-  pub truth_none : (f : Why) (m : Meter) → x ≡ Err (f, m) → TruthIs w u x w (Err (f, m))
+  pub truth_none : (f : Why × Meter) → x ≡ Err f → TruthIs w u x w (Err f)
   unfolding truth_on
-  truth_none f m e = rw e record { is = λ i j B c l h. refl; below = λ i j. refl; limit = refl }
+  truth_none (f, m) e = rw e record { is = λ i j B c l h. refl; below = λ i j. refl; limit = refl }
 
   module _ (v : Value) (q : ℕ) (m : Meter) (e : x ≡ Ok (v, q, m)) (w' : List ℕ) (t : Result Bool Why) (ga : Told w u (size_for v) (Val.holds u (value_in w u v)) w' t) where
     told : 65536 ≤ length w → u + size_for v ≤ 65536 → (W₁ : World) → truth_on u (good (value_in w u v) W₁) ≡ ask (truth_for t) W₁
@@ -119,9 +118,9 @@ module _ (w : List ℕ) (u : ℕ) (x : Evaluated) where
 
 -- ---- a number
 module _ (w : List ℕ) (u : ℕ) (x : Evaluated) where
-  pub bound_none : (f : Why) (m : Meter) → x ≡ Err (f, m) → BoundIs w u x (Err (f, m))
+  pub bound_none : (f : Why × Meter) → x ≡ Err f → BoundIs w u x (Err f)
   unfolding number_on
-  bound_none f m e = rw e record { is = λ B c l h. refl; end = λ q j. refl; limit = refl }
+  bound_none (f, m) e = rw e record { is = λ B c l h. refl; end = λ q j. refl; limit = refl }
 
   module _ (v : Value) (q : ℕ) (m : Meter) (e : x ≡ Ok (v, q, m)) (n : Result Fixed Why) (ga : number_for n ≡ Val.to_fixed (value_in w u v)) where
     pub bound_some : (y : Fixed) → n ≡ Ok y → BoundIs w u x (Ok (y, q, m))
@@ -212,13 +211,5 @@ module _ (deck s names : List ℕ) (n : ℕ) (o : Owned) (t : Lexeme) (y : Meant
   target_none (inr (inr f)) = record { name = y; is = e; variable = rw f }
 
 -- ---- RETURN
-module _ (w : List ℕ) (u : ℕ) (fs : Frames) (t : ValueType) (x : Evaluated) where
-  pub return_none : (f : Why) (m : Meter) → x ≡ Err (f, m) → (r : Turned) → r ≡ record { frames = fs; step = Err (f, m) } → ReturnIs w u fs t x w r
-  return_none f m e r er = rw er record { answer = Err (f, m); frames = refl; step = refl; is = wish_none w u (Wi.As t) x f m e }
-
-  module _ (v : Value) (q : ℕ) (m : Meter) (e : x ≡ Ok (v, q, m)) (w' : List ℕ) (g : Result Value Why) (ga : O.Gave w u (size_for v) (stacked u (Val.convert t (value_in w u v))) w' g) where
-    pub return_some : (y : Value) → g ≡ Ok y → (r : Turned) → r ≡ record { frames = fs; step = Ok (St.Gave y m) } → ReturnIs w u fs t x w' r
-    return_some y eg r er = rw er record { answer = Ok (y, q, m); frames = refl; step = refl; is = wish_type w u (Wi.As t) x v q m e w' g (Ok (y, q, m)) (given_some g y q m eg) t refl ga }
-
-    pub return_fails : (f : Why) → g ≡ Err f → (r : Turned) → r ≡ record { frames = fs; step = Err (f, m) } → ReturnIs w u fs t x w' r
-    return_fails f eg r er = rw er record { answer = Err (f, m); frames = refl; step = refl; is = wish_type w u (Wi.As t) x v q m e w' g (Err (f, m)) (given_none g f q m eg) t refl ga }
+pub return_is : (w : List ℕ) (u : ℕ) (fs : Frames) (t : ValueType) (x : Evaluated) (w' : List ℕ) (y : Evaluated) → WithWish w u (Wi.As t) x w' y → (r : Turned) → r ≡ turned_by fs (step_of y) → ReturnIs w u fs t x w' r
+return_is w u fs t x w' y i r e = rw e record { answer = y; frames = refl; step = refl; is = i }

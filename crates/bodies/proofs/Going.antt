@@ -18,27 +18,6 @@ use Rattle.bodies.specs.declared.Turned.{Turned}
 use Rattle.bodies.specs.Ways.{turned_by, after_test, into_group, after_start, again_in}
 
 module _ (t : List ℕ) (fs : Frames) (n : ℕ) where
-  -- ---- into a group
-  pub into_first : (w : Walk) → w ≡ first_walk t fs n → (x : Next) → x ≡ arrived_at t fs w → x ≡ into_group t fs n
-  unfolding into_group
-  into_first w g x h = h ∙ ap (arrived_at t fs) g
-
-  -- ---- a group that is tested again
-  module _ (y : Tested) where
-    pub again_in_lem : (b : Bool) (m : Meter) → y ≡ Ok (b, m) → b ≡ true → (x : Next) → x ≡ into_group t fs n → (r : Turned) → r ≡ turned_by fs (Ok (St.On x m))
-        → r ≡ turned_by fs (after_test y (λ b. again_in t fs n b))
-    unfolding again_in
-    again_in_lem b m e i x h r f = f ∙ rw (e, h, i)
-
-    pub again_out : (b : Bool) (m : Meter) → y ≡ Ok (b, m) → b ≡ false → (x : Next) → x ≡ behind_on t fs (n + 1) n → (r : Turned) → r ≡ turned_by fs (Ok (St.On x m))
-        → r ≡ turned_by fs (after_test y (λ b. again_in t fs n b))
-    unfolding again_in
-    again_out b m e i x h r f = f ∙ rw (e, h, i)
-
-    pub again_bad : (w : Why) (m : Meter) → y ≡ Err (w, m) → (r : Turned) → r ≡ turned_by fs (Err (w, m))
-        → r ≡ turned_by fs (after_test y (λ b. again_in t fs n b))
-    again_bad w m e r f = f ∙ rw e
-
   -- ---- a group that starts
   module _ (y : Started) where
     pub start_in_lem : (d : Frame) (b : Bool) (m : Meter) → y ≡ Ok (d, b, m) → b ≡ true → (gs : Frames) → gs ≡ frames_with t fs n d → (x : Next) → x ≡ into_group t gs n

@@ -67,8 +67,8 @@ module _ (c : List ℕ) (x : Fixed) (w : Widened) where
       → (b : Bool) → b ≡ passes_by (from_stored f.limit) (from_stored f.step) x.value → SetOff c x w c' (Ok (f, b, m))
   set_some f q m e c' ec b eb = rw e record { cells = ec; is = rw eb }
 
-  pub set_none : (y : Why) (m : Meter) → w ≡ Err (y, m) → SetOff c x w c (Err (y, m))
-  set_none y m e = rw e record { cells = refl; is = refl }
+  pub set_none : (y : Why × Meter) → w ≡ Err y → SetOff c x w c (Err y)
+  set_none (y, m) e = rw e record { cells = refl; is = refl }
 
 -- ---- a number that is stored for a FIXED variable
 module _ (B : World) (c l h : List ℕ) (a : ℕ) (x : Fixed) (c' : List ℕ) (ec : c' ≡ over c (a + 0) (stored_of x.value ∷ []))

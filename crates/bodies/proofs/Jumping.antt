@@ -4,7 +4,6 @@ use Rattle.std.proofs.Common.{Option, Some, None, Result, Ok, Err}
 use mathlib.Core.Path.{◌≡◌, refl, sym, ap, ◌∙◌}
 use mathlib.Core.Bool.{Bool, true, false, cond}
 use mathlib.Core.List.{List}
-use mathlib.Core.Logic.{◌⊎◌, inl, inr}
 use Prim.Native.Nat.{ℕ, ◌-◌}
 use Rattle.definition.specs.Bytes.{mixed, folded}
 use Rattle.definition.specs.Lists.{part}
@@ -23,6 +22,7 @@ use Rattle.names.specs.declared.Entry.{Entry}
 use Rattle.names.specs.declared.Label.{Label}
 use Rattle.names.specs.declared.Owner.{Owner}
 use Rattle.names.specs.declared.Owner.TheVariants.{Everyone}
+use Rattle.names.specs.declared.Denotation.{Denotation}
 use Rattle.names.specs.declared.Denotation.TheVariants.{Variable, EntryName, LabelName, Builtin}
 use Rattle.names.specs.declared.Name.{Name}
 use Rattle.names.specs.Table.{owner_of, denotation_of, name_in, identifiers_from, found_for}
@@ -58,10 +58,14 @@ module _ (t : List ℕ) (a : Address) (b : Bool) (x : Name) (h : x ≡ name_in t
   wrong_either true = refl
   wrong_either false = refl
 
-  pub label_other : ((v : ValueType) × (x.denotation ≡ Variable v)) ⊎ (((y : Entry) × (x.denotation ≡ EntryName y)) ⊎ (x.denotation ≡ Builtin)) → jump_for (Err WrongName) ≡ either (denotation_of (name_in t a.0).denotation)
-  label_other (inl (v, e)) = rw (← h, e) (wrong_either b)
-  label_other (inr (inl (y, e))) = rw (← h, e) (wrong_either b)
-  label_other (inr (inr e)) = rw (← h, e) (wrong_either b)
+  pub label_other : ((l : Label) → x.denotation ≡ LabelName l → ⊥) → jump_for (Err WrongName) ≡ either (denotation_of (name_in t a.0).denotation)
+  label_other k = rw (← h) (by x.denotation refl)
+    where
+      by : (d : Denotation) → x.denotation ≡ d → jump_for (Err WrongName) ≡ either (denotation_of d)
+      by (Variable v) e = wrong_either b
+      by (EntryName y) e = wrong_either b
+      by (LabelName l) e = absurd (k l e)
+      by Builtin e = wrong_either b
 
 -- ---- "local names first, every global label is 13"
 module _ (d s t : List ℕ) (n : ℕ) (o : Owner) (x : Lexeme) (m : ℕ) (z : m ≡ x.to - x.from) (f : Option Address)

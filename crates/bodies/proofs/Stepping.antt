@@ -1,13 +1,12 @@
 -- An iterated group that is tested again: the variable is stepped, the step is charged, then it is tested.
 -- Assumes nothing.
-use Rattle.fixed.specs.declared.FixedError.TheVariants.{ZeroDivisor}
+use Rattle.fixed.specs.declared.FixedError.TheVariants as Fe
 use Rattle.fixed.specs.declared.FixedError.{FixedError}
 use Rattle.bodies.specs.Types.{Tested}
 use Rattle.std.proofs.Common.{Some, None, Option, Ok, Err, Result}
 use mathlib.Core.Path.{◌≡◌, refl, sym, ap, ◌∙◌}
 use mathlib.Core.Bool.{Bool, true, false, cond}
 use mathlib.Core.List.{List, [], ◌∷◌}
-use mathlib.Core.Logic.{◌⊎◌, inl, inr}
 use Prim.Native.Nat.{ℕ, ◌+◌}
 use native.Mathlib.Nat.{zero-add}
 use lib.IntN.{ℤ}
@@ -26,7 +25,7 @@ use Rattle.fixed.specs.declared.Fixed.{Fixed}
 use Rattle.fixed.specs.Answer.{result_of}
 use Rattle.fixed.specs.Signed.{stored_of, from_stored}
 use Rattle.meter.specs.declared.Meter.{Meter}
-use Rattle.meter.specs.Charges.{Charges, Charged, charged_for, ChargedAs}
+use Rattle.meter.specs.Charges.{ChargedAs}
 use Rattle.flow.specs.declared.Frame.{Frame}
 use Rattle.flow.specs.Walks.{passes_by}
 use Rattle.flow.specs.Shown.{number_of, stepped_on}
@@ -42,9 +41,9 @@ use Rattle.operands.proofs.Trees.{clash}
 pub summed_some : (x : Fixed) (by : Result Fixed FixedError) (n : Fixed) → by ≡ Ok n → (r : Result Fixed FixedError) → result_of r ≡ Fx.sum x.value n.value → SummedIs x by r
 summed_some x by n e r f = record { is = λ z g. let k : Fx.is n.value ≡ Fx.is z = ap result_of (sym e) ∙ g in let j : n.value ≡ z = cc in f ∙ ap (Fx.sum x.value) j }
 
-pub summed_none : (x : Fixed) (by : Result Fixed FixedError) → (by ≡ (Err OutOfRange)) ⊎ (by ≡ (Err ZeroDivisor)) → (r : Result Fixed FixedError) → SummedIs x by r
-summed_none x by (inl e) r = record { is = λ z g. clash (let k : Fx.out_of_range ≡ Fx.is z = ap result_of (sym e) ∙ g in cc) }
-summed_none x by (inr e) r = record { is = λ z g. clash (let k : Fx.zero_divisor ≡ Fx.is z = ap result_of (sym e) ∙ g in cc) }
+pub summed_none : (x : Fixed) (by : Result Fixed FixedError) (f : FixedError) → by ≡ Err f → (r : Result Fixed FixedError) → SummedIs x by r
+summed_none x by Fe.OutOfRange e r = record { is = λ z g. clash (let k : Fx.out_of_range ≡ Fx.is z = ap result_of (sym e) ∙ g in cc) }
+summed_none x by Fe.ZeroDivisor e r = record { is = λ z g. clash (let k : Fx.zero_divisor ≡ Fx.is z = ap result_of (sym e) ∙ g in cc) }
 
 sum_range : (x y z : ℤ) → Fx.is z ≡ Fx.sum x y → Fx.in_range z ≡ true
 unfolding Fx.sum Fx.ranged
@@ -89,15 +88,19 @@ module _ (c : List ℕ) (f : Frame) (x : Fixed) (by : Result Fixed FixedError) (
   unfolding added_on
   added_no d w g e = rw e
 
-  pub added_none : (y ≡ (Err OutOfRange)) ⊎ (y ≡ (Err ZeroDivisor)) → SteppedBy c f x by m c (Err (OutOfRange, m))
-  added_none (inl e) = record {
-    is = λ B l h d fr g.
-        let k : Fx.out_of_range ≡ Fx.sum x.value d.step = ap result_of (sym e) ∙ sum_is B l h d fr g in
-        (sym (added_no d (world_in B c l h m.used) OutOfRange (ap Val.from_fixed (sym k))), fr.limit, fr.slots);
-  }
-  added_none (inr e) = record { is = λ B l h d fr g. no_zero x.value d.step (ap result_of (sym e) ∙ sum_is B l h d fr g) }
+  pub added_none : ((n : Fixed) → y ≡ Ok n → ⊥) → SteppedBy c f x by m c (Err (OutOfRange, m))
+  added_none h = of y refl
+    where
+      of : (z : Result Fixed FixedError) → y ≡ z → SteppedBy c f x by m c (Err (OutOfRange, m))
+      of (Ok n) e = absurd (h n e)
+      of (Err Fe.OutOfRange) e = record {
+        is = λ B l h d fr g.
+            let k : Fx.out_of_range ≡ Fx.sum x.value d.step = ap result_of (sym e) ∙ sum_is B l h d fr g in
+            (sym (added_no d (world_in B c l h m.used) OutOfRange (ap Val.from_fixed (sym k))), fr.limit, fr.slots);
+      }
+      of (Err Fe.ZeroDivisor) e = record { is = λ B l h d fr g. no_zero x.value d.step (ap result_of (sym e) ∙ sum_is B l h d fr g) }
 
-  module _ (n : Fixed) (e : y ≡ Ok n) (c' : List ℕ) (ec : c' ≡ over c (f.address + 0) (stored_of n.value ∷ [])) (p : Charged) (ch : Charges m p) where
+  module _ (n : Fixed) (e : y ≡ Ok n) (c' : List ℕ) (ec : c' ≡ over c (f.address + 0) (stored_of n.value ∷ [])) where
     number : (B : World) (l h : List ℕ) (d : F.Frame) → Framing B c l h f m d → result_of by ≡ from_stored f.step → Fx.is n.value ≡ Fx.sum x.value d.step
     number B l h d fr g = ap result_of (sym e) ∙ sum_is B l h d fr g
 
@@ -108,32 +111,32 @@ module _ (c : List ℕ) (f : Frame) (x : Fixed) (by : Result Fixed FixedError) (
     unfolding added_on
     added_is d w g = rw (← g)
 
-    pub added_paid : p.paid ≡ true → (b : Bool) → b ≡ passes_by (from_stored f.limit) (from_stored f.step) n.value → SteppedBy c f x by m c' (Ok (b, p.meter))
-    added_paid pd b eb = record {
+    pub added_paid : (k : Meter) → ChargedAs m (Ok k) → (b : Bool) → b ≡ passes_by (from_stored f.limit) (from_stored f.step) n.value → SteppedBy c f x by m c' (Ok (b, k))
+    added_paid k ch b eb = record {
       is = λ B l h d fr g.
           let nu : Fx.is n.value ≡ Fx.sum x.value d.step = number B l h d fr g in
           let rg : Fx.in_range n.value ≡ true = sum_range x.value d.step n.value nu in
           let W₁ : World = W.store d.at (Val.fixed n.value) (world_in B c l h m.used) in
-          let lf : is_left B.limit m.used ≡ true = ap (λ (i : ℕ). is_left i m.used) (sym fr.limit) ∙ sym ch.paid ∙ pd in
-          let us : used_after B.limit m.used ≡ p.meter.used = ap (λ (i : ℕ). used_after i m.used) (sym fr.limit) ∙ sym ch.used in
+          let lf : is_left B.limit m.used ≡ true = ap (λ (i : ℕ). is_left i m.used) (sym fr.limit) ∙ sym ch.is.paid in
+          let us : used_after B.limit m.used ≡ k.used = ap (λ (i : ℕ). used_after i m.used) (sym fr.limit) ∙ sym ch.is.used in
           let ps : F.passes d n.value ≡ b = sym (eb ∙ passes_shown f d n.value fr.frame) in (
-            sym (added_is d (world_in B c l h m.used) nu ∙ ap (λ (i : Res Why (Unit {0})). bind i (λ _ z. good (F.passes d n.value) z)) (charge_left W₁ lf) ∙ ap (λ (i : ℕ). good (F.passes d n.value) (W.with_used i W₁)) us ∙ ap (λ (i : Bool). good i (W.with_used p.meter.used W₁)) ps ∙ ap (λ (i : World). good b i) (sym (values B l h d fr rg p.meter.used))),
-            ch.limit ∙ fr.limit,
+            sym (added_is d (world_in B c l h m.used) nu ∙ ap (λ (i : Res Why (Unit {0})). bind i (λ _ z. good (F.passes d n.value) z)) (charge_left W₁ lf) ∙ ap (λ (i : ℕ). good (F.passes d n.value) (W.with_used i W₁)) us ∙ ap (λ (i : Bool). good i (W.with_used k.used W₁)) ps ∙ ap (λ (i : World). good b i) (sym (values B l h d fr rg k.used))),
+            ch.is.limit ∙ fr.limit,
             number_slots B c l h f.address n c' ec fr.slots fr.variable rg,
           );
     }
 
-    pub added_due : p.paid ≡ false → SteppedBy c f x by m c' (Err (NoStep, p.meter))
-    added_due pd = record {
+    pub added_due : (g : Why × Meter) → ChargedAs m (Err g) → SteppedBy c f x by m c' (Err g)
+    added_due (q, k) ch = rw (ch.why q k refl) record {
       is = λ B l h d fr g.
           let nu : Fx.is n.value ≡ Fx.sum x.value d.step = number B l h d fr g in
           let rg : Fx.in_range n.value ≡ true = sum_range x.value d.step n.value nu in
           let W₁ : World = W.store d.at (Val.fixed n.value) (world_in B c l h m.used) in
-          let lf : is_left m.limit m.used ≡ false = sym ch.paid ∙ pd in
+          let lf : is_left m.limit m.used ≡ false = sym ch.is.paid in
           let lg : is_left B.limit m.used ≡ false = ap (λ (i : ℕ). is_left i m.used) (sym fr.limit) ∙ lf in
-          let us : p.meter.used ≡ m.used = ch.used ∙ after_none m.limit m.used lf in (
+          let us : k.used ≡ m.used = ch.is.used ∙ after_none m.limit m.used lf in (
             sym (added_is d (world_in B c l h m.used) nu ∙ ap (λ (i : Res Why (Unit {0})). bind i (λ _ z. good (F.passes d n.value) z)) (charge_none W₁ lg) ∙ ap (λ (i : ℕ). bad NoStep i) (sym us)),
-            ch.limit ∙ fr.limit,
+            ch.is.limit ∙ fr.limit,
             number_slots B c l h f.address n c' ec fr.slots fr.variable rg,
           );
     }
@@ -144,8 +147,8 @@ unfolding stepped_on added_on
 stepped_cell d w v e = rw e
 
 module _ (c : List ℕ) (f : Frame) (m : Meter) where
-  pub stepped_nowhere : f.group ≡ None → (r : Tested) → SteppedIs c f m c r
-  stepped_nowhere e r = record { is = λ B l h d fr. clash (let k : None ≡ Some d.group = sym e ∙ fr.frame.group in cc) }
+  pub stepped_nowhere : ((g : ℕ) → f.group ≡ Some g → ⊥) → (r : Tested) → SteppedIs c f m c r
+  stepped_nowhere k r = record { is = λ B l h d fr. absurd (k d.group fr.frame.group) }
 
   module _ (x : Option Fixed) (e : number_cell x ≡ cell_in c [] [] FixedType f.address) where
     cell : (B : World) (l h : List ℕ) (d : F.Frame) → Framing B c l h f m d → W.value_at d.at (world_in B c l h m.used) ≡ number_cell x

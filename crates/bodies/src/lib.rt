@@ -18,7 +18,7 @@ use fixed::{Fixed, FixedError};
 use flow::{Frame, Frames, Next};
 use meter::{Meter, Refused};
 use names::{Denotation, Label, Owner, find, name_at};
-use operands::{Evaluated, Scene};
+use operands::{Evaluated, Scene, Wish, with_wish};
 use operators::{Value, convert, holds, to_fixed};
 use rows::row_at;
 use store::{number_at, store_number};
@@ -59,15 +59,13 @@ pub fn stored(
 ) -> Done
     ensures { StoredIs cells.old low.old high.old work.old a k u x cells.new low.new high.new work.new result }
 {
-    match x {
-        Ok((v, _, m)) => match convert(work, u, k, v) {
-            Ok(y) => {
-                store_value(cells, low, high, work, a, u, y);
-                Ok(m)
-            }
-            Err(w) => Err((w, m)),
-        },
-        Err((w, m)) => Err((w, m)),
+    let (v, _, m) = x?;
+    match convert(work, u, k, v) {
+        Ok(y) => {
+            store_value(cells, low, high, work, a, u, y);
+            Ok(m)
+        }
+        Err(w) => Err((w, m)),
     }
 }
 
@@ -77,12 +75,10 @@ pub type Tested = Result<(bool, Meter), Refused>;
 pub fn truth_of(work: &mut [u8], u: usize, x: Evaluated) -> Tested
     ensures { TruthIs work.old u x work.new result }
 {
-    match x {
-        Ok((v, _, m)) => match holds(work, u, v) {
-            Ok(b) => Ok((b, m)),
-            Err(w) => Err((w, m)),
-        },
-        Err((w, m)) => Err((w, m)),
+    let (v, _, m) = x?;
+    match holds(work, u, v) {
+        Ok(b) => Ok((b, m)),
+        Err(w) => Err((w, m)),
     }
 }
 
@@ -94,12 +90,10 @@ pub type Bound = Result<(Fixed, usize, Meter), Refused>;
 pub fn bound_of(work: &[u8], u: usize, x: Evaluated) -> Bound
     ensures { BoundIs work.now u x result }
 {
-    match x {
-        Ok((v, e, m)) => match to_fixed(work, u, v) {
-            Ok(y) => Ok((y, e, m)),
-            Err(w) => Err((w, m)),
-        },
-        Err((w, m)) => Err((w, m)),
+    let (v, e, m) = x?;
+    match to_fixed(work, u, v) {
+        Ok(y) => Ok((y, e, m)),
+        Err(w) => Err((w, m)),
     }
 }
 
@@ -161,10 +155,8 @@ fn with_bound(f: Frame, a: Side, x: Fixed) -> Frame
 pub fn bounded_by(f: Frame, a: Side, x: Bound) -> Widened
     ensures { result ≡ widened_by f a x }
 {
-    match x {
-        Ok((y, q, m)) => Ok((with_bound(f, a, y), q, m)),
-        Err((why, m)) => Err((why, m)),
-    }
+    let (y, q, m) = x?;
+    Ok((with_bound(f, a, y), q, m))
 }
 
 // "The control variable is FIXED, else 6."
@@ -184,13 +176,9 @@ pub type Started = Result<(Frame, bool, Meter), Refused>;
 pub fn set_off(cells: &mut [u32], x: Fixed, w: Widened) -> Started
     ensures { SetOff cells.old x w cells.new result }
 {
-    match w {
-        Ok((f, _, m)) => {
-            store_number(cells, f.address, x);
-            Ok((f, flow::passes(f, x), m))
-        }
-        Err((why, m)) => Err((why, m)),
-    }
+    let (f, _, m) = w?;
+    store_number(cells, f.address, x);
+    Ok((f, flow::passes(f, x), m))
 }
 
 // ---- another test of an iterated group
@@ -199,12 +187,12 @@ pub fn set_off(cells: &mut [u32], x: Fixed, w: Widened) -> Started
 pub fn stepped(cells: &mut [u32], f: Frame, m: Meter) -> Tested
     ensures { SteppedIs cells.old f m cells.new result }
 {
-    match f.group {
-        None => Ok((false, m)),
-        Some(_) => match number_at(cells, f.address) {
-            Some(n) => stepped_by(cells, f, n, Fixed::from_stored(f.step), m),
-            None => Err((Why::NoValue, m)),
-        },
+    let Some(_) = f.group else {
+        return Ok((false, m));
+    };
+    match number_at(cells, f.address) {
+        Some(n) => stepped_by(cells, f, n, Fixed::from_stored(f.step), m),
+        None => Err((Why::NoValue, m)),
     }
 }
 
@@ -217,23 +205,19 @@ fn stepped_by(
 ) -> Tested
     ensures { SteppedBy cells.old f x by m cells.new result }
 {
-    match summed(x, by) {
-        Ok(n) => {
-            store_number(cells, f.address, n);
-            let k = m.charged()?;
-            Ok((flow::passes(f, n), k))
-        }
-        Err(FixedError::OutOfRange) | Err(FixedError::ZeroDivisor) => Err((Why::OutOfRange, m)),
-    }
+    let Ok(n) = summed(x, by) else {
+        return Err((Why::OutOfRange, m));
+    };
+    store_number(cells, f.address, n);
+    let k = m.charged()?;
+    Ok((flow::passes(f, n), k))
 }
 
 fn summed(x: Fixed, by: Result<Fixed, FixedError>) -> Result<Fixed, FixedError>
     ensures { SummedIs x by result }
 {
-    match by {
-        Ok(n) => x.add(n),
-        Err(FixedError::OutOfRange) | Err(FixedError::ZeroDivisor) => Err(FixedError::OutOfRange),
-    }
+    let n = by?;
+    x.add(n)
 }
 
 // ---- where control goes in a body; `part` is the rows of its member
@@ -260,24 +244,17 @@ pub fn with_step(frames: Frames, step: Result<Step, Refused>) -> Turned
 pub fn on_behind(part: &[u16], fs: Frames, n: u16, d: Done) -> Turned
     ensures { result ≡ turned_by fs (after_done d (behind_on part.now fs (n + 1) n)) }
 {
-    match d {
-        Ok(m) => with_step(fs, Ok(Step::On(flow::behind(part, fs, n), m))),
-        Err((w, m)) => with_step(fs, Err((w, m))),
-    }
+    with_step(fs, d.map(|m| Step::On(flow::behind(part, fs, n), m)))
 }
 
 pub fn on_test(part: &[u16], fs: Frames, n: u16, t: Tested) -> Turned
     ensures { result ≡ turned_by fs (after_test t (λ b. arrived_at part.now fs (chosen_walk part.now n b))) }
 {
-    match t {
-        Ok((b, m)) => {
-            let next = flow::arrived(part, fs, flow::chosen(part, n, b));
-            with_step(fs, Ok(Step::On(next, m)))
-        }
-        Err((w, m)) => with_step(fs, Err((w, m))),
-    }
+    let step = t.map(|(b, m)| Step::On(flow::arrived(part, fs, flow::chosen(part, n, b)), m));
+    with_step(fs, step)
 }
 
+#[tactic(auto, unfolding(crate::specs::Ways::into_group))]
 pub fn into_group(part: &[u16], fs: Frames, g: u16) -> Next
     ensures { result ≡ into_group part.now fs g }
 {
@@ -299,28 +276,28 @@ pub fn on_start(part: &[u16], fs: Frames, g: u16, x: Started) -> Turned
     }
 }
 
+// A group that was tested again: into it, or behind it.
+#[tactic(auto, unfolding(crate::specs::Ways::again_in))]
+fn again_in(part: &[u16], fs: Frames, g: u16, b: bool) -> Next
+    ensures { result ≡ again_in part.now fs g b }
+{
+    if b {
+        return into_group(part, fs, g);
+    }
+    flow::behind(part, fs, g)
+}
+
 pub fn on_again(part: &[u16], fs: Frames, g: u16, t: Tested) -> Turned
     ensures { result ≡ turned_by fs (after_test t (λ b. again_in part.now fs g b)) }
 {
-    match t {
-        Ok((b, m)) => {
-            if b {
-                return with_step(fs, Ok(Step::On(into_group(part, fs, g), m)));
-            }
-            with_step(fs, Ok(Step::On(flow::behind(part, fs, g), m)))
-        }
-        Err((w, m)) => with_step(fs, Err((w, m))),
-    }
+    with_step(fs, t.map(|(b, m)| Step::On(again_in(part, fs, g, b), m)))
 }
 
 pub fn on_return(work: &mut [u8], fs: Frames, u: usize, t: ValueType, x: Evaluated) -> Turned
     ensures { ReturnIs work.old u fs t x work.new result }
 {
-    match x {
-        Ok((v, _, m)) => match convert(work, u, t, v) {
-            Ok(y) => with_step(fs, Ok(Step::Gave(y, m))),
-            Err(w) => with_step(fs, Err((w, m))),
-        },
+    match with_wish(work, u, Wish::As(t), x) {
+        Ok((y, _, m)) => with_step(fs, Ok(Step::Gave(y, m))),
         Err((w, m)) => with_step(fs, Err((w, m))),
     }
 }
@@ -331,17 +308,13 @@ pub fn on_return(work: &mut [u8], fs: Frames, u: usize, t: ValueType, x: Evaluat
 fn label_of(names: &[u16], a: names::Address, is_local: bool) -> Result<Label, Why>
     ensures { jump_for result ≡ cond is_local (local_target (denotation_of (name_in names.now a.0).denotation)) (global_target (denotation_of (name_in names.now a.0).denotation)) }
 {
-    match name_at(names, a).denotation {
-        Denotation::LabelName(l) => {
-            if is_local {
-                return Ok(l);
-            }
-            Err(Why::WrongGoto)
-        }
-        Denotation::Variable(_) | Denotation::EntryName(_) | Denotation::Builtin => {
-            Err(Why::WrongName)
-        }
+    let Denotation::LabelName(l) = name_at(names, a).denotation else {
+        return Err(Why::WrongName);
+    };
+    if is_local {
+        return Ok(l);
     }
+    Err(Why::WrongGoto)
 }
 
 // "local names first, every global label is 13"

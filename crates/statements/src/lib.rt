@@ -147,13 +147,6 @@ fn then_sign(s: &[u8], e: Expected, w: &[u8]) -> Expected
     expect_sign(s, q, w)
 }
 
-fn then_word(s: &[u8], e: Expected, w: &[u8]) -> Expected
-    ensures { result ≡ C.then_word w.now s.now e }
-{
-    let q = e?;
-    expect_word(s, q, w)
-}
-
 fn then_expression(s: &[u8], e: Expected) -> Expected
     ensures { result ≡ C.then_expression s.now e }
 {
@@ -165,20 +158,21 @@ fn then_expression(s: &[u8], e: Expected) -> Expected
 pub fn assignment(s: &[u8], content: usize, at: usize) -> Read
     ensures { result ≡ C.read_for S.Assign content FixedType (D.assignment mixed s.now [] at) }
 {
-    let e = then_sign(s, check(s, at), b";");
-    read_up_to(Statement::Assign, Opens::Nothing, content, e)
+    let q = check(s, at)?;
+    read_up_to(Statement::Assign, Opens::Nothing, content, expect_sign(s, q, b";"))
 }
 
 // Outside procedures THEN has its own `%`.
 fn if_clause(s: &[u8], at: usize, in_body: bool) -> Read
     ensures { result ≡ C.read_for S.Conditional at FixedType (D.if_clause mixed in_body s.now at) }
 {
-    let x = check(s, at);
+    let q = check(s, at)?;
     if in_body {
-        let e = then_word(s, x, b"THEN");
+        let e = expect_word(s, q, b"THEN");
         return read_up_to(Statement::Conditional, Opens::Then, at, e);
     }
-    let e = then_word(s, then_sign(s, x, b"%"), b"THEN");
+    let sign = expect_sign(s, q, b"%")?;
+    let e = expect_word(s, sign, b"THEN");
     read_up_to(Statement::Conditional, Opens::Then, at, e)
 }
 
@@ -228,8 +222,8 @@ fn do_clause(s: &[u8], at: usize) -> Read
 fn goto_clause(s: &[u8], at: usize) -> Read
     ensures { result ≡ C.read_for S.Goto at FixedType (D.goto_clause mixed s.now at) }
 {
-    let e = then_sign(s, name_past(s, at), b";");
-    read_up_to(Statement::Goto, Opens::Nothing, at, e)
+    let q = name_past(s, at)?;
+    read_up_to(Statement::Goto, Opens::Nothing, at, expect_sign(s, q, b";"))
 }
 
 // GO and TO apart.
@@ -247,7 +241,8 @@ fn member_past(s: &[u8], e: Expected) -> Expected
     let q = e?;
     let t = token_at(s, q);
     if is_sign(s, t, b"(") {
-        return then_sign(s, name_past(s, t.to), b")");
+        let member = name_past(s, t.to)?;
+        return expect_sign(s, member, b")");
     }
     Ok(q)
 }
@@ -298,9 +293,10 @@ fn name_list(s: &[u8], from: usize, each: Each, close: &[u8]) -> Expected
 fn return_clause(s: &[u8], at: usize) -> Read
     ensures { result ≡ C.read_for S.Return at FixedType (D.return_clause mixed s.now at) }
 {
-    let x = then_expression(s, expect_sign(s, at, b"("));
-    let e = then_sign(s, then_sign(s, x, b")"), b";");
-    read_up_to(Statement::Return, Opens::Nothing, at, e)
+    let open = expect_sign(s, at, b"(")?;
+    let value = check(s, open)?;
+    let close = expect_sign(s, value, b")")?;
+    read_up_to(Statement::Return, Opens::Nothing, at, expect_sign(s, close, b";"))
 }
 
 // The statements that declare nothing, from behind the word t that begins them.
@@ -547,7 +543,9 @@ fn parameters(s: &[u8], tally: Tally, list: usize) -> Tally
 fn returned_type(s: &[u8], e: Expected) -> Result<(ValueType, usize), (Why, usize)>
     ensures { result ≡ C.type_from s.now (C.then_sign (bytes_of "(") s.now (C.then_word (bytes_of "RETURNS") s.now e)) }
 {
-    let q = then_sign(s, then_word(s, e, b"RETURNS"), b"(")?;
+    let head = e?;
+    let word = expect_word(s, head, b"RETURNS")?;
+    let q = expect_sign(s, word, b"(")?;
     let t = token_at(s, q);
     if is_either(s, t, b"CHARACTER", b"CHAR") {
         return Ok((ValueType::CharacterType, t.to));
@@ -563,7 +561,8 @@ fn procedure_head(s: &[u8], e: Expected, from: usize) -> Read
     ensures { result ≡ C.head_from s.now from (C.type_from s.now (C.then_sign (bytes_of "(") s.now (C.then_word (bytes_of "RETURNS") s.now e))) }
 {
     let (value_type, q) = returned_type(s, e)?;
-    let to = then_sign(s, expect_sign(s, q, b")"), b";")?;
+    let close = expect_sign(s, q, b")")?;
+    let to = expect_sign(s, close, b";")?;
     Ok(Clause {
         statement: Statement::Procedure,
         opens: Opens::Body,

@@ -1,12 +1,9 @@
--- One law for each way out.
-use Rattle.bodies.proofs.Doing.{return_some, return_fails, return_none}
+-- By what the value became.
+use Rattle.bodies.proofs.Doing.{return_is}
 use Rattle.bodies.proofs.on_return.Goals as goal
 
 pub returns-in-Ok : goal.returns-in-Ok
-returns-in-Ok c = search return_some
+returns-in-Ok c = return_is _ _ _ _ _ _ _ c.in-Ok.ensures _ c.with_step.ensures
 
 pub returns-in-Err : goal.returns-in-Err
-returns-in-Err c = search return_fails
-
-pub returns-in-Err : goal.returns-in-Err
-returns-in-Err c = search return_none
+returns-in-Err c = return_is _ _ _ _ _ _ _ c.in-Err.ensures _ c.with_step-in-Err.ensures

@@ -1,12 +1,13 @@
 -- One law for each way out.
+use Rattle.std.proofs.lemmas.Result.{err_from_is_err_and}
 use Rattle.bodies.proofs.Doing.{truth_some, truth_fails, truth_none}
 use Rattle.bodies.proofs.truth_of.Goals as goal
 
-pub returns-in-Ok-holds : goal.returns-in-Ok-holds
-returns-in-Ok-holds c = search truth_some
+pub returns-in_err-v : goal.returns-in_err-v
+returns-in_err-v c = let p = err_from_is_err_and c.from_residual.result c.from_residual.ensures.1 in rw (p.1, p.2) (truth_none _ _ _ _ c.in_err-v.was)
+
+pub returns-in-Ok : goal.returns-in-Ok
+returns-in-Ok c = let e = c.in_ok-v.was in search truth_some
 
 pub returns-in-Err : goal.returns-in-Err
-returns-in-Err c = search truth_fails
-
-pub returns-in-Err : goal.returns-in-Err
-returns-in-Err c = search truth_none
+returns-in-Err c = let e = c.in_ok-v.was in search truth_fails
