@@ -46,11 +46,6 @@ module _ (s : List ℕ) (at : ℕ) (l : Lexeme) (lex : Lexed s at l) (c : Lexeme
   pub last_is : not r ≡ not (is_sign "," (token_at mixed s (token_at mixed s at).to).token)
   last_is = rw (comma r refl)
 
--- ---- what is no parameter
-pub wrong_if : (x : Option Parameter) → ((y : Parameter) → x ≡ Some y → ⊥) → x ≡ None
-wrong_if (Some y) h = absurd (h y refl)
-wrong_if None h = refl
-
 -- ---- a name is the bytes of its token
 word_spelled : (k : T.Token) (x y w : List ℕ) → k ≡ token_for (kind_of k) x y → k ≡ T.word w → w ≡ folded mixed x
 word_spelled (T.word z) x y w e f = let g : z ≡ folded mixed x = cc in let h : z ≡ w = cc in sym h ∙ g

@@ -37,11 +37,6 @@ use Rattle.callees.specs.declared.Meant.TheVariants.{AVariable, AnEntry, TheSubs
 use Rattle.callees.specs.Shown.{denotations_from, names_world}
 use Rattle.callees.specs.Answer.{meant_for, owner_at, spelled_at, parameter_of, ParameterIs}
 
--- ---- no name
-pub unknown_if : (f : Option Address) → ((a : Address) → f ≡ Some a → ⊥) → f ≡ None
-unknown_if (Some a) h = absurd (h a refl)
-unknown_if None h = refl
-
 -- ---- SUBSTR
 pub substr_six : (s : List ℕ) (from n : ℕ) (r : Bool) → n ≡ 6 → r ≡ same (folded mixed (part 6 from s)) (83 ∷ 85 ∷ 66 ∷ 83 ∷ 84 ∷ 82 ∷ []) → r ≡ E.is_substr (folded mixed (part n from s))
 unfolding E.is_substr

@@ -5,7 +5,6 @@ use Rattle.fixed.specs.declared.FixedError.{FixedError}
 use Rattle.std.proofs.Common.{Option, Some, None, Result, Ok, Err}
 use mathlib.Core.Path.{◌≡◌, refl, sym, ◌∙◌}
 use mathlib.Core.Bool.{Bool, true, false, not}
-use mathlib.Core.Logic.{◌⊎◌, inl, inr}
 use mathlib.Core.List.{List}
 use Prim.Native.Nat.{ℕ, suc, ◌+◌, ◌-◌, ◌<◌, ◌≤◌}
 use native.Mathlib.Omega.{arith}
@@ -81,11 +80,6 @@ module _ (t : List ℕ) (fs : Frames) (whole : Next) (at m k : ℕ) (c : Walking
 
     pub walking_up : (g : ℕ) → w ≡ Up g → Walking t fs whole g m (k + 1)
     walking_up g f = record { is = rw f at turn }
-
--- ---- GOTO
-pub nowhere_if : (x : Option ℕ) → ((n : ℕ) → x ≡ Some n → ⊥) → x ≡ None
-nowhere_if None h = refl
-nowhere_if (Some n) h = absurd (h n refl)
 
 -- ---- whether a row is around another: after k of 2048 turns, what is left decides
 pub record Looking (t : List ℕ) (g : ℕ) (whole : Bool) (x : Option ℕ) (k : ℕ) : Type 0 where

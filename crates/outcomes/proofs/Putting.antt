@@ -27,7 +27,7 @@ use Rattle.sums.specs.Numbers.{greatest, sum_to}
 use Rattle.sums.proofs.Laws.{sum_fits, sum_out}
 use Rattle.outcomes.specs.declared.Src.{Src}
 use Rattle.outcomes.specs.declared.Dest.{Dest}
-use Rattle.outcomes.specs.Places.{into_of, after_of, waiting_of, bytes_at, work_put, text_put, Puts, up_to_of, copied_for, Copied, characters_at, characters_of, TextIs, settled_in, Settled}
+use Rattle.outcomes.specs.Places.{into_of, after_of, waiting_of, bytes_at, work_put, text_put, Puts, copied_for, Copied, characters_at, characters_of, TextIs, settled_in, Settled}
 use Rattle.outcomes.proofs.Sources.{room_work, room_body}
 use Rattle.outcomes.proofs.Naming.{never}
 
@@ -111,12 +111,6 @@ module _ (s w t : List ℕ) (x : Src) (p n : ℕ) (d : Dest) (u k from : ℕ) (f
   pub put_across : (t' : List ℕ) (at : ℕ) → d.to_work ≡ false → x.in_work ≡ false → at ≡ sum_to greatest d.at k → t' ≡ over t at (part n from s) → Puts s w t x p n d u k w t'
   unfolding work_put text_put
   put_across t' at e g h m = record { work = λ l. rw e; text = m ∙ rw (e, h, bytes_body g) }
-
-pub up_good : (x : Scanned) (n to : ℕ) (m : Meter) → x ≡ Ok (n, m) → Ok (n, to, m) ≡ up_to_of x to
-up_good x n to m e = rw e
-
-pub up_bad : (x : Scanned) (to : ℕ) (y : Why) (m : Meter) → x ≡ Err (y, m) → Err (y, m) ≡ up_to_of x to
-up_bad x to y m e = rw e
 
 module _ (s w t : List ℕ) (x : Src) (p q : ℕ) (d : Dest) (u k : ℕ) (m : Meter) (n : ℕ) (f : n ≡ q - p) (b : Bool) (g : b ≡ D.fits (into_of d) u k n) where
   fits_is : (c : Bool) → b ≡ c → D.fits (into_of d) u k (q - p) ≡ c

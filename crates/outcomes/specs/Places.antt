@@ -49,10 +49,6 @@ pub record Puts (s w t : List ℕ) (x : Src) (p n : ℕ) (d : Dest) (u k : ℕ) 
   pub work : (x.in_work ≡ true → sum_to greatest x.from p ≤ top_of u k) → w' ≡ work_put d u k (bytes_at s w x p n) w
   pub text : t' ≡ text_put d k (bytes_at s w x p n) t
 
-abbrev pub up_to_of : Scanned → ℕ → Replaced
-up_to_of (Ok (n, m)) to = Ok (n, to, m)
-up_to_of (Err (e, m)) to = Err (e, m)
-
 unfoldable pub copied_for : Dest → ℕ → ℕ → ℕ → ℕ → Meter → Replaced
 copied_for d u k n q m = cond (D.fits (into_of d) u k n) (Ok (n, q, m)) (Err ((D.full (into_of d)), m))
 

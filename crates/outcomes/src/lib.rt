@@ -13,7 +13,7 @@ ghost use Rattle.operators.specs.Stands.{given_in};
 ghost use Rattle.store.specs.Cells.{cell_in, slot, half};
 ghost use Rattle.sums.specs.Numbers.{greatest, sum_to};
 ghost use Rattle.outcomes.specs.Texts.{room_of, stretch_of, Within, PieceIn, active_for, ActiveIs, ActiveHere, part_of};
-ghost use Rattle.outcomes.specs.Places.{into_of, after_of, waiting_of, into_work, Puts, up_to_of, Copied, Settled, TextIs};
+ghost use Rattle.outcomes.specs.Places.{into_of, after_of, waiting_of, into_work, Puts, Copied, Settled, TextIs};
 ghost use Rattle.outcomes.specs.Copies.{is_rescanned, CopiedValue, held_by, CopiedFrom};
 ghost use Rattle.outcomes.specs.Arguments.{past_blanks, cut_from, EndIs, ListingIs, ListIn, end_place, EndIn};
 
@@ -189,15 +189,6 @@ pub type Scanned = Result<(usize, Meter), Refused>;
 
 // The outcome of one replacement and the place behind it.
 pub type Replaced = Result<(usize, usize, Meter), Refused>;
-
-pub fn up_to(x: Scanned, to: usize) -> Replaced
-    ensures { result ≡ up_to_of x to }
-{
-    match x {
-        Ok((n, m)) => Ok((n, to, m)),
-        Err((w, m)) => Err((w, m)),
-    }
-}
 
 // A token copied behind an outcome of k bytes.
 pub fn copy_token(

@@ -1,7 +1,7 @@
 -- Sources, places and rooms: what stays, and what comes behind what.
 -- Assumes nothing.
 use Rattle.std.proofs.Common.{Ok, Err}
-use Rattle.outcomes.specs.Types.{Scanned}
+use Rattle.outcomes.specs.Types.{Scanned, Replaced}
 use mathlib.Core.Path.{◌≡◌, refl, sym, ap, ◌∙◌}
 use mathlib.Core.Bool.{Bool, true, false, cond}
 use mathlib.Core.List.{List, [], ◌++◌}
@@ -22,7 +22,7 @@ use Rattle.callees.specs.Shown.{Slots}
 use Rattle.outcomes.specs.declared.Src.{Src}
 use Rattle.outcomes.specs.declared.Dest.{Dest}
 use Rattle.outcomes.specs.Texts.{room_of, stretch_of, text_of}
-use Rattle.outcomes.specs.Places.{into_of, after_of, waiting_of, up_to_of, out_in}
+use Rattle.outcomes.specs.Places.{into_of, after_of, waiting_of, out_in}
 use Rattle.outcomes.proofs.Sources.{stretch_length}
 use Rattle.operands.specs.declared.Scene.{Scene}
 use Rattle.sums.specs.Numbers.{greatest, sum_to}
@@ -196,6 +196,10 @@ pub left_same : (deck rows names c l h w : List ℕ) (u : ℕ) (x : Scene) (m : 
 left_same deck rows names c l h w u x m t o B g = record { below = refl; work = refl; long = refl; limit = g.shows.limit; slots = g.shows.slots }
 
 -- an outcome with a place behind it
+abbrev pub up_to_of : Scanned → ℕ → Replaced
+up_to_of (Ok (n, m)) to = Ok (n, to, m)
+up_to_of (Err e) to = Err e
+
 pub up_gone : (B : World) (o : Dest) (u : ℕ) (w t c l h w' t' : List ℕ) (z : Scanned) (p : ℕ) (R : Res Why (List ℕ)) → Came B o u w t c l h w' t' z R → Gone B o u w t c l h w' t' (up_to_of z p) (D.up_to p R)
 up_gone B o u w t c l h w' t' (Ok (k, m)) p R g = record { is = ap (D.up_to p) g.is; put = g.put; left = g.left }
 up_gone B o u w t c l h w' t' (Err (e, m)) p R g = record { is = ap (D.up_to p) g.is; put = tt; left = g.left }

@@ -1,6 +1,7 @@
 -- An entry, with its arguments or without.
 -- Assumes nothing.
 use Rattle.std.proofs.Common.{Some, None}
+use Rattle.std.proofs.lemmas.Option.{same_Some}
 use Rattle.outcomes.specs.Types.{Listing, Scanned, Replaced}
 use mathlib.Core.Path.{◌≡◌, refl, sym, ap, subst, ◌∙◌}
 use mathlib.Core.Bool.{true, false}
@@ -29,14 +30,14 @@ use Rattle.callees.specs.Answer.{Waiting, held_from}
 use Rattle.outcomes.specs.declared.Src.{Src}
 use Rattle.outcomes.specs.declared.Dest.{Dest}
 use Rattle.outcomes.specs.Texts.{room_of, text_of}
-use Rattle.outcomes.specs.Places.{into_of, up_to_of}
+use Rattle.outcomes.specs.Places.{into_of}
 use Rattle.outcomes.specs.Arguments.{cut_from, past_blanks, listing_for, ListIn}
 use Rattle.outcomes.proofs.Cutting.{list_cut}
 use Rattle.operands.specs.declared.Scene.{Scene}
 use Rattle.operands.specs.Answer.{run_in}
 use Rattle.evaluating.specs.Cycle.{CalleeShown}
 use Rattle.scanning.specs.Cycle.{Sourced, Stage, Came, Gone, scanner_in, is_on, EntryIs, CallWith, Taken, Taking, TakenIs}
-use Rattle.scanning.proofs.Common.{never, stage_on, aims_same, gone_bad, left_same, up_gone}
+use Rattle.scanning.proofs.Common.{up_to_of, never, stage_on, aims_same, gone_bad, left_same, up_gone}
 use Rattle.scanning.proofs.Values.{came_over}
 
 -- ---- a listing is of a list
@@ -47,12 +48,18 @@ pub record ListedAs (a : D.Arguments) (f n first q : ℕ) : Type 0 where
   pub begins : first ≡ f
 
 listed_as : (a : D.Arguments) (f n first q : ℕ) → Some (n, first, q) ≡ listing_for f a → ListedAs a f n first q
-listed_as (list_up_to xs r) f n first q e = let i : n ≡ length xs = cc in let j : first ≡ f = cc in let k : q ≡ r = cc in record { arguments = xs; is = ap (list_up_to xs) (sym k); size = sym i; begins = j }
+listed_as (list_up_to xs r) f n first q e =
+    let t : ◌≡◌ {A = ℕ × ℕ × ℕ} (n, first, q) (length xs, f, r) = same_Some _ _ e in
+    record { arguments = xs; is = ap (λ (z : ℕ × ℕ × ℕ). list_up_to xs z.2) (sym t); size = ap (λ (z : ℕ × ℕ × ℕ). z.0) (sym t); begins = ap (λ (z : ℕ × ℕ × ℕ). z.1) t }
 listed_as no_list f n first q e = never _ (cc)
 
 listed_none : (a : D.Arguments) (f : ℕ) → None ≡ listing_for f a → a ≡ no_list
 listed_none (list_up_to xs r) f e = never _ (cc)
 listed_none no_list f e = refl
+
+unlisted : (x : Listing) → ((k f q : ℕ) → x ≡ Some (k, f, q) → ⊥) → x ≡ None
+unlisted (Some (k, f, q)) h = absurd (h k f q refl)
+unlisted None h = refl
 
 pub nil_is : (ps : List Ev.Parameter) → length ps ≡ 0 → ps ≡ []
 nil_is [] e = refl
@@ -92,8 +99,8 @@ module _ (deck s rows names c l h w t : List ℕ) (x : Src) (p : ℕ) (z : Calle
     wrong : (B : World) (b : Ev.Callee) → Stage deck rows names c l h w u sc m t o B → entered B b ≡ bad WrongArguments m.used → Gone B o u w t c l h w t (Err (WrongArguments, m)) (entered B b)
     wrong B b g q = gone_bad B o u w t c l h w t WrongArguments m _ (sym q) (left_same deck rows names c l h w u sc m t o B g)
 
-    pub entry_none : ls ≡ None → EntryIs deck s rows names c l h w t x p z y o u n sc m c l h w t (Err (WrongArguments, m))
-    entry_none e = record { is = λ B g so on b cs. wrong B b g (with_is B b cs no_list (listed_none (list_at mixed (text_of s w x) p) (past_blanks (text_of s w x) p + 1) (sym e ∙ list_is so))) }
+    pub entry_none : ((k f q : ℕ) → ls ≡ Some (k, f, q) → ⊥) → EntryIs deck s rows names c l h w t x p z y o u n sc m c l h w t (Err (WrongArguments, m))
+    entry_none e = record { is = λ B g so on b cs. wrong B b g (with_is B b cs no_list (listed_none (list_at mixed (text_of s w x) p) (past_blanks (text_of s w x) p + 1) (sym (unlisted ls e) ∙ list_is so))) }
 
     module _ (cnt first q : ℕ) (e : ls ≡ Some (cnt, first, q)) where
       listed : Sourced s w x u → ListedAs (list_at mixed (text_of s w x) p) (past_blanks (text_of s w x) p + 1) cnt first q

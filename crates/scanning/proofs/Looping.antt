@@ -1,7 +1,7 @@
 -- The tokens one after the other.
 -- Assumes nothing.
 use Rattle.outcomes.specs.Types.{Replaced}
-use Rattle.std.proofs.Common.{Ok, Err}
+use Rattle.std.proofs.Common.{Result, Ok, Err}
 use mathlib.Core.Path.{◌≡◌, refl, sym, ap, ◌∙◌}
 use mathlib.Core.Bool.{Bool, true, false}
 use mathlib.Core.List.{List, ◌++◌}
@@ -169,8 +169,8 @@ module _ (deck s rows names c₀ l₀ h₀ w₀ t₀ : List ℕ) (x : Src) (o : 
             left = left_on c' l' h' w' t' m' z.left;
           }
 
-    pub scanning_none : r.paid ≡ false → Scans deck s rows names c₀ l₀ h₀ w₀ t₀ x o u n sc m₀ c l h w t (Err (NoStep, r.meter))
-    scanning_none j = record {
+    not_paid : r.paid ≡ false → Scans deck s rows names c₀ l₀ h₀ w₀ t₀ x o u n sc m₀ c l h w t (Err (NoStep, r.meter))
+    not_paid j = record {
       is = λ B g q.
           let z = now_is B g q in
           came_bad B o u w₀ t₀ c l h w t NoStep r.meter _ (none_is B g q j (turns - 1) (omega arith)) (record { below = z.left.below; work = z.left.work; long = z.left.long; limit = ch.limit ∙ z.left.limit; slots = z.left.slots });
@@ -185,3 +185,9 @@ module _ (deck s rows names c₀ l₀ h₀ w₀ t₀ : List ℕ) (x : Src) (o : 
       scanning_more j k' p' m' v b fewer ef = rw ef record {
         so = λ B g q. good_on B g q c' l' h' w' t' j k' p' m' (rw v at tk) paid b;
       }
+
+  -- no step is left
+  pub scanning_none : (size : ℕ) → size ≡ x.to - x.from → p < size → 0 < turns → (v : Result Meter (Why × Meter)) → ChargedAs m v → (y : Why) (j : Meter) → v ≡ Err (y, j) → Scans deck s rows names c₀ l₀ h₀ w₀ t₀ x o u n sc m₀ c l h w t (Err (y, j))
+  scanning_none size e lt go v ch y j f =
+      let unpaid : (charged_for v).paid ≡ false = rw f in
+      rw (ch.why y j f) (rw f at (not_paid size e lt go (charged_for v) ch.is unpaid))

@@ -38,13 +38,13 @@ use Rattle.callees.proofs.Naming.{denotations_length}
 use Rattle.outcomes.specs.declared.Src.{Src}
 use Rattle.outcomes.specs.declared.Dest.{Dest}
 use Rattle.outcomes.specs.Texts.{text_of}
-use Rattle.outcomes.specs.Places.{into_of, up_to_of}
+use Rattle.outcomes.specs.Places.{into_of}
 use Rattle.outcomes.specs.Copies.{is_rescanned, held_by, CopiedFrom}
 use Rattle.operands.specs.declared.Scene.{Scene}
 use Rattle.operands.specs.Answer.{run_in}
 use Rattle.evaluating.specs.Cycle.{CalleeShown}
 use Rattle.scanning.specs.Cycle.{Sourced, Stage, Came, Gone, scanner_in, replacer_in, is_on, ReplaceIs, EntryIs, outcome_of, RescanIs}
-use Rattle.scanning.proofs.Common.{never, stage_on, gone_bad, left_same, up_gone}
+use Rattle.scanning.proofs.Common.{up_to_of, never, stage_on, gone_bad, left_same, up_gone}
 use Rattle.scanning.proofs.Values.{came_over, outcome_read, copied_came, rescanned_is, copied_only_lem}
 use Rattle.scanning.proofs.Finding.{Found, found, Got, called_fails, called_is, callee_none}
 

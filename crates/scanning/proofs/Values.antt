@@ -130,12 +130,8 @@ module _ (deck s rows names c l h w t : List ℕ) (g : Result Value Why) (o : De
       let i : k ≡ m = rw f at tx.meter in
       rw i (came_bad B o u w t c l h w₁ t e m _ (sym (outcome_fails sc n o u (world_in B c l h m.used) (given_in w u g) e d)) (record { below = tx.below; work = e₁; long = refl; limit = st.shows.limit; slots = st.shows.slots }))
 
-  pub rescan_bad : ((k : ℕ) (mk : Meter) → x ≡ Ok (k, mk) → ⊥) → RescanIs deck s rows names c l h w t g o u n sc m c l h w₁ t x
-  rescan_bad over = by x refl
-    where
-      by : (y : Scanned) → x ≡ y → RescanIs deck s rows names c l h w t g o u n sc m c l h w₁ t y
-      by (Ok (k, mk)) f = absurd (over k mk f)
-      by (Err (e, k)) f = record { is = λ B st. bad_by e k f B st }
+  pub rescan_bad : (e : Why) (k : Meter) → x ≡ Err (e, k) → RescanIs deck s rows names c l h w t g o u n sc m c l h w₁ t (Err (e, k))
+  rescan_bad e k f = record { is = λ B st. bad_by e k f B st }
 
   module _ (k : ℕ) (mk : Meter) (f : x ≡ Ok (k, mk)) (c' l' h' w₂ t' w' : List ℕ) (z r : Scanned) (sd : Settled w₂ o u k z w' r) where
     scanned_by : (B : World) → Stage deck rows names c l h w u sc m t o B → (top : ℕ) → top ≡ top_of u k → Scans deck s rows names c l h w₁ t (record { in_work = true; from = u; to = top }) o top n sc mk c' l' h' w₂ t' z

@@ -1,3 +1,2 @@
 -- What the contracts of `scanning` cite beside the definition.
 pub mod Cycle
-pub mod Types

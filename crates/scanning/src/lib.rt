@@ -18,7 +18,7 @@ use operators::{Value, above, convert, size_of};
 use outcomes::{
     Dest, Listing, Replaced, Scanned, Src, active_in, after, as_text, copied_result,
     copied_variable, copy_token, end_of, into_work, is_rescanned, list_of, part_of, piece_of,
-    place_after, settled, up_to, waiting,
+    place_after, settled, waiting,
 };
 use sums::{less, sum};
 
@@ -44,16 +44,14 @@ fn next_of(x: Option<Parameter>, at: usize) -> usize
 fn converted(work: &mut [u8], u: usize, t: ValueType, x: Scanned) -> Evaluated
     ensures { ConvertedIs work.old u t x work.new result }
 {
-    match x {
-        Ok((n, m)) => match convert(work, u, t, Value::Characters(n)) {
-            Ok(v) => Ok((v, 0, m)),
-            Err(w) => Err((w, m)),
-        },
-        Err((w, m)) => Err((w, m)),
+    let (n, m) = x?;
+    match convert(work, u, t, Value::Characters(n)) {
+        Ok(v) => Ok((v, 0, m)),
+        Err(w) => Err((w, m)),
     }
 }
 
-// stays: `Evaluated`, `Given` and `Meter` are public types of other crates, whose impls stand there, so no `From` can stand here.
+// What a call gave, without the steps.
 fn value_given(x: Evaluated) -> Result<Value, Why>
     ensures { result ≡ given_for x }
 {
@@ -95,10 +93,7 @@ fn rescan(
 ) -> Scanned
     ensures { RescanIs deck.now s.now rows.now names.now cells.old low.old high.old work.old text.old g d u n c m cells.new low.new high.new work.new text.new result }
 {
-    let x = as_text(work, u, g, m);
-    let Ok((size, k)) = x else {
-        return x;
-    };
+    let (size, k) = as_text(work, u, g, m)?;
     let top = above(u, size);
     let value = Src {
         in_work: true,
@@ -160,15 +155,11 @@ fn scan_arguments(
             c,
             m,
         );
-        match converted(work, top, type_of(parameter), z) {
-            Ok((w, _, k)) => {
-                held = with_held(held, i, w);
-                top = above(top, size_of(w));
-                from = place_after(to);
-                m = k;
-            }
-            Err((w, k)) => return Err((w, k)),
-        }
+        let (w, _, k) = converted(work, top, type_of(parameter), z)?;
+        held = with_held(held, i, w);
+        top = above(top, size_of(w));
+        from = place_after(to);
+        m = k;
     }
     Ok((held, m))
 }
@@ -232,7 +223,7 @@ fn replace_entry(
     ensures { EntryIs deck.now s.now rows.now names.now cells.old low.old high.old work.old text.old x p y act d u n c m cells.new low.new high.new work.new text.new result }
 {
     if y.count < 1 {
-        let z = call_with(
+        let (size, now) = call_with(
             deck,
             s,
             rows,
@@ -250,29 +241,22 @@ fn replace_entry(
             n,
             c,
             m,
-        );
-        return up_to(z, p);
+        )?;
+        return Ok((size, p, now));
     }
-    match list_of(s, work, x, p) {
-        Some((count, first, to)) => {
-            if count != y.count {
-                return Err((Why::WrongArguments, m));
-            }
-            match scan_arguments(
-                deck, s, rows, names, cells, low, high, work, text, x, first, y, u, n, c, m,
-            ) {
-                Ok((held, k)) => {
-                    let z = call_with(
-                        deck, s, rows, names, cells, low, high, work, text, y, held, act, d, u, n,
-                        c, k,
-                    );
-                    up_to(z, to)
-                }
-                Err((w, k)) => Err((w, k)),
-            }
-        }
-        None => Err((Why::WrongArguments, m)),
+    let Some((count, first, to)) = list_of(s, work, x, p) else {
+        return Err((Why::WrongArguments, m));
+    };
+    if count != y.count {
+        return Err((Why::WrongArguments, m));
     }
+    let (held, k) = scan_arguments(
+        deck, s, rows, names, cells, low, high, work, text, x, first, y, u, n, c, m,
+    )?;
+    let (more, left) = call_with(
+        deck, s, rows, names, cells, low, high, work, text, y, held, act, d, u, n, c, k,
+    )?;
+    Ok((more, to, left))
 }
 
 // THE REPLACEMENT of the active name that ends at p, at the address a; `left` levels are left.
@@ -307,13 +291,13 @@ pub fn replace(
         Denotation::Variable(t) => {
             if is_rescanned(act) {
                 let g = variable_value(cells, low, high, work, a.0, t, u);
-                let z = rescan(
+                let (size, now) = rescan(
                     deck, s, rows, names, cells, low, high, work, text, g, d, u, n, c, m,
-                );
-                return up_to(z, p);
+                )?;
+                return Ok((size, p, now));
             }
-            let z = copied_variable(cells, low, high, work, text, a.0, t, d, u, m);
-            up_to(z, p)
+            let (more, left) = copied_variable(cells, low, high, work, text, a.0, t, d, u, m)?;
+            Ok((more, p, left))
         }
         Denotation::EntryName(e) => {
             match callee_of(deck, rows, c.starts, names, c.names, e.body) {
@@ -412,16 +396,12 @@ fn scan(
             return Ok((k, m));
         }
         let left = m.charged()?;
-        match token(
+        let (more, q, now) = token(
             deck, s, rows, names, cells, low, high, work, text, x, p, k, d, u, n, c, left,
-        ) {
-            Ok((more, q, now)) => {
-                k = sum(k, more);
-                p = q;
-                m = now;
-            }
-            Err((w, now)) => return Err((w, now)),
-        }
+        )?;
+        k = sum(k, more);
+        p = q;
+        m = now;
     }
     Ok((k, m))
 }

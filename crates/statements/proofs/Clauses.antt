@@ -37,7 +37,7 @@ use Rattle.statements.specs.declared.Keyword.TheVariants as K
 use Rattle.std.specs.Prelude.{Some, None, Ok, Err}
 use Rattle.std.specs.declared.option.Option.{Option}
 use Rattle.statements.specs.Clauses.{opens_for, clause_of, read_for, read_up_to, then_sign, then_word, then_expression, bound_past, bounds_past, name_end, rescan_past, rescanned, member_past, item_past, list_next, list_end, names_end, go_clause, do_kind, plain_for, item_of, item_in, attribute_by, worded, Part, itemized, type_from, head_up_to, head_from}
-use Rattle.statements.proofs.Laws.{word_in, sign_in_lem, sign_spelled, word_spelled}
+use Rattle.statements.proofs.Laws.{up_refused, sign_refused, word_refused, word_in, sign_in_lem, sign_spelled, word_spelled}
 
 -- ---- the end of a clause
 up_to_is : (k : Statement) (o : D.Opens) (c : ℕ) (x : P.Statement) (Q : Reading ℕ) → read_up_to k (opens_for o) c (expect_for Q) ≡ read_for k c FixedType (then Q λ e. read (D.clause x o e))
@@ -91,6 +91,10 @@ module _ (s : List ℕ) (c : ℕ) where
   pub if_out : (b : Bool) (x z y : Expected) (r : Read) → b ≡ false → x ≡ end_for (whole_expression mixed s c) → z ≡ then_sign (37 ∷ []) s x → y ≡ then_word (84 ∷ 72 ∷ 69 ∷ 78 ∷ []) s z → r ≡ read_up_to S.Conditional O.Then c y → r ≡ read_for S.Conditional c FixedType (D.if_clause mixed b s c)
   unfolding D.if_clause
   if_out b x z y r d e f h g = rw (g, h, f, e, d) (if_outside (whole_expression mixed s c))
+
+  pub if_wrong : (b : Bool) (d : Why × ℕ) → Err d ≡ end_for (whole_expression mixed s c) → Err d ≡ read_for S.Conditional c FixedType (D.if_clause mixed b s c)
+  if_wrong true d h = if_inside true (Err d) (Err d) (Err d) refl h (word_refused s (Err d) _ d refl) (up_refused _ _ _ (Err d) d refl)
+  if_wrong false d h = if_out false (Err d) (Err d) (Err d) (Err d) refl h (sign_refused s (Err d) _ d refl) (word_refused s (Err d) _ d refl) (up_refused _ _ _ (Err d) d refl)
 
 -- ---- GOTO
 module _ (s : List ℕ) (c : ℕ) where

@@ -3,7 +3,7 @@
 // A loop that goes from token to token has no more turns than there are bytes; they are counted down, as the definition does.
 #![tactic(auto)]
 
-ghost use Rattle.std.specs.Prelude.{◌≡◌, ◌||◌, true, false, ◌∷◌, [], length};
+ghost use Rattle.std.specs.Prelude.{◌≡◌, ◌||◌, true, false, ◌∷◌, [], length, Ok};
 ghost use Rattle.definition.specs.Bytes.{mixed};
 ghost use Rattle.definition.specs.Text.{bytes_of};
 ghost use Rattle.definition.specs.Expressions.{name_at};
@@ -139,71 +139,55 @@ fn read_up_to(statement: Statement, opens: Opens, content: usize, e: Expected) -
     })
 }
 
-// What must follow, and behind it a sign.
-fn then_sign(s: &[u8], e: Expected, w: &[u8]) -> Expected
-    ensures { result ≡ C.then_sign w.now s.now e }
-{
-    let q = e?;
-    expect_sign(s, q, w)
-}
-
-fn then_word(s: &[u8], e: Expected, w: &[u8]) -> Expected
-    ensures { result ≡ C.then_word w.now s.now e }
-{
-    let q = e?;
-    expect_word(s, q, w)
-}
-
-fn then_expression(s: &[u8], e: Expected) -> Expected
-    ensures { result ≡ C.then_expression s.now e }
-{
-    let q = e?;
-    check(s, q)
-}
-
 // The assignment from behind `=`; its target is the first token behind the place `content`.
 pub fn assignment(s: &[u8], content: usize, at: usize) -> Read
     ensures { result ≡ C.read_for S.Assign content FixedType (D.assignment mixed s.now [] at) }
 {
-    let e = then_sign(s, check(s, at), b";");
-    read_up_to(Statement::Assign, Opens::Nothing, content, e)
+    let q = check(s, at)?;
+    read_up_to(
+        Statement::Assign,
+        Opens::Nothing,
+        content,
+        expect_sign(s, q, b";"),
+    )
 }
 
 // Outside procedures THEN has its own `%`.
 fn if_clause(s: &[u8], at: usize, in_body: bool) -> Read
     ensures { result ≡ C.read_for S.Conditional at FixedType (D.if_clause mixed in_body s.now at) }
 {
-    let x = check(s, at);
+    let q = check(s, at)?;
     if in_body {
-        let e = then_word(s, x, b"THEN");
+        let e = expect_word(s, q, b"THEN");
         return read_up_to(Statement::Conditional, Opens::Then, at, e);
     }
-    let e = then_word(s, then_sign(s, x, b"%"), b"THEN");
+    let sign = expect_sign(s, q, b"%")?;
+    let e = expect_word(s, sign, b"THEN");
     read_up_to(Statement::Conditional, Opens::Then, at, e)
 }
 
 // BY or TO with its expression, if the word stands there.
-fn bound_at(s: &[u8], e: Expected, w: &[u8]) -> Expected
-    ensures { result ≡ C.bound_past w.now s.now e }
+fn bound_at(s: &[u8], at: usize, w: &[u8]) -> Expected
+    ensures { result ≡ C.bound_past w.now s.now (Ok at) }
 {
-    let q = e?;
-    let t = token_at(s, q);
+    let t = token_at(s, at);
     if is_word(s, t, w) {
         return check(s, t.to);
     }
-    Ok(q)
+    Ok(at)
 }
 
 // BY and TO in either order, each at most once.
-fn do_bounds(s: &[u8], e: Expected) -> Expected
-    ensures { result ≡ C.bounds_past s.now e }
+fn do_bounds(s: &[u8], at: usize) -> Expected
+    ensures { result ≡ C.bounds_past s.now (Ok at) }
 {
-    let q = e?;
-    let t = token_at(s, q);
+    let t = token_at(s, at);
     if is_word(s, t, b"BY") {
-        return bound_at(s, check(s, t.to), b"TO");
+        let by = check(s, t.to)?;
+        return bound_at(s, by, b"TO");
     }
-    bound_at(s, bound_at(s, Ok(q), b"TO"), b"BY")
+    let to = bound_at(s, at, b"TO")?;
+    bound_at(s, to, b"BY")
 }
 
 fn name_past(s: &[u8], at: usize) -> Expected
@@ -220,16 +204,23 @@ fn do_clause(s: &[u8], at: usize) -> Read
     if is_sign(s, t, b";") {
         return read_up_to(Statement::Group, Opens::Group, at, Ok(t.to));
     }
-    let start = then_expression(s, then_sign(s, name_past(s, at), b"="));
-    let e = then_sign(s, do_bounds(s, start), b";");
-    read_up_to(Statement::Iterated, Opens::Group, at, e)
+    let name = name_past(s, at)?;
+    let equals = expect_sign(s, name, b"=")?;
+    let start = check(s, equals)?;
+    let e = do_bounds(s, start)?;
+    read_up_to(
+        Statement::Iterated,
+        Opens::Group,
+        at,
+        expect_sign(s, e, b";"),
+    )
 }
 
 fn goto_clause(s: &[u8], at: usize) -> Read
     ensures { result ≡ C.read_for S.Goto at FixedType (D.goto_clause mixed s.now at) }
 {
-    let e = then_sign(s, name_past(s, at), b";");
-    read_up_to(Statement::Goto, Opens::Nothing, at, e)
+    let q = name_past(s, at)?;
+    read_up_to(Statement::Goto, Opens::Nothing, at, expect_sign(s, q, b";"))
 }
 
 // GO and TO apart.
@@ -247,7 +238,8 @@ fn member_past(s: &[u8], e: Expected) -> Expected
     let q = e?;
     let t = token_at(s, q);
     if is_sign(s, t, b"(") {
-        return then_sign(s, name_past(s, t.to), b")");
+        let member = name_past(s, t.to)?;
+        return expect_sign(s, member, b")");
     }
     Ok(q)
 }
@@ -298,9 +290,15 @@ fn name_list(s: &[u8], from: usize, each: Each, close: &[u8]) -> Expected
 fn return_clause(s: &[u8], at: usize) -> Read
     ensures { result ≡ C.read_for S.Return at FixedType (D.return_clause mixed s.now at) }
 {
-    let x = then_expression(s, expect_sign(s, at, b"("));
-    let e = then_sign(s, then_sign(s, x, b")"), b";");
-    read_up_to(Statement::Return, Opens::Nothing, at, e)
+    let open = expect_sign(s, at, b"(")?;
+    let value = check(s, open)?;
+    let close = expect_sign(s, value, b")")?;
+    read_up_to(
+        Statement::Return,
+        Opens::Nothing,
+        at,
+        expect_sign(s, close, b";"),
+    )
 }
 
 // The statements that declare nothing, from behind the word t that begins them.
@@ -547,7 +545,9 @@ fn parameters(s: &[u8], tally: Tally, list: usize) -> Tally
 fn returned_type(s: &[u8], e: Expected) -> Result<(ValueType, usize), (Why, usize)>
     ensures { result ≡ C.type_from s.now (C.then_sign (bytes_of "(") s.now (C.then_word (bytes_of "RETURNS") s.now e)) }
 {
-    let q = then_sign(s, then_word(s, e, b"RETURNS"), b"(")?;
+    let head = e?;
+    let word = expect_word(s, head, b"RETURNS")?;
+    let q = expect_sign(s, word, b"(")?;
     let t = token_at(s, q);
     if is_either(s, t, b"CHARACTER", b"CHAR") {
         return Ok((ValueType::CharacterType, t.to));
@@ -563,7 +563,8 @@ fn procedure_head(s: &[u8], e: Expected, from: usize) -> Read
     ensures { result ≡ C.head_from s.now from (C.type_from s.now (C.then_sign (bytes_of "(") s.now (C.then_word (bytes_of "RETURNS") s.now e))) }
 {
     let (value_type, q) = returned_type(s, e)?;
-    let to = then_sign(s, expect_sign(s, q, b")"), b";")?;
+    let close = expect_sign(s, q, b")")?;
+    let to = expect_sign(s, close, b";")?;
     Ok(Clause {
         statement: Statement::Procedure,
         opens: Opens::Body,

@@ -72,7 +72,7 @@ body_sourced s w x e k = record { within = body_within s w x e k; below = λ f. 
 -- ---- no procedure is running
 pub runs_out : (sc : Scene) → sc.running.left ≡ 16 → run_in sc ≡ call_out
 unfolding on_from
-runs_out sc e = ap (λ (k : ℕ). calls k (on_from sc.running.members sc.running.rows k (16 - k))) e
+runs_out sc e = ap (λ (k : ℕ). calls k (on_from sc.running.places k (16 - k))) e
 
 -- ---- what is shown does not read what was put out
 rows_on : (deck rows names : List ℕ) (starts : Starts) (n : ℕ) (B : World) (e : Event) (z : Pass) (k : ℕ) → Named deck names n B → RowsShown deck rows starts B → RowsShown deck rows starts (with_event e z k B)

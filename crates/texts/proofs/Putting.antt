@@ -24,7 +24,7 @@ use Rattle.origin.specs.Written.{fits, Answers, Tells, Ends}
 use Rattle.callees.specs.Shown.{world_in}
 use Rattle.texts.specs.declared.Progress.{Progress}
 use Rattle.texts.specs.declared.Stop.{Stop}
-use Rattle.texts.specs.Shown.{with_out, bad_at, put_for, pass_for, Onstage, RanAs}
+use Rattle.texts.specs.Shown.{with_out, halted_at, put_for, Onstage, RanAs}
 use Rattle.texts.specs.Promises.{PutAs, PutIs, LineIs}
 use Rattle.texts.proofs.Common.{member_low, size_low, stage_event, goes_event}
 
@@ -32,14 +32,8 @@ use Rattle.texts.proofs.Common.{member_low, size_low, stage_event, goes_event}
 pub put_done : (g k : Progress) (q : Option Out) (o : Out) (m p : ℕ) → q ≡ Some o → k ≡ with_out g o → Ok k ≡ put_for g q m p
 put_done g k q o m p e f = ap Ok f ∙ sym (ap (λ (v : Option Out). put_for g v m p) e)
 
-pub put_full : (g : Progress) (q : Option Out) (m p : ℕ) (r : Ran) → q ≡ None → r ≡ bad_at g RoomFull m p → r ≡ put_for g q m p
-put_full g q m p r e f = f ∙ sym (ap (λ (v : Option Out). put_for g v m p) e)
-
-pub pass_good : (r : Ran) (g : Progress) (to : ℕ) → r ≡ Ok g → Ok (to, g) ≡ pass_for r to
-pass_good r g to e = sym (ap (λ (v : Ran). pass_for v to) e)
-
-pub pass_bad : (r : Ran) (x : Stop) (g : Progress) (to : ℕ) → r ≡ Err (x, g) → Err (x, g) ≡ pass_for r to
-pass_bad r x g to e = sym (ap (λ (v : Ran). pass_for v to) e)
+pub put_full : (g : Progress) (q : Option Out) (m p : ℕ) (e : Stop × Progress) → q ≡ None → e ≡ halted_at g RoomFull m p → Err e ≡ put_for g q m p
+put_full g q m p e f h = ap Err h ∙ sym (ap (λ (v : Option Out). put_for g v m p) f)
 
 -- ---- the answer of `origin`, by cases
 put_by : (sizes : ℕ → ℕ) (e : Event) (g : Progress) (m p : ℕ) (B : World) (t ls : List ℕ) (q : Option Out) (r : Ran) → r ≡ put_for g q m p → (b : Bool) → Answers b sizes g.layout e B q t ls → PutAs b sizes e g m p B t ls r
@@ -57,7 +51,7 @@ module _ (t ls t' ls' : List ℕ) (g : Progress) (m p m8 size q : ℕ) (u : Opti
 
 -- ---- the line of a replacement
 pub line_put : (t ls ls' : List ℕ) (g : Progress) (m size p n m8 n32 : ℕ) (o : Out) (g' : Progress) → m8 ≡ m % 256 → n32 ≡ n % 4294967296 → g' ≡ with_out g o
-    → Ends g.layout size m8 p n32 g.out (length t) ls o ls' → LineIs t ls g m size p n ls' (Ok g')
+    → Ends g.layout size m8 p n32 g.out (length t) ls o ls' → LineIs t ls g m size p n ls' g'
 line_put t ls ls' g m size p n m8 n32 o g' i v e k = record {
   is = λ sizes B t₀ bytes s w f len room free lm lp.
       let c : n32 ≡ n = v ∙ size_low n (omega (arith, room, w.fine.most)) in

@@ -37,17 +37,21 @@ use Rattle.sums.specs.Numbers.{greatest, sum_to}
 use Rattle.sums.proofs.Laws.{sum_fits}
 use Rattle.texts.specs.declared.Progress.{Progress}
 use Rattle.texts.specs.declared.Here.{Here}
-use Rattle.texts.specs.Shown.{with_meter, with_out, bad_at, pass_for, SceneIs, Onstage, PassedAs, Lies}
+use Rattle.texts.specs.declared.Stop.{Stop}
+use Rattle.texts.specs.Shown.{with_meter, with_out, halted_at, SceneIs, Onstage, PassedAs, Lies}
 use Rattle.texts.specs.Promises.{PutMore, LineIs, ReplacementAs, ReplacementIs, ReplacingIs}
 use Rattle.texts.proofs.Common.{body_sourced, runs_out, stage_event, stage_scene, stage_awake, goes_event}
 
+same_ok : (g k : Progress) → ◌≡◌ {A = Ran} (Ok g) (Ok k) → g ≡ k
+same_ok g k e = cc
+
 -- ---- the outcome with its line
 module _ (t ls ls' : List ℕ) (g k : Progress) (m size p : ℕ) (r : Replaced) (j : Meter) (e : k ≡ with_meter g j) where
-  pub replacement_good : (n q : ℕ) (x : Ran) (z : Passed) → r ≡ Ok (n, q, j) → LineIs t ls k m size p n ls' x → z ≡ pass_for x q → ReplacementIs t ls g m size p r ls' z
-  replacement_good n q x z a i f = record { is = subst (λ (v : Replaced). ReplacementAs v t ls g m size p ls' z) (sym a) (x, subst (λ (v : Progress). LineIs t ls v m size p n ls' x) e i, f) }
+  pub replacement_good : (n q : ℕ) (x : Progress) → r ≡ Ok (n, q, j) → LineIs t ls k m size p n ls' x → ReplacementIs t ls g m size p r ls' (Ok (q, x))
+  replacement_good n q x a i = record { is = subst (λ (v : Replaced). ReplacementAs v t ls g m size p ls' (Ok (q, x))) (sym a) (x, subst (λ (v : Progress). LineIs t ls v m size p n ls' x) e i, refl) }
 
-  pub replacement_bad : (y : Why) → r ≡ Err (y, j) → ReplacementIs t ls g m size p r ls' (Err ((record { why = y; member = m; place = p }), k))
-  replacement_bad y a = record { is = subst (λ (v : Replaced). ReplacementAs v t ls g m size p ls' (Err ((record { why = y; member = m; place = p }), k))) (sym a) (ap (Err (record { why = y; member = m; place = p })) e) }
+  pub replacement_bad : (y : Why) (b : Stop × Progress) → r ≡ Err (y, j) → b ≡ halted_at k y m p → ReplacementIs t ls g m size p r ls' (Err b)
+  replacement_bad y b a i = record { is = subst (λ (v : Replaced). ReplacementAs v t ls g m size p ls' (Err b)) (sym a) (ap Err (i ∙ ap (λ (v : Progress). halted_at v y m p) e)) }
 
 -- ---- the definition's replacement
 abbrev finish : ℕ → ℕ → (List ℕ → ℕ → Pass) → D.Replaced → World → Res Why ℕ
@@ -74,11 +78,11 @@ module _ (deck s rows names c l h w t ls : List ℕ) (x : Src) (p to a : ℕ) (y
   place_is : Lies deck here.member s x.from x.to → p < x.to - x.from → place ≡ x.from + p
   place_is k lt = pl ∙ sum_fits x.from p (omega (arith, k.within, k.short))
 
-  pub replacing_full : (b : Ran) (r : Passed) → g.out.free < 1 → b ≡ bad_at g RoomFull here.member place → r ≡ pass_for b to → ReplacingIs deck s rows names c l h w t ls x p to a y here g c l h w t ls r
-  replacing_full b r f e i = record {
+  pub replacing_full : (b : Stop × Progress) → g.out.free < 1 → b ≡ halted_at g RoomFull here.member place → ReplacingIs deck s rows names c l h w t ls x p to a y here g c l h w t ls (Err b)
+  replacing_full b f e = record {
     is = λ B st li wk lt mm lo on z.
         let none : B.lines_left < 1 = omega (arith, f, st.written.lines) in
-        let is : r ≡ Err ((record { why = RoomFull; member = here.member; place = x.from + p }), g) = i ∙ rw (e, place_is li lt) in
+        let is : b ≡ halted_at g RoomFull here.member (x.from + p) = e ∙ rw (place_is li lt) in
         rw is (ap (placed (stop here.member (x.from + p))) (here_none here.member (x.from + p) (text_of s w x) to a (activity_of y) z (world_in B c l h g.meter.used) none));
   }
 
@@ -88,8 +92,8 @@ module _ (deck s rows names c l h w t ls : List ℕ) (x : Src) (p to a : ℕ) (y
     gone_by (Ok (n, k, j)) R e pt lf ro =
         let bytes : List ℕ = out_in dest t' w' 0 n in
         let written : t' ≡ over t g.out.text bytes = pt.text ∙ with_text dest bytes t refl in
-        let pm : PutMore (size_in deck) (replaced m q bytes) (with_meter g j) B t' ls' ro.0 = ro.1.is (size_in deck) B t bytes sz st.written written (out_length dest t' w' 0 n) pt.room some mm qq in
-        let is : r ≡ Ok (k, (with_out (with_meter g j) pm.out)) = ro.2 ∙ ap (λ (v : Ran). pass_for v k) pm.is in
+        let pm : PutMore (size_in deck) (replaced m q bytes) (with_meter g j) B t' ls' (Ok ro.0) = ro.1.is (size_in deck) B t bytes sz st.written written (out_length dest t' w' 0 n) pt.room some mm qq in
+        let is : r ≡ Ok (k, (with_out (with_meter g j) pm.out)) = ro.2 ∙ ap (λ (v : Progress). Ok (k, v)) (same_ok ro.0 (with_out (with_meter g j) pm.out) pm.is) in
         rw is (record {
           world = with_event (replaced m q bytes) (z bytes k) 1 B;
           stage = stage_event deck rows names c l h w t ls here.starts g B st c' l' h' w' t' ls' j pm.out (replaced m q bytes) (z bytes k) 1 lf.slots lf.work lf.limit (pm.written (z bytes k));

@@ -42,7 +42,8 @@ use Rattle.sums.specs.Numbers.{greatest, sum_to}
 use Rattle.sums.proofs.Laws.{sum_fits}
 use Rattle.texts.specs.declared.Progress.{Progress}
 use Rattle.texts.specs.declared.Here.{Here}
-use Rattle.texts.specs.Shown.{with_meter, bad_at, pass_for, Onstage, RanAs, PassedAs, Lies}
+use Rattle.texts.specs.declared.Stop.{Stop}
+use Rattle.texts.specs.Shown.{with_meter, halted_at, Onstage, RanAs, PassedAs, Lies}
 use Rattle.texts.specs.Promises.{PutIs, ReplacingIs, turn_here, TokenIs}
 use Rattle.texts.proofs.Common.{body_text, body_within, stage_meter}
 use Rattle.texts.proofs.Putting.{put_ran}
@@ -62,6 +63,11 @@ placed_pass : (f : Why → Run.Stop) (R : Res Why (Unit {0})) (q : ℕ) → plac
 placed_pass f (good u v) q = refl
 placed_pass f (bad e u) q = refl
 
+-- what was put out, and the place behind it
+abbrev pub pass_for : Ran → ℕ → Passed
+pass_for (Ok g) to = Ok (to, g)
+pass_for (Err e) to = Err e
+
 abbrev passing : ℕ → Res Run.Stop (Unit {0}) → Res Run.Stop ℕ
 passing q R = bind R (λ _ v. good q v)
 
@@ -69,7 +75,7 @@ module _ (deck rows names c l h w t ls : List ℕ) (starts : Starts) (g : Progre
   -- something was put out, and the place behind it
   pass_ran : (b : Ran) (q : ℕ) (R : Res Run.Stop (Unit {0})) → RanAs deck rows names starts g B c l h w t ls b R → PassedAs deck rows names starts g B c l h w t ls (pass_for b q) (passing q R)
   pass_ran (Ok k) q R x = record { world = x.world; stage = x.stage; goes = x.goes; is = ap (passing q) x.is; tabled = x.tabled; named = x.named }
-  pass_ran (Err (y, k)) q R x = ap (passing q) x
+  pass_ran (Err e) q R x = ap (passing q) x
 
   -- the step before it is charged
   passed_meter : (m : Meter) (r : Passed) (R : Res Run.Stop ℕ) → PassedAs deck rows names starts (with_meter g m) B c l h w t ls r R → PassedAs deck rows names starts g B c l h w t ls r R
@@ -98,10 +104,10 @@ module _ (deck s rows names c l h w t ls : List ℕ) (x : Src) (p : ℕ) (here :
     stage_now : Onstage deck rows names c l h w t ls here.starts (with_meter g₀ paid.meter) B
     stage_now = stage_meter deck rows names c l h w t ls here.starts g₀ B st paid.meter (ch.limit ∙ st.shows.limit)
 
-  pub turn_none : (b : Ran) (r : Passed) → paid.paid ≡ false → b ≡ bad_at g NoStep here.member place → r ≡ pass_for b p → TokenIs deck s rows names c l h w t ls x p here g₀ c l h w t ls r
-  turn_none b r f e i = record {
+  pub turn_none : (b : Stop × Progress) → paid.paid ≡ false → b ≡ halted_at g NoStep here.member place → TokenIs deck s rows names c l h w t ls x p here g₀ c l h w t ls (Err b)
+  turn_none b f e = record {
     is = λ B st li wk lt mm.
-        let is : r ≡ Err ((record { why = NoStep; member = here.member; place = x.from + p }), (with_meter g₀ paid.meter)) = i ∙ rw (e, gi, place_is li lt) in
+        let is : b ≡ halted_at (with_meter g₀ paid.meter) NoStep here.member (x.from + p) = e ∙ rw (gi, place_is li lt) in
         rw is (none_is B st f);
   }
 
@@ -173,9 +179,9 @@ module _ (deck s rows names c l h w t ls : List ℕ) (x : Src) (p : ℕ) (here :
           rw (turn_is (D.active a.0 (activity_of v)) i)
           (passed_meter deck rows names c' l' h' w' t' ls' here.starts g₀ B paid.meter r _ (k.is B (stage_now B st) li wk lt mm low (on_is v aw.on) pass))
 
-    pub turn_copied : (to : ℕ) (t' ls' : List ℕ) (b : Ran) (r : Passed) → act ≡ None → to ≡ sum_to greatest x.from y.to → PutIs (copied here.member place (part (to - place) place s)) (length s) to t ls g here.member place t' ls' b → r ≡ pass_for b y.to
-        → TokenIs deck s rows names c l h w t ls x p here g₀ c l h w t' ls' r
-    turn_copied to t' ls' b r e i pt j = record { is = λ B st li wk lt mm. copied_on B st li wk lt to t' ls' b r e i mm pt j }
+    pub turn_copied : (to : ℕ) (t' ls' : List ℕ) (b : Ran) → act ≡ None → to ≡ sum_to greatest x.from y.to → PutIs (copied here.member place (part (to - place) place s)) (length s) to t ls g here.member place t' ls' b
+        → TokenIs deck s rows names c l h w t ls x p here g₀ c l h w t' ls' (pass_for b y.to)
+    turn_copied to t' ls' b e i pt = record { is = λ B st li wk lt mm. copied_on B st li wk lt to t' ls' b (pass_for b y.to) e i mm pt refl }
 
     pub turn_replaced : (a : Address) (v : Activity) (c' l' h' w' t' ls' : List ℕ) (r : Passed) → act ≡ Some (a, v) → ReplacingIs deck s rows names c l h w t ls x p y.to a.0 v here g c' l' h' w' t' ls' r
         → TokenIs deck s rows names c l h w t ls x p here g₀ c' l' h' w' t' ls' r

@@ -29,16 +29,12 @@ with_meter g m = record { meter = m; layout = g.layout; out = g.out; rows = g.ro
 abbrev pub with_out : Progress → Out → Progress
 with_out g o = record { meter = g.meter; layout = g.layout; out = o; rows = g.rows; names = g.names }
 
-abbrev pub bad_at : Progress → Why → ℕ → ℕ → Ran
-bad_at g e m p = Err ((record { why = e; member = m; place = p }), g)
+abbrev pub halted_at : Progress → Why → ℕ → ℕ → Stop × Progress
+halted_at g e m p = (record { why = e; member = m; place = p }, g)
 
 abbrev pub put_for : Progress → Option Out → ℕ → ℕ → Ran
 put_for g (Some o) m p = Ok (with_out g o)
-put_for g None m p = bad_at g RoomFull m p
-
-abbrev pub pass_for : Ran → ℕ → Passed
-pass_for (Ok g) to = Ok (to, g)
-pass_for (Err (x, g)) to = Err (x, g)
+put_for g None m p = Err (halted_at g RoomFull m p)
 
 abbrev pub stretch_for : Stretch → Program.Stretch
 stretch_for x = record { from = x.from; to = x.to }

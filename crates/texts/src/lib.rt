@@ -5,8 +5,8 @@
 ghost use Rattle.std.specs.Prelude.{◌≡◌, ◌%◌, ◌-◌, length};
 ghost use Rattle.definition.specs.Lists.{part};
 ghost use Rattle.definition.specs.Events.{blank, copied};
-ghost use Rattle.texts.specs.Shown.{with_meter, with_out, bad_at, SceneIs, put_for, pass_for};
-ghost use Rattle.texts.specs.Promises.{PutIs, LineIs, ReplacementIs, ReplacingIs, TokenIs, TokensAre, TextIs, LeadIs};
+ghost use Rattle.texts.specs.Shown.{with_meter, with_out, halted_at, SceneIs, put_for};
+ghost use Rattle.texts.specs.Promises.{PutIs, LineIs, ReplacementIs, StepAs, ReplacingIs, TokenIs, TokensAre, TextIs, LeadIs};
 
 use callees::none_running;
 use definition::{Layout, Why};
@@ -64,10 +64,10 @@ fn with_out(g: Progress, out: Out) -> Progress
     Progress { out, ..g }
 }
 
-fn bad(g: Progress, why: Why, member: u16, place: usize) -> Ran
-    ensures { result ≡ bad_at g why member place }
+fn halted(g: Progress, why: Why, member: u16, place: usize) -> Halted
+    ensures { result ≡ halted_at g why member place }
 {
-    Err((Stop { why, member, place }, g))
+    (Stop { why, member, place }, g)
 }
 
 // Outside procedures every name is seen that is global.
@@ -101,7 +101,7 @@ fn put_result(g: Progress, p: Option<Out>, member: u16, place: usize) -> Ran
 {
     match p {
         Some(o) => Ok(with_out(g, o)),
-        None => bad(g, Why::RoomFull, member, place),
+        None => Err(halted(g, Why::RoomFull, member, place)),
     }
 }
 
@@ -145,7 +145,7 @@ fn replaced_out(
     size: usize,
     place: usize,
     n: usize,
-) -> Ran
+) -> Progress
     ensures { LineIs text.now list.old g member size place n list.new result }
 {
     let after = tell_replaced(
@@ -158,20 +158,11 @@ fn replaced_out(
         place,
         size32(n),
     );
-    Ok(with_out(g, after))
+    with_out(g, after)
 }
 
 // A token of program text that was put out: the place behind it.
 pub type Passed = Result<(usize, Progress), Halted>;
-
-fn pass_to(r: Ran, to: usize) -> Passed
-    ensures { result ≡ pass_for r to }
-{
-    match r {
-        Ok(g) => Ok((to, g)),
-        Err((x, g)) => Err((x, g)),
-    }
-}
 
 // The outcome of a replacement, with its line.
 fn replacement_out(
@@ -187,17 +178,10 @@ fn replacement_out(
 {
     match r {
         Ok((n, to, m)) => {
-            let x = replaced_out(text, list, with_meter(g, m), member, size, place, n);
-            pass_to(x, to)
+            let after = replaced_out(text, list, with_meter(g, m), member, size, place, n);
+            Ok((to, after))
         }
-        Err((w, m)) => Err((
-            Stop {
-                why: w,
-                member,
-                place,
-            },
-            with_meter(g, m),
-        )),
+        Err((w, m)) => Err(halted(with_meter(g, m), w, member, place)),
     }
 }
 
@@ -225,7 +209,7 @@ fn replace_here(
 {
     let place = sum(x.from, p);
     if g.out.free < 1 {
-        return pass_to(bad(g, Why::RoomFull, here.member, place), to);
+        return Err(halted(g, Why::RoomFull, here.member, place));
     }
     let d = Dest {
         to_work: false,
@@ -255,6 +239,16 @@ fn replace_here(
     replacement_out(text, list, g, here.member, s.len(), place, r)
 }
 
+// A step that is due at a place.
+fn step_here(g: Progress, member: u16, place: usize) -> Ran
+    ensures { StepAs g member place result }
+{
+    match g.meter.charged() {
+        Ok(m) => Ok(with_meter(g, m)),
+        Err((w, m)) => Err(halted(with_meter(g, m), w, member, place)),
+    }
+}
+
 // One token of a text, at p.
 fn token_here(
     deck: &[u8],
@@ -275,16 +269,14 @@ fn token_here(
     ensures { TokenIs deck.now s.now rows.now names.now cells.old low.old high.old work.old text.old list.old x p here g0 cells.new low.new high.new work.new text.new list.new result }
 {
     let place = sum(x.from, p);
-    let g = match g0.meter.charged() {
-        Ok(m) => with_meter(g0, m),
-        Err((w, m)) => return pass_to(bad(with_meter(g0, m), w, here.member, place), p),
-    };
+    let g = step_here(g0, here.member, place)?;
     let y = piece_of(s, work, x, p);
     let active = active_in(deck, s, work, names, g.names, x, p, y);
     match active {
         None => {
-            let r = token_out(s, text, list, g, here.member, place, sum(x.from, y.to));
-            pass_to(r, y.to)
+            let to = sum(x.from, y.to);
+            let h = token_out(s, text, list, g, here.member, place, to)?;
+            Ok((y.to, h))
         }
         Some((a, act)) => {
             replace_here(
@@ -322,16 +314,11 @@ fn text_on(
         if size <= p {
             return Ok(g);
         }
-        let t = token_here(
+        let (q, h) = token_here(
             deck, s, rows, names, cells, low, high, work, text, list, x, p, here, g,
-        );
-        match t {
-            Ok((q, h)) => {
-                p = q;
-                g = h;
-            }
-            Err((stop, h)) => return Err((stop, h)),
-        }
+        )?;
+        p = q;
+        g = h;
     }
     Ok(g)
 }
@@ -360,13 +347,10 @@ pub fn text_out(
         from,
         to: x.to as usize,
     };
-    let b = blank_out(text, list, g, here.member, s.len(), from);
-    match b {
-        Ok(h) => text_on(
-            deck, s, rows, names, cells, low, high, work, text, list, src, here, h,
-        ),
-        Err((stop, h)) => Err((stop, h)),
-    }
+    let h = blank_out(text, list, g, here.member, s.len(), from)?;
+    text_on(
+        deck, s, rows, names, cells, low, high, work, text, list, src, here, h,
+    )
 }
 
 // "a non-empty leading text is a part alone, an empty one is none"

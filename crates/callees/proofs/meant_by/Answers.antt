@@ -1,9 +1,9 @@
 -- By what the address stands for.
-use Rattle.callees.proofs.Naming.{unknown_if, by_unknown, by_variable, by_entry, by_label, by_builtin}
+use Rattle.callees.proofs.Naming.{by_unknown, by_variable, by_entry, by_label, by_builtin}
 use Rattle.callees.proofs.meant_by.Goals as goal
 
 pub returns-in_default : goal.returns-in_default
-returns-in_default c = let u = unknown_if _ c.in_default.not-Some in search by_unknown
+returns-in_default c = search by_unknown
 
 pub returns-in-Variable : goal.returns-in-Variable
 returns-in-Variable c = search by_variable

@@ -1,8 +1,8 @@
-use Rattle.flow.proofs.Steps.{nowhere_if, looking_done, looking_none, looking_there, looking_up}
+use Rattle.flow.proofs.Steps.{looking_done, looking_none, looking_there, looking_up}
 use Rattle.flow.proofs.is_around.Goals as goal
 
 pub returns-in_default : goal.returns-in_default
-returns-in_default c = let u = nowhere_if _ c.in_default.not-Some in search looking_none
+returns-in_default c = search looking_none
 
 pub returns-then-p-g : goal.returns-then-p-g
 returns-then-p-g c = search looking_there

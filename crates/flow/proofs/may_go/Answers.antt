@@ -1,8 +1,8 @@
-use Rattle.flow.proofs.Steps.{nowhere_if, going_done, going_out, going_not, going_up}
+use Rattle.flow.proofs.Steps.{going_done, going_out, going_not, going_up}
 use Rattle.flow.proofs.may_go.Goals as goal
 
 pub returns-in_default : goal.returns-in_default
-returns-in_default c = let u = nowhere_if _ c.in_default.not-Some in search going_out
+returns-in_default c = search going_out
 
 pub loop-preserved : goal.loop-preserved
 loop-preserved c = search going_up

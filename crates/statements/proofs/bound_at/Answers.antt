@@ -1,16 +1,11 @@
 -- The word is there, or not.
-use Rattle.std.proofs.lemmas.Result.{err_from_is_err_and}
-use Rattle.statements.proofs.Laws.{bound_there, bound_absent, bound_refused}
+
+use mathlib.Core.Path.{refl}
+use Rattle.statements.proofs.Laws.{bound_there, bound_absent}
 use Rattle.statements.proofs.bound_at.Goals as goal
 
 pub returns-then-is_word : goal.returns-then-is_word
-returns-then-is_word c = let w = c.in_ok-q.was in search bound_there
+returns-then-is_word c = bound_there _ _ _ _ refl _ c.token_at-t.ensures _ c.is_word.ensures c.if-is_word.true _ c.check.ensures
 
 pub returns : goal.returns
-returns c = let w = c.in_ok-q.was in search bound_absent
-
-pub returns-in_err-q : goal.returns-in_err-q
-returns-in_err-q c =
-    let p = err_from_is_err_and c.from_residual.result c.from_residual.ensures.1 in
-    let w = c.in_err-q.was in
-    rw (p.1, p.2) (search bound_refused)
+returns c = bound_absent _ _ _ _ refl _ c.token_at-t.ensures _ c.is_word.ensures c.if-is_word.false
