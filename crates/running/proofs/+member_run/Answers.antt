@@ -1,19 +1,18 @@
-use Rattle.std.proofs.Common.{arith}
-use borrow.Author.Tests.{not-true, not-false}
+use Rattle.std.proofs.Common.{arith, refl, Ok, ap, ◌∙◌}
 use Rattle.running.proofs.Turning.{begin_due, begin_include, begin_statement, turn_begin, turn_again, turn_over}
 use Rattle.running.proofs.Looping.{runs_start, runs_out, runs_over, runs_more, runs_end, source_runs, source_bad}
 use Rattle.running.proofs.Entering.{enter_runs, enter_refused}
 use Rattle.running.proofs.Naming.{include_unknown, include_deep, include_enters, going_start, going_more, all_left, all_ran, all_turned}
 use Rattle.running.proofs.+member_run.Goals as goal
 
-pub begin-returns-then-not-paid : goal.begin-returns-then-not-paid
-begin-returns-then-not-paid t c = begin_due _ _ _ _ _ _ _ _ _ _ _ _ _ _ _ _ _ c.part_here.ensures _ c.row_at-r.ensures _ c.charged-paid.ensures _ c.with_meter-g.ensures (not-true _ c.if-not-paid.true) _ (rw c.from.ensures at c.refused-t.ensures) _ c.turned_at.ensures
+pub begin-returns-in-Err : goal.begin-returns-in-Err
+begin-returns-in-Err t c = let step = rw c.in-Err.is at c.charged.ensures in begin_due _ _ _ _ _ _ _ _ _ _ _ _ _ _ _ _ _ c.part_here.ensures _ c.row_at-r.ensures _ step.is _ c.with_meter.ensures refl _ (rw (c.from.ensures, step.why _ _ refl) at c.refused-t.ensures) _ c.turned_at.ensures
 
 pub begin-returns-then-is_include : goal.begin-returns-then-is_include
-begin-returns-then-is_include t c = begin_include _ _ _ _ _ _ _ _ _ _ _ _ _ _ _ _ _ c.part_here.ensures _ c.row_at-r.ensures _ c.charged-paid.ensures _ c.with_meter-g.ensures (not-false _ c.if-not-paid.false) _ c.is_include.ensures c.if-is_include.true _ _ _ _ _ _ _ _ _ c.include_all-e.ensures _ c.on_ended.ensures
+begin-returns-then-is_include t c = let step = rw c.in-Ok.is at c.charged.ensures in begin_include _ _ _ _ _ _ _ _ _ _ _ _ _ _ _ _ _ c.part_here.ensures _ c.row_at-r.ensures _ step.is _ c.with_meter-g.ensures refl _ c.is_include.ensures c.if-is_include.true _ _ _ _ _ _ _ _ _ c.include_all-e.ensures _ c.on_ended.ensures
 
 pub begin-returns : goal.begin-returns
-begin-returns t c = begin_statement _ _ _ _ _ _ _ _ _ _ _ _ _ _ _ _ _ c.part_here.ensures _ c.row_at-r.ensures _ c.charged-paid.ensures _ c.with_meter-g.ensures (not-false _ c.if-not-paid.false) _ c.is_include.ensures c.if-is_include.false _ c.part_here-2.ensures _ _ _ _ _ _ _ _ c.statement-t.ensures _ c.turned_at-2.ensures
+begin-returns t c = let step = rw c.in-Ok.is at c.charged.ensures in begin_statement _ _ _ _ _ _ _ _ _ _ _ _ _ _ _ _ _ c.part_here.ensures _ c.row_at-r.ensures _ step.is _ c.with_meter-g.ensures refl _ c.is_include.ensures c.if-is_include.false _ c.part_here-2.ensures _ _ _ _ _ _ _ _ c.statement-t.ensures _ c.turned_at-2.ensures
 
 pub enter_and_run-returns-in-Ok : goal.enter_and_run-returns-in-Ok
 enter_and_run-returns-in-Ok t c = enter_runs _ _ _ _ _ _ _ _ _ _ _ _ _ _ _ _ c.read_behind-x.ensures _ _ _ _ _ _ _ _ _ _ _ _ c.in-Ok.is c.forget.ensures c.entered.ensures c.with_source.ensures c.run_source.ensures
@@ -28,10 +27,10 @@ pub include_all-returns-in_default : goal.include_all-returns-in_default
 include_all-returns-in_default t c = all_left _ _ _ _ _ _ _ _ _ _ _ _ _ _ _ c.with_below-inner.ensures _ c.part_here.ensures _ c.row_at-r.ensures _ c.body-s.ensures _ _ _ _ _ _ _ _ _ _ _ _ (rw (c.from-place.ensures, c.from-at.ensures) at c.loop.invariant) _ c.item_at-item.ensures _ _ _ _ _ _ _ _ _ (rw c.from-place.ensures at c.include_one-x.ensures) _ c.resumed-here.ensures c.in_default.not-Ran _ c.left_at.ensures
 
 pub include_all-loop-preserved : goal.include_all-loop-preserved
-include_all-loop-preserved t c = going_more _ _ _ _ _ _ _ _ _ _ _ _ _ _ _ _ _ c.body-s.ensures _ _ _ _ _ _ _ _ _ _ _ _ c.loop.invariant _ c.item_at-item.ensures _ _ _ _ _ _ _ _ _ c.include_one-x.ensures _ c.resumed-here.ensures _ c.in-Ok-Ran.is _ c.token_at-comma.ensures _ c.is_sign.ensures c.if-not-is_sign.false _ (omega arith)
+include_all-loop-preserved t c = going_more _ _ _ _ _ _ _ _ _ _ _ _ _ _ _ _ _ c.body-s.ensures _ _ _ _ _ _ _ _ _ _ _ _ c.loop.invariant _ c.item_at-item.ensures _ _ _ _ _ _ _ _ _ c.include_one-x.ensures _ c.resumed-here.ensures _ (c.in-Ok-Ran.is ∙ ap Ok (rw c.in-Ok-Ran.is at c.in-Ok-Ran.field-0-is)) _ c.token_at-comma.ensures _ c.is_sign.ensures c.if-not-is_sign.false _ (omega arith)
 
 pub include_all-returns-then-not-is_sign : goal.include_all-returns-then-not-is_sign
-include_all-returns-then-not-is_sign t c = all_ran _ _ _ _ _ _ _ _ _ _ _ _ _ _ _ c.with_below-inner.ensures _ c.part_here.ensures _ c.row_at-r.ensures _ c.body-s.ensures _ _ _ _ _ _ _ _ _ _ _ _ (rw (c.from-place.ensures, c.from-at.ensures) at c.loop.invariant) _ c.item_at-item.ensures _ _ _ _ _ _ _ _ _ (rw c.from-place.ensures at c.include_one-x.ensures) _ c.resumed-here.ensures _ c.in-Ok-Ran.is _ c.token_at-comma.ensures _ c.is_sign.ensures c.if-not-is_sign.true _ c.left_at-then-not-is_sign.ensures
+include_all-returns-then-not-is_sign t c = all_ran _ _ _ _ _ _ _ _ _ _ _ _ _ _ _ c.with_below-inner.ensures _ c.part_here.ensures _ c.row_at-r.ensures _ c.body-s.ensures _ _ _ _ _ _ _ _ _ _ _ _ (rw (c.from-place.ensures, c.from-at.ensures) at c.loop.invariant) _ c.item_at-item.ensures _ _ _ _ _ _ _ _ _ (rw c.from-place.ensures at c.include_one-x.ensures) _ c.resumed-here.ensures _ (c.in-Ok-Ran.is ∙ ap Ok (rw c.in-Ok-Ran.is at c.in-Ok-Ran.field-0-is)) _ c.token_at-comma.ensures _ c.is_sign.ensures c.if-not-is_sign.true _ c.left_at-then-not-is_sign.ensures
 
 pub include_all-returns : goal.include_all-returns
 include_all-returns t c = all_turned _ _ _ _ _ _ _ _ _ _ _ _ _ _ _ c.with_below-inner.ensures _ c.part_here.ensures _ c.row_at-r.ensures _ _ _ _ _ _ _ _ _ _ _ _ (rw (c.from-place.ensures, c.from-at.ensures) at c.loop.invariant) (omega (arith, c.loop-test.false)) _
