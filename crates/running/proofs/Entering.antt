@@ -189,7 +189,12 @@ module _ (deck rows names c l h w t ls : List ℕ) (starts : Starts) (g : Progre
   entry_refused : (f : Result (Unit {0}) (Why × ℕ)) (e : Why) (p : ℕ) → f ≡ Err (e, p) → Entry m (D.read_member mixed (body_in deck m)) (names_of deck names' x.names) (N.enter m (D.read_member mixed (body_in deck m)) before) f
       → N.enter m (D.read_member mixed (body_in deck m)) before ≡ N.unreadable e p
   entry_refused f e p q (goes_in v a b z) = let k : ◌≡◌ {A = ℕ} 0 1 = cc in absurd (omega arith)
-  entry_refused f e p q (stays_out y k a z) = let i : Err (y, k) ≡ Err (e, p) = sym z ∙ q in let j : y ≡ e = cc in let n : k ≡ p = cc in a ∙ rw (j, n)
+  entry_refused f e p q (stays_out y k a z) =
+      let i : ◌≡◌ {A = Result (Unit {0}) (Why × ℕ)} (Err (y, k)) (Err (e, p)) = sym z ∙ q in
+      let o : ◌≡◌ {A = Why × ℕ} (y, k) (e, p) = cc in
+      let j : y ≡ e = ap (λ (v : Why × ℕ). v.0) o in
+      let n : k ≡ p = ap (λ (v : Why × ℕ). v.1) o in
+      a ∙ rw (j, n)
 
   refused_read : (e : Why) (p : ℕ) → x.fault ≡ Err (e, p) → (left : ℕ) (on : List Place) → enter_run left deck m on before ≡ bad (Run.stop m p e) g.meter.used
   unfolding enter_run
@@ -451,7 +456,15 @@ module _ (deck rows names c l h w t ls : List ℕ) (y : Layout) (steps : ℕ) (m
   run_ran g (inl e) = ran_on (Ok (En.Ran g)) g e (λ k d. ran_to _ g k.world d.stage.onstage.written d.is)
   run_ran g (inr (q, e)) = ran_on (Ok (En.Went q g)) g e (λ k d. ran_to _ g k.world d.stage.onstage.written d.is)
 
+  -- the same of what the run of the main program gave
+  pub run_ok : (d : Ended) (g : Progress) → x.ended ≡ Ok d → (d ≡ En.Ran g) ⊎ ((q : Label) × (d ≡ En.Went q g)) → RunIs y deck rows names c l h w t ls steps t' ls' (Ok g)
+  run_ok d g e (inl i) = run_ran g (inl (e ∙ ap Ok i))
+  run_ok d g e (inr (q, i)) = run_ran g (inr (q, e ∙ ap Ok i))
+
   pub run_bad : (q : Stop) (g : Progress) → x.ended ≡ Err (q, g) → RunIs y deck rows names c l h w t ls steps t' ls' (Err (q, g))
   run_bad q g e = record {
     is = λ sound roomy low high work z a. let k : Main = main_ends sound roomy low high work z a in let d : Ended' k (Err (q, g)) = subst (Ended' k) e k.now in (stop_for q, refl, ap X.result d);
   }
+
+  pub run_out : (z : Stop × Progress) → x.ended ≡ Err z → RunIs y deck rows names c l h w t ls steps t' ls' (Err z)
+  run_out (q, g) e = run_bad q g e

@@ -298,7 +298,10 @@ fn include_all(
             g,
         );
         here = resumed(here, x.starts);
-        let Ok(Ended::Ran(h)) = x.ended else {
+        let Ok(ended) = x.ended else {
+            return left_at(here, x.ended);
+        };
+        let Ended::Ran(h) = ended else {
             return left_at(here, x.ended);
         };
         let comma = token_at(s, item.to);
@@ -617,8 +620,8 @@ pub fn run(
         Levels::INCLUDES,
         g,
     );
-    match x.ended {
-        Ok(Ended::Ran(h)) | Ok(Ended::Went(_, h)) => Ok(h),
-        Err((stop, h)) => Err((stop, h)),
+    let ended = x.ended?;
+    match ended {
+        Ended::Ran(h) | Ended::Went(_, h) => Ok(h),
     }
 }

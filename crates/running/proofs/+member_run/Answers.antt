@@ -1,4 +1,5 @@
-use Rattle.std.proofs.Common.{arith, refl, Ok, ap, ◌∙◌}
+use Rattle.std.proofs.Common.{arith, refl, sym, Ok, ap, ◌∙◌, ◌≡◌}
+use Rattle.stepping.specs.declared.Ended.TheVariants.{Ran}
 use Rattle.running.proofs.Turning.{begin_due, begin_include, begin_statement, turn_begin, turn_again, turn_over}
 use Rattle.running.proofs.Looping.{runs_start, runs_out, runs_over, runs_more, runs_end, source_runs, source_bad}
 use Rattle.running.proofs.Entering.{enter_runs, enter_refused}
@@ -24,13 +25,16 @@ pub include_all-loop-init : goal.include_all-loop-init
 include_all-loop-init t c = going_start _ _ _ _ _ _ _ _ _ _ _ _ _ _ _ _ _ c.body-s.ensures _ (omega arith)
 
 pub include_all-returns-in_default : goal.include_all-returns-in_default
-include_all-returns-in_default t c = all_left _ _ _ _ _ _ _ _ _ _ _ _ _ _ _ c.with_below-inner.ensures _ c.part_here.ensures _ c.row_at-r.ensures _ c.body-s.ensures _ _ _ _ _ _ _ _ _ _ _ _ (rw (c.from-place.ensures, c.from-at.ensures) at c.loop.invariant) _ c.item_at-item.ensures _ _ _ _ _ _ _ _ _ (rw c.from-place.ensures at c.include_one-x.ensures) _ c.resumed-here.ensures c.in_default.not-Ran _ c.left_at.ensures
+include_all-returns-in_default t c = all_left _ _ _ _ _ _ _ _ _ _ _ _ _ _ _ c.with_below-inner.ensures _ c.part_here.ensures _ c.row_at-r.ensures _ c.body-s.ensures _ _ _ _ _ _ _ _ _ _ _ _ (rw (c.from-place.ensures, c.from-at.ensures) at c.loop.invariant) _ c.item_at-item.ensures _ _ _ _ _ _ _ _ _ (rw c.from-place.ensures at c.include_one-x.ensures) _ c.resumed-here.ensures (λ h q. c.in_default.not-Ok (Ran h) q) _ c.left_at.ensures
+
+pub include_all-returns-in_default-ended : goal.include_all-returns-in_default-ended
+include_all-returns-in_default-ended t c = all_left _ _ _ _ _ _ _ _ _ _ _ _ _ _ _ c.with_below-inner.ensures _ c.part_here.ensures _ c.row_at-r.ensures _ c.body-s.ensures _ _ _ _ _ _ _ _ _ _ _ _ (rw (c.from-place.ensures, c.from-at.ensures) at c.loop.invariant) _ c.item_at-item.ensures _ _ _ _ _ _ _ _ _ (rw c.from-place.ensures at c.include_one-x.ensures) _ c.resumed-here.ensures (λ h q. c.in_default-ended.not-Ran h (let o : Ok c.in-Ok.ended ≡ Ok (Ran h) = sym c.in-Ok.is ∙ q in cc)) _ c.left_at-in_default-ended.ensures
 
 pub include_all-loop-preserved : goal.include_all-loop-preserved
-include_all-loop-preserved t c = going_more _ _ _ _ _ _ _ _ _ _ _ _ _ _ _ _ _ c.body-s.ensures _ _ _ _ _ _ _ _ _ _ _ _ c.loop.invariant _ c.item_at-item.ensures _ _ _ _ _ _ _ _ _ c.include_one-x.ensures _ c.resumed-here.ensures _ (c.in-Ok-Ran.is ∙ ap Ok (rw c.in-Ok-Ran.is at c.in-Ok-Ran.field-0-is)) _ c.token_at-comma.ensures _ c.is_sign.ensures c.if-not-is_sign.false _ (omega arith)
+include_all-loop-preserved t c = going_more _ _ _ _ _ _ _ _ _ _ _ _ _ _ _ _ _ c.body-s.ensures _ _ _ _ _ _ _ _ _ _ _ _ c.loop.invariant _ c.item_at-item.ensures _ _ _ _ _ _ _ _ _ c.include_one-x.ensures _ c.resumed-here.ensures _ (c.in-Ok.is ∙ ap Ok c.in-Ran.is) _ c.token_at-comma.ensures _ c.is_sign.ensures c.if-not-is_sign.false _ (omega arith)
 
 pub include_all-returns-then-not-is_sign : goal.include_all-returns-then-not-is_sign
-include_all-returns-then-not-is_sign t c = all_ran _ _ _ _ _ _ _ _ _ _ _ _ _ _ _ c.with_below-inner.ensures _ c.part_here.ensures _ c.row_at-r.ensures _ c.body-s.ensures _ _ _ _ _ _ _ _ _ _ _ _ (rw (c.from-place.ensures, c.from-at.ensures) at c.loop.invariant) _ c.item_at-item.ensures _ _ _ _ _ _ _ _ _ (rw c.from-place.ensures at c.include_one-x.ensures) _ c.resumed-here.ensures _ (c.in-Ok-Ran.is ∙ ap Ok (rw c.in-Ok-Ran.is at c.in-Ok-Ran.field-0-is)) _ c.token_at-comma.ensures _ c.is_sign.ensures c.if-not-is_sign.true _ c.left_at-then-not-is_sign.ensures
+include_all-returns-then-not-is_sign t c = all_ran _ _ _ _ _ _ _ _ _ _ _ _ _ _ _ c.with_below-inner.ensures _ c.part_here.ensures _ c.row_at-r.ensures _ c.body-s.ensures _ _ _ _ _ _ _ _ _ _ _ _ (rw (c.from-place.ensures, c.from-at.ensures) at c.loop.invariant) _ c.item_at-item.ensures _ _ _ _ _ _ _ _ _ (rw c.from-place.ensures at c.include_one-x.ensures) _ c.resumed-here.ensures _ (c.in-Ok.is ∙ ap Ok c.in-Ran.is) _ c.token_at-comma.ensures _ c.is_sign.ensures c.if-not-is_sign.true _ c.left_at-then-not-is_sign.ensures
 
 pub include_all-returns : goal.include_all-returns
 include_all-returns t c = all_turned _ _ _ _ _ _ _ _ _ _ _ _ _ _ _ c.with_below-inner.ensures _ c.part_here.ensures _ c.row_at-r.ensures _ _ _ _ _ _ _ _ _ _ _ _ (rw (c.from-place.ensures, c.from-at.ensures) at c.loop.invariant) (omega (arith, c.loop-test.false)) _
