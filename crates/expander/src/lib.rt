@@ -4,7 +4,6 @@
 
 ghost use Rattle.std.specs.Prelude.{◌≡◌};
 ghost use Rattle.definition.specs.Bytes.{mixed};
-ghost use Rattle.definition.specs.Refusal.{number_of};
 ghost use Rattle.definition.specs.Deck.{is_sound};
 ghost use Rattle.definition.specs.Room.{over};
 ghost use Rattle.definition.specs.declared.Layout.TheVariants.{Cards};
@@ -15,7 +14,7 @@ ghost use Rattle.expander.specs.Promise.{are_roomy, working, Cleared, RanFor, De
 
 use cards::{join, uneven};
 use deck::{Deck, size};
-use definition::{Layout, Why};
+use definition::Layout;
 use origin::told_place;
 use printing::used;
 use rooms::{put_number32, zero_u8, zero_u16, zero_u32};
@@ -48,34 +47,6 @@ pub const WORK: usize = 65_536;
 
 pub const JOINED: usize = 65_536;
 
-// 01's number for a refusal.
-pub fn number_of(w: Why) -> u32
-    ensures { result ≡ number_of w }
-{
-    match w {
-        Why::MalformedDeck => 1,
-        Why::ShortRoom => 2,
-        Why::Syntax => 3,
-        Why::OverLimit => 4,
-        Why::DeclaredTwice => 5,
-        Why::WrongName => 6,
-        Why::NoValue => 7,
-        Why::NoConversion => 8,
-        Why::OutOfRange => 9,
-        Why::ZeroDivisor => 10,
-        Why::WrongArguments => 11,
-        Why::WronglyRun => 12,
-        Why::WrongGoto => 13,
-        Why::UnknownMember => 14,
-        Why::TooDeep => 15,
-        Why::TooLong => 16,
-        Why::RoomFull => 17,
-        Why::NoStep => 18,
-        Why::SubstrOutside => 19,
-        Why::UnevenBody => 20,
-    }
-}
-
 // A refusal: text length and lines are 0.
 fn refusal(number: u32, member: u32, offset: u32, steps: u32) -> Expansion
     ensures { result ≡ refusal_at number member offset steps }
@@ -95,7 +66,7 @@ fn refused(layout: Layout, d: &[u8], x: Stop, g: Progress) -> Expansion
     ensures { result ≡ refused_for layout d.now x g }
 {
     let place = told_place(layout, size(d, x.member) as usize, x.place);
-    refusal(number_of(x.why), u32::from(x.member), place, g.meter.used)
+    refusal(u32::from(x.why), u32::from(x.member), place, g.meter.used)
 }
 
 fn finished(g: Progress) -> Expansion
