@@ -84,7 +84,7 @@ pub fn truth_of(work: &mut [u8], u: usize, x: Evaluated) -> Tested
 
 // ---- DO: its numbers
 
-// A number as stored and the place past its expression.
+// A number and the place past its expression.
 pub type Bound = Result<(Fixed, usize, Meter), Refused>;
 
 pub fn bound_of(work: &[u8], u: usize, x: Evaluated) -> Bound
@@ -222,7 +222,7 @@ fn summed(x: Fixed, by: Result<Fixed, FixedError>) -> Result<Fixed, FixedError>
 
 // ---- where control goes in a body; `part` is the rows of its member
 
-// What comes behind a statement of a body: another, the value of RETURN, or a refusal.
+// What comes behind a statement of a body: another, or the value of RETURN.
 #[derive(Clone, Copy)]
 pub enum Step {
     On(Next, Meter),

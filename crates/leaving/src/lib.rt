@@ -52,7 +52,7 @@ fn row_below(b: Below, member: u16) -> Option<u16>
     None
 }
 
-// A label that GOTO leads to, here or in a member below, or why it may not.
+// A label that GOTO leads to, here or in a member below.
 #[derive(Clone, Copy)]
 pub enum Jump {
     Here(Label),

@@ -32,6 +32,7 @@ pub struct Place {
 }
 
 // Who sees a name: all of the program, or one procedure.
+// stays: an Option would say of a global name that nobody owns it.
 #[derive(Clone, Copy, PartialEq, Eq)]
 pub enum Owner {
     Everyone,
@@ -156,13 +157,25 @@ pub fn name_at(names: &[u16], a: Address) -> Name
     }
 }
 
-// Whether a record is that of the identifier that n bytes of s spell, in a scope.
-fn is_named(deck: &[u8], x: Name, s: &[u8], from: usize, n: usize, owner: Owner) -> bool
-    ensures { result ≡ is_identifier (folded mixed (part n from s.now)) (owner_of owner) (identifier_of deck.now x) }
+// Who sees the name of an address: read alone, since a search asks every record.
+#[tactic(auto, unfolding(crate::specs::Table::name_in))]
+fn owner_at(names: &[u16], a: Address) -> Owner
+    ensures { result ≡ (name_in names.now a.0).owner }
 {
-    usize::from(x.identifier.1) == n
-        && is_one_name(deck, usize::from(x.identifier.0), s, from, n)
-        && same_owner(x.owner, owner)
+    let at = record_place(a);
+    owner_in(
+        number16(names, at, 2),
+        number16(names, at, 3),
+        number16(names, at, 4),
+    )
+}
+
+// Where the identifier of an address begins in the deck.
+#[tactic(auto, unfolding(crate::specs::Table::name_in))]
+fn spelled_at(names: &[u16], a: Address) -> usize
+    ensures { result ≡ (name_in names.now a.0).identifier.0 }
+{
+    usize::from(number16(names, record_place(a), 0))
 }
 
 // Whether the identifier of a record has n bytes; the quick test, since most have not.
@@ -185,7 +198,9 @@ fn is_at(
 ) -> bool
     ensures { result ≡ is_identifier (folded mixed (part n from s.now)) (owner_of owner) (identifier_of deck.now (name_in names.now a.0)) }
 {
-    has_length(names, a, n) && is_named(deck, name_at(names, a), s, from, n, owner)
+    has_length(names, a, n)
+        && is_one_name(deck, spelled_at(names, a), s, from, n)
+        && same_owner(owner_at(names, a), owner)
 }
 
 // THE ENVIRONMENT: the address of the identifier that `len` bytes of s spell, in a scope, among n records.

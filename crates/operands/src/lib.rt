@@ -208,6 +208,7 @@ pub fn count_arguments(s: &[u8], from: usize, left: usize) -> usize
 }
 
 // What an argument is to be made: of a parameter's type, or what SUBSTR is taken of.
+// stays: an Option would not say what is made where no type is given.
 #[derive(Clone, Copy)]
 pub enum Wish {
     As(ValueType),

@@ -130,7 +130,7 @@ fn may_put(d: Dest, u: usize, k: usize, n: usize) -> bool
     k <= d.room && n <= d.room - k && (!d.to_work || fits(u, sum(k, n)))
 }
 
-// The number that a full room is refused with.
+// Why a full room is refused.
 fn full(d: Dest) -> Why
     ensures { result ≡ D.full (into_of d) }
 {
@@ -216,6 +216,7 @@ pub fn copy_token(
 // ---- argument lists
 
 // Where an argument ends: at a comma, or at the parenthesis that closes the list.
+// stays: three ends, of which an Option of a place would lose one.
 #[derive(Clone, Copy)]
 enum Ending {
     Comma(usize),
@@ -277,7 +278,7 @@ fn past_blanks(t: &[u8], p: usize) -> usize
     ensures { result ≡ past_blanks t.now p }
 {
     let mut i = p;
-    // stays: (d) over `p..t.len()` the place behind the loop would be the greater of p and the end, a line more
+    // stays: over `p..t.len()` the place behind the loop would be the greater of p and the end, a line more
     while i < t.len() && is_blank(t[i]) {
         i += 1;
     }
@@ -379,7 +380,7 @@ pub fn settled(work: &mut [u8], d: Dest, u: usize, n: usize, x: Scanned) -> Scan
 
 // ---- with NORESCAN a value is copied from where it lies to where it goes, and waits nowhere in between
 
-// stays: (d) one function with a closure that writes the bytes would have to say in its contract what every call of the closure writes
+// stays: one function with a closure that writes the bytes would have to say in its contract what every call of the closure writes
 
 // The n bytes that lie at u already.
 fn copied_value(work: &[u8], text: &mut [u8], n: usize, d: Dest, u: usize, m: Meter) -> Scanned

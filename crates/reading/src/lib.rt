@@ -61,7 +61,7 @@ enum Mode {
     Inner,
 }
 
-// stays: (d) one way on and two ways out, and the state goes along on each, so that `?` would pass nothing on.
+// stays: one way on and two ways out, and the state goes along on each, so that `?` would pass nothing on.
 #[derive(Clone, Copy)]
 enum Next {
     Go(Mode, usize),

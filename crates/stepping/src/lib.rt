@@ -102,7 +102,7 @@ fn follow(
 
 // ---- statements
 
-// What a statement does: control goes on, a GOTO leads out of the member, or a refusal.
+// What a statement does: control goes on, or a GOTO leads out of the member.
 #[derive(Clone, Copy)]
 pub enum Step {
     On(Walk, Progress),
