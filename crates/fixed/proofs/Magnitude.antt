@@ -4,13 +4,13 @@ use native.Mathlib.Nat.{le_refl, div-le_self}
 use native.Mathlib.Omega.{arith}
 use mathlib.Core.Bool.{Bool, true, false, not, cond, ◌&&◌}
 use mathlib.Core.Path.{◌≡◌, refl, sym, ap, ◌∙◌}
-use borrow.Author.Tests.{le-ltb, leb-true}
+use borrow.Author.Tests.{le-ltb, leb-true, eqb-true, eq-eqb}
 use lib.Dec.{leb, ltb, leb-suc-suc}
 use lib.IntN.{ℤ, pos, negsuc, neg_ℤ, nat_abs, sub_ℕ, ◌+ℤ◌, ◌-ℤ◌, ◌*ℤ◌, +ℤ-neg_ℤ_cancel}
 use lib.Signed.{mag, lt_z, non_neg, quot_z}
 use Rattle.definition.specs.Fixed.{is, in_range, ranged}
 use Rattle.definition.specs.Values.{signed_by}
-use Rattle.fixed.specs.Signed.{stored_zero, stored_of, from_stored}
+use Rattle.fixed.specs.Signed.{eq_z, stored_zero, stored_of, from_stored}
 
 pub size_mag : (z : ℤ) → mag z ≤ nat_abs z
 size_mag (pos n) = le_refl n
@@ -65,6 +65,18 @@ range_size z e = leb-true (nat_abs z) 99999 (sym (in_range_lem z) ∙ e)
 pub below_zero : (z : ℤ) → lt_z z (pos 0) ≡ not (non_neg z)
 below_zero (pos n) = le-ltb n 0 (omega arith)
 below_zero (negsuc n) = refl
+
+-- ---- equality
+
+pub eq_z_same : (z : ℤ) → eq_z z z ≡ true
+eq_z_same (pos n) = eq-eqb n n refl
+eq_z_same (negsuc n) = eq-eqb n n refl
+
+pub eq_z_true : (x y : ℤ) → eq_z x y ≡ true → x ≡ y
+eq_z_true (pos a) (pos b) e = ap pos (eqb-true a b e)
+eq_z_true (pos a) (negsuc b) e = cc
+eq_z_true (negsuc a) (pos b) e = cc
+eq_z_true (negsuc a) (negsuc b) e = ap negsuc (eqb-true a b e)
 
 -- ---- sign and magnitude
 

@@ -1,6 +1,12 @@
--- Signed numbers for crates that know none: the form that a room of unsigned numbers holds.
-use Rattle.std.specs.Prelude.{ℕ, ◌≤◌, ◌≡◌, cond, ℤ, pos, nat_abs, ◌+ℤ◌, ◌-ℤ◌}
+-- Signed numbers for crates that know none: equality, and the form that a room of unsigned numbers holds.
+use Rattle.std.specs.Prelude.{ℕ, ◌≤◌, ◌≡◌, Bool, false, cond, eqb, ℤ, pos, negsuc, nat_abs, ◌+ℤ◌, ◌-ℤ◌}
 use Rattle.definition.specs.Fixed.{Result, in_range, ranged}
+
+abbrev pub eq_z : ℤ → ℤ → Bool
+eq_z (pos a) (pos b) = eqb a b
+eq_z (pos a) (negsuc b) = false
+eq_z (negsuc a) (pos b) = false
+eq_z (negsuc a) (negsuc b) = eqb a b
 
 -- what is stored for 0
 abbrev pub stored_zero : ℤ

@@ -7,7 +7,7 @@ ghost use Rattle.std.specs.Int.Signed.{lt_z, non_neg};
 ghost use Rattle.definition.specs.Fixed.{in_range, ranged, sum, difference, product, negative, quotient};
 ghost use Rattle.definition.specs.Values.{signed_by};
 ghost use Rattle.fixed.specs.Answer.{result_of, why_of};
-ghost use Rattle.fixed.specs.Signed.{stored_of, from_stored, Widened};
+ghost use Rattle.fixed.specs.Signed.{eq_z, stored_of, from_stored, Widened};
 
 use definition::Why;
 
@@ -133,6 +133,12 @@ impl Fixed {
         ensures { result ≡ lt_z self.value other.value }
     {
         self.value < other.value
+    }
+
+    pub fn is_equal(self, other: Fixed) -> bool
+        ensures { result ≡ eq_z self.value other.value }
+    {
+        self == other
     }
 
     // A number as a room of unsigned numbers holds it; 0 for a value out of range.

@@ -1,4 +1,4 @@
--- What a caller makes of the contracts: the next premise, what still stands below, and one node of an expression.
+-- What a caller makes of the contracts: what is given lies within the limit, and what still stands below.
 -- Assumes nothing.
 use Rattle.std.proofs.Common.{Ok}
 use mathlib.Core.Path.{◌≡◌, refl, sym, ap, ◌∙◌}
@@ -40,8 +40,6 @@ module _ (w : List ℕ) (u : ℕ) (a : D.Answer D.Value) (w' : List ℕ) (v : Va
   unfolding given_in
   stood_fits = rw size_is at (stacked_fits u a (value_in w' u v) s.is)
 
--- ---- places
-
 -- ---- what stands below stays
 pub below_less : (k u : ℕ) (w w' : List ℕ) → k ≤ u → take u w' ≡ take u w → take k w' ≡ take k w
 below_less k u w w' h e = sym (take-take k u w' h) ∙ ap (take k) e ∙ take-take k u w h
@@ -51,5 +49,3 @@ unfolding value_in size_for
 value_below k u w w' (Number x) e h = refl
 value_below k u w w' (Characters n) e h = ap D.characters (part_below n u k w w' e h)
 value_below k u w w' (Bits n) e h = ap D.bit_value (part_below n u k w w' e h)
-
--- ---- one node: the first side stood at u in w₁, the second was evaluated above it and left w₂, and the operator left w₃

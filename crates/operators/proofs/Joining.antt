@@ -53,8 +53,6 @@ first_stays w u m (Number x) h = absurd (h x refl)
 first_stays w u m (Characters n) h = record { is = λ l. sym (over_nil w u) }
 first_stays w u m (Bits n) h = record { is = λ l. sym (over_nil w u) }
 
--- ---- both BIT
-
 -- ---- `||`
 abbrev kind_of : Bool → List ℕ → D.Value
 kind_of true l = D.bit_value l
@@ -179,5 +177,3 @@ module _ (w : List ℕ) (u : ℕ) (x y : Value) (n m s : ℕ) (en : n ≡ text_s
           }
       go true p false q c h = never _ (cc)
       go false p b q c h = never _ (cc)
-
--- ---- one operator after the other

@@ -35,8 +35,6 @@ use Rattle.operators.specs.Stands.{value_in, given_in, number_for, truth_for, si
 use Rattle.operators.proofs.Room.{part_written, below_over}
 use Rattle.operators.proofs.Answers.{among_is, wrong_is, gave_number, gave_wrong, made_gave}
 
--- ---- a list that goes to u as one value
-
 -- ---- to CHARACTER
 module _ (w : List ℕ) (u : ℕ) (v : Value) (x : Fixed) (e : v ≡ Number x) (t : Bool) (g : t ≡ leb (u + fixed_width) 65536) where
   abbrev text : List ℕ

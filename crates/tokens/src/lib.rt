@@ -135,7 +135,7 @@ fn word_end(s: &[u8], p: usize) -> usize
 }
 
 // The place past the digits at a place.
-// stays: a loop of its own beside `word_end`, since a test as a parameter would need clauses on what it answers (d)
+// stays: a loop of its own beside `word_end`, since a test as a parameter would need clauses on what it answers
 fn digits_end(s: &[u8], p: usize) -> usize
     ensures { result ≡ p + length (leading is_digit (drop p s.now)) }
 {

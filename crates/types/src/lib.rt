@@ -6,7 +6,7 @@ ghost use Rattle.types.specs.Kept.{type_number, type_in};
 
 use definition::ValueType;
 
-// stays: a match and no cast, since the variants and their order are another crate's (d)
+// stays: a match and no cast, since the variants and their order are another crate's
 pub fn type_number(t: ValueType) -> u16
     ensures { result ≡ type_number t }
 {
