@@ -2,7 +2,6 @@
 -- Assumes nothing.
 use Rattle.names.specs.declared.Place.{Place}
 use Rattle.std.proofs.Common.{Option, Some, None}
-use Rattle.std.specs.Option.{MatchOption}
 use mathlib.Core.Path.{◌≡◌, refl, sym, ap, ◌∙◌}
 use mathlib.Core.Bool.{Bool, true, false}
 use mathlib.Core.List.{List, [], ◌∷◌, ◌++◌}
@@ -21,7 +20,6 @@ use Rattle.definition.proofs.Rooms.{over_next_at, get_d_over_at, get_d_over_low,
 use Rattle.definition.proofs.Folded.{length_folded}
 use Rattle.definition.proofs.Parts.{length_part, same_length}
 use Rattle.types.proofs.Laws.{type_back}
-use Rattle.names.specs.declared.Address.{Address}
 use Rattle.names.specs.declared.Owner.{Owner}
 use Rattle.names.specs.declared.Owner.TheVariants.{Everyone, Procedure}
 use Rattle.names.specs.declared.Denotation.{Denotation}
@@ -29,7 +27,7 @@ use Rattle.names.specs.declared.Denotation.TheVariants.{Variable, EntryName, Lab
 use Rattle.names.specs.declared.Activity.{Activity}
 use Rattle.names.specs.declared.Activity.TheVariants.{Inactive, Rescanned, CopiedOnly}
 use Rattle.names.specs.declared.Name.{Name}
-use Rattle.names.specs.Table.{owner_of, owner_tag, owner_place, owner_numbers, body_tag, body_place, body_in, flag, activity_number, denotation_tag, denotation_flag, denotation_body, denotation_place, denotation_numbers, numbers_of, spelled, identifier_of, found_for, owner_in, denotation_in, activity_in, name_in, identifiers_from, or_else}
+use Rattle.names.specs.Table.{owner_of, owner_tag, owner_place, owner_numbers, body_tag, body_place, body_in, flag, activity_number, denotation_tag, denotation_flag, denotation_body, denotation_place, denotation_numbers, numbers_of, spelled, identifier_of, found_for, owner_in, denotation_in, activity_in, name_in, identifiers_from}
 
 -- ---- whether a record is that of an identifier
 module _ (d : List ℕ) (x : Name) (s : List ℕ) (from n : ℕ) (o : Owner) where
@@ -77,13 +75,6 @@ module _ (d t w : List ℕ) (k : W.Owner) (n a : ℕ) (s : Searching d t w k n a
   pub search_none : n ≤ a → None ≡ found_for (address_in w k 0 (identifiers_from d t 0 n))
   unfolding address_in
   search_none h = ap found_for (rw (ids_none d t n a h) at s.is)
-
--- ---- its own names first
-pub seen_is : (f g : W.Address) (r q : Option Address) (P : Type 0) → r ≡ found_for f → MatchOption r P (λ a. q ≡ Some a) → (P → q ≡ found_for g) → q ≡ found_for (or_else f g)
-seen_is (W.address b) g (Some a) q P e m h = m ∙ e
-seen_is W.unknown g None q P e m h = h m
-seen_is (W.address b) g None q P e m h = cc
-seen_is W.unknown g (Some a) q P e m h = cc
 
 -- ---- a record is written
 pub whole : (r r₁ r₂ r₃ r₄ : List ℕ) (a at n0 n1 n10 : ℕ) (o : Owner) (x : Denotation) (os ds : List ℕ) → at ≡ 16 * a → os ≡ owner_numbers o → ds ≡ denotation_numbers x

@@ -235,15 +235,11 @@ pub fn seen_from(
 ) -> Option<Address>
     ensures { result ≡ found_for (T.seen_in deck.now names.now n (folded mixed (part len from s.now)) (owner_of owner)) }
 {
-    find(deck, names, n, s, from, len, owner).or_else(|| find(
-        deck,
-        names,
-        n,
-        s,
-        from,
-        len,
-        Owner::Everyone,
-    ))
+    // stays: a match; behind the closure of an or_else the compiler no longer sees how long the rooms are
+    match find(deck, names, n, s, from, len, owner) {
+        Some(a) => Some(a),
+        None => find(deck, names, n, s, from, len, Owner::Everyone),
+    }
 }
 
 fn owner_numbers(o: Owner) -> [u16; 3]
