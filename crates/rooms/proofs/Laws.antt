@@ -7,8 +7,10 @@ use mathlib.Core.List.{List, [], ◌∷◌, ◌++◌}
 use Prim.Native.Nat.{ℕ, zero, suc, ◌+◌, ◌-◌, ◌/◌, ◌%◌, ◌<◌, ◌≤◌}
 use native.Mathlib.Nat.{add-zero, sub-zero, div-div-eq-div-mul}
 use native.Mathlib.Omega.{arith}
+use borrow.Rule.Slice.PartMut.{put_mid}
 use lib.Dec.{eqb}
-use lib.ListN.{length, get_or, set, take, length-replicate}
+use lib.ListN.{length, get_or, set, take, drop, length-replicate}
+use lib.Seq.{drop-cons}
 use Rattle.std.specs.List.{list_all, range_with_len}
 use Rattle.std.proofs.lemmas.List.{take_more, length-take-le}
 use Rattle.std.proofs.lemmas.Bool.{cases_lt}
@@ -50,6 +52,32 @@ module _ (s : List ℕ) (from : ℕ) (r₀ : List ℕ) (at : ℕ) (r : List ℕ)
   copied_all n l h =
       let e : j ≡ n = omega arith in
       k.is ∙ rw e
+
+-- ---- copying in one piece: what lies inside is what was taken from there, and stands between what stays
+front_over : (r xs : List ℕ) → length xs ≤ length r → xs ++ drop (length xs) r ≡ over r 0 xs
+front_over [] [] h = refl
+front_over (r ∷ rs) [] h = refl
+front_over [] (x ∷ xs) h = absurd (omega arith)
+front_over (r ∷ rs) (x ∷ xs) h = ap (λ (t : List ℕ). x ∷ t) (front_over rs xs (omega arith))
+
+mid_over : (r : List ℕ) (at : ℕ) (xs : List ℕ) → at + length xs ≤ length r → put_mid at (length xs) r xs ≡ over r at xs
+mid_over r zero xs h = front_over r xs (omega arith)
+mid_over [] (suc at) xs h = absurd (omega arith)
+mid_over (r ∷ rs) (suc at) xs h = ap (λ (t : List ℕ). r ∷ t) (mid_over rs at xs (omega arith))
+
+part_is : (n from : ℕ) (s : List ℕ) → from + n ≤ length s → take n (drop from s) ≡ part n from s
+part_is zero from s h = refl
+part_is (suc n) from s h =
+    let e : drop from s ≡ get_or s from 0 ∷ drop (suc from) s = drop-cons s from 0 (omega arith) in
+    ap (take (suc n)) e ∙ ap (λ (t : List ℕ). get_or s from 0 ∷ t) (part_is n (suc from) s (omega arith))
+
+pub copied_whole : (s : List ℕ) (from n : ℕ) (r : List ℕ) (at : ℕ) (xs : List ℕ) → xs ≡ take (from + n - from) (drop from s) → from + n ≤ length s → at + n ≤ length r → put_mid at (at + n - at) r xs ≡ over r at (part n from s)
+copied_whole s from n r at xs e h k =
+    let l : length (part n from s) ≡ n = length_part n from s in
+    let f : from + n - from ≡ n = omega arith in
+    let g : at + n - at ≡ length (part n from s) = omega arith in
+    let x : xs ≡ part n from s = e ∙ rw f (part_is n from s h) in
+    rw (x, g) (mid_over r at (part n from s) (omega arith))
 
 -- ---- writing numbers: the first k are there
 pub numbers_more : (r r₁ r₂ xs : List ℕ) (at k : ℕ) → r₁ ≡ over r at (take k xs) → k < length xs → r₂ ≡ over r₁ (at + k) (get_or xs k 0 ∷ []) → r₂ ≡ over r at (take (k + 1) xs)

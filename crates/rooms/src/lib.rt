@@ -106,6 +106,17 @@ pub fn zero_from(room: &mut [u8], from: usize)
 pub fn copy(src: &[u8], from: usize, n: usize, room: &mut [u8], at: usize)
     ensures { room.new ≡ over room.old at (part n from src.now) }
 {
+    if from <= src.len() && n <= src.len() - from && at <= room.len() && n <= room.len() - at {
+        room[at..at + n].copy_from_slice(&src[from..from + n]);
+    } else {
+        copy_each(src, from, n, room, at);
+    }
+}
+
+// The same byte by byte, for stretches that may go past an end.
+fn copy_each(src: &[u8], from: usize, n: usize, room: &mut [u8], at: usize)
+    ensures { room.new ≡ over room.old at (part n from src.now) }
+{
     for j in 0..n {
         put_byte(room, at, j, byte(src, from, j));
     }

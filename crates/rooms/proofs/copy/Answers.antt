@@ -1,11 +1,7 @@
-use Rattle.rooms.proofs.Laws.{copied_start, copied_more, copied_all}
+-- In one piece where both stretches lie inside; the other way is copy_each's contract.
+use Rattle.std.proofs.Common.{arith}
+use Rattle.rooms.proofs.Laws.{copied_whole}
 use Rattle.rooms.proofs.copy.Goals as goal
 
-pub loop-j-init : goal.loop-j-init
-loop-j-init c = copied_start _ _ _ _
-
-pub loop-j-preserved : goal.loop-j-preserved
-loop-j-preserved c = search copied_more
-
-pub returns : goal.returns
-returns c = search copied_all
+pub returns-then-n-room : goal.returns-then-n-room
+returns-then-n-room c = copied_whole _ _ _ _ _ _ c.copy_from_slice.ensures.after (omega arith) (omega arith)
