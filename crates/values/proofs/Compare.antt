@@ -3,19 +3,20 @@
 use mathlib.Core.Path.{◌≡◌, refl, sym, ap, ◌∙◌}
 use mathlib.Core.Bool.{Bool, true, false, not, cond}
 use mathlib.Core.List.{List, [], ◌∷◌}
-use Prim.Native.Nat.{ℕ, zero, suc, ◌+◌, ◌<◌, ◌≤◌, max}
+use Prim.Native.Nat.{ℕ, zero, suc, ◌+◌, ◌-◌, ◌<◌, ◌≤◌, max}
 use native.Mathlib.Nat.{le_refl}
 use native.Mathlib.Numerals.{add-one}
 use native.Mathlib.Omega.{arith}
 use borrow.Author.Tests.{lt-ltb, le-ltb}
 use lib.IntN.{ℤ}
-use lib.ListN.{get_or, drop, drop_of_length-le}
+use lib.ListN.{length, get_or, take, drop, drop_of_length-le}
 use lib.Signed.{lt_z}
 use Rattle.definition.specs.Lists.{part}
 use Rattle.definition.specs.Values as D
 use Rattle.definition.specs.Values.{Value, order_of, bytes_order, numbers_order, infixed, comparing}
 use Rattle.definition.proofs.Parts.{length_part}
 use Rattle.values.specs.Answers.{order_for, order_in, is_wanted, operator_of}
+use Rattle.std.proofs.Math.Seq.{drop-cons}
 use Rattle.std.specs.declared.cmp.Ordering.{Ordering}
 use Rattle.std.specs.declared.cmp.Ordering.TheVariants as O
 use Rattle.std.specs.Ordering.{MatchOrdering, nat_cmp, int_cmp, is_eq, is_ne, is_lt, is_gt, is_le, is_ge}
@@ -30,6 +31,18 @@ byte_in s at n j d b h e = e ∙ sym (part_at n at j d s h)
 
 pub byte_out : (s : List ℕ) (at n j d : ℕ) → n ≤ j → d ≡ get_or (part n at s) j d
 byte_out s at n j d h = sym (part_past n at j d s h)
+
+-- ---- what both begin with alike, where they lie inside
+inside : (n a : ℕ) (s : List ℕ) → a + n ≤ length s → take n (drop a s) ≡ part n a s
+inside zero a s h = refl
+inside (suc n) a s h = rw (drop-cons s a 0 (omega arith)) (ap (λ (t : List ℕ). get_or s a 0 ∷ t) (inside n (suc a) s (omega arith)))
+
+slice_inside : (s : List ℕ) (a n : ℕ) → a ≤ length s → n ≤ length s - a → take (a + n - a) (drop a s) ≡ part n a s
+slice_inside s a n h k = let e : a + n - a ≡ n = omega arith in rw e (inside n a s (omega arith))
+
+pub alike_inside : (s t : List ℕ) (a n b m r : ℕ) → a ≤ length s → n ≤ length s - a → b ≤ length t → m ≤ length t - b
+    → take r (take (a + n - a) (drop a s)) ≡ take r (take (b + m - b) (drop b t)) → take r (part n a s) ≡ take r (part m b t)
+alike_inside s t a n b m r h k i l e = rw (slice_inside s a n h k, slice_inside t b m i l) at e
 
 -- ---- byte by byte
 drop_none : (j : ℕ) → drop {A = ℕ} j [] ≡ []
@@ -51,8 +64,20 @@ order_step pad (x ∷ xs) (y ∷ ys) (suc j) = order_step pad xs ys j
 pub record Comparing (pad : ℕ) (xs ys : List ℕ) (j : ℕ) : Type 0 where
   pub is : bytes_order pad (drop j xs) (drop j ys) ≡ bytes_order pad xs ys
 
-pub comparing_start : (pad : ℕ) (xs ys : List ℕ) → Comparing pad xs ys 0
-comparing_start pad xs ys = record { is = refl }
+-- what both begin with alike decides nothing
+past_alike : (pad j : ℕ) (xs ys : List ℕ) → take j xs ≡ take j ys → bytes_order pad (drop j xs) (drop j ys) ≡ bytes_order pad xs ys
+unfolding bytes_order order_of
+past_alike pad zero xs ys e = refl
+past_alike pad (suc j) [] [] e = refl
+past_alike pad (suc j) [] (y ∷ ys) e = absurd (cc)
+past_alike pad (suc j) (x ∷ xs) [] e = absurd (cc)
+past_alike pad (suc j) (x ∷ xs) (y ∷ ys) e =
+    let p : x ≡ y = cc in
+    let q : take j xs ≡ take j ys = cc in
+    rw (p, le-ltb y y (le_refl y)) (past_alike pad j xs ys q)
+
+pub comparing_past_alike : (pad j : ℕ) (xs ys : List ℕ) → take j xs ≡ take j ys → Comparing pad xs ys j
+comparing_past_alike pad j xs ys e = record { is = past_alike pad j xs ys e }
 
 module _ (pad : ℕ) (xs ys : List ℕ) (j : ℕ) (c : Comparing pad xs ys j) (x y : ℕ) (p : x ≡ get_or xs j pad) (q : y ≡ get_or ys j pad) where
   step : order_of x y (bytes_order pad (drop (suc j) xs) (drop (suc j) ys)) ≡ bytes_order pad xs ys

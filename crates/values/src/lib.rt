@@ -3,7 +3,7 @@
 // Parts: tests of bytes, comparison, to FIXED, from FIXED, bit operations, SUBSTR.
 #![tactic(auto)]
 
-ghost use Rattle.std.specs.Prelude.{◌≡◌, [], ◌+◌, ◌-◌, ◌%◌, ◌≤◌, nat_abs, length, get_or, replicate};
+ghost use Rattle.std.specs.Prelude.{◌≡◌, [], ◌+◌, ◌-◌, ◌%◌, ◌≤◌, nat_abs, length, get_or, replicate, take};
 ghost use Rattle.definition.specs.Lists.{part, all};
 ghost use Rattle.definition.specs.Room.{over};
 ghost use Rattle.definition.specs.Bytes.{is_digit, is_blank};
@@ -106,11 +106,35 @@ fn byte_or(s: &[u8], at: usize, n: usize, j: usize, pad: u8) -> u8
     if j < n { byte(s, at, j) } else { pad }
 }
 
+// How many bytes both begin with alike; both indices are proved, so no test of them runs.
+fn alike(x: &[u8], y: &[u8]) -> usize
+    ensures { take result x.now ≡ take result y.now }
+{
+    let most = x.len().min(y.len());
+    for j in 0..most {
+        if x[j] != y[j] {
+            return j;
+        }
+    }
+    most
+}
+
+// The same of the n bytes at place a and the m bytes at place b, or 0 if a part of them lies past the slice's end.
+fn alike_start(s: &[u8], a: usize, n: usize, t: &[u8], b: usize, m: usize) -> usize
+    ensures { take result (part n a s.now) ≡ take result (part m b t.now) }
+{
+    if a <= s.len() && n <= s.len() - a && b <= t.len() && m <= t.len() - b {
+        alike(&s[a..a + n], &t[b..b + m])
+    } else {
+        0
+    }
+}
+
 // How the n bytes at place a lie to the m bytes at place b, the shorter side filled with a byte.
 pub fn bytes_order(s: &[u8], a: usize, n: usize, t: &[u8], b: usize, m: usize, pad: u8) -> Ordering
     ensures { result ≡ order_for (bytes_order pad (part n a s.now) (part m b t.now)) }
 {
-    for j in 0..n.max(m) {
+    for j in alike_start(s, a, n, t, b, m)..n.max(m) {
         let x = byte_or(s, a, n, j, pad);
         let y = byte_or(t, b, m, j, pad);
         let order = x.cmp(&y);
