@@ -95,15 +95,13 @@ struct Signs {
     items: [Prefix; BLOCK],
 }
 
-// With the operator number i, if it is one of the block that begins with number `first`.
-fn with_sign(all: Signs, first: usize, i: usize, o: Prefix) -> Signs
-    ensures { WithSign all first i o result }
+// Puts the operator number i, if it is one of the block that begins with number `first`; in place, since a block is 256 bytes.
+fn put_sign(all: &mut Signs, first: usize, i: usize, o: Prefix)
+    ensures { WithSign all.old first i o all.new }
 {
-    let mut more = all;
     if first <= i && i - first < BLOCK {
-        more.items[i - first] = o;
+        all.items[i - first] = o;
     }
-    more
 }
 
 // Whether the operator number i is behind the block that begins with number `first`.
@@ -128,7 +126,7 @@ fn signs_from(s: &[u8], from: usize, first: usize) -> Signs
         let Some((o, q)) = prefix_at(s, at) else {
             return all;
         };
-        all = with_sign(all, first, i, o);
+        put_sign(&mut all, first, i, o);
         at = q;
     }
     all

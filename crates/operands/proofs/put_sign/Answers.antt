@@ -1,8 +1,8 @@
 -- In the block, or not.
 use Rattle.std.proofs.Common.{rules, arith}
 use Rattle.operands.proofs.Prefixing.{sign_set, sign_out}
-use Rattle.operands.proofs.with_sign.Goals as goal
-use Rattle.operands.proofs.with_sign.Goals.{else-first-i-via-then-first-i+else-i-first-lt-BLOCK, else-first-i-via-else-first-i}
+use Rattle.operands.proofs.put_sign.Goals as goal
+use Rattle.operands.proofs.put_sign.Goals.{else-first-i-via-then-first-i+else-i-first-lt-BLOCK, else-first-i-via-else-first-i}
 
 pub returns-then-i-first-lt-BLOCK : goal.returns-then-i-first-lt-BLOCK
 returns-then-i-first-lt-BLOCK c = search (rules, sign_set)
